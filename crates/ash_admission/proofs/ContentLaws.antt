@@ -5,7 +5,7 @@ use Rattle.std.specs.List.{list_all}
 use Rattle.std.specs.Option.{option_map_or}
 use Rattle.std.proofs.lemmas.Option.{same_Some}
 use Rattle.ash_host.specs.declared.word.Word.{Word}
-use Rattle.ash_host.specs.Objects.{Element, Plain, Script, Array, Host, Objects, object_at, IsInOrder}
+use Rattle.ash_host.specs.Objects.{Elements, Plain, Script, Array, Host, LiveObjects, object_at, IsInOrder}
 use Rattle.ash_host.specs.Limits.{max_elements}
 use Rattle.ash_host.proofs.Membership.{and_both, both_and}
 use Rattle.ash_host.proofs.Order.{object_here, object_later, none_after, in_order_after}
@@ -25,7 +25,7 @@ use Rattle.ash_admission.proofs.PlaceLaws.{class_there, class_found}
 use Rattle.ash_admission.proofs.ValueLaws.{values_say, values_yes}
 use Rattle.ash_admission.proofs.ElementLaws.{has_the_name, known_is, array_says, array_yes}
 
-module _ (ps : List Program) (all : Objects (List ℕ)) where
+module _ (ps : List Program) (all : LiveObjects (List ℕ)) where
   -- script objects
 
   fields_from : (owner : List ℕ) (place : ℕ) (fields : List Word) (p : Program) → program_of_name owner ps ≡ Some p → (o : Option Class) → class_at p.tree place ≡ o → option_map_or (λ (c : Class). are_values p all (map type_declared c.fields) fields) o false ≡ true → IsScript (known_in ps) all owner place fields
@@ -63,7 +63,7 @@ module _ (ps : List Program) (all : Objects (List ℕ)) where
       formed.is_array (array_says ps all of ws (le_says (length ws) max_elements both.0) both.1)
   object_says (Host kind state) h = absurd (cc)
 
-  array_in : {of : Element (List ℕ)} {ws : List Word} → IsObject (known_in ps) all (Array of ws) → formed.IsArray (known_in ps) all of ws
+  array_in : {of : Elements (List ℕ)} {ws : List Word} → IsObject (known_in ps) all (Array of ws) → formed.IsArray (known_in ps) all of ws
   array_in (formed.is_array a) = a
 
   script_in : {owner : List ℕ} {place : ℕ} {fields : List Word} → IsObject (known_in ps) all (Script owner place fields) → IsScript (known_in ps) all owner place fields
@@ -78,7 +78,7 @@ module _ (ps : List Program) (all : Objects (List ℕ)) where
 
 -- entries by number
 
-found_from : (P : Plain (List ℕ) → Bool) (number : ℕ) (entries : Objects (List ℕ)) (o : Plain (List ℕ)) → list_all (λ (e : ℕ × Plain (List ℕ)). P e.1) entries ≡ true → object_at number entries ≡ Some o → P o ≡ true
+found_from : (P : Plain (List ℕ) → Bool) (number : ℕ) (entries : LiveObjects (List ℕ)) (o : Plain (List ℕ)) → list_all (λ (e : ℕ × Plain (List ℕ)). P e.1) entries ≡ true → object_at number entries ≡ Some o → P o ≡ true
 found_from P number [] o h e = absurd (cc)
 found_from P number (x ∷ entries) o h e =
     let both = and_both (P x.1) (list_all (λ (e : ℕ × Plain (List ℕ)). P e.1) entries) h in
@@ -91,14 +91,14 @@ found_from P number (x ∷ entries) o h e =
 some_object : (o : Option (Plain (List ℕ))) (x : Plain (List ℕ)) → o ≡ Some x → IsSome o
 some_object o x e = ap is_some e
 
-each_passes : (P : Plain (List ℕ) → Bool) (entries : Objects (List ℕ)) → IsInOrder entries → ((number : ℕ) (o : Plain (List ℕ)) → object_at number entries ≡ Some o → P o ≡ true) → list_all (λ (e : ℕ × Plain (List ℕ)). P e.1) entries ≡ true
+each_passes : (P : Plain (List ℕ) → Bool) (entries : LiveObjects (List ℕ)) → IsInOrder entries → ((number : ℕ) (o : Plain (List ℕ)) → object_at number entries ≡ Some o → P o ≡ true) → list_all (λ (e : ℕ × Plain (List ℕ)). P e.1) entries ≡ true
 each_passes P [] order h = refl
 each_passes P (x ∷ entries) order h =
     both_and (P x.1) (list_all (λ (e : ℕ × Plain (List ℕ)). P e.1) entries) (h x.0 x.1 (object_here x entries))
     (each_passes P entries (in_order_after x entries order) (λ number o at.
     h number o (object_later number x entries (none_after x entries number order (some_object (object_at number entries) o at)) ∙ at)))
 
-module _ (ps : List Program) (all : Objects (List ℕ)) (host : signatures.Host) (nothing : ConstructsNothing host) where
+module _ (ps : List Program) (all : LiveObjects (List ℕ)) (host : signatures.HostSignatures) (nothing : ConstructsNothing host) where
   -- no kind is offered
   not_offered : (kind : ℕ) → IsOffered host kind → ⊥
   not_offered kind (parameters, inside) = none_in parameters (subst (λ (l : List (List Primitive)). Contains l parameters) (nothing kind) inside)

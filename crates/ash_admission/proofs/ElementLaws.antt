@@ -7,7 +7,7 @@ use Rattle.std.specs.Str.{bytes_eq}
 use Rattle.std.proofs.lemmas.Bool.{eqb-true, eq-eqb}
 use Rattle.std.proofs.lemmas.Option.{same_Some}
 use Rattle.ash_host.specs.declared.word.Word.{Word}
-use Rattle.ash_host.specs.Objects.{Element, Bools, Ints, Uints, Int64s, Uint64s, Handles, Hosts, Objects}
+use Rattle.ash_host.specs.Objects.{Elements, Bools, Ints, Uints, Int64s, Uint64s, Handles, Hosts, LiveObjects}
 use Rattle.ash_host.specs.Limits.{max_elements}
 use Rattle.ash_host.proofs.Membership.{or_cases, or_first, or_second, and_both, both_and}
 use Rattle.ash_integers.specs.declared.int_type.IntType.{IntType}
@@ -58,7 +58,7 @@ is_known owner ps p e =
 
 -- handles of a class or an interface
 
-module _ (all : Objects (List ℕ)) (place : ℕ) (ws : List Word) where
+module _ (all : LiveObjects (List ℕ)) (place : ℕ) (ws : List Word) where
   -- what is found of an interface at the place
   record AtInterface (p : Program) : Type 0 where
     pub interface : ℕ
@@ -174,7 +174,7 @@ module _ (all : Objects (List ℕ)) (place : ℕ) (ws : List Word) where
 nowhere : Program
 nowhere = record { name = []; tree = record { interfaces = []; classes = []; functions = []; globals = [] } }
 
-module _ (ps : List Program) (all : Objects (List ℕ)) where
+module _ (ps : List Program) (all : LiveObjects (List ℕ)) where
   handles_from : (owner : List ℕ) (place : ℕ) (ws : List Word) (o : Option Program) → program_of_name owner ps ≡ o → length ws ≤ max_elements → option_map_or (are_handles all place ws) o false ≡ true → IsArray (known_in ps) all (Handles owner place) ws
   handles_from owner place ws None e few h = absurd (cc)
   handles_from owner place ws (Some p) e few h =
@@ -189,10 +189,10 @@ module _ (ps : List Program) (all : Objects (List ℕ)) where
         values = says.values;
       }
 
-  integers_from : (t : IntType) (of : Element (List ℕ)) (ws : List Word) → of ≡ element_of nowhere (elements.Integer t) → length ws ≤ max_elements → list_all (is_integer t) ws ≡ true → IsArray (known_in ps) all of ws
+  integers_from : (t : IntType) (of : Elements (List ℕ)) (ws : List Word) → of ≡ element_of nowhere (elements.Integer t) → length ws ≤ max_elements → list_all (is_integer t) ws ≡ true → IsArray (known_in ps) all of ws
   integers_from t of ws is few h = record { few = few; program = nowhere; element = elements.Integer t; known = tt; named = tt; is = is; values = all_say nowhere all (vars.Integer t) (is_integer t) (λ w i. formed.is_integer (integer_says t w i)) ws h }
 
-  pub array_says : (of : Element (List ℕ)) (ws : List Word) → length ws ≤ max_elements → are_elements ps all of ws ≡ true → IsArray (known_in ps) all of ws
+  pub array_says : (of : Elements (List ℕ)) (ws : List Word) → length ws ≤ max_elements → are_elements ps all of ws ≡ true → IsArray (known_in ps) all of ws
   array_says Bools ws few h = record { few = few; program = nowhere; element = elements.Bool; known = tt; named = tt; is = refl; values = all_say nowhere all vars.Bool is_truth (truth_says nowhere all) ws h }
   array_says Ints ws few h = integers_from ints.Int Ints ws refl few h
   array_says Uints ws few h = integers_from ints.Uint Uints ws refl few h
@@ -225,5 +225,5 @@ module _ (ps : List Program) (all : Objects (List ℕ)) where
   elements_to p (elements.Interface interface) ws known named values = known_handles p (place_of_interface p.tree interface) ws known (interface_handles all (place_of_interface p.tree interface) ws p interface named refl values)
   elements_to p (elements.Host kind) ws known named values = all_yes p all (vars.Handle (objects.Host kind)) (is_reference all (is_of_kind kind)) (λ w v. reference_yes all (is_of_kind kind) (IsOf p (objects.Host kind)) (kind_yes kind) (handle_in all kind ws (objects.Host kind) v)) values
 
-  pub array_yes : (of : Element (List ℕ)) (ws : List Word) → IsArray (known_in ps) all of ws → are_elements ps all of ws ≡ true
-  array_yes of ws a = subst (λ (x : Element (List ℕ)). are_elements ps all x ws ≡ true) (sym a.is) (elements_to a.program a.element ws a.known a.named a.values)
+  pub array_yes : (of : Elements (List ℕ)) (ws : List Word) → IsArray (known_in ps) all of ws → are_elements ps all of ws ≡ true
+  array_yes of ws a = subst (λ (x : Elements (List ℕ)). are_elements ps all x ws ≡ true) (sym a.is) (elements_to a.program a.element ws a.known a.named a.values)

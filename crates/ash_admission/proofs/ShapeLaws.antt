@@ -4,7 +4,7 @@ use Rattle.std.specs.Prelude.{Option, Some, None, slice_get, is_some, ◌&&◌}
 use Rattle.std.specs.Option.{option_map_or}
 use Rattle.std.specs.Str.{bytes_eq}
 use Rattle.std.proofs.lemmas.Bool.{eqb-true, eq-eqb}
-use Rattle.ash_host.specs.Objects.{Element, Bools, Ints, Uints, Int64s, Uint64s, Handles, Hosts}
+use Rattle.ash_host.specs.Objects.{Elements, Bools, Ints, Uints, Int64s, Uint64s, Handles, Hosts}
 use Rattle.ash_host.proofs.Membership.{and_both, both_and, is_among_yes, is_among_says}
 use Rattle.ash_integers.specs.declared.int_type.IntType.TheVariants as ints
 use Rattle.ash_typed.specs.declared.types.Element as typed_element
@@ -14,7 +14,7 @@ use Rattle.ash_typed.specs.declared.types.ObjectType.TheVariants as objects
 use Rattle.ash_typed.specs.Modules.{Interface, Class, Module}
 use Rattle.ash_typed.specs.Signatures as signatures
 use Rattle.ash_phrases.specs.Classes.{Program, place_of_class, place_of_interface, element_of}
-use Rattle.ash_wellformed.specs.WellFormed.{Shape, OfClass, OfElements, OfKind, IsOfClass, Implements, IsNamed, IsOf}
+use Rattle.ash_wellformed.specs.WellFormed.{Shape, OfClass, OfElements, OfKind, IsOfClass, ListsInterface, IsNamed, IsOf}
 use Rattle.ash_admission.specs.Places.{class_at, is_class_at, is_interface_at, lists, implements, is_of_place, is_of_kind, is_element, is_of}
 use Rattle.ash_admission.proofs.Tests.{same_text, text_itself, some_within, within_some, got_within}
 use Rattle.ash_admission.proofs.PlaceLaws.{class_there, class_found}
@@ -54,7 +54,7 @@ place_yes p class place is s i =
 
 -- interfaces
 
-listed_from : (p : Program) (interface : ℕ) (owner : List ℕ) (place : ℕ) (o : Option Class) → class_at p.tree place ≡ o → owner ≡ p.name → option_map_or (lists interface) o false ≡ true → Implements p interface (OfClass owner place)
+listed_from : (p : Program) (interface : ℕ) (owner : List ℕ) (place : ℕ) (o : Option Class) → class_at p.tree place ≡ o → owner ≡ p.name → option_map_or (lists interface) o false ≡ true → ListsInterface p interface (OfClass owner place)
 listed_from p interface owner place None e name h = absurd (cc)
 listed_from p interface owner place (Some c) e name h =
     let (class, at, is) = class_there p.tree place c e in
@@ -64,7 +64,7 @@ listed_from p interface owner place (Some c) e name h =
       lists = is_among_says interface (map signatures.place_of_interface c.interfaces) h;
     }
 
-interface_yes : (p : Program) (interface : ℕ) (s : Shape) → Implements p interface s → is_of p (objects.Interface interface) s ≡ true
+interface_yes : (p : Program) (interface : ℕ) (s : Shape) → ListsInterface p interface s → is_of p (objects.Interface interface) s ≡ true
 interface_yes p interface s i =
     let place : ℕ = place_of_class p.tree i.class in
     let found : class_at p.tree place ≡ Some (i.of).source = class_found p.tree i.class (i.of).source place (i.of).at refl in
@@ -85,7 +85,7 @@ interface_here m interface i e =
 
 -- elements
 
-pub element_says : (p : Program) (of : typed_element.Element) (e : Element (List ℕ)) → is_element p of e ≡ true → IsNamed p.tree of × (e ≡ element_of p of)
+pub element_says : (p : Program) (of : typed_element.Element) (e : Elements (List ℕ)) → is_element p of e ≡ true → IsNamed p.tree of × (e ≡ element_of p of)
 element_says p elements.Bool Bools h = (tt, refl)
 element_says p (elements.Integer ints.Int) Ints h = (tt, refl)
 element_says p (elements.Integer ints.Uint) Uints h = (tt, refl)
@@ -137,7 +137,7 @@ of_says p (objects.Interface interface) (OfClass owner place) h =
 of_says p (objects.Host kind) (OfKind other) h = ap (λ (n : ℕ). OfKind n) (eqb-true other kind h)
 of_says p (objects.Array of) (OfElements e) h =
     let says = element_says p of e h in
-    record { named = says.0; is = ap (λ (x : Element (List ℕ)). OfElements x) says.1 }
+    record { named = says.0; is = ap (λ (x : Elements (List ℕ)). OfElements x) says.1 }
 of_says p _ _ h = absurd (cc)
 
 pub of_yes : (p : Program) (of : ObjectType) (s : Shape) → IsOf p of s → is_of p of s ≡ true

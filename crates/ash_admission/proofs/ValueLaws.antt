@@ -6,7 +6,7 @@ use Rattle.std.specs.List.{list_all}
 use Rattle.std.specs.Option.{option_map_or, option_and_then}
 use Rattle.ash_host.specs.declared.word.Word.{Word}
 use Rattle.ash_host.specs.declared.word.Word.TheVariants as words
-use Rattle.ash_host.specs.Objects.{Objects}
+use Rattle.ash_host.specs.Objects.{LiveObjects}
 use Rattle.ash_host.proofs.Membership.{and_both, both_and}
 use Rattle.ash_integers.specs.declared.int_type.IntType.{IntType}
 use Rattle.ash_integers.specs.declared.int_type.IntType.TheVariants as ints
@@ -53,7 +53,7 @@ integer_yes (formed.uint64 {n} f) = lt_yes n (2 ^ 64) f
 
 -- references
 
-module _ (all : Objects (List ℕ)) (fits : Shape → Bool) (Fits : Shape → Type 0) where
+module _ (all : LiveObjects (List ℕ)) (fits : Shape → Bool) (Fits : Shape → Type 0) where
   object_from : ((s : Shape) → fits s ≡ true → Fits s) → (number : ℕ) (o : Option Shape) → shape_at number all ≡ o → option_map_or fits o false ≡ true → IsReference all Fits (words.Object number)
   object_from says number None e h = absurd (cc)
   object_from says number (Some s) e h = formed.to_object e (says s h)
@@ -67,7 +67,7 @@ module _ (all : Objects (List ℕ)) (fits : Shape → Bool) (Fits : Shape → Ty
   reference_yes passes formed.to_nothing = refl
   reference_yes passes (formed.to_object {number} {shape} at f) = ap (λ (o : Option Shape). option_map_or fits o false) at ∙ passes shape f
 
-module _ (p : Program) (all : Objects (List ℕ)) where
+module _ (p : Program) (all : LiveObjects (List ℕ)) where
   -- a value
 
   pub truth_says : (w : Word) → is_truth w ≡ true → IsValue p all vars.Bool w

@@ -4,7 +4,7 @@ use Rattle.std.specs.Prelude.{Option, Some}
 use Rattle.std.specs.Option.{option_and_then}
 use Rattle.std.proofs.lemmas.Bool.Decides.{nat_tests}
 use Rattle.ash_host.specs.declared.word.Word.{Word}
-use Rattle.ash_host.specs.Objects.{Objects}
+use Rattle.ash_host.specs.Objects.{LiveObjects}
 use Rattle.ash_typed.specs.declared.tree.statements.Initialization as initialization
 use Rattle.ash_typed.specs.declared.tree.items.Variables as variables
 use Rattle.ash_typed.specs.BodyViews.{value_of}
@@ -15,7 +15,7 @@ use Rattle.ash_plain_steps.proofs.Drops.{at_place, past}
 use Rattle.ash_admission.specs.Values.{after_value, after_values, is_end, are_values}
 use Rattle.ash_admission.proofs.ValueLaws.{after_both}
 
-module _ (p : Program) (all : Objects (List ℕ)) where
+module _ (p : Program) (all : LiveObjects (List ℕ)) where
   abbrev after : List initialization.Initialization → List Word → Option (List Word)
   after vs ws = after_values p all (map type_declared (map value_of vs)) ws
 

@@ -5,8 +5,8 @@ use Rattle.std.specs.List.{list_all}
 use Rattle.std.specs.Option.{option_map_or}
 use Rattle.std.specs.Str.{bytes_eq}
 use Rattle.ash_host.specs.declared.word.Word.{Word}
-use Rattle.ash_host.specs.Objects.{Element, Bools, Ints, Uints, Int64s, Uint64s, Handles}
-use Rattle.ash_host.specs.Objects.{Hosts, Plain, Script, Array, Host, Objects}
+use Rattle.ash_host.specs.Objects.{Elements, Bools, Ints, Uints, Int64s, Uint64s, Handles}
+use Rattle.ash_host.specs.Objects.{Hosts, Plain, Script, Array, Host, LiveObjects}
 use Rattle.ash_host.specs.Limits.{max_elements}
 use Rattle.ash_integers.specs.declared.int_type.IntType.TheVariants as ints
 use Rattle.ash_typed.specs.declared.types.ObjectType.TheVariants as objects
@@ -26,18 +26,18 @@ abbrev pub known_in : List Program → Known
 known_in ps name = option_map (λ (p : Program). p.tree) (program_of_name name ps)
 
 -- whether words are the fields of an object of the class at a place of the module's source
-abbrev pub is_script : Objects (List ℕ) → ℕ → List Word → Program → Bool
+abbrev pub is_script : LiveObjects (List ℕ) → ℕ → List Word → Program → Bool
 is_script all place fields p =
     option_map_or (λ (c : Class). are_values p all (map type_declared c.fields) fields) (class_at p.tree place) false
 
 -- whether words are handles of objects of the class at a place of the module's source
-abbrev pub are_of_class : Objects (List ℕ) → ℕ → List Word → Program → Bool
+abbrev pub are_of_class : LiveObjects (List ℕ) → ℕ → List Word → Program → Bool
 are_of_class all place ws p =
     is_some (class_at p.tree place) && list_all (is_reference all (is_of_place p.name place)) ws
 
 -- whether words are handles of objects of an interface at a place of the source, among these interfaces, of which the
 -- first has this index
-abbrev pub any_interface : Objects (List ℕ) → ℕ → List Word → Program → ℕ → List Interface → Bool
+abbrev pub any_interface : LiveObjects (List ℕ) → ℕ → List Word → Program → ℕ → List Interface → Bool
 any_interface all place ws p interface [] = false
 any_interface all place ws p interface (i ∷ is) =
     (nat_eq place (interface + i.classes_before) && list_all (is_reference all (is_of p (objects.Interface interface)))
@@ -45,11 +45,11 @@ any_interface all place ws p interface (i ∷ is) =
     || any_interface all place ws p (interface + 1) is
 
 -- whether words are handles of objects of the class or of the interface at a place of the module's source
-abbrev pub are_handles : Objects (List ℕ) → ℕ → List Word → Program → Bool
+abbrev pub are_handles : LiveObjects (List ℕ) → ℕ → List Word → Program → Bool
 are_handles all place ws p = are_of_class all place ws p || any_interface all place ws p 0 (p.tree).interfaces
 
 -- whether words are of what an array says of its elements
-abbrev pub are_elements : List Program → Objects (List ℕ) → Element (List ℕ) → List Word → Bool
+abbrev pub are_elements : List Program → LiveObjects (List ℕ) → Elements (List ℕ) → List Word → Bool
 are_elements ps all Bools ws = list_all is_truth ws
 are_elements ps all Ints ws = list_all (is_integer ints.Int) ws
 are_elements ps all Uints ws = list_all (is_integer ints.Uint) ws
@@ -59,12 +59,12 @@ are_elements ps all (Handles owner place) ws = option_map_or (are_handles all pl
 are_elements ps all (Hosts kind) ws = list_all (is_reference all (is_of_kind kind)) ws
 
 -- whether an object is well-formed among the living ones, where the host constructs none: a host object never is
-abbrev pub is_object : List Program → Objects (List ℕ) → Plain (List ℕ) → Bool
+abbrev pub is_object : List Program → LiveObjects (List ℕ) → Plain (List ℕ) → Bool
 is_object ps all (Script owner place fields) =
     option_map_or (is_script all place fields) (program_of_name owner ps) false
 is_object ps all (Array of ws) = nat_le (length ws) max_elements && are_elements ps all of ws
 is_object ps all (Host kind state) = false
 
 -- whether each object is
-abbrev pub are_objects : List Program → Objects (List ℕ) → Bool
+abbrev pub are_objects : List Program → LiveObjects (List ℕ) → Bool
 are_objects ps all = list_all (λ (e : ℕ × Plain (List ℕ)). is_object ps all e.1) all

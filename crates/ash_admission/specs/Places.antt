@@ -3,7 +3,7 @@ use Rattle.std.specs.Prelude.{ℕ, ◌+◌, Bool, true, false, ◌&&◌, if◌th
 use Rattle.std.specs.Prelude.{[], ◌∷◌, map, slice_get, Option, Some, None, is_some}
 use Rattle.std.specs.Option.{option_map_or}
 use Rattle.std.specs.Str.{bytes_eq}
-use Rattle.ash_host.specs.Objects.{Element, Bools, Ints, Uints, Int64s, Uint64s, Handles, Hosts}
+use Rattle.ash_host.specs.Objects.{Elements, Bools, Ints, Uints, Int64s, Uint64s, Handles, Hosts}
 use Rattle.ash_host.specs.Reach.{is_among}
 use Rattle.ash_integers.specs.declared.int_type.IntType.TheVariants as ints
 use Rattle.ash_typed.specs.declared.types.Element as typed_element
@@ -55,7 +55,7 @@ is_of_kind kind (OfKind other) = nat_eq other kind
 is_of_kind kind _ = false
 
 -- whether what an array says of its elements is a type of elements of the module
-abbrev pub is_element : Program → typed_element.Element → Element (List ℕ) → Bool
+abbrev pub is_element : Program → typed_element.Element → Elements (List ℕ) → Bool
 is_element p elements.Bool Bools = true
 is_element p (elements.Integer ints.Int) Ints = true
 is_element p (elements.Integer ints.Uint) Uints = true

@@ -4,22 +4,22 @@ ghost use Rattle.std.specs.Prelude.{◌≡◌, ◌↔◌, IsTrue, List, ℕ};
 ghost use Rattle.std.specs.List.{list_all};
 ghost use Rattle.ash_host.specs.Objects as plain;
 ghost use Rattle.ash_host.specs.Objects.{IsInOrder};
-ghost use Rattle.ash_typed.specs.Signatures.{Host};
+ghost use Rattle.ash_typed.specs.Signatures.{HostSignatures};
 ghost use Rattle.ash_steps.specs.States.{Embedding};
 ghost use Rattle.ash_plain_steps.specs.declared.state.LoadedModule as loaded_module;
 ghost use Rattle.ash_plain_steps.specs.StateViews.{modules_seen};
 ghost use Rattle.ash_plain_steps.specs.Consistency.{AreConsistent};
-ghost use Rattle.ash_admission.specs.Admission.{ConstructsNothing, IsWellTyped, IsWellTypedAsRead};
+ghost use Rattle.ash_admission.specs.Admission.{ConstructsNothing, AreWellTypedObjects, IsWellTypedAsRead};
 ghost use Rattle.ash_admission.specs.Admission.{is_loaded};
 ghost use Rattle.ash_admission.specs.Admission.{is_well_typed};
 
 use crate::contents::are_objects;
 use crate::values::is_loaded;
-use ash_plain::objects::Objects;
+use ash_plain::objects::ObjectMap;
 use ash_plain_steps::state::LoadedModule;
 
 /// Whether what the globals of each module hold is of their types.
-fn are_loaded(modules: &[LoadedModule], objects: &Objects) -> bool
+fn are_loaded(modules: &[LoadedModule], objects: &ObjectMap) -> bool
     ensures { result ≡ list_all (is_loaded objects.now) modules.now }
 {
     for loaded in modules {
@@ -31,7 +31,7 @@ fn are_loaded(modules: &[LoadedModule], objects: &Objects) -> bool
 }
 
 /// Whether each object is well-formed, and what the globals of each module hold is of their types.
-fn is_of_its_types(modules: &[LoadedModule], objects: &Objects) -> bool
+fn is_of_its_types(modules: &[LoadedModule], objects: &ObjectMap) -> bool
     ensures both { result ≡ is_well_typed modules.now objects.now }
     ensures in_order { IsInOrder objects.now }
 {
@@ -40,10 +40,10 @@ fn is_of_its_types(modules: &[LoadedModule], objects: &Objects) -> bool
 
 /// Whether what is stored is of the types that the sources of the modules say, where the host constructs no objects:
 /// the globals are values of their types, each object is as its class or its elements say, and none is a host object.
-pub fn is_well_typed(modules: &[LoadedModule], objects: &Objects) -> bool
-    ensures exact { (host : Host)
+pub fn is_well_typed(modules: &[LoadedModule], objects: &ObjectMap) -> bool
+    ensures exact { (host : HostSignatures)
         → ConstructsNothing host
-        → (IsTrue result ↔ (IsWellTyped host modules.now objects.now)) }
+        → (IsTrue result ↔ (AreWellTypedObjects host modules.now objects.now)) }
 {
     is_of_its_types(modules, objects)
 }
@@ -51,8 +51,9 @@ pub fn is_well_typed(modules: &[LoadedModule], objects: &Objects) -> bool
 /// Where the typed trees are what the sources are read as, this is so of what is stored as the sources are read. The
 /// function does nothing: its contract is the law. `F` is the type of the faults of sources.
 pub fn trees_are_as_read<F>()
-    ensures same { (embedding : Embedding F) (host : Host) (ms : List loaded_module.LoadedModule)
-        (all : plain.Objects (List ℕ))
+    ensures same { (embedding : Embedding F) (host : HostSignatures)
+        (ms : List loaded_module.LoadedModule) (all : plain.LiveObjects (List ℕ))
         → AreConsistent embedding ms
-        → (IsWellTyped host ms all ↔ (IsWellTypedAsRead embedding host (modules_seen ms) all)) }
+        → (AreWellTypedObjects host ms all
+        ↔ (IsWellTypedAsRead embedding host (modules_seen ms) all)) }
 {}

@@ -11,8 +11,8 @@ use crate::elements::{are_handles, are_integers, are_of_kind, are_truths};
 use crate::places::class_at;
 use crate::values::are_values;
 use ash_host::{MAX_ELEMENTS, Word};
-use ash_plain::objects::Objects;
-use ash_plain_data::object::{Element, Object};
+use ash_plain::objects::ObjectMap;
+use ash_plain_data::object::{Elements, Object};
 use ash_plain_steps::state::LoadedModule;
 use ash_typed::IntType;
 
@@ -30,7 +30,7 @@ fn module_of_name<'a>(modules: &'a [LoadedModule], name: &str) -> Option<&'a Loa
 }
 
 /// Whether words are the fields of an object of the class at a place of the module's source.
-fn is_script(loaded: &LoadedModule, objects: &Objects, place: usize, fields: &[Word]) -> bool
+fn is_script(loaded: &LoadedModule, objects: &ObjectMap, place: usize, fields: &[Word]) -> bool
     ensures { result ≡ is_script objects.now place fields.now (program_of loaded.now) }
 {
     match class_at(&loaded.tree, place) {
@@ -40,26 +40,31 @@ fn is_script(loaded: &LoadedModule, objects: &Objects, place: usize, fields: &[W
 }
 
 /// Whether words are of what an array says of its elements.
-fn are_elements(modules: &[LoadedModule], objects: &Objects, of: &Element, words: &[Word]) -> bool
+fn are_elements(
+    modules: &[LoadedModule],
+    objects: &ObjectMap,
+    of: &Elements,
+    words: &[Word],
+) -> bool
     ensures { result
         ≡ are_elements (map program_of modules.now) objects.now (element_seen of.now) words.now }
 {
     match of {
-        Element::Bools => are_truths(words),
-        Element::Ints => are_integers(IntType::Int, words),
-        Element::Uints => are_integers(IntType::Uint, words),
-        Element::Int64s => are_integers(IntType::Int64, words),
-        Element::Uint64s => are_integers(IntType::Uint64, words),
-        Element::Handles { owner, place } => match module_of_name(modules, owner.as_str()) {
+        Elements::Bools => are_truths(words),
+        Elements::Ints => are_integers(IntType::Int, words),
+        Elements::Uints => are_integers(IntType::Uint, words),
+        Elements::Int64s => are_integers(IntType::Int64, words),
+        Elements::Uint64s => are_integers(IntType::Uint64, words),
+        Elements::Handles { owner, place } => match module_of_name(modules, owner.as_str()) {
             Some(loaded) => are_handles(loaded, objects, *place, words),
             None => false,
         },
-        Element::Hosts(kind) => are_of_kind(objects, *kind, words),
+        Elements::Hosts(kind) => are_of_kind(objects, *kind, words),
     }
 }
 
 /// Whether an object is well-formed among the living ones. A host object never is, since the host constructs none.
-fn is_object(modules: &[LoadedModule], objects: &Objects, object: &Object) -> bool
+fn is_object(modules: &[LoadedModule], objects: &ObjectMap, object: &Object) -> bool
     ensures { result
         ≡ is_object (map program_of modules.now) objects.now (object_seen object.now) }
 {
@@ -80,7 +85,7 @@ fn is_object(modules: &[LoadedModule], objects: &Objects, object: &Object) -> bo
 }
 
 /// Whether each object is well-formed among the living ones.
-pub(crate) fn are_objects(modules: &[LoadedModule], objects: &Objects) -> bool
+pub(crate) fn are_objects(modules: &[LoadedModule], objects: &ObjectMap) -> bool
     ensures each { result ≡ are_objects (map program_of modules.now) objects.now }
     ensures in_order { IsInOrder objects.now }
 {

@@ -12,7 +12,7 @@ use crate::places::{class_at, is_sum};
 use crate::types::{is_of_kind, is_of_place};
 use crate::values::{is_integer, is_reference, is_truth};
 use ash_host::Word;
-use ash_plain::objects::Objects;
+use ash_plain::objects::ObjectMap;
 use ash_plain_steps::state::LoadedModule;
 use ash_typed::{IntType, Interface, ObjectType};
 
@@ -41,7 +41,7 @@ pub(crate) fn are_integers(of: IntType, words: &[Word]) -> bool
 }
 
 /// Whether a word is null, or a handle of a living host object of a kind.
-fn is_reference_of_kind(objects: &Objects, kind: u16, word: Word) -> bool
+fn is_reference_of_kind(objects: &ObjectMap, kind: u16, word: Word) -> bool
     ensures { result ≡ is_reference objects.now (is_of_kind kind) word }
 {
     match word {
@@ -55,7 +55,7 @@ fn is_reference_of_kind(objects: &Objects, kind: u16, word: Word) -> bool
 }
 
 /// Whether words are handles of host objects of a kind.
-pub(crate) fn are_of_kind(objects: &Objects, kind: u16, words: &[Word]) -> bool
+pub(crate) fn are_of_kind(objects: &ObjectMap, kind: u16, words: &[Word]) -> bool
     ensures { result ≡ list_all (is_reference objects.now (is_of_kind kind)) words.now }
 {
     for word in words {
@@ -67,7 +67,7 @@ pub(crate) fn are_of_kind(objects: &Objects, kind: u16, words: &[Word]) -> bool
 }
 
 /// Whether a word is null, or a handle of a living object of the class at a place of a module's source.
-fn is_reference_of_place(objects: &Objects, name: &str, place: usize, word: Word) -> bool
+fn is_reference_of_place(objects: &ObjectMap, name: &str, place: usize, word: Word) -> bool
     ensures { result ≡ is_reference objects.now (is_of_place name.now place) word }
 {
     match word {
@@ -80,7 +80,7 @@ fn is_reference_of_place(objects: &Objects, name: &str, place: usize, word: Word
     }
 }
 
-fn are_of_place(objects: &Objects, name: &str, place: usize, words: &[Word]) -> bool
+fn are_of_place(objects: &ObjectMap, name: &str, place: usize, words: &[Word]) -> bool
     ensures { result ≡ list_all (is_reference objects.now (is_of_place name.now place)) words.now }
 {
     for word in words {
@@ -92,7 +92,7 @@ fn are_of_place(objects: &Objects, name: &str, place: usize, words: &[Word]) -> 
 }
 
 /// Whether words are handles of objects of the class at a place of the module's source.
-fn are_of_class(loaded: &LoadedModule, objects: &Objects, place: usize, words: &[Word]) -> bool
+fn are_of_class(loaded: &LoadedModule, objects: &ObjectMap, place: usize, words: &[Word]) -> bool
     ensures { result ≡ are_of_class objects.now place words.now (program_of loaded.now) }
 {
     class_at(&loaded.tree, place).is_some()
@@ -100,7 +100,12 @@ fn are_of_class(loaded: &LoadedModule, objects: &Objects, place: usize, words: &
 }
 
 /// Whether words are handles of objects of a type of the module.
-fn are_references(loaded: &LoadedModule, objects: &Objects, of: ObjectType, words: &[Word]) -> bool
+fn are_references(
+    loaded: &LoadedModule,
+    objects: &ObjectMap,
+    of: ObjectType,
+    words: &[Word],
+) -> bool
     ensures { result
         ≡ list_all (is_reference objects.now (is_of (program_of loaded.now) of)) words.now }
 {
@@ -116,7 +121,7 @@ fn are_references(loaded: &LoadedModule, objects: &Objects, of: ObjectType, word
 fn are_of_interface(
     loaded: &LoadedModule,
     interfaces: &[Interface],
-    objects: &Objects,
+    objects: &ObjectMap,
     place: usize,
     words: &[Word],
 ) -> bool
@@ -137,7 +142,7 @@ fn are_of_interface(
 /// Whether words are handles of objects of the class or of the interface at a place of the module's source.
 pub(crate) fn are_handles(
     loaded: &LoadedModule,
-    objects: &Objects,
+    objects: &ObjectMap,
     place: usize,
     words: &[Word],
 ) -> bool

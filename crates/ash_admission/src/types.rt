@@ -7,7 +7,7 @@ ghost use Rattle.ash_admission.specs.Places.{is_of_place, is_of_kind, is_element
 ghost use Rattle.ash_admission.specs.Admission.{program_of};
 
 use crate::places::{implements, is_class_at, is_interface_at};
-use ash_plain_data::object::{Element, Object};
+use ash_plain_data::object::{Elements, Object};
 use ash_plain_steps::state::LoadedModule;
 use ash_typed::{Element as TypedElement, IntType, ObjectType};
 
@@ -36,23 +36,23 @@ pub(crate) fn is_of_kind(kind: u16, object: &Object) -> bool
 }
 
 /// Whether what an array says of its elements is a type of elements of a module.
-fn is_element(loaded: &LoadedModule, of: TypedElement, element: &Element) -> bool
+fn is_element(loaded: &LoadedModule, of: TypedElement, element: &Elements) -> bool
     ensures { result ≡ is_element (program_of loaded.now) of (element_seen element.now) }
 {
     match (of, element) {
-        (TypedElement::Bool, Element::Bools) => true,
-        (TypedElement::Integer(IntType::Int), Element::Ints) => true,
-        (TypedElement::Integer(IntType::Uint), Element::Uints) => true,
-        (TypedElement::Integer(IntType::Int64), Element::Int64s) => true,
-        (TypedElement::Integer(IntType::Uint64), Element::Uint64s) => true,
-        (TypedElement::Class(class), Element::Handles { owner, place }) => {
+        (TypedElement::Bool, Elements::Bools) => true,
+        (TypedElement::Integer(IntType::Int), Elements::Ints) => true,
+        (TypedElement::Integer(IntType::Uint), Elements::Uints) => true,
+        (TypedElement::Integer(IntType::Int64), Elements::Int64s) => true,
+        (TypedElement::Integer(IntType::Uint64), Elements::Uint64s) => true,
+        (TypedElement::Class(class), Elements::Handles { owner, place }) => {
             owner.as_str() == loaded.name.as_str() && is_class_at(&loaded.tree, class, *place)
         }
-        (TypedElement::Interface(interface), Element::Handles { owner, place }) => {
+        (TypedElement::Interface(interface), Elements::Handles { owner, place }) => {
             owner.as_str() == loaded.name.as_str()
                 && is_interface_at(&loaded.tree, interface, *place)
         }
-        (TypedElement::Host(kind), Element::Hosts(other)) => *other == kind,
+        (TypedElement::Host(kind), Elements::Hosts(other)) => *other == kind,
         _ => false,
     }
 }

@@ -12,7 +12,7 @@ ghost use Rattle.ash_admission.specs.Admission.{program_of, is_loaded};
 
 use crate::types::is_of;
 use ash_host::Word;
-use ash_plain::objects::Objects;
+use ash_plain::objects::ObjectMap;
 use ash_plain_steps::state::LoadedModule;
 use ash_typed::{Initialization, IntType, ObjectType, VarType, Variables};
 
@@ -39,7 +39,7 @@ pub(crate) fn is_integer(of: IntType, word: Word) -> bool
 /// Whether a word is null, or a handle of a living object of a type of a module.
 pub(crate) fn is_reference(
     loaded: &LoadedModule,
-    objects: &Objects,
+    objects: &ObjectMap,
     of: ObjectType,
     word: Word,
 ) -> bool
@@ -56,7 +56,7 @@ pub(crate) fn is_reference(
 }
 
 /// Whether a word is a value of a type of a module.
-fn is_value(loaded: &LoadedModule, objects: &Objects, of: VarType, word: Word) -> bool
+fn is_value(loaded: &LoadedModule, objects: &ObjectMap, of: VarType, word: Word) -> bool
     ensures { result ≡ is_value (program_of loaded.now) objects.now of word }
 {
     match of {
@@ -69,7 +69,7 @@ fn is_value(loaded: &LoadedModule, objects: &Objects, of: VarType, word: Word) -
 /// The words after one of a type; none where the first word is of another, or there is none.
 fn after_value<'a>(
     loaded: &LoadedModule,
-    objects: &Objects,
+    objects: &ObjectMap,
     of: VarType,
     words: &'a [Word],
 ) -> Option<&'a [Word]>
@@ -91,7 +91,7 @@ fn after_value<'a>(
 /// The words after those of variables; none where the first words are not of their types, or are too few.
 fn after_values<'a>(
     loaded: &LoadedModule,
-    objects: &Objects,
+    objects: &ObjectMap,
     variables: &[Initialization],
     words: &'a [Word],
 ) -> Option<&'a [Word]>
@@ -112,7 +112,7 @@ fn after_values<'a>(
 /// Whether words are values of the types of variables.
 pub(crate) fn are_values(
     loaded: &LoadedModule,
-    objects: &Objects,
+    objects: &ObjectMap,
     variables: &[Initialization],
     words: &[Word],
 ) -> bool
@@ -129,7 +129,7 @@ pub(crate) fn are_values(
 /// Whether words are values of the types of all that is declared.
 fn are_of_globals(
     loaded: &LoadedModule,
-    objects: &Objects,
+    objects: &ObjectMap,
     declarations: &[Variables],
     words: &[Word],
 ) -> bool
@@ -148,7 +148,7 @@ fn are_of_globals(
 }
 
 /// Whether what the globals of a module hold is of their types.
-pub(crate) fn is_loaded(loaded: &LoadedModule, objects: &Objects) -> bool
+pub(crate) fn is_loaded(loaded: &LoadedModule, objects: &ObjectMap) -> bool
     ensures { result ≡ is_loaded objects.now loaded.now }
 {
     are_of_globals(loaded, objects, &loaded.tree.globals, &loaded.globals)

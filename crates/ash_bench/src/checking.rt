@@ -5,7 +5,7 @@
 //! The time of the lexer and the parser alone is printed too.
 
 ghost use Rattle.std.specs.Prelude.{IfOk};
-ghost use Rattle.ash_tree.specs.Views.{module_of};
+ghost use Rattle.ash_tree.specs.TreeViews.{module_of};
 ghost use Rattle.ash_typing.specs.Nesting.{ItemsDeclareInBlocks};
 
 use crate::rates::Timing;

@@ -10,30 +10,30 @@ use Rattle.std.specs.List.{Contains}
 use Rattle.ash_registrations.specs.Registrations.{Registration}
 use Rattle.ash_tree.specs.Tree.{Class, Item}
 use Rattle.ash_typed.specs.Modules.{Module}
-use Rattle.ash_typing.specs.Items.{check_module}
+use Rattle.ash_typing.specs.ItemRules.{check_module}
 use Rattle.ash_environment.specs.declared.error.CheckError.{CheckError}
 use Rattle.ash_environment.specs.declared.error.CheckError.TheVariants as errors
 use Rattle.ash_environment.specs.Agreement.{FailsWith}
 use Rattle.ash_classes.specs.Paths.{IsPath}
-use Rattle.ash_classes.specs.References.{Refers, classes_of}
+use Rattle.ash_classes.specs.ClassReferences.{DeclaredClassRefers, classes_of}
 use Rattle.ash_classes.specs.ReportedCycle.{reported_cycle}
 use Rattle.ash_check.specs.declared.faults.CheckFault.{CheckFault}
-use Rattle.ash_check.specs.Faults.{fault_of_error}
+use Rattle.ash_check.specs.CheckFaults.{fault_of_error}
 use Rattle.ash_check.specs.Checks.{ScriptFault, Cyclic, name_at, names_of_cycle, unless_cycle, checked_by, checked}
-use Rattle.ash_check.specs.Checks.{Reports, HoldsNamed, LeadsTo, IsNamedCycle}
+use Rattle.ash_check.specs.Checks.{ReportsFault, HoldsNamed, LeadsTo, IsNamedCycle}
 
 -- faults
 
 -- a fault of the walk is what is reported
-pub error_is_reported : (registrations : List Registration) (items : List Item) (error : CheckError) → FailsWith error (check_module registrations items) → Reports (checked registrations items) (fault_of_error error)
+pub error_is_reported : (registrations : List Registration) (items : List Item) (error : CheckError) → FailsWith error (check_module registrations items) → ReportsFault (checked registrations items) (fault_of_error error)
 unfolding checked
 error_is_reported registrations items (errors.Fault f) fails = ap (checked_by (classes_of items)) fails
 error_is_reported registrations items errors.NoMemory fails = tt
 
 -- and so what is returned
-pub reported_if_err : {T : Type 0} (r : Result T CheckFault) (why : CheckFault) (answer : Result Module ScriptFault) (P : T → Type 0) → IsErrAnd r (λ fault. fault ≡ why) → Reports answer why → MatchResult r P (λ fault. Reports answer fault)
+pub reported_if_err : {T : Type 0} (r : Result T CheckFault) (why : CheckFault) (answer : Result Module ScriptFault) (P : T → Type 0) → IsErrAnd r (λ fault. fault ≡ why) → ReportsFault answer why → MatchResult r P (λ fault. ReportsFault answer fault)
 reported_if_err (Ok done) why answer P is reports = absurd is
-reported_if_err (Err fault) why answer P is reports = subst (λ f. Reports answer f) (sym is) reports
+reported_if_err (Err fault) why answer P is reports = subst (λ f. ReportsFault answer f) (sym is) reports
 
 -- where no rule is broken and no class reaches itself, the typed module
 pub typed_is_checked : (registrations : List Registration) (items : List Item) (typed : Module) → check_module registrations items ≡ Ok typed → reported_cycle (classes_of items) ≡ None → checked registrations items ≡ Ok typed
@@ -49,11 +49,11 @@ cycle_is_reported registrations items typed first others fine some = ap (checked
 
 -- what refers, and what is referred to, is a class
 
-pub path_begins_within : (classes : List Class) (from : ℕ) (between : List ℕ) (to : ℕ) → IsPath (Refers classes) from between to → from < length classes
+pub path_begins_within : (classes : List Class) (from : ℕ) (between : List ℕ) (to : ℕ) → IsPath (DeclaredClassRefers classes) from between to → from < length classes
 path_begins_within classes from [] to path = slice_get_within classes from path.2.0 path.2.1
 path_begins_within classes from (next ∷ between) to path = slice_get_within classes from path.0.2.0 path.0.2.1
 
-pub path_is_within : (classes : List Class) (from : ℕ) (between : List ℕ) (to : ℕ) → IsPath (Refers classes) from between to → (k d : ℕ) → k < length between → get_or between k d < length classes
+pub path_is_within : (classes : List Class) (from : ℕ) (between : List ℕ) (to : ℕ) → IsPath (DeclaredClassRefers classes) from between to → (k d : ℕ) → k < length between → get_or between k d < length classes
 path_is_within classes from [] to path k d past = absurd (omega arith)
 path_is_within classes from (next ∷ between) to path zero d here = slice_get_within classes next path.0.0 path.0.1
 path_is_within classes from (next ∷ between) to path (suc k) d after = path_is_within classes next between to path.1 k d (omega (arith, after))
@@ -77,15 +77,15 @@ one_more_name classes names name places i d within is =
 is_among : (classes : List Class) (place : ℕ) (class : Class) → slice_get classes place ≡ Some class → Contains classes class
 is_among classes place class at = (place, slice_get_within classes place class at, get_or_from_slice_get classes place class class at)
 
-holds_named : (classes : List Class) (from to : ℕ) → Refers classes from to → HoldsNamed classes (name_at classes from) (name_at classes to)
+holds_named : (classes : List Class) (from to : ℕ) → DeclaredClassRefers classes from to → HoldsNamed classes (name_at classes from) (name_at classes to)
 holds_named classes from to refers =
     let other = refers.0 in
     let one = refers.2.0 in
     (one, other, is_among classes from one refers.2.1, sym (name_is classes from one refers.2.1), is_among classes to other refers.1, sym (name_is classes to other refers.1), refers.2.2)
 
-leads_to : (classes : List Class) (from : ℕ) (between : List ℕ) (to : ℕ) → IsPath (Refers classes) from between to → LeadsTo classes (name_at classes from) (map (name_at classes) between) (name_at classes to)
+leads_to : (classes : List Class) (from : ℕ) (between : List ℕ) (to : ℕ) → IsPath (DeclaredClassRefers classes) from between to → LeadsTo classes (name_at classes from) (map (name_at classes) between) (name_at classes to)
 leads_to classes from [] to path = holds_named classes from to path
 leads_to classes from (next ∷ between) to path = (holds_named classes from next path.0, leads_to classes next between to path.1)
 
-pub named_cycle : (classes : List Class) (first : ℕ) (others : List ℕ) → IsPath (Refers classes) first others first → IsNamedCycle classes (names_of_cycle classes (first, others))
+pub named_cycle : (classes : List Class) (first : ℕ) (others : List ℕ) → IsPath (DeclaredClassRefers classes) first others first → IsNamedCycle classes (names_of_cycle classes (first, others))
 named_cycle classes first others path = leads_to classes first others first path

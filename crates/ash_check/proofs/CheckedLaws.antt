@@ -3,17 +3,17 @@ use Rattle.std.proofs.Common.{◌≡◌, ℕ, List, length, Ok}
 use Rattle.ash_registrations.specs.Registrations.{Registration}
 use Rattle.ash_tree.specs.Tree.{Item}
 use Rattle.ash_typed.specs.Modules.{Module}
-use Rattle.ash_typing.specs.Items.{check_module}
+use Rattle.ash_typing.specs.ItemRules.{check_module}
 use Rattle.ash_typing.specs.Nesting.{ItemsDeclareInBlocks}
 use Rattle.ash_typing.proofs.ModuleLaws.{check_module-exact}
 use Rattle.ash_typing.proofs.SoundnessModules.{module_sound}
-use Rattle.ash_classes.specs.References.{Refers, classes_of}
-use Rattle.ash_classes.specs.Paths.{AreRanks}
+use Rattle.ash_classes.specs.ClassReferences.{DeclaredClassRefers, classes_of}
+use Rattle.ash_classes.specs.Paths.{AreRanksAlong}
 use Rattle.ash_ranks.proofs.RankLaws.{typed_ranks}
 use Rattle.ash_check.specs.CheckedModules.{IsChecked}
 
 -- what is typed is sound, and ranks of the written classes are ranks of the typed ones
-pub is_checked : (registrations : List Registration) (items : List Item) (typed : Module) (ranks : List ℕ) → ItemsDeclareInBlocks items → check_module registrations items ≡ Ok typed → AreRanks (Refers (classes_of items)) (length (classes_of items)) ranks → IsChecked registrations typed ranks
+pub is_checked : (registrations : List Registration) (items : List Item) (typed : Module) (ranks : List ℕ) → ItemsDeclareInBlocks items → check_module registrations items ≡ Ok typed → AreRanksAlong (DeclaredClassRefers (classes_of items)) (length (classes_of items)) ranks → IsChecked registrations typed ranks
 is_checked registrations items typed ranks nested walked are =
     let by_rules = (check_module-exact registrations items typed).0 walked in
     record {

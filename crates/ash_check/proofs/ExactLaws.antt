@@ -5,10 +5,10 @@ use Rattle.ash_tree.specs.Tree.{Class, Item}
 use Rattle.ash_typed.specs.Modules.{Module}
 use Rattle.ash_typing.specs.declared.fault.Fault.{Fault}
 use Rattle.ash_typing.specs.TypingResult.{TypingResult}
-use Rattle.ash_typing.specs.Items.{check_module}
+use Rattle.ash_typing.specs.ItemRules.{check_module}
 use Rattle.ash_typing.specs.TypedModules.{IsTyped}
 use Rattle.ash_typing.proofs.ModuleLaws.{check_module-exact}
-use Rattle.ash_classes.specs.References.{Refers, classes_of}
+use Rattle.ash_classes.specs.ClassReferences.{DeclaredClassRefers, classes_of}
 use Rattle.ash_classes.specs.ReportedCycle.{reported_cycle}
 use Rattle.ash_classes.specs.Paths.{IsReportedCycle, Reaches}
 use Rattle.ash_classes.proofs.CycleSearches.{reported_is, none_is_reported}
@@ -43,16 +43,16 @@ typed_accepted : (registrations : List Registration) (items : List Item) (typed 
 unfolding checked
 typed_accepted registrations items typed h = by_accepted (classes_of items) (check_module registrations items) typed h
 
-pub accepted_is : (registrations : List Registration) (items : List Item) (typed : Module) → (checked registrations items ≡ Ok typed) ↔ (IsTyped registrations items typed × ((class : ℕ) → Reaches (Refers (classes_of items)) class class → ⊥))
+pub accepted_is : (registrations : List Registration) (items : List Item) (typed : Module) → (checked registrations items ≡ Ok typed) ↔ (IsTyped registrations items typed × ((class : ℕ) → Reaches (DeclaredClassRefers (classes_of items)) class class → ⊥))
 accepted_is registrations items typed = (go, back)
   where
-    go : checked registrations items ≡ Ok typed → IsTyped registrations items typed × ((class : ℕ) → Reaches (Refers (classes_of items)) class class → ⊥)
+    go : checked registrations items ≡ Ok typed → IsTyped registrations items typed × ((class : ℕ) → Reaches (DeclaredClassRefers (classes_of items)) class class → ⊥)
     go h =
         let t = typed_accepted registrations items typed h in
         let is : IsTyped registrations items typed = (check_module-exact registrations items typed).0 t.0 in
         (is, (none_is_reported (classes_of items)).0 t.1)
 
-    back : IsTyped registrations items typed × ((class : ℕ) → Reaches (Refers (classes_of items)) class class → ⊥) → checked registrations items ≡ Ok typed
+    back : IsTyped registrations items typed × ((class : ℕ) → Reaches (DeclaredClassRefers (classes_of items)) class class → ⊥) → checked registrations items ≡ Ok typed
     back h = typed_is_checked registrations items typed ((check_module-exact registrations items typed).1 h.0) ((none_is_reported (classes_of items)).1 h.1)
 
 -- what is refused for a cycle
@@ -73,36 +73,36 @@ unfolding checked
 typed_cyclic registrations items names h = by_cyclic (classes_of items) (check_module registrations items) names h
 
 -- by the cycle that is returned
-pub cycle_is : (registrations : List Registration) (items : List Item) (names : List (List ℕ)) → (checked registrations items ≡ Err (Cyclic names)) ↔ ((typed : Module) × (first : ℕ) × (others : List ℕ) × IsTyped registrations items typed × IsReportedCycle (Refers (classes_of items)) first others × (names ≡ names_of_cycle (classes_of items) (first, others)))
+pub cycle_is : (registrations : List Registration) (items : List Item) (names : List (List ℕ)) → (checked registrations items ≡ Err (Cyclic names)) ↔ ((typed : Module) × (first : ℕ) × (others : List ℕ) × IsTyped registrations items typed × IsReportedCycle (DeclaredClassRefers (classes_of items)) first others × (names ≡ names_of_cycle (classes_of items) (first, others)))
 cycle_is registrations items names = (go, back)
   where
-    go : checked registrations items ≡ Err (Cyclic names) → (typed : Module) × (first : ℕ) × (others : List ℕ) × IsTyped registrations items typed × IsReportedCycle (Refers (classes_of items)) first others × (names ≡ names_of_cycle (classes_of items) (first, others))
+    go : checked registrations items ≡ Err (Cyclic names) → (typed : Module) × (first : ℕ) × (others : List ℕ) × IsTyped registrations items typed × IsReportedCycle (DeclaredClassRefers (classes_of items)) first others × (names ≡ names_of_cycle (classes_of items) (first, others))
     go h =
         let t = typed_cyclic registrations items names h in
         let is : IsTyped registrations items t.0 = (check_module-exact registrations items t.0).0 t.1 in
         (t.0, (t.2).0, (t.2).1, is, (reported_is (classes_of items) (t.2).0 (t.2).1).0 t.3, t.4)
 
-    back : (typed : Module) × (first : ℕ) × (others : List ℕ) × IsTyped registrations items typed × IsReportedCycle (Refers (classes_of items)) first others × (names ≡ names_of_cycle (classes_of items) (first, others)) → checked registrations items ≡ Err (Cyclic names)
+    back : (typed : Module) × (first : ℕ) × (others : List ℕ) × IsTyped registrations items typed × IsReportedCycle (DeclaredClassRefers (classes_of items)) first others × (names ≡ names_of_cycle (classes_of items) (first, others)) → checked registrations items ≡ Err (Cyclic names)
     back h =
         let found : reported_cycle (classes_of items) ≡ Some (h.1, h.2) = (reported_is (classes_of items) h.1 h.2).1 h.4 in
         cycle_is_reported registrations items h.0 h.1 h.2 ((check_module-exact registrations items h.0).1 h.3) found ∙ ap (λ ns. Err (Cyclic ns)) (sym h.5)
 
-some_cycle : (classes : List Class) (path : Option (ℕ × List ℕ)) → reported_cycle classes ≡ path → (class : ℕ) → Reaches (Refers classes) class class → (cycle : ℕ × List ℕ) × (reported_cycle classes ≡ Some cycle)
+some_cycle : (classes : List Class) (path : Option (ℕ × List ℕ)) → reported_cycle classes ≡ path → (class : ℕ) → Reaches (DeclaredClassRefers classes) class class → (cycle : ℕ × List ℕ) × (reported_cycle classes ≡ Some cycle)
 some_cycle classes None h class reaches = absurd ((none_is_reported classes).0 h class reaches)
 some_cycle classes (Some cycle) h class reaches = (cycle, h)
 
 -- by the rules
-pub cyclic_is : (registrations : List Registration) (items : List Item) → ((names : List (List ℕ)) × (checked registrations items ≡ Err (Cyclic names))) ↔ ((typed : Module) × (class : ℕ) × IsTyped registrations items typed × Reaches (Refers (classes_of items)) class class)
+pub cyclic_is : (registrations : List Registration) (items : List Item) → ((names : List (List ℕ)) × (checked registrations items ≡ Err (Cyclic names))) ↔ ((typed : Module) × (class : ℕ) × IsTyped registrations items typed × Reaches (DeclaredClassRefers (classes_of items)) class class)
 cyclic_is registrations items = (go, back)
   where
-    go : (names : List (List ℕ)) × (checked registrations items ≡ Err (Cyclic names)) → (typed : Module) × (class : ℕ) × IsTyped registrations items typed × Reaches (Refers (classes_of items)) class class
+    go : (names : List (List ℕ)) × (checked registrations items ≡ Err (Cyclic names)) → (typed : Module) × (class : ℕ) × IsTyped registrations items typed × Reaches (DeclaredClassRefers (classes_of items)) class class
     go h = let k = (cycle_is registrations items h.0).0 h.1 in (k.0, k.1, k.3, (k.2, (k.4).cycle.path))
 
-    back : (typed : Module) × (class : ℕ) × IsTyped registrations items typed × Reaches (Refers (classes_of items)) class class → (names : List (List ℕ)) × (checked registrations items ≡ Err (Cyclic names))
+    back : (typed : Module) × (class : ℕ) × IsTyped registrations items typed × Reaches (DeclaredClassRefers (classes_of items)) class class → (names : List (List ℕ)) × (checked registrations items ≡ Err (Cyclic names))
     back h =
         let classes = classes_of items in
         let r = some_cycle classes (reported_cycle classes) refl h.1 h.3 in
-        let foremost : IsReportedCycle (Refers classes) (r.0).0 (r.0).1 = (reported_is classes (r.0).0 (r.0).1).0 r.1 in
+        let foremost : IsReportedCycle (DeclaredClassRefers classes) (r.0).0 (r.0).1 = (reported_is classes (r.0).0 (r.0).1).0 r.1 in
         (names_of_cycle classes r.0, (cycle_is registrations items (names_of_cycle classes r.0)).1 (h.0, (r.0).0, (r.0).1, h.2, foremost, refl))
 
 -- what is refused for a rule that is broken

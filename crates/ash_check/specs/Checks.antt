@@ -8,8 +8,8 @@ use Rattle.ash_tree.specs.Tree.{Class, Item}
 use Rattle.ash_typing.specs.declared.fault.Fault.{Fault}
 use Rattle.ash_typing.specs.TypingResult.{TypingResult}
 use Rattle.ash_typed.specs.Modules.{Module}
-use Rattle.ash_typing.specs.Items.{check_module}
-use Rattle.ash_classes.specs.References.{RefersTo, classes_of}
+use Rattle.ash_typing.specs.ItemRules.{check_module}
+use Rattle.ash_classes.specs.ClassReferences.{RefersTo, classes_of}
 use Rattle.ash_classes.specs.ReportedCycle.{reported_cycle}
 use Rattle.ash_check.specs.declared.faults.CheckFault.{CheckFault}
 use Rattle.ash_check.specs.declared.faults.CheckFault.TheVariants as faults
@@ -56,8 +56,8 @@ IsReportedFault None answer = Unit {0}
 IsReportedFault (Some why) answer = answer ≡ Err why
 
 -- checking finds this fault, unless the fault says nothing of the script
-abbrev pub Reports : Result Module ScriptFault → CheckFault → Type 0
-Reports answer fault = IsReportedFault (script_fault_of fault) answer
+abbrev pub ReportsFault : Result Module ScriptFault → CheckFault → Type 0
+ReportsFault answer fault = IsReportedFault (script_fault_of fault) answer
 
 -- a cycle as a reader of the script follows it
 

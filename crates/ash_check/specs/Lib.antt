@@ -1,4 +1,4 @@
-pub mod Faults
+pub mod CheckFaults
 pub mod WalkViews
 pub mod Checks
 pub mod CheckedModules

@@ -6,12 +6,12 @@ use Rattle.std.specs.declared.alloc.Global.{Global}
 use Rattle.ash_registrations.specs.declared.registrations.Registrations.{Registrations}
 use Rattle.ash_registrations.specs.Registered.{registered}
 use Rattle.ash_registrations.specs.Registrations as host
-use Rattle.ash_tree.specs.Views.{parameter_of, stmt_of}
+use Rattle.ash_tree.specs.TreeViews.{parameter_of, stmt_of}
 use Rattle.ash_tree.specs.Tree as written
 use Rattle.ash_typing.specs.TypingResult.{TypingResult, ◌>>=◌}
 use Rattle.ash_typing.specs.Environment.{Environment, inside}
-use Rattle.ash_typing.specs.Items.{Names, Row, Signatures, Listed, Members, Walked, no_members, check_members}
-use Rattle.ash_typing.specs.Items.{class_of_members}
+use Rattle.ash_typing.specs.ItemRules.{Names, Row, InterfaceMembers, Listed, Members, Walked, no_members, check_members}
+use Rattle.ash_typing.specs.ItemRules.{class_of_members}
 use Rattle.ash_typed.specs.Modules.{Implementation, Class, variables_of, signature_of, implementation_of, class_of}
 use Rattle.ash_typed.specs.Modules.{module_of}
 use Rattle.ash_typed.specs.declared.tree.items.Variables as variables
@@ -41,7 +41,7 @@ routine_of c = record {
 
 -- the methods of an interface so far, and the interfaces that a class lists so far
 
-abbrev pub interface_parts_of : interface_parts.InterfaceParts → Signatures
+abbrev pub interface_parts_of : interface_parts.InterfaceParts → InterfaceMembers
 interface_parts_of ss = record { names = names_of ss.names; methods = map signature_of ss.methods.items }
 
 abbrev pub listed_interfaces_of : listed_interfaces.ListedInterfaces → Listed

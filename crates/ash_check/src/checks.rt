@@ -5,19 +5,19 @@ ghost use Rattle.std.specs.Prelude.{All, IfOk};
 ghost use Rattle.std.specs.Prelude.{IfErr, OnOk, MatchResult};
 ghost use Rattle.ash_registrations.specs.Registrations.{Registration};
 ghost use Rattle.ash_registrations.specs.Registered as table;
-ghost use Rattle.ash_registry.specs.Registered.{registered};
+ghost use Rattle.ash_registry.specs.RegistryViews.{registered};
 ghost use Rattle.ash_tree.specs.Tree.{Item};
-ghost use Rattle.ash_tree.specs.Views.{module_of as written_module};
+ghost use Rattle.ash_tree.specs.TreeViews.{module_of as written_module};
 ghost use Rattle.ash_typed.specs.Modules as modules;
 ghost use Rattle.ash_typed.specs.Modules.{module_of};
 ghost use Rattle.ash_typing.specs.declared.fault.Fault.{Fault};
-ghost use Rattle.ash_typing.specs.Items as definition;
+ghost use Rattle.ash_typing.specs.ItemRules as definition;
 ghost use Rattle.ash_typing.specs.Nesting.{ItemsDeclareInBlocks};
 ghost use Rattle.ash_typing.specs.TypedModules.{IsTyped};
-ghost use Rattle.ash_classes.specs.References.{Refers, classes_of, borrowed_classes};
-ghost use Rattle.ash_classes.specs.Paths.{IsReportedCycle, Reaches, AreRanks};
+ghost use Rattle.ash_classes.specs.ClassReferences.{DeclaredClassRefers, classes_of, borrowed_classes};
+ghost use Rattle.ash_classes.specs.Paths.{IsReportedCycle, Reaches, AreRanksAlong};
 ghost use Rattle.ash_check.specs.CheckedModules.{IsChecked};
-ghost use Rattle.ash_check.specs.Checks.{Broken, Cyclic, checked, Reports, script_fault_of};
+ghost use Rattle.ash_check.specs.Checks.{Broken, Cyclic, checked, ReportsFault, script_fault_of};
 ghost use Rattle.ash_check.specs.Checks.{name_at, names_of_cycle, IsNamedCycleIfCyclic};
 
 use crate::checked::CheckedScript;
@@ -79,18 +79,19 @@ fn check_against(
     ensures answer { MatchResult result
         (λ done. checked (table.registered registry.now) (written_module script.now)
         ≡ Ok (module_of done.typed))
-        (λ fault. Reports
+        (λ fault. ReportsFault
         (checked (table.registered registry.now) (written_module script.now)) fault) }
     ensures typed { IfOk result (λ done.
         IsTyped (table.registered registry.now) (written_module script.now)
         (module_of done.typed)) }
-    ensures ranks { IfOk result (λ done. AreRanks (Refers (classes_of (written_module script.now)))
+    ensures ranks { IfOk result (λ done.
+        AreRanksAlong (DeclaredClassRefers (classes_of (written_module script.now)))
         (length (classes_of (written_module script.now))) done.ranks) }
     ensures registered { IfOk result (λ done. done.registered ≡ table.registered registry.now) }
     ensures sound { IfOk result
         (λ done. IsChecked (table.registered registry.now) (module_of done.typed) done.ranks) }
     ensures acyclic { OnOk result ((class : ℕ) →
-        Reaches (Refers (classes_of (written_module script.now))) class class → ⊥) }
+        Reaches (DeclaredClassRefers (classes_of (written_module script.now))) class class → ⊥) }
     ensures cycle { IfErr result
         (λ fault. IsNamedCycleIfCyclic
         (classes_of (written_module script.now)) (script_fault_of fault)) }
@@ -124,16 +125,18 @@ pub fn check(
     ensures answer { MatchResult result
         (λ done. checked (registered registry.now) (written_module script.now)
         ≡ Ok (module_of done.typed))
-        (λ fault. Reports (checked (registered registry.now) (written_module script.now)) fault) }
+        (λ fault.
+        ReportsFault (checked (registered registry.now) (written_module script.now)) fault) }
     ensures typed { IfOk result (λ done.
         IsTyped (registered registry.now) (written_module script.now) (module_of done.typed)) }
-    ensures ranks { IfOk result (λ done. AreRanks (Refers (classes_of (written_module script.now)))
+    ensures ranks { IfOk result (λ done.
+        AreRanksAlong (DeclaredClassRefers (classes_of (written_module script.now)))
         (length (classes_of (written_module script.now))) done.ranks) }
     ensures registered { IfOk result (λ done. done.registered ≡ registered registry.now) }
     ensures sound { IfOk result
         (λ done. IsChecked (registered registry.now) (module_of done.typed) done.ranks) }
     ensures acyclic { OnOk result ((class : ℕ) →
-        Reaches (Refers (classes_of (written_module script.now))) class class → ⊥) }
+        Reaches (DeclaredClassRefers (classes_of (written_module script.now))) class class → ⊥) }
     ensures cycle { IfErr result
         (λ fault. IsNamedCycleIfCyclic
         (classes_of (written_module script.now)) (script_fault_of fault)) }
@@ -149,17 +152,17 @@ pub fn check_is_exact()
     ensures accepted { (registrations : List Registration) (items : List Item)
         (typed : modules.Module) →
         (checked registrations items ≡ Ok typed) ↔ (IsTyped registrations items typed ×
-        ((class : ℕ) → Reaches (Refers (classes_of items)) class class → ⊥)) }
+        ((class : ℕ) → Reaches (DeclaredClassRefers (classes_of items)) class class → ⊥)) }
     ensures cyclic { (registrations : List Registration) (items : List Item) →
         ((names : List (List ℕ)) × (checked registrations items ≡ Err (Cyclic names))) ↔
         ((typed : modules.Module) × (class : ℕ) × IsTyped registrations items typed ×
-        Reaches (Refers (classes_of items)) class class) }
+        Reaches (DeclaredClassRefers (classes_of items)) class class) }
     ensures names { (registrations : List Registration) (items : List Item)
         (names : List (List ℕ)) →
         (checked registrations items ≡ Err (Cyclic names)) ↔
         ((typed : modules.Module) × (first : ℕ) × (others : List ℕ) ×
         IsTyped registrations items typed ×
-        IsReportedCycle (Refers (classes_of items)) first others ×
+        IsReportedCycle (DeclaredClassRefers (classes_of items)) first others ×
         (names ≡ names_of_cycle (classes_of items) (first, others))) }
     ensures broken { (registrations : List Registration) (items : List Item) (fault : Fault) →
         (checked registrations items ≡ Err (Broken fault))

@@ -2,7 +2,7 @@
 
 ghost use Rattle.std.specs.Prelude.{◌≡◌};
 ghost use Rattle.ash_check.specs.declared.faults.CheckFault.TheVariants.{NoMemory};
-ghost use Rattle.ash_check.specs.Faults.{code_of, cycle_code, fault_of_error};
+ghost use Rattle.ash_check.specs.CheckFaults.{code_of, cycle_code, fault_of_error};
 
 use ash_environment::CheckError;
 use ash_typing::Fault;

@@ -1,13 +1,13 @@
 //! The interfaces that a class lists, and its methods for theirs.
 
 ghost use Rattle.std.specs.Prelude.{◌≡◌, map, option_map, IfOk};
-ghost use Rattle.ash_tree.specs.Views.{type_name_of};
+ghost use Rattle.ash_tree.specs.TreeViews.{type_name_of};
 ghost use Rattle.ash_typing.specs.Implementations as implementing;
-ghost use Rattle.ash_typing.specs.Items as definition;
+ghost use Rattle.ash_typing.specs.ItemRules as definition;
 ghost use Rattle.ash_typed.specs.Modules.{implementation_of};
 ghost use Rattle.ash_environment.specs.Agreement.{Agrees};
-ghost use Rattle.ash_environment.specs.Views.{function_signature_of, environment_of};
-ghost use Rattle.ash_environment.specs.Views.{placed_function};
+ghost use Rattle.ash_environment.specs.EnvironmentViews.{function_signature_of, environment_of};
+ghost use Rattle.ash_environment.specs.EnvironmentViews.{placed_function};
 ghost use Rattle.ash_check.specs.WalkViews.{optional_places, listed_interfaces_of};
 
 use crate::names::Names;
@@ -144,7 +144,7 @@ pub(crate) struct ListedInterfaces<'a> {
 }
 
 /// Checks one of the interfaces that the class of this place lists, after those so far.
-#[tactic(auto, unfolding(ash_typing::specs::Items::check_listed))]
+#[tactic(auto, unfolding(ash_typing::specs::ItemRules::check_listed))]
 fn check_listed<'a>(
     env: &Environment,
     class: usize,

@@ -1,4 +1,4 @@
-//! How much a module may declare. The rules of typing have the same limits (`ash_typed/specs/Limits.antt`).
+//! How much a module may declare. The rules of typing have the same limits (`ash_typed/specs/ModuleLimits.antt`).
 
 /// How many classes and interfaces a module has at most.
 pub const MAX_MODULE_TYPES: usize = 256;

@@ -2,16 +2,16 @@
 
 ghost use Rattle.std.specs.Prelude.{◌≡◌, ◌++◌, map, IfOk, OnOk};
 ghost use Rattle.ash_registrations.specs.Registered.{registered};
-ghost use Rattle.ash_tree.specs.Views.{vars_of, parameter_of, function_of as written_function};
-ghost use Rattle.ash_tree.specs.Views.{member_of};
-ghost use Rattle.ash_tree.specs.Views.{type_name_of, interface_method_of};
-ghost use Rattle.ash_tree.specs.Views.{interface_of as written_interface};
-ghost use Rattle.ash_tree.specs.Views.{class_of as written_class, item_of, module_of};
+ghost use Rattle.ash_tree.specs.TreeViews.{vars_of, parameter_of, function_of as written_function};
+ghost use Rattle.ash_tree.specs.TreeViews.{member_of};
+ghost use Rattle.ash_tree.specs.TreeViews.{type_name_of, interface_method_of};
+ghost use Rattle.ash_tree.specs.TreeViews.{interface_of as written_interface};
+ghost use Rattle.ash_tree.specs.TreeViews.{class_of as written_class, item_of, module_of};
 ghost use Rattle.ash_tree.specs.Items as by_kind;
 ghost use Rattle.ash_typing.specs.ModuleDeclarations as definition;
-ghost use Rattle.ash_environment.specs.Views.{binding_of, function_signature_of};
-ghost use Rattle.ash_environment.specs.Views.{interface_signature_of, class_signature_of};
-ghost use Rattle.ash_environment.specs.Views.{signatures_of};
+ghost use Rattle.ash_environment.specs.EnvironmentViews.{binding_of, function_signature_of};
+ghost use Rattle.ash_environment.specs.EnvironmentViews.{interface_signature_of, class_signature_of};
+ghost use Rattle.ash_environment.specs.EnvironmentViews.{signatures_of};
 
 use crate::type_names::type_names;
 use ash_environment::{

@@ -1,11 +1,11 @@
 //! The names that types have in a module: its interfaces and its classes.
 
 ghost use Rattle.std.specs.Prelude.{◌≡◌, map, IfOk};
-ghost use Rattle.ash_tree.specs.Views.{item_of};
+ghost use Rattle.ash_tree.specs.TreeViews.{item_of};
 ghost use Rattle.ash_tree.specs.Items as by_kind;
 ghost use Rattle.ash_typing.specs.ModuleDeclarations as definition;
-ghost use Rattle.ash_environment.specs.Views.{interface_signature_of, class_signature_of};
-ghost use Rattle.ash_environment.specs.Views.{signatures_of};
+ghost use Rattle.ash_environment.specs.EnvironmentViews.{interface_signature_of, class_signature_of};
+ghost use Rattle.ash_environment.specs.EnvironmentViews.{signatures_of};
 
 use ash_environment::{ClassSignature, InterfaceSignature, Signatures};
 use ash_tree::Item;

@@ -5,9 +5,9 @@ use Rattle.std.proofs.Common.{inl, inr, refl, sym, ap₂, subst, subst₂, arith
 use Rattle.std.proofs.lemmas.List.{length-map}
 use Rattle.std.proofs.lemmas.Option.{slice_get_within}
 use Rattle.ash_tree.specs.Tree.{Class}
-use Rattle.ash_classes.specs.Paths.{IsPath, Reaches, IsNoLater, IsForemost, IsReportedCycle, AreRanks}
+use Rattle.ash_classes.specs.Paths.{IsPath, Reaches, IsNoLater, IsForemost, IsReportedCycle, AreRanksAlong}
 use Rattle.ash_classes.specs.Marking.{rows_of, Goes, AreWithin}
-use Rattle.ash_classes.specs.References.{Refers}
+use Rattle.ash_classes.specs.ClassReferences.{DeclaredClassRefers}
 
 same_path : (R Q : ℕ → ℕ → Type 0) → ((from to : ℕ) → R from to → Q from to) → (from : ℕ) (between : List ℕ) (to : ℕ)
     → IsPath R from between to → IsPath Q from between to
@@ -15,7 +15,7 @@ same_path R Q there from [] to path = there from to path
 same_path R Q there from (next ∷ between) to path = (there from next path.0, same_path R Q there next between to path.1)
 
 pub same_ranks : (R Q : ℕ → ℕ → Type 0) (places : ℕ) (ranks : List ℕ) → ((from to : ℕ) → R from to ↔ Q from to)
-    → AreRanks R places ranks → AreRanks Q places ranks
+    → AreRanksAlong R places ranks → AreRanksAlong Q places ranks
 same_ranks R Q places ranks same h =
     record { count = h.count; within = h.within; greater = λ from to q. h.greater from to ((same from to).1 q) }
 
@@ -68,7 +68,7 @@ only_cycle R first others h a bs k =
 
 -- whoever refers to a class is a class
 pub rows_within : (classes : List Class) (table : List (Vec ℕ Global)) → length table ≡ length classes
-    → ((from to : ℕ) → Goes (rows_of table) from to ↔ Refers classes from to) → AreWithin (rows_of table)
+    → ((from to : ℕ) → Goes (rows_of table) from to ↔ DeclaredClassRefers classes from to) → AreWithin (rows_of table)
 rows_within classes table long same = λ from to goes.
     let r = (same from to).0 goes in
     let l : from < length classes = slice_get_within classes from r.2.0 r.2.1 in
@@ -76,11 +76,11 @@ rows_within classes table long same = λ from to goes.
 
 -- what was read holds of the classes of the script
 pub same_rows : (table read : List (Vec ℕ Global)) (seen_classes classes : List Class) → read ≡ table
-    → seen_classes ≡ classes → ((from to : ℕ) → Goes (rows_of table) from to ↔ Refers seen_classes from to)
-    → (from to : ℕ) → Goes (rows_of read) from to ↔ Refers classes from to
+    → seen_classes ≡ classes → ((from to : ℕ) → Goes (rows_of table) from to ↔ DeclaredClassRefers seen_classes from to)
+    → (from to : ℕ) → Goes (rows_of read) from to ↔ DeclaredClassRefers classes from to
 same_rows table read seen_classes classes d e h =
     λ from to. subst₂
-    (λ (t : List (Vec ℕ Global)) (cs : List Class). Goes (rows_of t) from to ↔ Refers cs from to) (sym d) e (h from to)
+    (λ (t : List (Vec ℕ Global)) (cs : List Class). Goes (rows_of t) from to ↔ DeclaredClassRefers cs from to) (sym d) e (h from to)
 
 pub in_ok : {T E : Type 0} (r : Result T E) (P Q : T → Type 0) → ((x : T) → P x → Q x) → IfOk r P → IfOk r Q
 in_ok (Ok x) P Q f h = f x h

@@ -11,7 +11,7 @@ use Rattle.std.specs.Option.{option_or}
 use Rattle.ash_tree.specs.Tree.{Element, PrimElement, HandleElement, Named, Prim, Object, Handle, Array, ArrayHandle}
 use Rattle.ash_tree.specs.Tree.{Member, AField, AMethod, AConstructor, Class}
 use Rattle.ash_classes.specs.Paths.{IsPath, Reaches, IsNoLater, IsForemost, IsReportedCycle}
-use Rattle.ash_classes.specs.References.{IsOf, ElementNames, Names, Holds, RefersTo, Refers}
+use Rattle.ash_classes.specs.ClassReferences.{IsOf, ElementNames, NamesClass, MemberHolds, RefersTo, DeclaredClassRefers}
 use Rattle.ash_classes.specs.ReportedCycle.{is_of, element_names, names, holds, refers_to, refers, refers_at}
 use Rattle.ash_classes.specs.ReportedCycle.{first_below}
 use Rattle.ash_classes.specs.ReportedCycle.{foremost, shortest_back, first_cycle, reported_cycle}
@@ -204,20 +204,20 @@ element-Decides : (class : Class) (element : Element)
 element-Decides class (PrimElement place kind) = (λ h. cc, λ h. absurd h)
 element-Decides class (HandleElement place name) = of-Decides class name
 
-type-Decides : (class : Class) (of : Named) → Decides (names class of) (Names of class)
+type-Decides : (class : Class) (of : Named) → Decides (names class of) (NamesClass of class)
 type-Decides class (Prim place kind) = (λ h. cc, λ h. absurd h)
 type-Decides class (Object place name) = of-Decides class name
 type-Decides class (Handle place name) = of-Decides class name
 type-Decides class (Array place element) = element-Decides class element
 type-Decides class (ArrayHandle place element) = element-Decides class element
 
-member-Decides : (class : Class) (member : Member) → Decides (holds class member) (Holds member class)
+member-Decides : (class : Class) (member : Member) → Decides (holds class member) (MemberHolds member class)
 member-Decides class (AField vars) = type-Decides class vars.of
 member-Decides class (AMethod function) = (λ h. cc, λ h. absurd h)
 member-Decides class (AConstructor constructor) = (λ h. cc, λ h. absurd h)
 
 pub refers_to-Decides : (from to : Class) → Decides (refers_to from to) (RefersTo from to)
-refers_to-Decides from to = any-Decides (holds to) (λ member. Holds member to) (member-Decides to) from.members
+refers_to-Decides from to = any-Decides (holds to) (λ member. MemberHolds member to) (member-Decides to) from.members
 
 -- classes that are there refer to one another
 abbrev ReferThere : Option Class → Option Class → Type 0
@@ -235,35 +235,35 @@ refers-Decides (Some from) (Some to) = (
 )
 
 pub refers_at-Decides : (classes : List Class) (from to : ℕ)
-    → Decides (refers_at classes from to) (Refers classes from to)
+    → Decides (refers_at classes from to) (DeclaredClassRefers classes from to)
 refers_at-Decides classes from to = refers-Decides (slice_get classes from) (slice_get classes to)
 
-place_within : (classes : List Class) (from to : ℕ) → Refers classes from to → to < length classes
+place_within : (classes : List Class) (from to : ℕ) → DeclaredClassRefers classes from to → to < length classes
 place_within classes from to h = slice_get_within classes to h.0 h.1
 
 -- what the search finds is what is reported
 
 pub cycle_if_some : (classes : List Class) (first : ℕ) (others : List ℕ) → reported_cycle classes ≡ Some (first, others)
-    → IsReportedCycle (Refers classes) first others
+    → IsReportedCycle (DeclaredClassRefers classes) first others
 cycle_if_some classes =
-    cycle_some (Refers classes) (refers_at classes) (length classes) (refers_at-Decides classes) (place_within classes)
+    cycle_some (DeclaredClassRefers classes) (refers_at classes) (length classes) (refers_at-Decides classes) (place_within classes)
 
 pub acyclic_if_none : (classes : List Class) → reported_cycle classes ≡ None → (class : ℕ)
-    → Reaches (Refers classes) class class → ⊥
+    → Reaches (DeclaredClassRefers classes) class class → ⊥
 acyclic_if_none classes =
-    cycle_none (Refers classes) (refers_at classes) (length classes) (refers_at-Decides classes) (place_within classes)
+    cycle_none (DeclaredClassRefers classes) (refers_at classes) (length classes) (refers_at-Decides classes) (place_within classes)
 
-pub some_if_cycle : (classes : List Class) (first : ℕ) (others : List ℕ) → IsReportedCycle (Refers classes) first others
+pub some_if_cycle : (classes : List Class) (first : ℕ) (others : List ℕ) → IsReportedCycle (DeclaredClassRefers classes) first others
     → reported_cycle classes ≡ Some (first, others)
 some_if_cycle classes first others reported = elim (none_or_some (reported_cycle classes)) [
   | inl none ↦ absurd (acyclic_if_none classes none first (others, reported.cycle.path))
   | inr some ↦
-      let same = only_cycle (Refers classes) first others reported some.0.0 some.0.1
+      let same = only_cycle (DeclaredClassRefers classes) first others reported some.0.0 some.0.1
       (cycle_if_some classes some.0.0 some.0.1 some.1) in
       some.1 ∙ ap (λ (n : ℕ). Some (n, some.0.1)) same.0 ∙ ap (λ (ns : List ℕ). Some (first, ns)) same.1
 ]
 
-pub none_if_acyclic : (classes : List Class) → ((class : ℕ) → Reaches (Refers classes) class class → ⊥)
+pub none_if_acyclic : (classes : List Class) → ((class : ℕ) → Reaches (DeclaredClassRefers classes) class class → ⊥)
     → reported_cycle classes ≡ None
 none_if_acyclic classes acyclic = elim (none_or_some (reported_cycle classes)) [
   | inl none ↦ none
@@ -271,9 +271,9 @@ none_if_acyclic classes acyclic = elim (none_or_some (reported_cycle classes)) [
 ]
 
 pub reported_is : (classes : List Class) (first : ℕ) (others : List ℕ)
-    → (reported_cycle classes ≡ Some (first, others)) ↔ IsReportedCycle (Refers classes) first others
+    → (reported_cycle classes ≡ Some (first, others)) ↔ IsReportedCycle (DeclaredClassRefers classes) first others
 reported_is classes first others = (cycle_if_some classes first others, some_if_cycle classes first others)
 
 pub none_is_reported : (classes : List Class)
-    → (reported_cycle classes ≡ None) ↔ ((class : ℕ) → Reaches (Refers classes) class class → ⊥)
+    → (reported_cycle classes ≡ None) ↔ ((class : ℕ) → Reaches (DeclaredClassRefers classes) class class → ⊥)
 none_is_reported classes = (acyclic_if_none classes, none_if_acyclic classes)

@@ -6,7 +6,7 @@ use Rattle.std.proofs.lemmas.Option.{none-some}
 use Rattle.std.proofs.lemmas.List.{get_or_past, get_or_push, length-append, get_or_append_left}
 use Rattle.std.proofs.lemmas.List.Elements.{All-from_get_or}
 use Rattle.std.proofs.lemmas.List.Sums.{sum_by-cons, count_by-le-length}
-use Rattle.ash_classes.specs.Paths.{IsPath, Reaches, AreRanks}
+use Rattle.ash_classes.specs.Paths.{IsPath, Reaches, AreRanksAlong}
 use Rattle.ash_classes.specs.Marking.{Goes, AreWithin, IsAt, AreDistances, unmarked}
 
 -- whoever goes on along a path gets one step farther
@@ -166,7 +166,7 @@ row_of_place rows from to h = elim (cases_lt to (length rows)) [
 
 -- each place has its rank
 pub all_ranked : (rows : List (List ℕ)) (places : ℕ) (ranks : List ℕ) → places ≡ length rows → AreWithin rows
-    → AreRanked (Goes rows) places places ranks → AreRanks (Goes rows) places ranks
+    → AreRanked (Goes rows) places places ranks → AreRanksAlong (Goes rows) places ranks
 all_ranked rows places ranks e within h = record {
   count = h.count;
   within = All-from_get_or (λ rank. rank < places) ranks 0 (λ i lt.

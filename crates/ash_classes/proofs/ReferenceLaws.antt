@@ -9,9 +9,9 @@ use Rattle.std.proofs.lemmas.List.Elements.{Contains-push, Contains-push_cases, 
 use Rattle.std.specs.List.{Any}
 use Rattle.ash_tree.specs.declared.tree.items.Class as code_class
 use Rattle.ash_tree.specs.Tree.{Class}
-use Rattle.ash_tree.specs.Views.{class_of}
+use Rattle.ash_tree.specs.TreeViews.{class_of}
 use Rattle.ash_classes.specs.Marking.{rows_of, Goes}
-use Rattle.ash_classes.specs.References.{RefersTo, RefersAt, Refers, borrowed_classes}
+use Rattle.ash_classes.specs.ClassReferences.{RefersTo, RefersAt, DeclaredClassRefers, borrowed_classes}
 use Rattle.ash_classes.proofs.Searches.{IsAnyOf}
 
 -- a list has one that passes
@@ -82,7 +82,7 @@ row_end classes other i row past h =
 
 pub record AreRowsBefore (classes : List Class) (before : ℕ) (rows : List (List ℕ)) : Type 0 where
   pub count : length rows ≡ before
-  pub each : (from to : ℕ) → Goes rows from to ↔ ((to < before) × Refers classes from to)
+  pub each : (from to : ℕ) → Goes rows from to ↔ ((to < before) × DeclaredClassRefers classes from to)
 
 pub rows_start : (classes : List Class) → AreRowsBefore classes 0 []
 rows_start classes =
@@ -130,7 +130,7 @@ rows_more classes other i rows row at is h = record {
 }
 
 pub rows_end : (classes : List Class) (i : ℕ) (rows : List (List ℕ)) → length classes ≤ i → AreRowsBefore classes i rows
-    → (from to : ℕ) → Goes rows from to ↔ Refers classes from to
+    → (from to : ℕ) → Goes rows from to ↔ DeclaredClassRefers classes from to
 rows_end classes i rows past h =
     λ from to. (
       λ c. ((h.each from to).0 c).1,

@@ -1,4 +1,4 @@
 pub mod Paths
 pub mod Marking
-pub mod References
+pub mod ClassReferences
 pub mod ReportedCycle

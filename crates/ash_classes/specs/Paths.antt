@@ -30,7 +30,7 @@ pub record IsReportedCycle (Goes : ℕ → ℕ → Type 0) (first : ℕ) (others
 
 -- Each place has a rank below the number of places, which is greater than that of each place that one goes to from
 -- there.
-pub record AreRanks (Goes : ℕ → ℕ → Type 0) (places : ℕ) (ranks : List ℕ) : Type 0 where
+pub record AreRanksAlong (Goes : ℕ → ℕ → Type 0) (places : ℕ) (ranks : List ℕ) : Type 0 where
   pub count : length ranks ≡ places
   pub within : All (λ rank. rank < places) ranks
   pub greater : (from to : ℕ) → Goes from to → slice_index ranks to < slice_index ranks from

@@ -2,9 +2,9 @@
 
 ghost use Rattle.std.specs.Prelude.{◌≡◌, ◌↔◌, ℕ, List, Some, None, length, IfOk, IfErr, OnOk};
 ghost use Rattle.ash_tree.specs.Tree.{Class};
-ghost use Rattle.ash_tree.specs.Views.{module_of};
-ghost use Rattle.ash_classes.specs.Paths.{IsReportedCycle, Reaches, AreRanks};
-ghost use Rattle.ash_classes.specs.References.{Refers, classes_of};
+ghost use Rattle.ash_tree.specs.TreeViews.{module_of};
+ghost use Rattle.ash_classes.specs.Paths.{IsReportedCycle, Reaches, AreRanksAlong};
+ghost use Rattle.ash_classes.specs.ClassReferences.{DeclaredClassRefers, classes_of};
 ghost use Rattle.ash_classes.specs.ReportedCycle.{reported_cycle};
 
 use crate::cycles::{Cycle, ranks};
@@ -19,16 +19,16 @@ use std::alloc::{AllocError, Global};
 /// reaches itself by what its fields hold is refused. (AngelScript collects such objects instead.)
 pub fn class_ranks(alloc: Global, script: &Module) -> Result<Result<Vec<usize>, Cycle>, AllocError>
     ensures ranks { IfOk result (λ answer. IfOk answer (λ ranks.
-        AreRanks (Refers (classes_of (module_of script.now)))
+        AreRanksAlong (DeclaredClassRefers (classes_of (module_of script.now)))
         (length (classes_of (module_of script.now))) ranks.items)) }
     ensures acyclic { IfOk result (λ answer.
-        OnOk answer ((class : ℕ) → Reaches (Refers (classes_of (module_of script.now))) class class
-        → ⊥)) }
+        OnOk answer ((class : ℕ)
+        → Reaches (DeclaredClassRefers (classes_of (module_of script.now))) class class → ⊥)) }
     ensures cycle { IfOk result (λ answer. IfErr answer (λ cycle.
-        IsReportedCycle (Refers (classes_of (module_of script.now)))
+        IsReportedCycle (DeclaredClassRefers (classes_of (module_of script.now)))
         cycle.first cycle.others.items)) }
     ensures only { IfOk result (λ answer. IfErr answer (λ cycle. (first : ℕ) (others : List ℕ)
-        → IsReportedCycle (Refers (classes_of (module_of script.now))) first others
+        → IsReportedCycle (DeclaredClassRefers (classes_of (module_of script.now))) first others
         → (first ≡ cycle.first) × (others ≡ cycle.others.items))) }
     ensures reported { IfOk result (λ answer. IfErr answer (λ cycle.
         reported_cycle (classes_of (module_of script.now))
@@ -45,8 +45,8 @@ pub fn class_ranks(alloc: Global, script: &Module) -> Result<Result<Vec<usize>, 
 pub fn search_is_exact()
     ensures reported { (classes : List Class) (first : ℕ) (others : List ℕ)
         → (reported_cycle classes ≡ Some (first, others))
-        ↔ IsReportedCycle (Refers classes) first others }
+        ↔ IsReportedCycle (DeclaredClassRefers classes) first others }
     ensures none { (classes : List Class)
         → (reported_cycle classes ≡ None)
-        ↔ ((class : ℕ) → Reaches (Refers classes) class class → ⊥) }
+        ↔ ((class : ℕ) → Reaches (DeclaredClassRefers classes) class class → ⊥) }
 {}

@@ -1,7 +1,7 @@
 //! Ranks of places, each greater than those of the places that one goes to from there; or a cycle.
 
 ghost use Rattle.std.specs.Prelude.{◌≡◌, ℕ, length, IfOk, IfErr, OnOk};
-ghost use Rattle.ash_classes.specs.Paths.{IsForemost, IsReportedCycle, Reaches, AreRanks};
+ghost use Rattle.ash_classes.specs.Paths.{IsForemost, IsReportedCycle, Reaches, AreRanksAlong};
 ghost use Rattle.ash_classes.specs.Marking.{rows_of, Goes, AreWithin, IsAt, AreDistances};
 ghost use Rattle.ash_classes.specs.Marking.{IsNearest, unmarked};
 
@@ -81,7 +81,7 @@ pub(crate) fn ranks(
 ) -> Result<Result<Vec<usize>, Cycle>, AllocError>
     requires { AreWithin (rows_of referrers.now) }
     ensures ranks { IfOk result (λ answer. IfOk answer (λ ranks.
-        AreRanks (Goes (rows_of referrers.now)) (length referrers.now) ranks.items)) }
+        AreRanksAlong (Goes (rows_of referrers.now)) (length referrers.now) ranks.items)) }
     ensures acyclic { IfOk result (λ answer.
         OnOk answer ((place : ℕ) → Reaches (Goes (rows_of referrers.now)) place place → ⊥)) }
     ensures cycle { IfOk result (λ answer. IfErr answer (λ cycle.

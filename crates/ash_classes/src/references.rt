@@ -2,11 +2,11 @@
 
 ghost use Rattle.std.specs.Prelude.{◌≡◌, ◌↔◌, ℕ, length, map, string_bytes, IsTrue, IfOk, Contains};
 ghost use Rattle.std.specs.List.{Any};
-ghost use Rattle.ash_tree.specs.Views.{element_of, type_of, type_name_of, member_of};
-ghost use Rattle.ash_tree.specs.Views.{class_of, item_of, module_of};
-ghost use Rattle.ash_classes.specs.References.{IsOf, ElementNames, Names, Holds};
-ghost use Rattle.ash_classes.specs.References.{RefersTo, RefersAt, Refers};
-ghost use Rattle.ash_classes.specs.References.{classes_of, borrowed_classes};
+ghost use Rattle.ash_tree.specs.TreeViews.{element_of, type_of, type_name_of, member_of};
+ghost use Rattle.ash_tree.specs.TreeViews.{class_of, item_of, module_of};
+ghost use Rattle.ash_classes.specs.ClassReferences.{IsOf, ElementNames, NamesClass, MemberHolds};
+ghost use Rattle.ash_classes.specs.ClassReferences.{RefersTo, RefersAt, DeclaredClassRefers};
+ghost use Rattle.ash_classes.specs.ClassReferences.{classes_of, borrowed_classes};
 ghost use Rattle.ash_classes.specs.Marking.{rows_of, Goes};
 
 use ash_tree::{Class, Element, ElementKind, Item, Member, Module, Type, TypeKind, TypeName};
@@ -40,7 +40,7 @@ fn element_names(element: &Element, class: &Class) -> bool
 }
 
 fn names(of: &Type, class: &Class) -> bool
-    ensures { IsTrue result ↔ Names (type_of of.now) (class_of class.now) }
+    ensures { IsTrue result ↔ NamesClass (type_of of.now) (class_of class.now) }
 {
     match &of.kind {
         TypeKind::Object(name) | TypeKind::Handle(name) => is_of(class, name),
@@ -50,7 +50,7 @@ fn names(of: &Type, class: &Class) -> bool
 }
 
 fn holds(member: &Member, class: &Class) -> bool
-    ensures { IsTrue result ↔ Holds (member_of member.now) (class_of class.now) }
+    ensures { IsTrue result ↔ MemberHolds (member_of member.now) (class_of class.now) }
 {
     match member {
         Member::Vars(vars) => names(&vars.of, class),
@@ -60,7 +60,7 @@ fn holds(member: &Member, class: &Class) -> bool
 
 fn any_holds(members: &[Member], class: &Class) -> bool
     ensures { IsTrue result
-        ↔ Any (λ member. Holds member (class_of class.now)) (map member_of members.now) }
+        ↔ Any (λ member. MemberHolds member (class_of class.now)) (map member_of members.now) }
 {
     for member in members {
         if holds(member, class) {
@@ -108,7 +108,8 @@ fn row_of(alloc: Global, classes: &[&Class], to: &Class) -> Result<Vec<usize>, A
 pub(crate) fn referrers(alloc: Global, classes: &[&Class]) -> Result<Vec<Vec<usize>>, AllocError>
     ensures places { IfOk result (λ rows. length rows.items ≡ length classes.now) }
     ensures rows { IfOk result (λ rows. (from to : ℕ)
-        → Goes (rows_of rows.items) from to ↔ Refers (borrowed_classes classes.now) from to) }
+        → Goes (rows_of rows.items) from to
+        ↔ DeclaredClassRefers (borrowed_classes classes.now) from to) }
 {
     let mut rows = Vec::new(alloc);
     for to in classes {

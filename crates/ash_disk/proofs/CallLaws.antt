@@ -4,8 +4,8 @@ use Rattle.std.proofs.Common.{get_or, reverse, take, refl, sym, ◌∙◌, ap, s
 use Rattle.std.proofs.Common.{Result, Ok, Err, OnOk, OnErr, IfOk}
 use Rattle.std.proofs.lemmas.List.{take_all, take_more, take-append-le, reverse-append}
 use Rattle.std.proofs.lemmas.Bool.{cases_lt}
-use Rattle.ash_disk.specs.Image.{after_write, Torn, TornFrom, torn_not}
-use Rattle.ash_disk.specs.Calls.{file_after, synced_after, MayLeave, file_may_stay}
+use Rattle.ash_disk.specs.DiskImage.{after_write, Torn, TornFrom, torn_not}
+use Rattle.ash_disk.specs.DiskCalls.{file_after, synced_after, MayLeave, file_may_stay}
 use Rattle.ash_disk.specs.Moments.{HoldsDuring}
 use Rattle.ash_disk.specs.declared.call.Call.{Call}
 use Rattle.ash_disk.specs.declared.call.Call.TheVariants.{Write, Sync}

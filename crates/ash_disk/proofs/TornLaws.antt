@@ -3,7 +3,7 @@ use Rattle.std.proofs.Common.{◌≡◌, inl, inr, ℕ, ◌+◌, ◌<◌, ◌≤
 use Rattle.std.proofs.Common.{refl, sym, ◌∙◌, ap, subst, arith, append_assoc, length-append, length-drop, length-take}
 use Rattle.std.proofs.Common.{take-append-drop}
 use Rattle.std.proofs.lemmas.List.{take_at, drop_at, same_lists, places, get_or-take, get_or_default, drop-drop}
-use Rattle.ash_disk.specs.Image.{bytes_at, after_write, Torn, TornFrom, LeavesOnly}
+use Rattle.ash_disk.specs.DiskImage.{bytes_at, after_write, Torn, TornFrom, LeavesOnly}
 
 -- Two parts make the whole.
 pub parts : (n : ℕ) (file : List ℕ) → file ≡ take n file ++ drop n file

@@ -1,7 +1,7 @@
 -- These definitions say what holds of the disks of one type, and of one disk of it during calls.
 use Rattle.std.specs.Prelude.{◌≡◌, ℕ, List}
 use Rattle.std.specs.Bool.{IsTrue}
-use Rattle.ash_disk.specs.Image.{LeavesOnly}
+use Rattle.ash_disk.specs.DiskImage.{LeavesOnly}
 use Rattle.ash_disk.specs.Moments.{HoldsDuring, EveryMoment}
 use Rattle.ash_disk.specs.declared.disk.Disk.{Ghosts}
 

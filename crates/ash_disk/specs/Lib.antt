@@ -1,8 +1,8 @@
-pub mod Calls
+pub mod DiskCalls
 pub mod Device
 pub mod Failures
 pub mod File
 pub mod Failing
-pub mod Image
+pub mod DiskImage
 pub mod Memory
 pub mod Moments

@@ -1,6 +1,6 @@
 -- These definitions say what a disk in memory shows.
 use Rattle.std.specs.Prelude.{ℕ, List, length, reverse, take}
-use Rattle.ash_disk.specs.Calls.{file_after, synced_after, MayLeave}
+use Rattle.ash_disk.specs.DiskCalls.{file_after, synced_after, MayLeave}
 use Rattle.ash_disk.specs.declared.memory.MemoryDisk.{MemoryDisk}
 
 -- `memory_bytes m` are the bytes that a read gives.

@@ -1,6 +1,6 @@
 //! A write to bytes in memory.
 ghost use Rattle.std.specs.Prelude.{◌≡◌, OnOk, OnErr};
-ghost use Rattle.ash_disk.specs.Image.{after_write};
+ghost use Rattle.ash_disk.specs.DiskImage.{after_write};
 
 use std::alloc::AllocError;
 

@@ -1,7 +1,7 @@
 //! What a crash may leave of a disk in memory, for tests.
 ghost use Rattle.std.specs.Prelude.{◌≡◌, ◌<◌, ◌≤◌, ℕ, length, reverse, slice_index, IfOk, OnOk};
-ghost use Rattle.ash_disk.specs.Calls.{file_after, synced_after, MayLeave};
-ghost use Rattle.ash_disk.specs.Image.{IsOutside, Torn};
+ghost use Rattle.ash_disk.specs.DiskCalls.{file_after, synced_after, MayLeave};
+ghost use Rattle.ash_disk.specs.DiskImage.{IsOutside, Torn};
 
 use crate::bytes::overwrite;
 use crate::call::Call;

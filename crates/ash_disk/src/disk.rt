@@ -1,7 +1,7 @@
 //! The disk model.
 ghost use Rattle.std.specs.Prelude.{◌≡◌, ◌+◌, ◌≤◌, Bool, ℕ, List, length, IsTrue, IfOk, OnOk};
 ghost use Rattle.ash_disk.specs.Failures.{CountsFailure};
-ghost use Rattle.ash_disk.specs.Image.{bytes_at, after_write, Torn, TornFrom, LeavesOnly};
+ghost use Rattle.ash_disk.specs.DiskImage.{bytes_at, after_write, Torn, TornFrom, LeavesOnly};
 ghost use Rattle.ash_disk.specs.Moments.{HoldsDuring};
 
 use crate::DeviceFailed;

@@ -2,7 +2,7 @@
 ghost use Rattle.std.specs.Prelude.{◌≡◌, ◌≤◌, length, IsTrue, OnOk};
 ghost use Rattle.ash_disk.specs.Device.{IsDurable, HoldsThroughout};
 ghost use Rattle.ash_disk.specs.Failures.{CountsFailure};
-ghost use Rattle.ash_disk.specs.Image.{after_write, Torn, TornFrom};
+ghost use Rattle.ash_disk.specs.DiskImage.{after_write, Torn, TornFrom};
 
 use crate::{DeviceFailed, Disk};
 

@@ -2,7 +2,7 @@
 ghost use Rattle.std.specs.Prelude.{◌≡◌, ◌+◌, ◌-◌, ◌≤◌, ◌↔◌};
 ghost use Rattle.std.specs.Prelude.{length, IsTrue, IsErr, IfOk, OnOk};
 ghost use Rattle.ash_disk.specs.Failures.{CountsFailure};
-ghost use Rattle.ash_disk.specs.Image.{bytes_at, after_write, Torn, TornFrom, LeavesOnly};
+ghost use Rattle.ash_disk.specs.DiskImage.{bytes_at, after_write, Torn, TornFrom, LeavesOnly};
 ghost use Rattle.ash_disk.specs.Moments.{HoldsDuring};
 
 use crate::failure::count_failure;

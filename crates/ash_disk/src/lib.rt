@@ -5,7 +5,7 @@
 //! In reading order: `failure` (the one error and its count), `disk` (the trait), `durably` (a write and its sync),
 //! `file` (a file of the system), `failing` (a disk that fails from a chosen call on), `memory` (a disk in memory, with
 //! `call` and `bytes`, what it records and how it writes), `crash` (what a crash may leave of it, for tests). The words
-//! of the clauses are in `specs/Image` (files and torn writes), `specs/Moments` (times) and `specs/Device` (a disk
+//! of the clauses are in `specs/DiskImage` (files and torn writes), `specs/Moments` (times) and `specs/Device` (a disk
 //! during calls, for the crates above, which pass `D.Disk`), and the laws about them in `proofs/TornLaws`,
 //! `proofs/MomentLaws` and `proofs/DeviceLaws`.
 #![tactic(auto)]

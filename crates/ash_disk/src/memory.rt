@@ -2,9 +2,9 @@
 ghost use Rattle.std.specs.Prelude.{◌≡◌, ◌+◌, ◌≤◌, ◌∷◌, ◌++◌, ◌↔◌, []};
 ghost use Rattle.std.specs.Prelude.{if◌then◌else◌, length, reverse, true, ℕ, List};
 ghost use Rattle.std.specs.Prelude.{IfOk, OnOk, OnErr, IsOk, Ok, is_ok};
-ghost use Rattle.ash_disk.specs.Calls.{file_after, listed_may_stay};
+ghost use Rattle.ash_disk.specs.DiskCalls.{file_after, listed_may_stay};
 ghost use Rattle.ash_disk.specs.Failures.{CountsFailure};
-ghost use Rattle.ash_disk.specs.Image.{after_write, bytes_at, Torn, TornFrom, LeavesOnly};
+ghost use Rattle.ash_disk.specs.DiskImage.{after_write, bytes_at, Torn, TornFrom, LeavesOnly};
 ghost use Rattle.ash_disk.specs.Moments.{HoldsDuring};
 
 use crate::bytes::overwrite;

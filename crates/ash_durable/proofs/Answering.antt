@@ -22,10 +22,10 @@ use Rattle.ash_steps.specs.Tasks.{is_callable, arguments_of, max_modules, max_se
 use Rattle.ash_steps.specs.Tasks as tasks
 use Rattle.ash_steps.specs.Steps.{Step, perform, unless_refused, after_load, after_load_with, after_call, after_discard}
 use Rattle.ash_steps.specs.Steps as steps
-use Rattle.ash_plain_steps.specs.StepViews.{IsChange}
+use Rattle.ash_plain_steps.specs.StepViews.{TaskChangesState}
 use Rattle.ash_sources.specs.SourceFaults.{SourceFault}
-use Rattle.ash_states.specs.States.{HostState, embedding_for}
-use Rattle.ash_states.specs.Steps.{Steps, task_of, step, outcome_of, no_hosts}
+use Rattle.ash_states.specs.HostStates.{HostState, embedding_for}
+use Rattle.ash_states.specs.StateSteps.{StateSteps, task_of, step, outcome_of, no_hosts}
 use Rattle.ash_durable.specs.Hosting.{IsAnswer, IsDeviceFailed}
 
 -- ---- options
@@ -81,7 +81,7 @@ leaves_by budget (Err refusal) old hosts one is =
 
 -- where a task changes nothing, it is not answered
 changes_by : (budget : ℕ) (result : TaskResult SourceFault) (old : State) (hosts : Hosts) (one : Step SourceFault)
-    → unless_refused budget result old hosts ≡ Some one → IsAnswer one.reply → IsChange result
+    → unless_refused budget result old hosts ≡ Some one → IsAnswer one.reply → TaskChangesState result
 changes_by budget (Ok (Initialize name source tree)) old hosts one is answers = tt
 changes_by budget (Ok (Invoke loaded tree function args)) old hosts one is answers = tt
 changes_by budget (Ok (Remove name)) old hosts one is answers = tt
@@ -229,7 +229,7 @@ step_of budget request old new reply is =
 
 -- a step that is not an answer leaves the state
 pub leaves : (budget : ℕ) (request : Request) (old new : HostState) (reply : Reply SourceFault)
-    → Steps budget request old reply new → (IsAnswer reply → ⊥) → new ≡ old
+    → StateSteps budget request old reply new → (IsAnswer reply → ⊥) → new ≡ old
 leaves budget request old new reply (inl stepped) not =
     let by = step_of budget request old new reply stepped in
     let same : (by.one).state ≡ old.state =
@@ -240,14 +240,14 @@ leaves budget request old new reply (inr out) not = out.unchanged
 
 -- no request changes what is registered
 pub steps-registered : (budget : ℕ) (request : Request) (old new : HostState) (reply : Reply SourceFault)
-    → Steps budget request old reply new → new.registered ≡ old.registered
+    → StateSteps budget request old reply new → new.registered ≡ old.registered
 steps-registered budget request old new reply (inl stepped) =
     sym (ap (λ (s : HostState). s.registered) (step_of budget request old new reply stepped).new_is)
 steps-registered budget request old new reply (inr out) = ap (λ (s : HostState). s.registered) out.unchanged
 
 -- no step is refused for a device
 pub steps-fine : (budget : ℕ) (request : Request) (old new : HostState) (reply : Reply SourceFault)
-    → Steps budget request old reply new → IsDeviceFailed reply → ⊥
+    → StateSteps budget request old reply new → IsDeviceFailed reply → ⊥
 steps-fine budget request old new reply (inl stepped) failed =
     let by = step_of budget request old new reply stepped in
     fine_by budget (task_of request old) old.state no_hosts by.one
@@ -257,7 +257,7 @@ steps-fine budget request old new reply (inr out) failed = subst IsDeviceFailed 
 
 -- where a request is answered, its task changes the state
 pub answer_changes : (budget : ℕ) (request : Request) (old new : HostState) (reply : Reply SourceFault) → IsAnswer reply
-    → Steps budget request old reply new → IsChange (task_of request old)
+    → StateSteps budget request old reply new → TaskChangesState (task_of request old)
 answer_changes budget request old new reply answers (inl stepped) =
     let by = step_of budget request old new reply stepped in
     changes_by budget (task_of request old) old.state no_hosts by.one by.stepped

@@ -12,17 +12,17 @@ use Rattle.ash_steps.specs.Tasks.{word_named}
 use Rattle.ash_steps.specs.Tasks.{described, max_seq}
 use Rattle.ash_steps.specs.Tasks as tasks
 use Rattle.ash_steps.specs.Steps.{Step, unless_refused}
-use Rattle.ash_plain_steps.specs.StepViews.{IsChange}
+use Rattle.ash_plain_steps.specs.StepViews.{TaskChangesState}
 use Rattle.ash_sources.specs.SourceFaults.{SourceFault}
-use Rattle.ash_states.specs.States.{HostState, embedding_for}
-use Rattle.ash_states.specs.Steps.{Steps, step, task_of, outcome_of, no_hosts}
-use Rattle.ash_durable.specs.Hosting.{Hosted, IsAnswer, MayAdd, WantsInstall, HasRoom, Replies, Handles}
+use Rattle.ash_states.specs.HostStates.{HostState, embedding_for}
+use Rattle.ash_states.specs.StateSteps.{StateSteps, step, task_of, outcome_of, no_hosts}
+use Rattle.ash_durable.specs.Hosting.{Hosted, IsAnswer, MayAdd, WantsInstall, MakesRoomFor, HostReplies, Handles}
 use Rattle.ash_durable.proofs.Answering.{required, required_some, answer_changes}
 
 -- ---- requests that change the state
 
 abbrev ChangesNothing : TaskResult SourceFault → Type 0
-ChangesNothing result = IsChange result → ⊥
+ChangesNothing result = TaskChangesState result → ⊥
 
 reads : (embedding : Embedding SourceFault) (name global : List ℕ) (s : State)
     → ChangesNothing (tasks.task_of embedding (Get name global) s)
@@ -38,7 +38,7 @@ shows embedding number s =
     (λ object. required_some ChangesNothing (described embedding object s) NoObject _ (λ no. no) (λ of no. no))
 
 -- a request that changes the state may add a record
-pub change_adds : (request : Request) (state : HostState) → IsChange (task_of request state) → MayAdd request
+pub change_adds : (request : Request) (state : HostState) → TaskChangesState (task_of request state) → MayAdd request
 change_adds (Load name source) state changes = tt
 change_adds (Call module_name function arguments) state changes = tt
 change_adds (Discard name) state changes = tt
@@ -50,7 +50,7 @@ change_adds Seq state changes = absurd changes
 change_adds Snapshot state changes = absurd changes
 
 pub change_may_add : (budget : ℕ) (request : Request) (old new : HostState) (reply : Reply SourceFault) → IsAnswer reply
-    → Steps budget request old reply new → MayAdd request
+    → StateSteps budget request old reply new → MayAdd request
 change_may_add budget request old new reply answers steps =
     change_adds request old (answer_changes budget request old new reply answers steps)
 
@@ -58,7 +58,7 @@ change_may_add budget request old new reply answers steps =
 
 -- a host that installs nothing handles a request as it is
 pub as_it_is : {D : Type 0} (device : Device D) (request : Request) (state : HostState) (old between : Hosted D)
-    → (WantsInstall request old → ⊥) → HasRoom device request state old between → between ≡ old
+    → (WantsInstall request old → ⊥) → MakesRoomFor device request state old between → between ≡ old
 as_it_is device request state old between not (inl none) = none.1
 as_it_is device request state old between not (inr some) = absurd (not some.0)
 
@@ -68,17 +68,17 @@ pub reads_only : {D : Type 0} (device : Device D) (budget : ℕ) (request : Requ
     → Handles device budget request old reply new → new ≡ old
 reads_only {D} device budget request old reply new adds not handled = by old.state refl
   where
-    none : (state : HostState) → IsChange (task_of request state) → ⊥
+    none : (state : HostState) → TaskChangesState (task_of request state) → ⊥
     none state changes = adds (change_adds request state changes)
 
     by : (known : Option HostState) → old.state ≡ known → new ≡ old
     by None is =
-        let replies : Replies device budget request None old reply new =
-        subst (λ (s : Option HostState). Replies device budget request s old reply new) is handled.replies in
+        let replies : HostReplies device budget request None old reply new =
+        subst (λ (s : Option HostState). HostReplies device budget request s old reply new) is handled.replies in
         replies.1
     by (Some state) is =
-        let replies : Replies device budget request (Some state) old reply new =
-        subst (λ (s : Option HostState). Replies device budget request s old reply new) is handled.replies in
+        let replies : HostReplies device budget request (Some state) old reply new =
+        subst (λ (s : Option HostState). HostReplies device budget request s old reply new) is handled.replies in
         elim replies [
           | inl took ↦
               took.untouched (λ answers. none state
@@ -139,7 +139,7 @@ step_at b c request state takes =
 
 replies_at : {D : Type 0} (device : Device D) (b c : ℕ) (request : Request) (known : Option HostState) (old : Hosted D)
     (reply : Reply SourceFault) (new : Hosted D) → TakesNoTicks request
-    → Replies device b request known old reply new → Replies device c request known old reply new
+    → HostReplies device b request known old reply new → HostReplies device c request known old reply new
 replies_at device b c request None old reply new takes h = h
 replies_at device b c request (Some state) old reply new takes (inl took) = inl (record {
   between = took.between;

@@ -3,16 +3,16 @@ use Rattle.std.proofs.Common.{◌≡◌, ℕ, ◌+◌, List, [], ◌∷◌, ◌+
 use Rattle.ash_disk.specs.Device.{Device}
 use Rattle.ash_journal.specs.declared.journal.Journal.{Journal}
 use Rattle.ash_journal.specs.Current.{IsContents, HoldsOneOf}
-use Rattle.ash_journal.specs.Failures.{CountsFailures}
+use Rattle.ash_journal.specs.JournalFailures.{CountsFailures}
 use Rattle.ash_journal.specs.Journal.{first_disk, second_disk, generation, record_bytes, HasFailed, IsReady, Holds}
-use Rattle.ash_journal.specs.Runs.{HoldsSince, Extends}
-use Rattle.ash_states.specs.States.{HostState}
+use Rattle.ash_journal.specs.SettledSince.{HoldsSince, Extends}
+use Rattle.ash_states.specs.HostStates.{HostState}
 use Rattle.ash_plain_steps.specs.declared.request.Refusal.TheVariants as the
 use Rattle.ash_durable.specs.Contents.{record_header_size}
 use Rattle.ash_durable.specs.Saving.{Adds, Installs, last_generation}
 use Rattle.ash_state_image.specs.declared.version.Version.TheVariants.{Two}
 use Rattle.ash_states.specs.Images.{IsImageIn, IsBodyIn}
-use Rattle.ash_durable.specs.States.{HoldsState, GoesOn, BeginsAnew}
+use Rattle.ash_durable.specs.StoredStates.{HoldsState, ExtendsHistory, BeginsAnew}
 use Rattle.ash_durable.proofs.Settling.{record_goes_on, image_begins_anew}
 use Rattle.ash_durable.proofs.ContentsStates.{alone_in, push_in, state_of_alone, state_of_push}
 
@@ -28,7 +28,7 @@ module _ {D : Type 0} (device : Device D) (state : HostState) (old new : Journal
       → ((image : List ℕ) (bodies : List (List ℕ)) → Holds device old image bodies
       → Extends device (first_disk old) (second_disk old) (first_disk new) (second_disk new)
       (IsContents (image, bodies ++ body ∷ []))) → (before : HostState) → before.registered ≡ state.registered
-      → HoldsState device before old → GoesOn device before state old new
+      → HoldsState device before old → ExtendsHistory device before state old new
   added_moments body is_body extends before same holds =
       record_goes_on device before state holds.contents.0 body holds.contents.1 old new holds.is_state holds.in_two
       (sym same) is_body (extends holds.contents.0 holds.contents.1 holds.holds)

@@ -2,14 +2,14 @@
 -- and then a record more.
 use Rattle.std.proofs.Common.{◌≡◌, inl, inr, ℕ, Some, None, Ok, refl, sym, ◌∙◌, subst, arith, IsTrue}
 use Rattle.ash_disk.specs.Device.{Device}
-use Rattle.ash_journal.specs.Failures.{CountsFailures}
+use Rattle.ash_journal.specs.JournalFailures.{CountsFailures}
 use Rattle.ash_steps.specs.Requests.{Request}
-use Rattle.ash_states.specs.States.{HostState}
-use Rattle.ash_durable.specs.States.{IsOne, IsEither, SettleSince, HoldsState, GoesOn}
+use Rattle.ash_states.specs.HostStates.{HostState}
+use Rattle.ash_durable.specs.StoredStates.{IsOne, IsEither, SettleSince, HoldsState, ExtendsHistory}
 use Rattle.ash_durable.specs.Saving.{FailsBy}
 use Rattle.ash_durable.specs.Hosting.{Hosted, first, second, IsRunning, IsHonest, IsSaved, Settles, WantsInstall}
-use Rattle.ash_durable.specs.Hosting.{HasRoom}
-use Rattle.ash_durable.specs.Requests.{PreservesDisks, TriesInstall}
+use Rattle.ash_durable.specs.Hosting.{MakesRoomFor}
+use Rattle.ash_durable.specs.HostRequests.{PreservesDisks, TriesInstall}
 use Rattle.ash_durable.proofs.Settling.{settle_on_more, holds_now}
 
 -- ---- states
@@ -86,7 +86,7 @@ either_same state other either = elim either [ inl is ↦ is | inr is ↦ is ]
 pub record HadRoom {D : Type 0} (device : Device D) (request : Request) (state : HostState)
     (old between : Hosted D) : Type 0 where
   pub began : IsRunning state old
-  pub room : HasRoom device request state old between
+  pub room : MakesRoomFor device request state old between
   pub running : IsRunning state between
   pub saved : IsSaved device old → IsSaved device between
   pub settled : IsHonest device old → IsSaved device old
@@ -143,7 +143,7 @@ module _ {D : Type 0} (device : Device D) (request : Request) (state : HostState
   -- One record more was written, or not. Since the request began the files settle on the state before it, and then on
   -- this or the one after it.
   pub settles_added : (after : HostState) (new : Hosted D)
-      → (HoldsState device state between.journal → GoesOn device state after between.journal new.journal)
+      → (HoldsState device state between.journal → ExtendsHistory device state after between.journal new.journal)
       → Settles device state after old new
   settles_added after new goes_on = λ honest was.
       goes_on (held_between (honest_between honest) was) (device.clock (first old)) (device.clock (second old))

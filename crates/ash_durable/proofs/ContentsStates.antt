@@ -4,12 +4,12 @@ use Rattle.std.specs.List.{AllByRecursion}
 use Rattle.ash_journal.specs.Current.{Contents}
 use Rattle.ash_state_image.specs.declared.version.Version.{Version}
 use Rattle.ash_state_image.specs.Snapshots.{Snapshot}
-use Rattle.ash_state_image.specs.Rules.{IsImage, IsBody}
+use Rattle.ash_state_image.specs.Rules.{IsImage, IsImageBody}
 use Rattle.ash_state_image.proofs.ImageLaws.{spelled_once}
-use Rattle.ash_states.specs.States.{HostState}
+use Rattle.ash_states.specs.HostStates.{HostState}
 use Rattle.ash_state_image.specs.declared.version.Version.TheVariants.{Two}
 use Rattle.ash_states.specs.Images.{IsDepicted, IsImageIn, IsImageOf, IsBodyIn, state_of}
-use Rattle.ash_durable.specs.States.{IsBodyAs, AreIn, Leads, LeadAll, IsStateOf}
+use Rattle.ash_durable.specs.StoredStates.{IsBodyAs, AreIn, Leads, LeadAll, IsStateOf}
 
 -- an image is of one snapshot, whatever its version
 pub image_once : (image : List ℕ) (v w : Version) (s t : Snapshot) → IsImage image v s → IsImage image w t → s ≡ t
@@ -28,13 +28,13 @@ body_image_once : (body image other : List ℕ) → body ≡ 1 ∷ image → bod
 body_image_once body image other one two = ap tail_of (sym one ∙ two)
 
 -- and so it is of one snapshot
-pub body_once : (body : List ℕ) (v w : Version) (s t : Snapshot) → IsBody body v s → IsBody body w t → s ≡ t
+pub body_once : (body : List ℕ) (v w : Version) (s t : Snapshot) → IsImageBody body v s → IsImageBody body w t → s ≡ t
 body_once body v w s t one other =
     image_once one.0 v w s t one.2
     (subst (λ (image : List ℕ). IsImage image w t) (body_image_once body other.0 one.0 other.1 one.1) other.2)
 
 -- in one version
-pub body_version_once : (body : List ℕ) (v w : Version) (s t : Snapshot) → IsBody body v s → IsBody body w t → v ≡ w
+pub body_version_once : (body : List ℕ) (v w : Version) (s t : Snapshot) → IsImageBody body v s → IsImageBody body w t → v ≡ w
 body_version_once body v w s t one other =
     version_once one.0 v w s t one.2
     (subst (λ (image : List ℕ). IsImage image w t) (body_image_once body other.0 one.0 other.1 one.1) other.2)

@@ -4,9 +4,9 @@ use Rattle.std.specs.Bool.{IsTrue}
 use Rattle.ash_disk.specs.Device.{Device}
 use Rattle.ash_disk.specs.Moments.{LeftSince}
 use Rattle.ash_journal.proofs.SettleLaws.{settle_turned}
-use Rattle.ash_states.specs.States.{HostState}
+use Rattle.ash_states.specs.HostStates.{HostState}
 use Rattle.ash_durable.specs.Hosting.{Hosted, first, second, IsRunning, IsSaved, IsHonest}
-use Rattle.ash_durable.specs.States.{AreHonest, SettleSince, SettleNow, IsOne, HaveState}
+use Rattle.ash_durable.specs.StoredStates.{AreHonest, SettleSince, SettleNow, IsOne, HaveState}
 use Rattle.ash_durable.specs.Store.{WereOnlyRead}
 use Rattle.ash_durable.specs.Lives.{AreLeft, BeginWith, Crashed}
 use Rattle.ash_durable.proofs.Settling.{holds_now}

@@ -3,7 +3,7 @@ use Rattle.std.proofs.Common.{◌≡◌, ◌≢◌, ◌⊎◌, inl, inr, ℕ, �
 use Rattle.std.proofs.Common.{append_assoc, length-append}
 use Rattle.ash_journal.specs.Current.{Contents, IsOlder, IsCurrent, Represent}
 use Rattle.ash_journal.specs.Layout.{four_bytes, mark, block, records, committed_bytes, AreShort, IsFile, IsClosed}
-use Rattle.ash_journal.specs.Layout.{IsCut}
+use Rattle.ash_journal.specs.Layout.{IsCutShort}
 use Rattle.ash_journal.specs.Layout.{LacksMark, IsCutAt}
 use Rattle.ash_journal.specs.Opening.{IsUnsound, IsCutCurrent, HasCurrent}
 use Rattle.ash_journal.proofs.LayoutLaws.{length-four, four_read, same_parts, length-mark, block_same, records-nil}
@@ -37,7 +37,7 @@ gate_left : (before following : List ℕ) (gate : ℕ) → 0 < length (before ++
 gate_left before following gate = omega (arith, length-append before (gate ∷ following))
 
 -- a length, what it is of, and something after that are not cut short
-not_cut : (body more rest : List ℕ) → length body < 2 ^ 32 → 0 < length more → rest ≡ block body ++ more → IsCut rest
+not_cut : (body more rest : List ℕ) → length body < 2 ^ 32 → 0 < length more → rest ≡ block body ++ more → IsCutShort rest
     → ⊥
 unfolding block
 not_cut body more rest short some is (inl tiny) =
@@ -60,7 +60,7 @@ not_cut body more rest short some is (inr (n, left, fits, rest_is, few)) =
 
 -- Records up to a gate that is not open are no records up to one that is, with something cut short after it.
 records_not_cut : (bodies others : List (List ℕ)) (gate : ℕ) (rest following : List ℕ) → AreShort bodies
-    → AreShort others → gate ≢ 1 → records bodies ++ 1 ∷ rest ≡ records others ++ gate ∷ following → IsCut rest → ⊥
+    → AreShort others → gate ≢ 1 → records bodies ++ 1 ∷ rest ≡ records others ++ gate ∷ following → IsCutShort rest → ⊥
 records_not_cut [] [] gate rest following short_b short_o shut is cut =
     let plain : 1 ∷ rest ≡ gate ∷ following = sym (ap (λ (r : List ℕ). r ++ 1 ∷ rest) records-nil) ∙ is
     ∙ ap (λ (r : List ℕ). r ++ gate ∷ following) records-nil in

@@ -6,24 +6,24 @@ use Rattle.ash_journal.specs.declared.error.OpenFault.TheVariants as opening
 use Rattle.ash_journal.specs.declared.journal.Journal.{Journal}
 use Rattle.ash_journal.specs.declared.journal.OpenedJournal.{OpenedJournal}
 use Rattle.ash_journal.specs.Current.{Represent}
-use Rattle.ash_journal.specs.Failures.{CountsFailures}
+use Rattle.ash_journal.specs.JournalFailures.{CountsFailures}
 use Rattle.ash_journal.specs.Journal.{first_disk, second_disk, generation, HasFailed}
 use Rattle.ash_journal.specs.Layout.{HasMark}
 use Rattle.ash_journal.specs.OtherState.{first_of, second_of}
 use Rattle.ash_journal.specs.Opening.{FaultIs}
 use Rattle.ash_journal.specs.Reading.{bodies_of}
-use Rattle.ash_journal.specs.Runs.{Extends, NoContents}
+use Rattle.ash_journal.specs.SettledSince.{Extends, NoContents}
 use Rattle.ash_journal.proofs.LayoutLaws.{solid_mark}
 use Rattle.ash_state_image.specs.declared.version.Version.{Version}
 use Rattle.ash_state_image.specs.declared.version.Version.TheVariants.{One}
-use Rattle.ash_states.specs.States.{HostState}
-use Rattle.ash_registry.specs.Registrations.{Registration}
-use Rattle.ash_durable.specs.Faults.{IsFailed}
-use Rattle.ash_durable.specs.OpenedStore.{StoreFaultIs, WasFound, WasNotFound, Finds, contents_of, AreInPlace}
+use Rattle.ash_states.specs.HostStates.{HostState}
+use Rattle.ash_registry.specs.AcceptedRegistrations.{Registration}
+use Rattle.ash_durable.specs.StoreFaults.{IsFailed}
+use Rattle.ash_durable.specs.OpenedStore.{StoreFaultIs, WasFound, WasNotFound, OpensState, contents_of, AreInPlace}
 use Rattle.ash_durable.specs.OpenedStore.{HoldsRead, WasSettled, WasNotSettled, Settled, NotFound, LeftThere}
 use Rattle.ash_durable.specs.OpenedStore.{UnsettledFor}
 use Rattle.ash_durable.specs.Saving.{last_generation}
-use Rattle.ash_durable.specs.States.{AreHonest}
+use Rattle.ash_durable.specs.StoredStates.{AreHonest}
 use Rattle.ash_durable.specs.Store.{HandsBack, WereOnlyRead}
 use Rattle.ash_durable.specs.declared.fault.HostRefused.{HostRefused}
 use Rattle.ash_durable.specs.declared.fault.StoreFault.{StoreFault}
@@ -199,7 +199,7 @@ module _ {D : Type 0} (device : Device D) where
 
   pub finds : (registered : List Registration) (a b : D) (opened : OpenedJournal D)
       (result : Result (Found D) (HostRefused D))
-      → IsOpened a b opened → Settled device registered opened result → Finds device registered a b result
+      → IsOpened a b opened → Settled device registered opened result → OpensState device registered a b result
   finds registered a b opened (Ok one) is settled = record {
     version = settled.version;
     old = settled.old;

@@ -4,19 +4,19 @@ use Rattle.std.proofs.Common.{◌≡◌, inl, inr, ℕ, Option, Some, None, unwr
 use Rattle.std.proofs.Common.{refl, sym, ◌∙◌, ap, subst}
 use Rattle.ash_disk.specs.Device.{Device}
 use Rattle.ash_journal.specs.declared.journal.Journal.{Journal}
-use Rattle.ash_journal.specs.Failures.{CountsFailures}
+use Rattle.ash_journal.specs.JournalFailures.{CountsFailures}
 use Rattle.ash_steps.specs.Requests.{Request, Seq, Reply, Refused, NoMemory}
 use Rattle.ash_plain_steps.specs.declared.request.Refusal.TheVariants as the
-use Rattle.ash_plain_steps.specs.StepViews.{IsChange}
+use Rattle.ash_plain_steps.specs.StepViews.{TaskChangesState}
 use Rattle.ash_sources.specs.SourceFaults.{SourceFault}
-use Rattle.ash_states.specs.States.{HostState}
-use Rattle.ash_states.specs.Steps.{Steps, task_of}
-use Rattle.ash_durable.specs.States.{HoldsState}
+use Rattle.ash_states.specs.HostStates.{HostState}
+use Rattle.ash_states.specs.StateSteps.{StateSteps, task_of}
+use Rattle.ash_durable.specs.StoredStates.{HoldsState}
 use Rattle.ash_durable.specs.Saving.{HostRefusal, IsDeviceRefusal}
 use Rattle.ash_durable.specs.Hosting.{Hosted, first, second, state_unless, IsRunning, IsSaved, IsHonest, Settles}
-use Rattle.ash_durable.specs.Hosting.{IsAnswer, IsDeviceFailed, Replies, Handles, reply_stopped}
-use Rattle.ash_durable.specs.Replies.{refused_by}
-use Rattle.ash_durable.specs.Requests.{Commits}
+use Rattle.ash_durable.specs.Hosting.{IsAnswer, IsDeviceFailed, HostReplies, Handles, reply_stopped}
+use Rattle.ash_durable.specs.HostReplies.{refused_by}
+use Rattle.ash_durable.specs.HostRequests.{Commits}
 use Rattle.ash_durable.proofs.Answering.{leaves, steps-fine, steps-registered, answer_changes}
 use Rattle.ash_durable.proofs.Composing.{runs_in, stopped_runs, honest_before, counts_as, counts_none, counts_then}
 use Rattle.ash_durable.proofs.Composing.{HadRoom, held_between, settles_as_it_is, settles_added}
@@ -62,7 +62,7 @@ pub handles_stopped : {D : Type 0} (device : Device D) (budget : ℕ) (request :
     (reply : Reply SourceFault) → host.state ≡ None → reply ≡ reply_stopped request host.seq
     → Handles device budget request host reply host
 handles_stopped device budget request host reply none is = record {
-  replies = subst (λ (known : Option HostState). Replies device budget request known host reply host) (sym none)
+  replies = subst (λ (known : Option HostState). HostReplies device budget request known host reply host) (sym none)
       (is, refl);
   saved = λ was. was;
   failures = counts_none (IsDeviceFailed reply) (device.failures (first host)) (device.failures (second host))
@@ -88,8 +88,8 @@ handles_seen_stopped {D} device budget request (Some n) state journal host seq r
 
 replies_as_it_is : {D : Type 0} (device : Device D) (budget : ℕ) (request : Request) (state : HostState)
     (old between : Hosted D) (reply : Reply SourceFault) → HadRoom device request state old between
-    → (IsAnswer reply → ⊥) → Steps budget request state reply state
-    → Replies device budget request (Some state) old reply between
+    → (IsAnswer reply → ⊥) → StateSteps budget request state reply state
+    → HostReplies device budget request (Some state) old reply between
 replies_as_it_is device budget request state old between reply room not (inl stepped) = inl (record {
   between = between;
   room = room.room;
@@ -109,10 +109,10 @@ replies_as_it_is device budget request state old between reply room not (inr out
 
 pub handles_as_it_is : {D : Type 0} (device : Device D) (budget : ℕ) (request : Request) (state : HostState)
     (old between : Hosted D) (reply : Reply SourceFault) → HadRoom device request state old between
-    → (IsAnswer reply → ⊥) → Steps budget request state reply state
+    → (IsAnswer reply → ⊥) → StateSteps budget request state reply state
     → Handles device budget request old reply between
 handles_as_it_is device budget request state old between reply room not steps = record {
-  replies = subst (λ (known : Option HostState). Replies device budget request known old reply between)
+  replies = subst (λ (known : Option HostState). HostReplies device budget request known old reply between)
       (sym room.began.state_is) (replies_as_it_is device budget request state old between reply room not steps);
   saved = room.saved;
   failures = counts_as ⊥ (IsDeviceFailed reply) (device.failures (first old)) (device.failures (second old))
@@ -143,7 +143,7 @@ never_stopped {D} device request seq state seen journal old between is room =
 pub handles_untouched : {D : Type 0} (device : Device D) (budget : ℕ) (request : Request) (stopped : Option ℕ)
     (seen after : HostState) (journal : Journal D) (state : HostState) (old between : Hosted D)
     (reply : Reply SourceFault) → seen_host stopped seen journal ≡ between → HadRoom device request state old between
-    → (IsAnswer reply → ⊥) → Steps budget request seen reply after
+    → (IsAnswer reply → ⊥) → StateSteps budget request seen reply after
     → Handles device budget request old reply (seen_host stopped after journal)
 handles_untouched device budget request (Some seq) seen after journal state old between reply is room not steps =
     absurd (never_stopped device request seq state seen journal old between is room)
@@ -152,14 +152,14 @@ handles_untouched device budget request None seen after journal state old betwee
     subst (λ (s : HostState). Handles device budget request old reply (seen_host None s journal)) (sym same)
     (handles_as_it_is device budget request seen old (seen_host None seen journal) reply
     (room_seen device request state seen journal old between is room) not
-    (subst (λ (s : HostState). Steps budget request seen reply s) same steps))
+    (subst (λ (s : HostState). StateSteps budget request seen reply s) same steps))
 
 -- ---- a request that is answered, if the answer is stored
 
 module _ {D : Type 0} (device : Device D) (budget : ℕ) (request : Request) (state after : HostState)
     (journal : Journal D) (old : Hosted D) (reply : Reply SourceFault) (answers : IsAnswer reply)
     (room : HadRoom device request state old (seen_host None state journal))
-    (steps : Steps budget request state reply after) where
+    (steps : StateSteps budget request state reply after) where
   -- what every outcome of storing it leaves
   registered_same : state.registered ≡ after.registered
   registered_same = sym (steps-registered budget request state after reply steps)
@@ -176,7 +176,7 @@ module _ {D : Type 0} (device : Device D) (budget : ℕ) (request : Request) (st
       (λ held. committed.moments state after (running_seen after journal) registered_same held)
 
   replies_stored : (new : Hosted D) → Commits device state.state.seq (seen_host None after journal) (Ok tt) new
-      → Steps budget request state reply after → Replies device budget request (Some state) old reply new
+      → StateSteps budget request state reply after → HostReplies device budget request (Some state) old reply new
   replies_stored new committed (inl stepped) =
       let outcome = committed.outcome after (running_seen after journal) in
       inl (record {
@@ -193,8 +193,8 @@ module _ {D : Type 0} (device : Device D) (budget : ℕ) (request : Request) (st
 
   replies_lost : (refusal : HostRefusal) (new : Hosted D)
       → Commits device state.state.seq (seen_host None after journal) (Err refusal) new
-      → Steps budget request state reply after
-      → Replies device budget request (Some state) old (refused_by refusal) new
+      → StateSteps budget request state reply after
+      → HostReplies device budget request (Some state) old (refused_by refusal) new
   replies_lost refusal new committed (inl stepped) =
       let outcome = committed.outcome after (running_seen after journal) in
       inr (inr (inl (record {
@@ -225,7 +225,7 @@ module _ {D : Type 0} (device : Device D) (budget : ℕ) (request : Request) (st
   handles_stored : (new : Hosted D) → Commits device state.state.seq (seen_host None after journal) (Ok tt) new
       → Handles device budget request old reply new
   handles_stored new committed = record {
-    replies = subst (λ (known : Option HostState). Replies device budget request known old reply new)
+    replies = subst (λ (known : Option HostState). HostReplies device budget request known old reply new)
         (sym room.began.state_is) (replies_stored new committed steps);
     saved = saved_stored new committed;
     failures = counts_as ⊥ (IsDeviceFailed reply) (device.failures (first old)) (device.failures (second old))
@@ -246,7 +246,7 @@ module _ {D : Type 0} (device : Device D) (budget : ℕ) (request : Request) (st
   handles_lost refusal new committed =
       let outcome = committed.outcome after (running_seen after journal) in
       record {
-        replies = subst (λ (known : Option HostState). Replies device budget request known old
+        replies = subst (λ (known : Option HostState). HostReplies device budget request known old
             (refused_by refusal) new) (sym room.began.state_is) (replies_lost refusal new committed steps);
         saved = λ was honest other runs. absurd (stopped_runs new other outcome.0 runs);
         failures = counts_then ⊥ (IsDeviceFailed (refused_by refusal)) (device.failures (first old))
@@ -269,7 +269,7 @@ reply_unless reply (Err refusal) = refused_by refusal
 handles_either : {D : Type 0} (device : Device D) (budget : ℕ) (request : Request) (state after : HostState)
     (journal : Journal D) (old : Hosted D) (reply : Reply SourceFault) (result : Result (Unit {0}) HostRefusal)
     (new : Hosted D) → IsAnswer reply → HadRoom device request state old (seen_host None state journal)
-    → Steps budget request state reply after
+    → StateSteps budget request state reply after
     → Commits device state.state.seq (seen_host None after journal) result new
     → Handles device budget request old (reply_unless reply result) new
 handles_either device budget request state after journal old reply (Ok done) new answers room steps committed =
@@ -281,7 +281,7 @@ pub handles_answer : {D : Type 0} (device : Device D) (budget : ℕ) (request : 
     (seen after : HostState) (journal : Journal D) (state : HostState) (old between : Hosted D) (seq : ℕ)
     (reply : Reply SourceFault) (result : Result (Unit {0}) HostRefusal) (new : Hosted D)
     → seen_host stopped seen journal ≡ between → HadRoom device request state old between → IsAnswer reply
-    → Steps budget request seen reply after → seq ≡ seen.state.seq
+    → StateSteps budget request seen reply after → seq ≡ seen.state.seq
     → Commits device seq (seen_host stopped after journal) result new
     → Handles device budget request old (reply_unless reply result) new
 handles_answer device budget request (Some number) seen after journal state old between seq reply result new is room
@@ -297,10 +297,10 @@ handles_answer {D} device budget request None seen after journal state old betwe
 
 lost_between : {D : Type 0} (device : Device D) (budget : ℕ) (request : Request) (state left : HostState)
     (journal : Journal D) (old : Hosted D) → HadRoom device request state old (seen_host None state journal)
-    → IsChange (task_of request state) → left.registered ≡ state.registered
+    → TaskChangesState (task_of request state) → left.registered ≡ state.registered
     → Handles device budget request old (Refused NoMemory) (seen_host (Some state.state.seq) left journal)
 lost_between {D} device budget request state left journal old room changes same = record {
-  replies = subst (λ (known : Option HostState). Replies device budget request known old (Refused NoMemory)
+  replies = subst (λ (known : Option HostState). HostReplies device budget request known old (Refused NoMemory)
       (seen_host (Some state.state.seq) left journal)) (sym room.began.state_is)
       (inr (inr (inr (inl (record {
         between = seen_host None state journal;
@@ -325,7 +325,7 @@ lost_between {D} device budget request state left journal old room changes same 
 pub handles_lost_state : {D : Type 0} (device : Device D) (budget : ℕ) (request : Request) (stopped : Option ℕ)
     (seen left : HostState) (journal : Journal D) (state : HostState) (old between : Hosted D) (seq : ℕ)
     → seen_host stopped seen journal ≡ between → HadRoom device request state old between
-    → IsChange (task_of request seen) → left.registered ≡ seen.registered → seq ≡ seen.state.seq
+    → TaskChangesState (task_of request seen) → left.registered ≡ seen.registered → seq ≡ seen.state.seq
     → Handles device budget request old (Refused NoMemory) (seen_host (Some seq) left journal)
 handles_lost_state device budget request (Some number) seen left journal state old between seq is room changes same
     seq_is = absurd (never_stopped device request number state seen journal old between is room)

@@ -8,15 +8,15 @@ use Rattle.ash_steps.specs.Requests.{DeviceFailed, NoMemory, GenerationSpent}
 use Rattle.ash_plain_steps.specs.declared.request.StepError.{StepError}
 use Rattle.ash_plain_steps.specs.declared.request.StepError.TheVariants as errors
 use Rattle.ash_plain_steps.specs.RequestViews.{refusal_seen}
-use Rattle.ash_plain_steps.specs.StepViews.{IsChange}
+use Rattle.ash_plain_steps.specs.StepViews.{TaskChangesState}
 use Rattle.ash_sources.specs.SourceFaults.{SourceFault, fault_of}
-use Rattle.ash_states.specs.States.{HostState}
-use Rattle.ash_states.specs.Steps.{Steps, task_of, HasNoEnd, Handled}
+use Rattle.ash_states.specs.HostStates.{HostState}
+use Rattle.ash_states.specs.StateSteps.{StateSteps, task_of, FailsInChange, Handled}
 use Rattle.ash_durable.specs.Saving.{HostRefusal}
 use Rattle.ash_durable.specs.Hosting.{Hosted, first, second, state_unless, IsRunning, IsSaved, IsFull, WantsInstall}
-use Rattle.ash_durable.specs.Hosting.{InstallRefused, IsAnswer, IsInstalled, Replies, Handles}
-use Rattle.ash_durable.specs.Replies.{refused_by, done_of}
-use Rattle.ash_durable.specs.Requests.{TriesInstall, MakesRoom, Commits}
+use Rattle.ash_durable.specs.Hosting.{InstallRefused, IsAnswer, IsInstalled, HostReplies, Handles}
+use Rattle.ash_durable.specs.HostReplies.{refused_by, done_of}
+use Rattle.ash_durable.specs.HostRequests.{TriesInstall, MakesRoom, Commits}
 use Rattle.ash_durable.proofs.Changing.{change_may_add}
 use Rattle.ash_durable.proofs.Composing.{stopped_runs, HadRoom, room_as_it_is, room_installed}
 use Rattle.ash_durable.proofs.HandledRequests.{seen_host, running_seen, counts_replied, handles_stopped, reply_unless}
@@ -44,7 +44,7 @@ room_made {D} device request old between runs made =
 
 -- a request that has no end changes the state
 no_end_changes : (request : Request) (state : HostState) (error : StepError)
-    → HasNoEnd request state error → IsChange (task_of request state)
+    → FailsInChange request state error → TaskChangesState (task_of request state)
 no_end_changes request state errors.NoMemory no_end = no_end
 no_end_changes request state errors.NoStep no_end = absurd no_end
 
@@ -62,14 +62,14 @@ module _ {D : Type 0} (device : Device D) (budget : ℕ) (request : Request) (st
           absurd (stopped_runs between room.0 (ap (λ (host : Hosted D). host.state) (sym seen_is)) room.1.running)
 
   -- a record more has room where the request is answered
-  pub handled_room : (reply : Reply SourceFault) → IsAnswer reply → Steps budget request seen reply after
+  pub handled_room : (reply : Reply SourceFault) → IsAnswer reply → StateSteps budget request seen reply after
       → IsFull (seen_host stopped after journal) → ⊥
   handled_room reply answers steps full =
       made.room (change_may_add budget request seen after reply answers steps)
       (subst (λ (host : Hosted D). IsFull host) is full)
 
   -- it is not answered
-  pub handled_other : (reply : Reply SourceFault) → (IsAnswer reply → ⊥) → Steps budget request seen reply after
+  pub handled_other : (reply : Reply SourceFault) → (IsAnswer reply → ⊥) → StateSteps budget request seen reply after
       → Handles device budget request old reply (seen_host stopped after journal)
   handled_other reply not steps =
       let room = room_made device request old between runs made in
@@ -77,7 +77,7 @@ module _ {D : Type 0} (device : Device D) (budget : ℕ) (request : Request) (st
 
   -- it is answered, if the answer is stored
   pub handled_answer : (seq : ℕ) (reply : Reply SourceFault) (result : Result (Unit {0}) HostRefusal) (new : Hosted D)
-      → IsAnswer reply → Steps budget request seen reply after → seq ≡ seen.state.seq
+      → IsAnswer reply → StateSteps budget request seen reply after → seq ≡ seen.state.seq
       → Commits device seq (seen_host stopped after journal) result new
       → Handles device budget request old (reply_unless reply result) new
   handled_answer seq reply result new answers steps seq_is committed =
@@ -115,7 +115,7 @@ handles_refused : {D : Type 0} (device : Device D) (budget : ℕ) (request : Req
 handles_refused device budget request state old refusal new runs wanted tries =
     let tried = tries.installs state runs in
     record {
-      replies = subst (λ (known : Option HostState). Replies device budget request known old (refused_by refusal) new)
+      replies = subst (λ (known : Option HostState). HostReplies device budget request known old (refused_by refusal) new)
           (sym runs.state_is)
           (inr (inr (inr (inr (record { wanted = wanted; refused = tried.0; settles = tried.1 })))));
       saved = λ was. saved_refused_for device (refusal_seen fault_of refusal) old new tried.0 was;

@@ -9,16 +9,16 @@ use Rattle.ash_host.specs.declared.event.Event.{Event as HostEvent}
 use Rattle.ash_phrases.specs.Ends.{End}
 use Rattle.ash_steps.specs.Requests.{Request, Reply, Answered}
 use Rattle.ash_sources.specs.SourceFaults.{SourceFault}
-use Rattle.ash_states.specs.States.{HostState, empty}
-use Rattle.ash_registry.specs.Registrations.{Registration}
+use Rattle.ash_states.specs.HostStates.{HostState, empty}
+use Rattle.ash_registry.specs.AcceptedRegistrations.{Registration}
 use Rattle.ash_durable.specs.Hosting.{Hosted, first, second, IsRunning, IsSaved, IsHonest, IsAnswer, Handles}
 use Rattle.ash_durable.specs.OpenedStore.{AddNothing, WasOpened, WasNotFound, Opens, first_found, second_found}
 use Rattle.ash_durable.specs.OpenedStore.{NotFound, LeftThere}
-use Rattle.ash_durable.specs.States.{AreHonest, SettleNow, IsOne, IsEither, HaveState}
+use Rattle.ash_durable.specs.StoredStates.{AreHonest, SettleNow, IsOne, IsEither, HaveState}
 use Rattle.ash_durable.specs.Store.{WereOnlyRead, IsClosedOrHasState, MakesOrNot, WasCreated, Creates}
-use Rattle.ash_durable.specs.Lives.{Event, Acknowledged, InDoubt, Found, Takes, LeadTo}
-use Rattle.ash_durable.specs.Lives.{Crashed, AreFresh, IsOneOpen, first_of, second_of, Place, UnderHost}
-use Rattle.ash_durable.specs.Lives.{OnDisks, first_at, second_at, IsWhole, Outlives}
+use Rattle.ash_durable.specs.Lives.{StoreEvent, Acknowledged, InDoubt, Found, LeadsTo, LeadTo}
+use Rattle.ash_durable.specs.Lives.{Crashed, AreFresh, IsOneOpen, first_of, second_of, StoreLocation, UnderHost}
+use Rattle.ash_durable.specs.Lives.{OnDisks, first_at, second_at, IsWholeHistory, Outlives}
 use Rattle.ash_durable.specs.declared.fault.HostRefused.{HostRefused}
 use Rattle.ash_durable.proofs.Settling.{settle_on_more, settle_now, settle_still}
 use Rattle.ash_durable.proofs.Answering.{leaves}
@@ -30,7 +30,7 @@ module _ {D : Type 0} (device : Device D) (registered : List Registration) where
   -- ---- a host
 
   -- A host that runs in a state to which events lead.
-  pub runs_in : (events : List Event) (host : Hosted D) (state : HostState) → host.registered ≡ registered
+  pub runs_in : (events : List StoreEvent) (host : Hosted D) (state : HostState) → host.registered ≡ registered
       → IsHonest device host → IsSaved device host → IsRunning state host → LeadTo events (empty registered) state
       → Outlives device registered events (UnderHost host)
   runs_in events host state with_it honest saved running led = record {
@@ -56,8 +56,8 @@ module _ {D : Type 0} (device : Device D) (registered : List Registration) where
   }
 
   -- A host that must be reopened.
-  stops_in : (events : List Event) (host : Hosted D) → host.registered ≡ registered → IsHonest device host
-      → IsSaved device host → host.state ≡ None → IsWhole device registered events (first host) (second host)
+  stops_in : (events : List StoreEvent) (host : Hosted D) → host.registered ≡ registered → IsHonest device host
+      → IsSaved device host → host.state ≡ None → IsWholeHistory device registered events (first host) (second host)
       → Outlives device registered events (UnderHost host)
   stops_in events host with_it honest saved none whole = record {
     honest = honest;
@@ -75,19 +75,19 @@ module _ {D : Type 0} (device : Device D) (registered : List Registration) where
       never state is = let h : None ≡ Some state = sym none ∙ is in absurd (cc)
 
   -- Two disks that no host has.
-  pub rests_on : (events : List Event) (a b : D) → AreHonest device a b → IsWhole device registered events a b
+  pub rests_on : (events : List StoreEvent) (a b : D) → AreHonest device a b → IsWholeHistory device registered events a b
       → Outlives device registered events (OnDisks a b)
   rests_on events a b honest whole = record { honest = honest; whole = whole; runs = tt }
 
   -- the same two states on other disks
-  pub still_whole : (events : List Event) (a b a' b' : D) → (was : IsWhole device registered events a b)
-      → SettleNow device a' b' (IsEither was.s was.t) → IsWhole device registered events a' b'
+  pub still_whole : (events : List StoreEvent) (a b a' b' : D) → (was : IsWholeHistory device registered events a b)
+      → SettleNow device a' b' (IsEither was.s was.t) → IsWholeHistory device registered events a' b'
   still_whole events a b a' b' was settled =
       record { s = was.s; t = was.t; s_led = was.s_led; t_led = was.t_led; settled = settled; certain = was.certain }
 
   -- a request is in doubt that was not handled
-  not_done : (events : List Event) (budget : ℕ) (request : Request) (a b : D) → IsWhole device registered events a b
-      → IsWhole device registered (InDoubt budget request ∷ events) a b
+  not_done : (events : List StoreEvent) (budget : ℕ) (request : Request) (a b : D) → IsWholeHistory device registered events a b
+      → IsWholeHistory device registered (InDoubt budget request ∷ events) a b
   not_done events budget request a b was = record {
     s = was.s;
     t = was.t;
@@ -98,9 +98,9 @@ module _ {D : Type 0} (device : Device D) (registered : List Registration) where
   }
 
   -- a request is in doubt, handled or not
-  in_doubt : (events : List Event) (budget : ℕ) (request : Request) (state after : HostState) (a b : D)
-      → LeadTo events (empty registered) state → Takes (InDoubt budget request) state after
-      → SettleNow device a b (IsEither state after) → IsWhole device registered (InDoubt budget request ∷ events) a b
+  in_doubt : (events : List StoreEvent) (budget : ℕ) (request : Request) (state after : HostState) (a b : D)
+      → LeadTo events (empty registered) state → LeadsTo (InDoubt budget request) state after
+      → SettleNow device a b (IsEither state after) → IsWholeHistory device registered (InDoubt budget request ∷ events) a b
   in_doubt events budget request state after a b led may settled = record {
     s = state;
     t = after;
@@ -112,7 +112,7 @@ module _ {D : Type 0} (device : Device D) (registered : List Registration) where
 
   -- ---- requests
 
-  abbrev pub Before : List Event → Hosted D → Type 0
+  abbrev pub Before : List StoreEvent → Hosted D → Type 0
   Before events old = Outlives device registered events (UnderHost old)
 
   handled_honest : (budget : ℕ) (request : Request) (old : Hosted D) (reply : Reply SourceFault) (new : Hosted D)
@@ -122,11 +122,11 @@ module _ {D : Type 0} (device : Device D) (registered : List Registration) where
       honest handled.honesty_first handled.honesty_second
 
   -- a host as it was, if it had events before
-  as_before : (events : List Event) (old new : Hosted D) → new ≡ old → Before events old → Before events new
+  as_before : (events : List StoreEvent) (old new : Hosted D) → new ≡ old → Before events old → Before events new
   as_before events old new same before = subst (λ (host : Hosted D). Outlives device registered events (UnderHost host))
       (sym same) before
 
-  pub replied : (events : List Event) (budget : ℕ) (request : Request) (old : Hosted D) (end : End) (seq : ℕ)
+  pub replied : (events : List StoreEvent) (budget : ℕ) (request : Request) (old : Hosted D) (end : End) (seq : ℕ)
       (happened : List HostEvent)
       (new : Hosted D) → Before events old → Handles device budget request old (Answered end seq happened) new
       → Outlives device registered (Acknowledged budget request end seq happened ∷ events) (UnderHost new)
@@ -145,7 +145,7 @@ module _ {D : Type 0} (device : Device D) (registered : List Registration) where
         ]
       ]
 
-  pub stored : (events : List Event) (budget : ℕ) (request : Request) (old : Hosted D) (reply : Reply SourceFault)
+  pub stored : (events : List StoreEvent) (budget : ℕ) (request : Request) (old : Hosted D) (reply : Reply SourceFault)
       (new : Hosted D)
       → Before events old → Handles device budget request old reply new → (IsAnswer reply → ⊥)
       → (new.state ≡ None → old.state ≡ None) → Before events new
@@ -163,7 +163,7 @@ module _ {D : Type 0} (device : Device D) (registered : List Registration) where
         ]
       ]
 
-  pub failed : (events : List Event) (budget : ℕ) (request : Request) (old : Hosted D) (reply : Reply SourceFault)
+  pub failed : (events : List StoreEvent) (budget : ℕ) (request : Request) (old : Hosted D) (reply : Reply SourceFault)
       (new : Hosted D)
       → Before events old → Handles device budget request old reply new → (old.state ≡ None → ⊥) → new.state ≡ None
       → Outlives device registered (InDoubt budget request ∷ events) (UnderHost new)
@@ -179,7 +179,7 @@ module _ {D : Type 0} (device : Device D) (registered : List Registration) where
             (IsEither some.0 some.2.after) (some.2.moments before.honest before.runs.saved)))
       ]
 
-  pub crashed_handling : (events : List Event) (budget : ℕ) (request : Request) (old : Hosted D)
+  pub crashed_handling : (events : List StoreEvent) (budget : ℕ) (request : Request) (old : Hosted D)
       (reply : Reply SourceFault)
       (new : Hosted D) (a b : D) → Before events old → Handles device budget request old reply new
       → Crashed device (device.clock (first old)) (device.clock (second old)) (first new) (second new) a b
@@ -205,7 +205,7 @@ module _ {D : Type 0} (device : Device D) (registered : List Registration) where
 
   -- ---- disks that no host has
 
-  pub crashed_between : (events : List Event) (place : Place D) (a b : D) → Outlives device registered events place
+  pub crashed_between : (events : List StoreEvent) (place : StoreLocation D) (a b : D) → Outlives device registered events place
       → Crashed device (device.clock (first_at place)) (device.clock (second_at place)) (first_at place)
       (second_at place) a b → Outlives device registered events (OnDisks a b)
   crashed_between events place a b before crash =
@@ -213,19 +213,19 @@ module _ {D : Type 0} (device : Device D) (registered : List Registration) where
       (settle_crashed device (device.clock (first_at place)) (device.clock (second_at place)) (first_at place)
       (second_at place) a b (IsEither before.whole.s before.whole.t) before.whole.settled crash))
 
-  abbrev pub Rested : List Event → D → D → Type 0
+  abbrev pub Rested : List StoreEvent → D → D → Type 0
   Rested events a b = Outlives device registered events (OnDisks a b)
 
   -- each of the two states has what is registered
-  pub s_registered : (events : List Event) (a b : D) (was : IsWhole device registered events a b)
+  pub s_registered : (events : List StoreEvent) (a b : D) (was : IsWholeHistory device registered events a b)
       → was.s.registered ≡ registered
   s_registered events a b was = lead_registered events (empty registered) was.s was.s_led
 
-  pub t_registered : (events : List Event) (a b : D) (was : IsWhole device registered events a b)
+  pub t_registered : (events : List StoreEvent) (a b : D) (was : IsWholeHistory device registered events a b)
       → was.t.registered ≡ registered
   t_registered events a b was = lead_registered events (empty registered) was.t was.t_led
 
-  pub opened : (events : List Event) (a b : D) (host : Hosted D) → Rested events a b
+  pub opened : (events : List StoreEvent) (a b : D) (host : Hosted D) → Rested events a b
       → (was : WasOpened device registered a b host)
       → Outlives device registered (Found was.state ∷ events) (UnderHost host)
   opened events a b host before was =
@@ -242,7 +242,7 @@ module _ {D : Type 0} (device : Device D) (registered : List Registration) where
       (same_honesty device a b (first host) (second host) before.honest back.honesty_first back.honesty_second)
       (was.saved before.honest) was.running (was.state, led, (refl, refl))
 
-  pub not_found : (events : List Event) (others : List Registration) (a b : D) (r : HostRefused D) → Rested events a b
+  pub not_found : (events : List StoreEvent) (others : List Registration) (a b : D) (r : HostRefused D) → Rested events a b
       → WasNotFound device others a b r → Rested events r.a r.b
   not_found events others a b r before was =
       rests_on events r.a r.b (same_honesty device a b r.a r.b before.honest was.disks.honesty_first
@@ -260,7 +260,7 @@ module _ {D : Type 0} (device : Device D) (registered : List Registration) where
   opening_adds_nothing others a b (Err r) (NotFound was) = was.moments
   opening_adds_nothing others a b (Err r) (LeftThere was) = was.found.moments
 
-  pub crashed_opening : (events : List Event) (others : List Registration) (a b : D)
+  pub crashed_opening : (events : List StoreEvent) (others : List Registration) (a b : D)
       (result : Result (Hosted D) (HostRefused D)) (a' b' : D) → Rested events a b
       → (opens : Opens device others a b result)
       → Crashed device (device.clock a) (device.clock b) (first_found device others a b result opens)
@@ -273,7 +273,7 @@ module _ {D : Type 0} (device : Device D) (registered : List Registration) where
       (settle_still device (device.clock a) (device.clock b) a b x y (IsEither before.whole.s before.whole.t)
       (opening_adds_nothing others a b result opens before.honest) before.whole.settled) crash))
 
-  pub looked : (events : List Event) (a b a' b' : D) → Rested events a b → WereOnlyRead device a b a' b'
+  pub looked : (events : List StoreEvent) (a b a' b' : D) → Rested events a b → WereOnlyRead device a b a' b'
       → Rested events a' b'
   looked events a b a' b' before read =
       rests_on events a' b' (same_honesty device a b a' b' before.honest read.read_first.honesty
@@ -282,7 +282,7 @@ module _ {D : Type 0} (device : Device D) (registered : List Registration) where
       (settle_now device (device.clock a) (device.clock b) a' b' (IsEither before.whole.s before.whole.t)
       (settle_read device a b a' b' (IsEither before.whole.s before.whole.t) before.honest read before.whole.settled)))
 
-  pub turned : (events : List Event) (a b : D) → Rested events a b → Rested events b a
+  pub turned : (events : List StoreEvent) (a b : D) → Rested events a b → Rested events b a
   turned events a b before =
       rests_on events b a (record {
         honest_first = before.honest.honest_second;

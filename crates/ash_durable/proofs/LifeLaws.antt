@@ -9,18 +9,18 @@ use Rattle.ash_journal.specs.Journal.{first_disk, second_disk}
 use Rattle.ash_journal.proofs.SettleLaws.{represent_now, represent_once}
 use Rattle.ash_state_image.specs.declared.version.Version.{Version}
 use Rattle.ash_state_image.specs.declared.version.Version.TheVariants.{One, Two}
-use Rattle.ash_states.specs.States.{HostState, empty}
+use Rattle.ash_states.specs.HostStates.{HostState, empty}
 use Rattle.ash_states.specs.Images.{IsImageIn}
-use Rattle.ash_registry.specs.Registrations.{Registration}
-use Rattle.ash_durable.specs.Faults.{MayRefuse}
+use Rattle.ash_registry.specs.AcceptedRegistrations.{Registration}
+use Rattle.ash_durable.specs.StoreFaults.{MayRefuse}
 use Rattle.ash_durable.specs.Hosting.{Hosted, first, second}
 use Rattle.ash_durable.specs.OpenedStore.{WasOpened, WasFound, WasLeft, WasRefused, Opens, Keeps, InstallsOrNot}
 use Rattle.ash_durable.specs.OpenedStore.{first_found, second_found, NotFound, LeftThere}
-use Rattle.ash_durable.specs.States.{AreHonest, SettleSince, SettleNow, IsOne, IsEither, IsStateOf, HaveState}
+use Rattle.ash_durable.specs.StoredStates.{AreHonest, SettleSince, SettleNow, IsOne, IsEither, IsStateOf, HaveState}
 use Rattle.ash_durable.specs.Store.{WereOnlyRead, AreClosed, IsClosedOrHasState, NotMadeFor, WasNotMade, Creates}
 use Rattle.ash_durable.specs.Lives as lives
-use Rattle.ash_durable.specs.Lives.{Event, Found, LeadTo, LeadBy}
-use Rattle.ash_durable.specs.Lives.{Crashed, AreFresh, first_of, second_of, Place, UnderHost}
+use Rattle.ash_durable.specs.Lives.{StoreEvent, Found, LeadTo, LeadBy}
+use Rattle.ash_durable.specs.Lives.{Crashed, AreFresh, first_of, second_of, StoreLocation, UnderHost}
 use Rattle.ash_durable.specs.Lives.{OnDisks, first_at, second_at, Life, Outlives}
 use Rattle.ash_durable.specs.declared.fault.HostRefused.{HostRefused}
 use Rattle.ash_durable.specs.declared.fault.StoreFault.{StoreFault}
@@ -66,7 +66,7 @@ module _ {D : Type 0} (device : Device D) (stays : (disk : D) → IsTrue (device
   only_read (faults.Create creating.NoMemory) a b a' b' cause honest not_closed = (cause honest).0
   only_read _ a b a' b' cause honest not_closed = absurd cause
 
-  not_created : (events : List Event) (others : List Registration) (a b : D) (r : HostRefused D)
+  not_created : (events : List StoreEvent) (others : List Registration) (a b : D) (r : HostRefused D)
       → Rested device registered events a b → WasNotMade device (empty others) a b r
       → Rested device registered events r.a r.b
   not_created events others a b r before was =
@@ -83,7 +83,7 @@ module _ {D : Type 0} (device : Device D) (stays : (disk : D) → IsTrue (device
       settle_read device a b r.a r.b P honest (only_read r.fault a b r.a r.b was.cause honest
       (never_closed a b P honest run)) run
 
-  crashed_not_creating : (events : List Event) (others : List Registration) (a b : D)
+  crashed_not_creating : (events : List StoreEvent) (others : List Registration) (a b : D)
       (result : Result (Hosted D) (HostRefused D)) (a' b' : D) → Rested device registered events a b
       → Creates device others a b result → Crashed device (device.clock a) (device.clock b) (first_of result)
       (second_of result) a' b' → Rested device registered events a' b'
@@ -176,7 +176,7 @@ module _ {D : Type 0} (device : Device D) (stays : (disk : D) → IsTrue (device
       (moved_on others a b P left.state left.old left.left.new left.left.image honest settle left.found
       left.left.is_image left.left.moments))
 
-  refused : (events : List Event) (others : List Registration) (a b : D) (r : HostRefused D)
+  refused : (events : List StoreEvent) (others : List Registration) (a b : D) (r : HostRefused D)
       → Rested device registered events a b → WasRefused device others a b r → Rested device registered events r.a r.b
   refused events others a b r before (NotFound none) = not_found device registered events others a b r before none
   refused events others a b r before (LeftThere left) =
@@ -202,7 +202,7 @@ module _ {D : Type 0} (device : Device D) (stays : (disk : D) → IsTrue (device
       (settle_still device (device.clock a) (device.clock b) a b r.a r.b P (was.moments honest) settle)
   moving_settles others a b P (Err r) honest settle (LeftThere left) = left_on others a b P r honest settle left
 
-  crashed_moving : (events : List Event) (others : List Registration) (a b : D)
+  crashed_moving : (events : List StoreEvent) (others : List Registration) (a b : D)
       (result : Result (Hosted D) (HostRefused D)) (a' b' : D) → Rested device registered events a b
       → (opens : Opens device others a b result)
       → Crashed device (device.clock (first_found device others a b result opens))
@@ -217,7 +217,7 @@ module _ {D : Type 0} (device : Device D) (stays : (disk : D) → IsTrue (device
 
   -- ---- all of it
 
-  pub outlives : (events : List Event) (place : Place D) → Life device registered events place
+  pub outlives : (events : List StoreEvent) (place : StoreLocation D) → Life device registered events place
       → Outlives device registered events place
   outlives _ _ (lives.Created a b host honest was) = created device registered a b host honest was
   outlives _ _ (lives.CrashedCreating a b result a' b' fresh creates crash is_open) =
@@ -258,7 +258,7 @@ module _ {D : Type 0} (device : Device D) (stays : (disk : D) → IsTrue (device
       turned device registered events a b (outlives events (OnDisks a b) life)
 
   -- the files settle on states to which the events lead by way of each of them
-  pub settles_by : (later : List Event) (event : Event) (earlier : List Event) (place : Place D)
+  pub settles_by : (later : List StoreEvent) (event : StoreEvent) (earlier : List StoreEvent) (place : StoreLocation D)
       → Life device registered (later ++ event ∷ earlier) place
       → SettleNow device (first_at place) (second_at place) (LeadBy later event earlier (empty registered))
   settles_by later event earlier place life =
@@ -273,7 +273,7 @@ module _ {D : Type 0} (device : Device D) (stays : (disk : D) → IsTrue (device
       ])
 
   -- no opening of a store is refused but because memory ran out, a disk failed or its version 1 has no more generations
-  pub opens : (events : List Event) (a b : D) (r : HostRefused D) → Life device registered events (OnDisks a b)
+  pub opens : (events : List StoreEvent) (a b : D) (r : HostRefused D) → Life device registered events (OnDisks a b)
       → WasRefused device registered a b r → MayRefuse r.fault
   opens events a b r life (NotFound was) =
       let before = outlives events (OnDisks a b) life in

@@ -4,19 +4,19 @@ use Rattle.std.proofs.Common.{append_assoc}
 use Rattle.ash_disk.specs.Device.{Device}
 use Rattle.ash_steps.specs.Requests.{Request, Reply, Answered, Value, ShownAs, Number, Done, Refused}
 use Rattle.ash_sources.specs.SourceFaults.{SourceFault}
-use Rattle.ash_states.specs.States.{HostState}
-use Rattle.ash_registry.specs.Registrations.{Registration}
+use Rattle.ash_states.specs.HostStates.{HostState}
+use Rattle.ash_registry.specs.AcceptedRegistrations.{Registration}
 use Rattle.ash_durable.specs.Hosting.{Hosted, IsAnswer, Handles, HandlesAll}
-use Rattle.ash_durable.specs.Running.{LosesAnswer}
-use Rattle.ash_durable.specs.Lives.{Event, Acknowledged, InDoubt, UnderHost, Life, Replied, Unanswered, Failed, Records}
+use Rattle.ash_durable.specs.RequestRuns.{LosesAnswer}
+use Rattle.ash_durable.specs.Lives.{StoreEvent, Acknowledged, InDoubt, UnderHost, Life, Replied, Unanswered, Failed, Records}
 use Rattle.ash_durable.specs.Lives.{LivesOn}
 use Rattle.ash_durable.proofs.RequestOutcomes.{handled_or_stopped}
 
 -- the events of a request that is not answered
-abbrev MayRecord : ℕ → Request → Reply SourceFault → List Event → Type 0
+abbrev MayRecord : ℕ → Request → Reply SourceFault → List StoreEvent → Type 0
 MayRecord budget request reply events = (events ≡ []) ⊎ (LosesAnswer reply × (events ≡ InDoubt budget request ∷ []))
 
-records_other : (budget : ℕ) (request : Request) (reply : Reply SourceFault) (events : List Event)
+records_other : (budget : ℕ) (request : Request) (reply : Reply SourceFault) (events : List StoreEvent)
     → (IsAnswer reply → ⊥)
     → MayRecord budget request reply events → Records budget request reply events
 records_other budget request (Answered end seq happened) events not may = absurd (not tt)
@@ -39,13 +39,13 @@ stops_by device budget request old reply new state ran none handled =
     ]
 
 -- a life that goes on with one request
-abbrev LivesOnce : {D : Type 0} → Device D → List Registration → ℕ → Request → List Event → Reply SourceFault → Hosted D
+abbrev LivesOnce : {D : Type 0} → Device D → List Registration → ℕ → Request → List StoreEvent → Reply SourceFault → Hosted D
     → Type 0
 LivesOnce device registered budget request events reply new =
-    (one : List Event) × Life device registered (one ++ events) (UnderHost new) × Records budget request reply one
+    (one : List StoreEvent) × Life device registered (one ++ events) (UnderHost new) × Records budget request reply one
 
 other_once : {D : Type 0} (device : Device D) (registered : List Registration) (budget : ℕ) (request : Request)
-    (events : List Event) (old : Hosted D) (reply : Reply SourceFault) (new : Hosted D)
+    (events : List StoreEvent) (old : Hosted D) (reply : Reply SourceFault) (new : Hosted D)
     → Life device registered events (UnderHost old) → Handles device budget request old reply new → (IsAnswer reply → ⊥)
     → LivesOnce device registered budget request events reply new
 other_once {D} device registered budget request events old reply new life handled not = by new.state old.state refl refl
@@ -70,7 +70,7 @@ other_once {D} device registered budget request events old reply new life handle
         )
 
 lives_once : {D : Type 0} (device : Device D) (registered : List Registration) (budget : ℕ) (request : Request)
-    (events : List Event) (old : Hosted D) (reply : Reply SourceFault) (new : Hosted D)
+    (events : List StoreEvent) (old : Hosted D) (reply : Reply SourceFault) (new : Hosted D)
     → Life device registered events (UnderHost old) → Handles device budget request old reply new
     → LivesOnce device registered budget request events reply new
 lives_once device registered budget request events old (Answered end seq happened) new life handled =
@@ -101,7 +101,7 @@ lives_on device budget old (request ∷ requests) (reply ∷ replies) new all =
     let one = lives_once device registered budget request events old reply all.0 life all.1 in
     let more = lives_on device budget all.0 requests replies new all.2 registered (one.0 ++ events) one.1 in (
       more.0 ++ one.0,
-      subst (λ (later : List Event). Life device registered later (UnderHost new))
+      subst (λ (later : List StoreEvent). Life device registered later (UnderHost new))
           (sym (append_assoc more.0 one.0 events)) more.1,
       (more.0, one.0, one.2, more.2, refl),
     )

@@ -6,23 +6,23 @@ use Rattle.std.proofs.lemmas.Bool.Decides.{nat_tests}
 use Rattle.std.proofs.lemmas.Grind.{common_steps}
 use Rattle.ash_disk.specs.Device.{Device}
 use Rattle.ash_lex.specs.declared.faults.LexFault.TheVariants.{SourceTooLong}
-use Rattle.ash_registry.specs.Registrations.{Registration}
+use Rattle.ash_registry.specs.AcceptedRegistrations.{Registration}
 use Rattle.ash_typed.specs.Modules.{Module}
 use Rattle.ash_steps.specs.States.{State, find_module}
 use Rattle.ash_steps.specs.Requests.{Load, Reply, BadName, ModuleTaken, TooManyModules}
 use Rattle.ash_steps.specs.Tasks.{TaskResult, numbered, require, initialize, is_module_name, max_modules}
 use Rattle.ash_steps.specs.Steps.{unless_refused}
 use Rattle.ash_plain_steps.specs.TaskViews.{TakesMemoryToFind}
-use Rattle.ash_plain_steps.specs.StepViews.{IsChange}
+use Rattle.ash_plain_steps.specs.StepViews.{TaskChangesState}
 use Rattle.ash_sources.specs.SourceFaults.{SourceFault, Lexical}
 use Rattle.ash_sources.specs.SourceFaults as sources
 use Rattle.ash_sources.specs.TypedSource.{TypedResult, typed_if_checked, typed_source}
 use Rattle.ash_sources.specs.Sources.{admitted_as}
 use Rattle.ash_sources.specs.declared.sources.AdmittedScripts.TheVariants.{UsingNothingRegistered}
 use Rattle.ash_sources.proofs.CheckedSourceLaws.{of_no_tokens}
-use Rattle.ash_states.specs.States.{HostState, embedding_for}
-use Rattle.ash_states.specs.Steps.{task_of, step, outcome_of, no_hosts}
-use Rattle.ash_durable.specs.Hosting.{Hosted, Replies, Handles}
+use Rattle.ash_states.specs.HostStates.{HostState, embedding_for}
+use Rattle.ash_states.specs.StateSteps.{task_of, step, outcome_of, no_hosts}
+use Rattle.ash_durable.specs.Hosting.{Hosted, HostReplies, Handles}
 
 take-all : (n : ℕ) (xs : List ℕ) → length xs ≤ n → take n xs ≡ xs
 take-all n xs h = grind (arith, common_steps)
@@ -86,8 +86,8 @@ step_of_prefix budget name prefix source state e =
 
 replies_of_prefix : {D : Type 0} (device : Device D) (budget : ℕ) (name prefix source : List ℕ)
     (state : Option HostState) (old : Hosted D) (reply : Reply SourceFault) (new : Hosted D)
-    → prefix ≡ take 65537 source → Replies device budget (Load name prefix) state old reply new
-    → Replies device budget (Load name source) state old reply new
+    → prefix ≡ take 65537 source → HostReplies device budget (Load name prefix) state old reply new
+    → HostReplies device budget (Load name source) state old reply new
 replies_of_prefix device budget name prefix source None old reply new e h = h
 replies_of_prefix device budget name prefix source (Some state) old reply new e (inl h) =
     inl (record {
@@ -105,7 +105,7 @@ replies_of_prefix device budget name prefix source (Some state) old reply new e 
       room = out.room;
       ran_out = record {
         takes = tt;
-        finds = subst (TakesMemoryToFind sources.TakesMemoryToFind) (task_of_prefix name prefix source state e)
+        finds = subst (TakesMemoryToFind sources.MayTakeMemory) (task_of_prefix name prefix source state e)
             out.ran_out.finds;
         reply_is = out.ran_out.reply_is;
         unchanged = out.ran_out.unchanged;
@@ -117,7 +117,7 @@ replies_of_prefix device budget name prefix source (Some state) old reply new e 
     inr (inr (inl (record {
       between = lost.between;
       room = lost.room;
-      changes = subst IsChange (task_of_prefix name prefix source state e) lost.changes;
+      changes = subst TaskChangesState (task_of_prefix name prefix source state e) lost.changes;
       answer = lost.answer;
       after = lost.after;
       stepped = step_of_prefix budget name prefix source state e ∙ lost.stepped;
@@ -129,7 +129,7 @@ replies_of_prefix device budget name prefix source (Some state) old reply new e 
     inr (inr (inr (inl (record {
       between = lost.between;
       room = lost.room;
-      changes = subst IsChange (task_of_prefix name prefix source state e) lost.changes;
+      changes = subst TaskChangesState (task_of_prefix name prefix source state e) lost.changes;
       reply_is = lost.reply_is;
       journal_same = lost.journal_same;
       stopped = lost.stopped;

@@ -9,7 +9,7 @@ use Rattle.ash_journal.specs.declared.error.CreateFault.{CreateFault}
 use Rattle.ash_journal.specs.declared.error.CreateFault.TheVariants as creating
 use Rattle.ash_journal.specs.declared.journal.Journal.{Journal}
 use Rattle.ash_journal.specs.Current.{IsContents}
-use Rattle.ash_journal.specs.Failures.{CountsFailures}
+use Rattle.ash_journal.specs.JournalFailures.{CountsFailures}
 use Rattle.ash_journal.specs.Journal.{current_disk, first_disk, second_disk, generation, record_bytes, IsReady, Holds}
 use Rattle.ash_journal.specs.Layout.{IsClosed, IsShut}
 use Rattle.ash_journal.specs.Opening.{CreateFaultIs, IsCreatedOrClosed}
@@ -18,10 +18,10 @@ use Rattle.ash_journal.proofs.LayoutLaws.{open_closed}
 use Rattle.ash_journal.proofs.ReadLaws.{rested_read}
 use Rattle.ash_journal.proofs.SettleLaws.{settle_more}
 use Rattle.ash_state_image.specs.declared.version.Version.TheVariants.{Two}
-use Rattle.ash_states.specs.States.{HostState}
+use Rattle.ash_states.specs.HostStates.{HostState}
 use Rattle.ash_states.specs.Images.{IsImageIn}
-use Rattle.ash_durable.specs.Faults.{IsFailed}
-use Rattle.ash_durable.specs.States.{AreHonest, IsOne, IsStateOf, HaveState}
+use Rattle.ash_durable.specs.StoreFaults.{IsFailed}
+use Rattle.ash_durable.specs.StoredStates.{AreHonest, IsOne, IsStateOf, HaveState}
 use Rattle.ash_durable.specs.Store.{HandsBack, WereOnlyRead, AreClosed, MakesOrNot, WasMade, NotMadeFor, WasNotMade}
 use Rattle.ash_durable.specs.declared.fault.StoreFault.{StoreFault}
 use Rattle.ash_durable.specs.declared.fault.StoreFault.TheVariants as faults

@@ -5,12 +5,12 @@ use Rattle.ash_journal.specs.declared.error.OpenFault.TheVariants as opening
 use Rattle.ash_journal.specs.Current.{Contents, Represent}
 use Rattle.ash_journal.proofs.SettleLaws.{represent_once}
 use Rattle.ash_state_image.specs.declared.version.Version.TheVariants.{One, Two}
-use Rattle.ash_states.specs.States.{HostState}
-use Rattle.ash_registry.specs.Registrations.{Registration}
+use Rattle.ash_states.specs.HostStates.{HostState}
+use Rattle.ash_registry.specs.AcceptedRegistrations.{Registration}
 use Rattle.ash_durable.specs.Contents.{ReadsAs}
-use Rattle.ash_durable.specs.Faults.{IsMishap, MayRefuse}
+use Rattle.ash_durable.specs.StoreFaults.{IsMishap, MayRefuse}
 use Rattle.ash_durable.specs.OpenedStore.{StoreFaultIs, IsSpent}
-use Rattle.ash_durable.specs.States.{AreIn, IsStateOf}
+use Rattle.ash_durable.specs.StoredStates.{AreIn, IsStateOf}
 use Rattle.ash_durable.proofs.ContentsStates.{version_once}
 use Rattle.ash_durable.specs.declared.fault.StoreFault.{StoreFault}
 use Rattle.ash_durable.specs.declared.fault.StoreFault.TheVariants as faults

@@ -5,12 +5,12 @@ use Rattle.ash_journal.specs.declared.error.OpenFault.TheVariants as opening
 use Rattle.ash_journal.specs.declared.journal.Journal.{Journal}
 use Rattle.ash_journal.specs.declared.journal.NextGeneration.{NextGeneration}
 use Rattle.ash_journal.specs.Current.{IsContents, HoldsOneOf}
-use Rattle.ash_journal.specs.Failures.{CountsFailures}
+use Rattle.ash_journal.specs.JournalFailures.{CountsFailures}
 use Rattle.ash_journal.specs.Installing.{IsNext}
 use Rattle.ash_journal.specs.Journal.{first_disk, second_disk, generation, record_bytes, IsReady, Holds, LeavesCurrent}
-use Rattle.ash_journal.specs.Runs.{HoldsSince}
+use Rattle.ash_journal.specs.SettledSince.{HoldsSince}
 use Rattle.ash_state_image.specs.declared.version.Version.TheVariants.{Two}
-use Rattle.ash_states.specs.States.{HostState}
+use Rattle.ash_states.specs.HostStates.{HostState}
 use Rattle.ash_states.specs.Images.{IsImageIn}
 use Rattle.ash_durable.specs.OpenedStore.{Prepares, NotBegun, MayNotMove, WasMoved, WasNotMoved}
 use Rattle.ash_durable.specs.Store.{HandsBack}

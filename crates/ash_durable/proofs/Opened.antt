@@ -7,12 +7,12 @@ use Rattle.ash_journal.specs.Current.{Contents, Represent}
 use Rattle.ash_journal.specs.Journal.{first_disk, second_disk, IsReady}
 use Rattle.ash_state_image.specs.declared.version.Version.{Version}
 use Rattle.ash_state_image.specs.declared.version.Version.TheVariants.{One, Two}
-use Rattle.ash_states.specs.States.{HostState, empty}
-use Rattle.ash_registry.specs.Registrations.{Registration}
-use Rattle.ash_durable.specs.Faults.{IsMishap}
+use Rattle.ash_states.specs.HostStates.{HostState, empty}
+use Rattle.ash_registry.specs.AcceptedRegistrations.{Registration}
+use Rattle.ash_durable.specs.StoreFaults.{IsMishap}
 use Rattle.ash_durable.specs.Hosting.{Hosted, first, second, IsRunning}
 use Rattle.ash_durable.specs.OpenedStore.{WasFound, Keeps, WasKept, WasOpened, Opens, OpensAgain, NotFound, LeftThere}
-use Rattle.ash_durable.specs.States.{AreHonest, HoldsState, SettleNow, IsOne, IsEither}
+use Rattle.ash_durable.specs.StoredStates.{AreHonest, HoldsState, SettleNow, IsOne, IsEither}
 use Rattle.ash_durable.specs.Store.{HandsBack, WasMade, WasCreated}
 use Rattle.ash_durable.specs.declared.fault.HostRefused.{HostRefused}
 use Rattle.ash_durable.proofs.ContentsStates.{alone_in, state_of_alone}

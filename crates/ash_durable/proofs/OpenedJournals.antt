@@ -6,19 +6,19 @@ use Rattle.ash_journal.specs.declared.journal.Journal.{Journal}
 use Rattle.ash_journal.specs.declared.journal.OpenedJournal.{OpenedJournal}
 use Rattle.ash_journal.specs.declared.record.Record.{Record}
 use Rattle.ash_journal.specs.Current.{Contents}
-use Rattle.ash_journal.specs.Failures.{CountsFailures}
-use Rattle.ash_journal.specs.Journal.{first_disk, second_disk, HasFailed, IsReady, Holds, Finds as FindsIn}
+use Rattle.ash_journal.specs.JournalFailures.{CountsFailures}
+use Rattle.ash_journal.specs.Journal.{first_disk, second_disk, HasFailed, IsReady, Holds, HoldsBeforeRepair}
 use Rattle.ash_journal.specs.Reading.{AreAt, bodies_of}
-use Rattle.ash_journal.specs.Runs.{Extends, NoContents}
+use Rattle.ash_journal.specs.SettledSince.{Extends, NoContents}
 use Rattle.ash_journal.proofs.RunLaws.{same_extends}
 use Rattle.ash_state_image.specs.declared.version.Version.TheVariants.{One, Two}
-use Rattle.ash_states.specs.States.{HostState}
-use Rattle.ash_registry.specs.Registrations.{Registration}
+use Rattle.ash_states.specs.HostStates.{HostState}
+use Rattle.ash_registry.specs.AcceptedRegistrations.{Registration}
 use Rattle.ash_durable.specs.Contents.{after_image, ReadsAs}
-use Rattle.ash_durable.specs.Faults.{IsFailed}
+use Rattle.ash_durable.specs.StoreFaults.{IsFailed}
 use Rattle.ash_durable.specs.OpenedStore.{contents_of, AreInPlace, OnlySettled, WasNotSettled, Settled, HasSettled}
 use Rattle.ash_durable.specs.OpenedStore.{FailedToSettle, Repairs, Moves, MayNotMove, UnsettledFor, WasSettledIn}
-use Rattle.ash_durable.specs.States.{AreIn, IsStateOf}
+use Rattle.ash_durable.specs.StoredStates.{AreIn, IsStateOf}
 use Rattle.ash_durable.specs.Store.{HandsBack}
 use Rattle.ash_durable.specs.declared.contents.StateRead.{StateRead}
 use Rattle.ash_durable.specs.declared.fault.HostRefused.{HostRefused}
@@ -89,9 +89,9 @@ module _ {D : Type 0} (device : Device D) where
   -- they are written over
   pub has_settled : (was journal : Journal D) (failed : Type 0) → (failed → ⊥)
       → ((HasFailed was → ⊥) → IsReady journal) → OnlySettled device was journal
-      → ((contents : Contents) → FindsIn device was contents.0 contents.1
+      → ((contents : Contents) → HoldsBeforeRepair device was contents.0 contents.1
       → Holds device journal contents.0 contents.1)
-      → ((contents : Contents) → FindsIn device was contents.0 contents.1
+      → ((contents : Contents) → HoldsBeforeRepair device was contents.0 contents.1
       → Extends device (first_disk was) (second_disk was) (first_disk journal) (second_disk journal) NoContents)
       → CountsFailures failed (device.failures (first_disk was)) (device.failures (second_disk was))
       (device.failures (first_disk journal)) (device.failures (second_disk journal))
@@ -115,7 +115,7 @@ module _ {D : Type 0} (device : Device D) where
       → refused.fault ≡ faults.Open opening.DeviceFailed → refused.a ≡ first_disk journal
       → refused.b ≡ second_disk journal
       → OnlySettled device was journal
-      → ((contents : Contents) → FindsIn device was contents.0 contents.1
+      → ((contents : Contents) → HoldsBeforeRepair device was contents.0 contents.1
       → Extends device (first_disk was) (second_disk was) (first_disk journal) (second_disk journal) NoContents)
       → CountsFailures failed (device.failures (first_disk was)) (device.failures (second_disk was))
       (device.failures (first_disk journal)) (device.failures (second_disk journal))

@@ -1,6 +1,6 @@
 -- How failures of devices are counted.
 use Rattle.std.proofs.Common.{ℕ}
-use Rattle.ash_journal.specs.Failures.{CountsFailures}
+use Rattle.ash_journal.specs.JournalFailures.{CountsFailures}
 
 -- what it is called that a device failed makes no difference to the counts
 pub counts_as : (failed named : Type 0) (first second first' second' : ℕ) → (failed → named) → (named → failed)

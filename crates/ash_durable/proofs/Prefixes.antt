@@ -5,15 +5,15 @@ use Rattle.ash_host.specs.declared.event.Event.{Event as HostEvent}
 use Rattle.ash_phrases.specs.Ends.{End}
 use Rattle.ash_steps.specs.Requests.{Request, Reply, Answered}
 use Rattle.ash_sources.specs.SourceFaults.{SourceFault}
-use Rattle.ash_registry.specs.Registrations.{Registration}
-use Rattle.ash_states.specs.States.{HostState}
+use Rattle.ash_registry.specs.AcceptedRegistrations.{Registration}
+use Rattle.ash_states.specs.HostStates.{HostState}
 use Rattle.ash_durable.specs.Hosting.{Hosted, IsAnswer, Handles}
 use Rattle.ash_durable.specs.Lives as lives
-use Rattle.ash_durable.specs.Lives.{Event, Acknowledged, InDoubt, Found, Place, UnderHost, OnDisks, Life}
+use Rattle.ash_durable.specs.Lives.{StoreEvent, Acknowledged, InDoubt, Found, StoreLocation, UnderHost, OnDisks, Life}
 use Rattle.ash_durable.specs.Lives.{AreAcknowledged, IsOfPrefix, IsPrefixAt}
 use Rattle.ash_durable.proofs.RequestOutcomes.{handled_or_stopped, stopped_answer}
 
-of_acknowledged : (events : List Event) → AreAcknowledged events → IsOfPrefix events
+of_acknowledged : (events : List StoreEvent) → AreAcknowledged events → IsOfPrefix events
 of_acknowledged [] are = tt
 of_acknowledged (Acknowledged budget request end seq happened ∷ earlier) are = are
 of_acknowledged (InDoubt budget request ∷ earlier) are = absurd are
@@ -21,13 +21,13 @@ of_acknowledged (Found state ∷ earlier) are = tt
 
 module _ {D : Type 0} (device : Device D) (registered : List Registration) where
   -- whatever becomes of the host, what it leaves on its disks is such a prefix
-  left : (events : List Event) (place : Place D) → IsPrefixAt events place → IsOfPrefix events
+  left : (events : List StoreEvent) (place : StoreLocation D) → IsPrefixAt events place → IsOfPrefix events
   left events (UnderHost host) (inl stopped) = stopped.1
   left events (UnderHost host) (inr are) = of_acknowledged events are
   left events (OnDisks one other) are = are
 
   -- a host that runs has no request in doubt
-  runs : (events : List Event) (host : Hosted D) → (host.state ≡ None → ⊥) → IsPrefixAt events (UnderHost host)
+  runs : (events : List StoreEvent) (host : Hosted D) → (host.state ≡ None → ⊥) → IsPrefixAt events (UnderHost host)
       → AreAcknowledged events
   runs events host ran (inl stopped) = absurd (ran stopped.0)
   runs events host ran (inr are) = are
@@ -35,7 +35,7 @@ module _ {D : Type 0} (device : Device D) (registered : List Registration) where
   ran_in : (state : HostState) (host : Hosted D) → host.state ≡ Some state → host.state ≡ None → ⊥
   ran_in state host some none = let h : None ≡ Some state = sym none ∙ some in absurd (cc)
 
-  replied : (events : List Event) (budget : ℕ) (request : Request) (old : Hosted D) (end : End) (seq : ℕ)
+  replied : (events : List StoreEvent) (budget : ℕ) (request : Request) (old : Hosted D) (end : End) (seq : ℕ)
       (happened : List HostEvent) (new : Hosted D) → IsPrefixAt events (UnderHost old)
       → Handles device budget request old (Answered end seq happened) new → AreAcknowledged events
   replied events budget request old end seq happened new before handled =
@@ -44,7 +44,7 @@ module _ {D : Type 0} (device : Device D) (registered : List Registration) where
         | inr some ↦ runs events old (ran_in some.0 old some.1) before
       ]
 
-  unanswered : (events : List Event) (budget : ℕ) (request : Request) (old : Hosted D) (reply : Reply SourceFault)
+  unanswered : (events : List StoreEvent) (budget : ℕ) (request : Request) (old : Hosted D) (reply : Reply SourceFault)
       (new : Hosted D) → IsPrefixAt events (UnderHost old) → Handles device budget request old reply new
       → IsPrefixAt events (UnderHost new)
   unanswered events budget request old reply new before handled =
@@ -53,7 +53,7 @@ module _ {D : Type 0} (device : Device D) (registered : List Registration) where
         | inr some ↦ inr (runs events old (ran_in some.0 old some.1) before)
       ]
 
-  pub prefix : (events : List Event) (place : Place D) → Life device registered events place → IsPrefixAt events place
+  pub prefix : (events : List StoreEvent) (place : StoreLocation D) → Life device registered events place → IsPrefixAt events place
   prefix _ _ (lives.Created a b host honest was) = inr tt
   prefix _ _ (lives.CrashedCreating a b result a' b' fresh creates crash is_open) = tt
   prefix _ _ (lives.OpenedCreating a b result a' b' host fresh creates crash was) = inr tt

@@ -9,21 +9,21 @@ use Rattle.ash_journal.specs.declared.error.OpenFault.TheVariants as opening
 use Rattle.ash_journal.specs.declared.record.Record.{Record}
 use Rattle.ash_journal.specs.Current.{Contents}
 use Rattle.ash_journal.specs.Reading.{AreAt, bodies_of}
-use Rattle.ash_registry.specs.Registrations.{Registration}
-use Rattle.ash_registry.specs.Text.{text_of}
+use Rattle.ash_registry.specs.AcceptedRegistrations.{Registration}
+use Rattle.ash_registry.specs.RegistryText.{text_of}
 use Rattle.ash_state_image.specs.declared.stored.StoredImage.{StoredImage}
 use Rattle.ash_state_image.specs.declared.version.Version.{Version}
 use Rattle.ash_state_image.specs.Snapshots.{Snapshot}
-use Rattle.ash_state_image.specs.Rules.{IsImage, IsBody, IsShaped}
-use Rattle.ash_state_image.specs.Views.{image_read}
-use Rattle.ash_states.specs.States.{HostState}
-use Rattle.ash_states.specs.Images.{IsDepicted, IsImageOf, IsRestored, state_of}
-use Rattle.ash_durable.specs.States.{IsBodyAs, AreIn, Leads, LeadAll, IsStateOf}
+use Rattle.ash_state_image.specs.Rules.{IsImage, IsImageBody, IsShaped}
+use Rattle.ash_state_image.specs.SnapshotViews.{image_read}
+use Rattle.ash_states.specs.HostStates.{HostState}
+use Rattle.ash_states.specs.Images.{IsDepicted, IsImageOf, IsImageRestored, state_of}
+use Rattle.ash_durable.specs.StoredStates.{IsBodyAs, AreIn, Leads, LeadAll, IsStateOf}
 use Rattle.ash_durable.specs.Contents.{IsImageWith, IsBodyWith, AreShaped, IsAdmittedImage, IsAdmittedBody}
 use Rattle.ash_durable.specs.Contents.{IsNoImage, FirstWithout, after_image, IsMisshapen, IsNotAdmitted, ReadsAs}
 use Rattle.ash_durable.specs.Contents.{record_header_size}
 use Rattle.ash_durable.specs.Contents.{ReportsDamage, FirstRecordWithout, Restores, LeadsOn, LeadsThrough}
-use Rattle.ash_durable.specs.Faults.{IsFailed}
+use Rattle.ash_durable.specs.StoreFaults.{IsFailed}
 use Rattle.ash_durable.proofs.ContentsStates.{image_once, version_once, body_once, body_version_once, lead_all_registered}
 use Rattle.ash_durable.specs.declared.fault.StoreFault.{StoreFault}
 use Rattle.ash_durable.specs.declared.fault.StoreFault.TheVariants as faults
@@ -80,7 +80,7 @@ reads_nothing image None is only = λ version s image_is.
 
 -- bytes have a text of what was registered by the body that is read of them
 pub has_body : (wanted : Version) (text body : List ℕ) (version : Version) (s : Snapshot) (has_it : Bool)
-    → IsBody body version s → IsTrue has_it ↔ ((version ≡ wanted) × (s.registered ≡ text))
+    → IsImageBody body version s → IsTrue has_it ↔ ((version ≡ wanted) × (s.registered ≡ text))
     → IsTrue has_it ↔ IsBodyWith wanted text body
 has_body wanted text body version s has_it is same = (
   λ yes. let both = same.0 yes in
@@ -93,7 +93,7 @@ has_body wanted text body version s has_it is same = (
 
 -- bytes of which no body is read have none
 pub no_body_with : (wanted : Version) (text body : List ℕ) (found : Option StoredImage) → found ≡ None
-    → ((version : Version) (s : Snapshot) → IsBody body version s → option_map image_read found ≡ Some (version, s))
+    → ((version : Version) (s : Snapshot) → IsImageBody body version s → option_map image_read found ≡ Some (version, s))
     → IsTrue false ↔ IsBodyWith wanted text body
 no_body_with wanted text body (Some stored) is only = absurd (cc)
 no_body_with wanted text body None is only = (
@@ -103,7 +103,7 @@ no_body_with wanted text body None is only = (
 
 -- what was restored of a snapshot is the state that the snapshot is of
 depicted : (registered : List Registration) (s : Snapshot) (state : HostState) → s.registered ≡ text_of registered
-    → IsRestored registered s (Some state) → IsDepicted s state
+    → IsImageRestored registered s (Some state) → IsDepicted s state
 depicted registered s state text restored = record {
   text_is = text ∙ ap text_of (sym restored.0);
   no_services = restored.2;
@@ -112,19 +112,19 @@ depicted registered s state text restored = record {
 }
 
 -- a snapshot of which nothing is restored is of no state with this registered
-undepicted : (registered : List Registration) (s t : Snapshot) (state : HostState) → IsRestored registered s None
+undepicted : (registered : List Registration) (s t : Snapshot) (state : HostState) → IsImageRestored registered s None
     → t ≡ s → state.registered ≡ registered → IsDepicted t state → ⊥
 undepicted registered s t state none same with_it is =
     none state with_it (subst (λ (x : Snapshot). state_of x ≡ state.state) same is.state_is)
     (subst (λ (x : Snapshot). x.services ≡ []) same is.no_services) is.admitted
 
 no_image : (registered : List Registration) (image : List ℕ) (version : Version) (s : Snapshot)
-    → IsImage image version s → IsRestored registered s None → IsAdmittedImage registered image → ⊥
+    → IsImage image version s → IsImageRestored registered s None → IsAdmittedImage registered image → ⊥
 no_image registered image version s is none (state, with_it, (other, (t, is_too, depicts))) =
     undepicted registered s t state none (image_once image other version t s is_too is) with_it depicts
 
 no_body : (registered : List Registration) (body : List ℕ) (version : Version) (s : Snapshot)
-    → IsBody body version s → IsRestored registered s None → IsAdmittedBody registered body → ⊥
+    → IsImageBody body version s → IsImageRestored registered s None → IsAdmittedBody registered body → ⊥
 no_body registered body version s is none (state, with_it, (other, (image, body_is, (t, is_too, depicts)))) =
     undepicted registered s t state none
     (body_once body other version t s (image, body_is, is_too) is) with_it depicts
@@ -138,7 +138,7 @@ image_restored registered image version s offset state is text restore =
 
 -- a record leads to the state that was restored of it
 pub leads_on : (registered : List Registration) (body : List ℕ) (version : Version) (s : Snapshot) (gate : ℕ)
-    (result : Result HostState OpenFault) → IsBody body version s → s.registered ≡ text_of registered
+    (result : Result HostState OpenFault) → IsImageBody body version s → s.registered ≡ text_of registered
     → Restores registered s gate result → LeadsOn registered body gate result
 leads_on registered body version s gate (Ok state) is text restore = (
   restore.0,
@@ -207,7 +207,7 @@ pub reads_unadmitted : (registered : List Registration) (image : List ℕ) (vers
     → AreShaped (text_of registered) (image, bodies) → Restores registered s 0 (Err fault)
     → ReadsAs registered (image, bodies) (Err (faults.Open fault))
 reads_unadmitted registered image version s bodies fault is shaped reported =
-    reads_damage (λ at. IsRestored registered s None × (at ≡ 0)) registered (image, bodies) fault
+    reads_damage (λ at. IsImageRestored registered s None × (at ≡ 0)) registered (image, bodies) fault
     (λ at not. inr (shaped, inl (no_image registered image version s is not.0, not.1)))
     reported
 

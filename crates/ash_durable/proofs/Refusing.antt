@@ -6,12 +6,12 @@ use Rattle.ash_steps.specs.Requests.{Request, Refusal, Reply, Refused}
 use Rattle.ash_steps.specs.Tasks.{TaskResult}
 use Rattle.ash_steps.specs.Steps.{unless_refused}
 use Rattle.ash_plain_steps.specs.TaskViews.{TakesMemoryToFind}
-use Rattle.ash_plain_steps.specs.StepViews.{IsChange}
+use Rattle.ash_plain_steps.specs.StepViews.{TaskChangesState}
 use Rattle.ash_sources.specs.SourceFaults.{SourceFault}
 use Rattle.ash_sources.specs.SourceFaults as sources
-use Rattle.ash_states.specs.States.{HostState}
-use Rattle.ash_states.specs.Steps.{task_of, outcome_of, no_hosts}
-use Rattle.ash_durable.specs.Hosting.{Hosted, WantsInstall, TookStep, Replies, Handles, IsAnswer, Refuses, RefusesFirst}
+use Rattle.ash_states.specs.HostStates.{HostState}
+use Rattle.ash_states.specs.StateSteps.{task_of, outcome_of, no_hosts}
+use Rattle.ash_durable.specs.Hosting.{Hosted, WantsInstall, TookStep, HostReplies, Handles, IsAnswer, Refuses, RefusesFirst}
 use Rattle.ash_durable.proofs.Answering.{some_once}
 use Rattle.ash_durable.proofs.Changing.{as_it_is}
 
@@ -41,16 +41,16 @@ pub refuses_first : {D : Type 0} (device : Device D) (budget : ℕ) (request : R
     (reply : Reply SourceFault) (new : Hosted D) → Handles device budget request old reply new
     → RefusesFirst request old reply new
 refuses_first device budget request old reply new handled state cause runs not first =
-    let replies : Replies device budget request (Some state) old reply new =
-    subst (λ (s : Option HostState). Replies device budget request s old reply new) runs.state_is handled.replies in
+    let replies : HostReplies device budget request (Some state) old reply new =
+    subst (λ (s : Option HostState). HostReplies device budget request s old reply new) runs.state_is handled.replies in
     let is : task_of request state ≡ Err cause = cause_of (task_of request state) cause first in
     elim replies [
       | inl took ↦ stepped_refused device budget request state old reply new cause not is took
       | inr (inl out) ↦ record {
-        reply_is = inr (out.ran_out.reply_is, subst (TakesMemoryToFind sources.TakesMemoryToFind) is out.ran_out.finds);
+        reply_is = inr (out.ran_out.reply_is, subst (TakesMemoryToFind sources.MayTakeMemory) is out.ran_out.finds);
         unchanged = as_it_is device request state old new not out.room;
       }
-      | inr (inr (inl lost)) ↦ absurd (subst IsChange is lost.changes)
-      | inr (inr (inr (inl lost))) ↦ absurd (subst IsChange is lost.changes)
+      | inr (inr (inl lost)) ↦ absurd (subst TaskChangesState is lost.changes)
+      | inr (inr (inr (inl lost))) ↦ absurd (subst TaskChangesState is lost.changes)
       | inr (inr (inr (inr none))) ↦ absurd (not none.wanted)
     ]

@@ -4,19 +4,19 @@ use Rattle.ash_disk.specs.Device.{Device}
 use Rattle.ash_journal.specs.declared.journal.Journal.{Journal}
 use Rattle.ash_steps.specs.Requests.{Request, Seq, Reply, Answered, Refused, DeviceFailed, NoMemory, GenerationSpent}
 use Rattle.ash_sources.specs.SourceFaults.{SourceFault}
-use Rattle.ash_states.specs.States.{HostState}
-use Rattle.ash_states.specs.Steps.{Steps}
+use Rattle.ash_states.specs.HostStates.{HostState}
+use Rattle.ash_states.specs.StateSteps.{StateSteps}
 use Rattle.ash_durable.specs.Hosting.{Hosted, first, second, IsRunning, IsSaved, IsHonest, IsAnswer, InstallRefused}
-use Rattle.ash_durable.specs.Hosting.{WasLost, Replies, reply_stopped, Handles}
-use Rattle.ash_durable.specs.Running.{LosesAnswer}
-use Rattle.ash_durable.specs.States.{SettleSince, IsEither}
-use Rattle.ash_durable.specs.Lives.{Event, Acknowledged, InDoubt, Found, Takes, LeadTo, LeadBy}
+use Rattle.ash_durable.specs.Hosting.{WasLost, HostReplies, reply_stopped, Handles}
+use Rattle.ash_durable.specs.RequestRuns.{LosesAnswer}
+use Rattle.ash_durable.specs.StoredStates.{SettleSince, IsEither}
+use Rattle.ash_durable.specs.Lives.{StoreEvent, Acknowledged, InDoubt, Found, LeadsTo, LeadTo, LeadBy}
 use Rattle.ash_durable.proofs.Answering.{steps-registered}
 
 -- ---- events
 
 -- no event changes what is registered
-take_registered : (event : Event) (before after : HostState) → Takes event before after
+take_registered : (event : StoreEvent) (before after : HostState) → LeadsTo event before after
     → after.registered ≡ before.registered
 take_registered (Acknowledged budget request end seq happened) before after steps =
     steps-registered budget request before after (Answered end seq happened) steps
@@ -25,14 +25,14 @@ take_registered (InDoubt budget request) before after (inr some) =
     steps-registered budget request before after some.0 some.1
 take_registered (Found state) before after found = ap (λ (s : HostState). s.registered) (found.1 ∙ sym found.0)
 
-pub lead_registered : (events : List Event) (start state : HostState) → LeadTo events start state
+pub lead_registered : (events : List StoreEvent) (start state : HostState) → LeadTo events start state
     → state.registered ≡ start.registered
 lead_registered [] start state led = ap (λ (s : HostState). s.registered) led
 lead_registered (event ∷ earlier) start state led = take_registered event led.0 state led.2
     ∙ lead_registered earlier start led.0 led.1
 
 -- events lead by way of each of them
-pub lead_by : (later : List Event) (event : Event) (earlier : List Event) (start state : HostState)
+pub lead_by : (later : List StoreEvent) (event : StoreEvent) (earlier : List StoreEvent) (start state : HostState)
     → LeadTo (later ++ event ∷ earlier) start state → LeadBy later event earlier start state
 lead_by [] event earlier start state led =
     record { before = led.0; after = state; led = led.1; stepped = led.2; leads_on = refl }
@@ -53,7 +53,7 @@ lead_by (newest ∷ later) event earlier start state led =
 abbrev pub Ending : {D : Type 0} → ℕ → Request → HostState → HostState → Hosted D → Reply SourceFault → Hosted D
     → Type 0
 Ending budget request state after old reply new =
-    (IsRunning after new × Steps budget request state reply after)
+    (IsRunning after new × StateSteps budget request state reply after)
     ⊎ (((IsAnswer reply → ⊥) × (new ≡ old))
     ⊎ ((new.state ≡ None) × LosesAnswer reply))
 
@@ -63,7 +63,7 @@ pub record Outcome {D : Type 0} (device : Device D) (budget : ℕ) (request : Re
     (old : Hosted D)
     (reply : Reply SourceFault) (new : Hosted D) : Type 0 where
   pub after : HostState
-  pub may : Takes (InDoubt budget request) state after
+  pub may : LeadsTo (InDoubt budget request) state after
   pub moments : IsHonest device old → IsSaved device old
       → SettleSince device (device.clock (first old)) (device.clock (second old)) (first new) (second new)
       (IsEither state after)
@@ -84,7 +84,7 @@ not_installed budget request state old (Refused DeviceFailed) new refused = inr 
 not_installed budget request state old _ new refused = absurd refused
 
 outcome_of : {D : Type 0} (device : Device D) (budget : ℕ) (request : Request) (state : HostState) (old : Hosted D)
-    (reply : Reply SourceFault) (new : Hosted D) → Replies device budget request (Some state) old reply new
+    (reply : Reply SourceFault) (new : Hosted D) → HostReplies device budget request (Some state) old reply new
     → Outcome device budget request state old reply new
 outcome_of device budget request state old reply new (inl stepped) = record {
   after = stepped.after;
@@ -130,12 +130,12 @@ handled_or_stopped {D} device budget request old reply new handled = from old.st
   where
     from : (was : Option HostState) → old.state ≡ was → HandledOrStopped device budget request old reply new
     from None none =
-        let replies : Replies device budget request None old reply new =
-        subst (λ (s : Option HostState). Replies device budget request s old reply new) none handled.replies in
+        let replies : HostReplies device budget request None old reply new =
+        subst (λ (s : Option HostState). HostReplies device budget request s old reply new) none handled.replies in
         inl (none, replies.0, replies.1)
     from (Some state) some =
-        let replies : Replies device budget request (Some state) old reply new =
-        subst (λ (s : Option HostState). Replies device budget request s old reply new) some handled.replies in
+        let replies : HostReplies device budget request (Some state) old reply new =
+        subst (λ (s : Option HostState). HostReplies device budget request s old reply new) some handled.replies in
         inr (state, some, outcome_of device budget request state old reply new replies)
 
 pub stopped_answer : (request : Request) (seq : ℕ) → IsAnswer (reply_stopped request seq) → ⊥

@@ -7,13 +7,13 @@ use Rattle.ash_journal.specs.declared.journal.Journal.{Journal}
 use Rattle.ash_journal.specs.Journal.{record_bytes}
 use Rattle.ash_steps.specs.Requests.{Request, Load, Call, Discard, Get, Object, Seq, Snapshot}
 use Rattle.ash_plain_steps.specs.declared.request.Refusal.TheVariants as the
-use Rattle.ash_states.specs.States.{HostState}
-use Rattle.ash_durable.specs.States.{HoldsState, GoesOn}
+use Rattle.ash_states.specs.HostStates.{HostState}
+use Rattle.ash_durable.specs.StoredStates.{HoldsState, ExtendsHistory}
 use Rattle.ash_durable.specs.Saving.{HostRefusal, AddsWith, Adds, InstallsWith, Installs}
 use Rattle.ash_durable.specs.Hosting.{Hosted, state_unless, IsRunning, IsHonest, IsFull, full_record_bytes, MayAdd}
 use Rattle.ash_durable.specs.Hosting.{WantsInstall, Settles, WasInstalled, InstallRefused, WasLost}
-use Rattle.ash_durable.specs.Replies.{refused_by}
-use Rattle.ash_durable.specs.Requests.{InstallsInto, TriesInstall, MakesRoom, CommitsWith, Commits}
+use Rattle.ash_durable.specs.HostReplies.{refused_by}
+use Rattle.ash_durable.specs.HostRequests.{InstallsInto, TriesInstall, MakesRoom, CommitsWith, Commits}
 use Rattle.ash_durable.proofs.Composing.{runs_in, honest_before, untouched_disks}
 use Rattle.ash_durable.proofs.HandledRequests.{seen_host, running_seen}
 
@@ -117,10 +117,10 @@ install_failed device seq None state old new runs seq_is installs = record {
 commits_moments : {D : Type 0} (device : Device D) (state : HostState) (old new : Journal D)
     (done : Result (Unit {0}) HostRefusal) → Adds device state old done new → (before other : HostState)
     → IsRunning other (seen_host None state old) → before.registered ≡ other.registered → HoldsState device before old
-    → GoesOn device before other old new
+    → ExtendsHistory device before other old new
 commits_moments device state old new done adds before other runs =
     at_each state old (λ (s : HostState). before.registered ≡ s.registered → HoldsState device before old
-    → GoesOn device before s old new) (adds.moments before) other runs
+    → ExtendsHistory device before s old new) (adds.moments before) other runs
 
 -- the record is there
 pub commit_ok : {D : Type 0} (device : Device D) (seq : ℕ) (stopped : Option ℕ) (state : HostState)

@@ -5,14 +5,14 @@ use Rattle.ash_journal.specs.declared.journal.Journal.{Journal}
 use Rattle.ash_steps.specs.Requests.{Request, Get, Object, Seq, Refusal, Reply, Refused, DeviceFailed, NoMemory}
 use Rattle.ash_steps.specs.Requests.{GenerationSpent}
 use Rattle.ash_steps.specs.Steps.{WritesStore}
-use Rattle.ash_plain_steps.specs.StepViews.{IsChange}
+use Rattle.ash_plain_steps.specs.StepViews.{TaskChangesState}
 use Rattle.ash_sources.specs.SourceFaults.{SourceFault}
-use Rattle.ash_states.specs.States.{HostState}
-use Rattle.ash_states.specs.Steps.{task_of}
+use Rattle.ash_states.specs.HostStates.{HostState}
+use Rattle.ash_states.specs.StateSteps.{task_of}
 use Rattle.ash_durable.specs.Hosting.{Hosted, IsRunning, WantsInstall, InstallRefused, WasLost, HasStopped}
-use Rattle.ash_durable.specs.Hosting.{Replies, HandlesAll, reply_stopped}
-use Rattle.ash_durable.specs.Running.{HostSteps, replies_until_reopened, LosesAnswer, RunsThrough}
-use Rattle.ash_durable.specs.Running.{RunsUntilFailure, RunsToFailure}
+use Rattle.ash_durable.specs.Hosting.{HostReplies, HandlesAll, reply_stopped}
+use Rattle.ash_durable.specs.RequestRuns.{HostSteps, replies_until_reopened, LosesAnswer, RunsThrough}
+use Rattle.ash_durable.specs.RequestRuns.{RunsUntilFailure, RunsToFailure}
 
 loses_answer : {D : Type 0} (old : Journal D) (reply : Reply SourceFault) (new : Journal D) → WasLost old reply new
     → LosesAnswer reply
@@ -34,7 +34,7 @@ while_stopped : {D : Type 0} (device : Device D) (budget : ℕ) (old : Hosted D)
 while_stopped device budget old [] [] new none all = (refl, all)
 while_stopped {D} device budget old (request ∷ requests) (reply ∷ replies) new none all =
     let one : (reply ≡ reply_stopped request old.seq) × (all.0 ≡ old) =
-    subst (λ (state : Option HostState). Replies device budget request state old reply all.0) none all.1.replies in
+    subst (λ (state : Option HostState). HostReplies device budget request state old reply all.0) none all.1.replies in
     let more = while_stopped device budget all.0 requests replies new
     (ap (λ (host : Hosted D). host.state) one.1 ∙ none) all.2 in
     let rest : replies ≡ replies_until_reopened requests old.seq = more.0
@@ -81,7 +81,7 @@ failed_first : {D : Type 0} (device : Device D) (budget : ℕ) (request : Reques
     (state : HostState)
     (old next : Hosted D) (requests : List Request) (replies : List (Reply SourceFault)) (new : Hosted D)
     → IsRunning state old
-    → HasStopped old next → IsChange (task_of request state)
+    → HasStopped old next → TaskChangesState (task_of request state)
     ⊎ (WritesStore request × (reply ≡ Refused DeviceFailed)) → LosesAnswer reply
     → HandlesAll device budget next requests replies new
     → RunsUntilFailure budget state (request ∷ requests) (reply ∷ replies) new
@@ -154,8 +154,8 @@ while_running {D} device budget state old [] [] new runs all =
           runs;
     })
 while_running device budget state old (request ∷ requests) (reply ∷ replies) new runs all =
-    let one : Replies device budget request (Some state) old reply all.0 =
-    subst (λ (s : Option HostState). Replies device budget request s old reply all.0) runs.state_is all.1.replies in
+    let one : HostReplies device budget request (Some state) old reply all.0 =
+    subst (λ (s : Option HostState). HostReplies device budget request s old reply all.0) runs.state_is all.1.replies in
     elim one [
       | inl stepped ↦ one_step budget request reply state stepped.after requests replies new (inl (inl stepped.stepped))
           (while_running device budget stepped.after all.0 requests replies new stepped.running all.2)

@@ -5,14 +5,14 @@ use Rattle.ash_disk.specs.Device.{Device}
 use Rattle.ash_journal.specs.declared.journal.Journal.{Journal}
 use Rattle.ash_journal.specs.Current.{Contents, IsContents, HoldsOneOf, Represent, MaySettleOn, SettleFurther}
 use Rattle.ash_journal.specs.Journal.{first_disk, second_disk}
-use Rattle.ash_journal.specs.Runs.{HoldsSince, Extends, NoContents}
+use Rattle.ash_journal.specs.SettledSince.{HoldsSince, Extends, NoContents}
 use Rattle.ash_journal.proofs.RunLaws.{run_extends, represented}
 use Rattle.ash_journal.proofs.SettleLaws.{Property, Implies, settle_more, further}
-use Rattle.ash_states.specs.States.{HostState}
+use Rattle.ash_states.specs.HostStates.{HostState}
 use Rattle.ash_state_image.specs.declared.version.Version.TheVariants.{Two}
 use Rattle.ash_states.specs.Images.{IsImageIn, IsBodyIn}
-use Rattle.ash_durable.specs.States.{AreIn, IsStateOf, HaveState, IsOne, IsEither, SettleSince, SettleNow}
-use Rattle.ash_durable.specs.States.{HoldsState, GoesOn, BeginsAnew}
+use Rattle.ash_durable.specs.StoredStates.{AreIn, IsStateOf, HaveState, IsOne, IsEither, SettleSince, SettleNow}
+use Rattle.ash_durable.specs.StoredStates.{HoldsState, ExtendsHistory, BeginsAnew}
 use Rattle.ash_durable.proofs.ContentsStates.{state_of_one, state_of_alone, state_of_push}
 
 -- files that come to nothing new, after files that come to nothing new
@@ -109,7 +109,7 @@ module _ {D : Type 0} (device : Device D) where
       (λ contents is. (state, refl, subst (IsStateOf state) (sym is) holds.is_state))
 
   -- a journal that was not touched goes on
-  pub still_goes_on : (before after : HostState) (journal : Journal D) → GoesOn device before after journal journal
+  pub still_goes_on : (before after : HostState) (journal : Journal D) → ExtendsHistory device before after journal journal
   still_goes_on before after journal a b run =
       settle_on_more a b (first_disk journal) (second_disk journal) (IsOne before) (IsEither before after) run
       (λ s is. inl is)
@@ -118,7 +118,7 @@ module _ {D : Type 0} (device : Device D) where
   pub record_goes_on : (before after : HostState) (image body : List ℕ) (bodies : List (List ℕ)) (old new : Journal D)
       → IsStateOf before (image, bodies) → AreIn Two (image, bodies) → after.registered ≡ before.registered
       → IsBodyIn Two body after → Extends device (first_disk old) (second_disk old) (first_disk new) (second_disk new)
-      (IsContents (image, bodies ++ body ∷ [])) → GoesOn device before after old new
+      (IsContents (image, bodies ++ body ∷ [])) → ExtendsHistory device before after old new
   record_goes_on before after image body bodies old new is_state in_two same is_body call a b run =
       run_more a b (first_disk new) (second_disk new)
       (HoldsOneOf (IsContents (image, bodies ++ body ∷ [])) (HaveState (IsOne before)))
@@ -137,7 +137,7 @@ module _ {D : Type 0} (device : Device D) where
 
   -- what goes on from a journal that holds a state begins anew there
   pub goes_on_anew : (before after : HostState) (old new : Journal D) → HoldsState device before old
-      → GoesOn device before after old new → BeginsAnew device before after old new
+      → ExtendsHistory device before after old new → BeginsAnew device before after old new
   goes_on_anew before after old new holds goes =
       goes (device.clock (first_disk old)) (device.clock (second_disk old)) (holds_now before old holds)
 
@@ -164,7 +164,7 @@ module _ {D : Type 0} (device : Device D) where
   -- a new generation of a state, and then calls that go on from there
   pub anew_goes_on : (before after : HostState) (old between new : Journal D)
       → BeginsAnew device before before old between
-      → GoesOn device before after between new → BeginsAnew device before after old new
+      → ExtendsHistory device before after between new → BeginsAnew device before after old new
   anew_goes_on before after old between new anew goes =
       let a = device.clock (first_disk old) in
       let b = device.clock (second_disk old) in

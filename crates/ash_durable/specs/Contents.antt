@@ -7,16 +7,16 @@ use Rattle.ash_journal.specs.declared.record.Record.{Record}
 use Rattle.ash_journal.specs.Current.{Contents}
 use Rattle.ash_journal.specs.Layout.{header_size}
 use Rattle.ash_journal.specs.Reading.{bodies_of}
-use Rattle.ash_registry.specs.Registrations.{Registration}
-use Rattle.ash_registry.specs.Text.{text_of}
+use Rattle.ash_registry.specs.AcceptedRegistrations.{Registration}
+use Rattle.ash_registry.specs.RegistryText.{text_of}
 use Rattle.ash_state_image.specs.declared.stored.StoredImage.{StoredImage}
 use Rattle.ash_state_image.specs.declared.version.Version.{Version}
 use Rattle.ash_state_image.specs.Snapshots.{Snapshot}
-use Rattle.ash_state_image.specs.Rules.{IsImage, IsBody}
-use Rattle.ash_state_image.specs.Views.{snapshot_of}
-use Rattle.ash_states.specs.States.{HostState}
-use Rattle.ash_states.specs.Images.{IsImageOf, IsRestored}
-use Rattle.ash_durable.specs.States.{AreIn, IsBodyOf, LeadAll, IsStateOf}
+use Rattle.ash_state_image.specs.Rules.{IsImage, IsImageBody}
+use Rattle.ash_state_image.specs.SnapshotViews.{snapshot_of}
+use Rattle.ash_states.specs.HostStates.{HostState}
+use Rattle.ash_states.specs.Images.{IsImageOf, IsImageRestored}
+use Rattle.ash_durable.specs.StoredStates.{AreIn, IsBodyOf, LeadAll, IsStateOf}
 use Rattle.ash_durable.specs.declared.contents.StateRead.{StateRead}
 use Rattle.ash_durable.specs.declared.fault.StoreFault.{StoreFault}
 use Rattle.ash_durable.specs.declared.fault.StoreFault.TheVariants as faults
@@ -27,7 +27,7 @@ IsImageWith version text image = (s : Snapshot) × IsImage image version s × (s
 
 -- the body of a record, with an image in a version, that has this text of what was registered
 abbrev pub IsBodyWith : Version → List ℕ → List ℕ → Type 0
-IsBodyWith version text body = (s : Snapshot) × IsBody body version s × (s.registered ≡ text)
+IsBodyWith version text body = (s : Snapshot) × IsImageBody body version s × (s.registered ≡ text)
 
 -- the image of nothing
 abbrev pub IsNoImage : List ℕ → Type 0
@@ -122,8 +122,8 @@ ChecksShapes version text records result =
 -- is reported at this offset.
 abbrev pub Restores : List Registration → Snapshot → ℕ → Result HostState OpenFault → Type 0
 Restores registered s offset result =
-    MatchResult result (λ state. IsRestored registered s (Some state))
-    (ReportsDamage (λ at. IsRestored registered s None × (at ≡ offset)))
+    MatchResult result (λ state. IsImageRestored registered s (Some state))
+    (ReportsDamage (λ at. IsImageRestored registered s None × (at ≡ offset)))
 
 -- A record leads to the given state, which a host with this registered may be in; or it leads to none, and damage is
 -- reported at the offset of its gate.

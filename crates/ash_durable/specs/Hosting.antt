@@ -2,18 +2,18 @@
 use Rattle.std.specs.Prelude.{◌≡◌, ◌⊎◌, ℕ, ◌+◌, ◌≤◌, ◌^◌, List, [], ◌∷◌, Option, Some, None, Err}
 use Rattle.ash_disk.specs.Device.{Device}
 use Rattle.ash_journal.specs.declared.journal.Journal.{Journal}
-use Rattle.ash_journal.specs.Failures.{CountsFailures}
+use Rattle.ash_journal.specs.JournalFailures.{CountsFailures}
 use Rattle.ash_journal.specs.Journal.{first_disk, second_disk, generation, record_bytes, IsReady}
-use Rattle.ash_registry.specs.Registrations.{Registration}
+use Rattle.ash_registry.specs.AcceptedRegistrations.{Registration}
 use Rattle.ash_steps.specs.Requests.{Request, Load, Call, Discard, Get, Object, Seq, Snapshot, Refusal, Reply, Answered}
 use Rattle.ash_steps.specs.Requests.{Number, Refused, Reopen, DeviceFailed, NoMemory, GenerationSpent}
 use Rattle.ash_plain_steps.specs.TaskViews.{TakesMemoryToFind}
-use Rattle.ash_plain_steps.specs.StepViews.{IsChange}
+use Rattle.ash_plain_steps.specs.StepViews.{TaskChangesState}
 use Rattle.ash_sources.specs.SourceFaults.{SourceFault}
 use Rattle.ash_sources.specs.SourceFaults as sources
-use Rattle.ash_states.specs.States.{HostState}
-use Rattle.ash_states.specs.Steps.{RanOut, task_of, first_refusal, step}
-use Rattle.ash_durable.specs.States.{AreHonest, HoldsState, BeginsAnew}
+use Rattle.ash_states.specs.HostStates.{HostState}
+use Rattle.ash_states.specs.StateSteps.{RanOut, task_of, first_refusal, step}
+use Rattle.ash_durable.specs.StoredStates.{AreHonest, HoldsState, BeginsAnew}
 use Rattle.ash_durable.specs.Saving.{HasOneMore, last_generation}
 
 -- A host: what is registered; its state, or none where it must be reopened; the number after the last request that was
@@ -94,8 +94,8 @@ pub record WasInstalled {D : Type 0} (device : Device D) (state : HostState) (ol
   pub saved : IsSaved device old → IsSaved device new
 
 -- the host that handles a request: where one is wanted, a new generation is installed first
-abbrev pub HasRoom : {D : Type 0} → Device D → Request → HostState → Hosted D → Hosted D → Type 0
-HasRoom device request state old between =
+abbrev pub MakesRoomFor : {D : Type 0} → Device D → Request → HostState → Hosted D → Hosted D → Type 0
+MakesRoomFor device request state old between =
     ((WantsInstall request old → ⊥) × (between ≡ old))
     ⊎ (WantsInstall request old × WasInstalled device state old between)
 
@@ -136,7 +136,7 @@ pub record TookStep {D : Type 0} (device : Device D) (budget : ℕ) (request : R
     (old : Hosted D)
     (reply : Reply SourceFault) (new : Hosted D) : Type 0 where
   pub between : Hosted D
-  pub room : HasRoom device request state old between
+  pub room : MakesRoomFor device request state old between
   pub after : HostState
   pub stepped : step budget request state ≡ Some (reply, after)
   pub running : IsRunning after new
@@ -147,7 +147,7 @@ pub record TookStep {D : Type 0} (device : Device D) (budget : ℕ) (request : R
 -- Memory was refused where the request takes it, and the host is as it was once it had room.
 pub record WasOutOfMemory {D : Type 0} (device : Device D) (request : Request) (state : HostState) (old : Hosted D)
     (reply : Reply SourceFault) (new : Hosted D) : Type 0 where
-  pub room : HasRoom device request state old new
+  pub room : MakesRoomFor device request state old new
   pub ran_out : RanOut request state reply state
   pub running : IsRunning state new
   pub settles : Settles device state state old new
@@ -157,8 +157,8 @@ pub record WasOutOfMemory {D : Type 0} (device : Device D) (request : Request) (
 pub record WasNotCommitted {D : Type 0} (device : Device D) (budget : ℕ) (request : Request) (state : HostState)
     (old : Hosted D) (reply : Reply SourceFault) (new : Hosted D) : Type 0 where
   pub between : Hosted D
-  pub room : HasRoom device request state old between
-  pub changes : IsChange (task_of request state)
+  pub room : MakesRoomFor device request state old between
+  pub changes : TaskChangesState (task_of request state)
   pub answer : Reply SourceFault
   pub after : HostState
   pub stepped : step budget request state ≡ Some (answer, after)
@@ -171,8 +171,8 @@ pub record WasNotCommitted {D : Type 0} (device : Device D) (budget : ℕ) (requ
 pub record LostItsState {D : Type 0} (device : Device D) (request : Request) (state : HostState) (old : Hosted D)
     (reply : Reply SourceFault) (new : Hosted D) : Type 0 where
   pub between : Hosted D
-  pub room : HasRoom device request state old between
-  pub changes : IsChange (task_of request state)
+  pub room : MakesRoomFor device request state old between
+  pub changes : TaskChangesState (task_of request state)
   pub reply_is : reply ≡ Refused NoMemory
   pub journal_same : new.journal ≡ between.journal
   pub stopped : HasStopped old new
@@ -191,22 +191,22 @@ reply_stopped Seq seq = Number seq
 reply_stopped _ seq = Refused Reopen
 
 -- What a request is replied, and what it leaves.
-abbrev pub Replies : {D : Type 0} → Device D → ℕ → Request → Option HostState → Hosted D → Reply SourceFault → Hosted D
-    → Type 0
-Replies device budget request (Some state) old reply new =
+abbrev pub HostReplies : {D : Type 0} → Device D → ℕ → Request → Option HostState → Hosted D → Reply SourceFault
+    → Hosted D → Type 0
+HostReplies device budget request (Some state) old reply new =
     TookStep device budget request state old reply new
     ⊎ (WasOutOfMemory device request state old reply new
     ⊎ (WasNotCommitted device budget request state old reply new
     ⊎ (LostItsState device request state old reply new
     ⊎ HadNoRoom device request state old reply new)))
-Replies device budget request None old reply new = (reply ≡ reply_stopped request old.seq) × (new ≡ old)
+HostReplies device budget request None old reply new = (reply ≡ reply_stopped request old.seq) × (new ≡ old)
 
 -- One request of a host. Where it is answered, the new state is in the journal before the reply is given, and whatever
 -- a crash does afterwards leaves it there.
 pub record Handles {D : Type 0} (device : Device D) (budget : ℕ) (request : Request) (old : Hosted D)
     (reply : Reply SourceFault)
     (new : Hosted D) : Type 0 where
-  pub replies : Replies device budget request old.state old reply new
+  pub replies : HostReplies device budget request old.state old reply new
   pub saved : IsSaved device old → IsSaved device new
   pub failures : CountsFailures (IsDeviceFailed reply) (device.failures (first old)) (device.failures (second old))
       (device.failures (first new)) (device.failures (second new))
@@ -230,7 +230,7 @@ HandlesAll device budget old _ _ new = ⊥
 pub record Refuses {D : Type 0} (cause : Refusal SourceFault) (old : Hosted D) (reply : Reply SourceFault)
     (new : Hosted D) : Type 0 where
   pub reply_is : (reply ≡ Refused cause)
-      ⊎ ((reply ≡ Refused NoMemory) × TakesMemoryToFind sources.TakesMemoryToFind (Err cause))
+      ⊎ ((reply ≡ Refused NoMemory) × TakesMemoryToFind sources.MayTakeMemory (Err cause))
   pub unchanged : new ≡ old
 
 -- A host that runs, and installs nothing before it, refuses each request for which there is a cause, and for the first

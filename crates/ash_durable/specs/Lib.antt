@@ -1,11 +1,11 @@
 pub mod Contents
-pub mod Faults
+pub mod StoreFaults
 pub mod Hosting
 pub mod Lives
 pub mod OpenedStore
-pub mod Replies
-pub mod Requests
-pub mod Running
+pub mod HostReplies
+pub mod HostRequests
+pub mod RequestRuns
 pub mod Saving
-pub mod States
+pub mod StoredStates
 pub mod Store

@@ -1,21 +1,21 @@
 -- The life of a store: everything that can happen to it, and what is left of the requests.
 use Rattle.std.specs.Prelude.{◌≡◌, ◌⊎◌, ℕ, List, [], ◌∷◌, ◌++◌, Some, None, Result, Ok, Err}
 use Rattle.ash_disk.specs.Device.{Device}
-use Rattle.ash_disk.specs.Image.{LeavesOnly}
+use Rattle.ash_disk.specs.DiskImage.{LeavesOnly}
 use Rattle.ash_disk.specs.Moments.{LeftSince}
 use Rattle.ash_journal.specs.Layout.{IsOpen}
 use Rattle.ash_journal.specs.Writes.{WasUnused}
 use Rattle.ash_host.specs.declared.event.Event.{Event as HostEvent}
 use Rattle.ash_phrases.specs.Ends.{End}
 use Rattle.ash_steps.specs.Requests.{Request, Reply, Answered}
-use Rattle.ash_registry.specs.Registrations.{Registration}
+use Rattle.ash_registry.specs.AcceptedRegistrations.{Registration}
 use Rattle.ash_sources.specs.SourceFaults.{SourceFault}
-use Rattle.ash_states.specs.States.{HostState, empty}
-use Rattle.ash_states.specs.Steps.{Steps}
+use Rattle.ash_states.specs.HostStates.{HostState, empty}
+use Rattle.ash_states.specs.StateSteps.{StateSteps}
 use Rattle.ash_durable.specs.Hosting.{Hosted, first, second, IsRunning, IsSaved, IsAnswer, Handles}
 use Rattle.ash_durable.specs.OpenedStore.{WasOpened, WasRefused, Opens, first_found, second_found}
-use Rattle.ash_durable.specs.Running.{LosesAnswer}
-use Rattle.ash_durable.specs.States.{AreHonest, SettleNow, IsOne, IsEither}
+use Rattle.ash_durable.specs.RequestRuns.{LosesAnswer}
+use Rattle.ash_durable.specs.StoredStates.{AreHonest, SettleNow, IsOne, IsEither}
 use Rattle.ash_durable.specs.Store.{WereOnlyRead, WasCreated, WasNotMade, Creates}
 use Rattle.ash_durable.specs.declared.fault.HostRefused.{HostRefused}
 
@@ -24,48 +24,49 @@ use Rattle.ash_durable.specs.declared.fault.HostRefused.{HostRefused}
 -- What is known of a store by those who use it: a request was answered, by how its run ended, how many requests had
 -- been answered, and what happened to host objects; a request is in doubt, handled or not; a host was opened, in this
 -- state.
-pub data Event : Type 0 where
-  Acknowledged : (budget : ℕ) → (request : Request) → (end : End) → (seq : ℕ) → (happened : List HostEvent) → Event
-  InDoubt : (budget : ℕ) → (request : Request) → Event
-  Found : (state : HostState) → Event
+pub data StoreEvent : Type 0 where
+  Acknowledged : (budget : ℕ) → (request : Request) → (end : End) → (seq : ℕ) → (happened : List HostEvent) → StoreEvent
+  InDoubt : (budget : ℕ) → (request : Request) → StoreEvent
+  Found : (state : HostState) → StoreEvent
 
 -- An event takes a state to the next. A request that was answered has taken its step, with that answer; one that is in
 -- doubt has taken it, or nothing has changed; where a host was opened the state is the one that it had.
-abbrev pub Takes : Event → HostState → HostState → Type 0
-Takes (Acknowledged budget request end seq happened) before after =
-    Steps budget request before (Answered end seq happened) after
-Takes (InDoubt budget request) before after = (after ≡ before)
-    ⊎ ((reply : Reply SourceFault) × Steps budget request before reply after)
-Takes (Found state) before after = (before ≡ state) × (after ≡ state)
+abbrev pub LeadsTo : StoreEvent → HostState → HostState → Type 0
+LeadsTo (Acknowledged budget request end seq happened) before after =
+    StateSteps budget request before (Answered end seq happened) after
+LeadsTo (InDoubt budget request) before after = (after ≡ before)
+    ⊎ ((reply : Reply SourceFault) × StateSteps budget request before reply after)
+LeadsTo (Found state) before after = (before ≡ state) × (after ≡ state)
 
 -- events, the newest first, lead from a state to another
-abbrev pub LeadTo : List Event → HostState → HostState → Type 0
+abbrev pub LeadTo : List StoreEvent → HostState → HostState → Type 0
 LeadTo [] start state = state ≡ start
-LeadTo (event ∷ earlier) start state = (before : HostState) × LeadTo earlier start before × Takes event before state
+LeadTo (event ∷ earlier) start state = (before : HostState) × LeadTo earlier start before × LeadsTo event before state
 
 -- Events lead from a state to another by way of one of them: those before it lead to a state that it takes to the next,
 -- and from there those after it lead on.
-pub record LeadBy (later : List Event) (event : Event) (earlier : List Event) (start state : HostState) : Type 0 where
+pub record LeadBy (later : List StoreEvent) (event : StoreEvent) (earlier : List StoreEvent)
+    (start state : HostState) : Type 0 where
   pub before : HostState
   pub after : HostState
   pub led : LeadTo earlier start before
-  pub stepped : Takes event before after
+  pub stepped : LeadsTo event before after
   pub leads_on : LeadTo later after state
 
 -- the newest event is not in doubt, or there is none
-abbrev pub IsCertain : List Event → Type 0
+abbrev pub IsCertain : List StoreEvent → Type 0
 IsCertain (InDoubt budget request ∷ earlier) = ⊥
 IsCertain _ = Unit {0}
 
 -- since the store was made or last opened, each event is a request that was answered
-abbrev pub AreAcknowledged : List Event → Type 0
+abbrev pub AreAcknowledged : List StoreEvent → Type 0
 AreAcknowledged (Acknowledged budget request end seq happened ∷ earlier) = AreAcknowledged earlier
 AreAcknowledged (InDoubt budget request ∷ earlier) = ⊥
 AreAcknowledged _ = Unit {0}
 
 -- Since then the events are a prefix of the requests that were handled: each is one that was answered, but for the
 -- newest, which may be in doubt.
-abbrev pub IsOfPrefix : List Event → Type 0
+abbrev pub IsOfPrefix : List StoreEvent → Type 0
 IsOfPrefix (InDoubt budget request ∷ earlier) = AreAcknowledged earlier
 IsOfPrefix events = AreAcknowledged events
 
@@ -116,23 +117,24 @@ second_of (Err refused) = refused.b
 -- ---- lives
 
 -- where a store is: under a host, or on two disks that no host has
-pub data Place (D : Type 0) : Type 0 where
-  UnderHost : (host : Hosted D) → Place D
-  OnDisks : (one other : D) → Place D
+pub data StoreLocation (D : Type 0) : Type 0 where
+  UnderHost : (host : Hosted D) → StoreLocation D
+  OnDisks : (one other : D) → StoreLocation D
 
 -- the disks on which a store is
-abbrev pub first_at : {D : Type 0} → Place D → D
+abbrev pub first_at : {D : Type 0} → StoreLocation D → D
 first_at (UnderHost host) = first host
 first_at (OnDisks one other) = one
 
-abbrev pub second_at : {D : Type 0} → Place D → D
+abbrev pub second_at : {D : Type 0} → StoreLocation D → D
 second_at (UnderHost host) = second host
 second_at (OnDisks one other) = other
 
 -- A life of a store that has this registered, with its events, the newest first. Each way to go on is what the contract
 -- of a public call says, or a crash at any moment of one. It begins where a host is created, or where a crash on the
 -- way there leaves the store; a crash that leaves no file open leaves no store.
-pub data Life {D : Type 0} (device : Device D) (registered : List Registration) : List Event → Place D → Type 0 where
+pub data Life {D : Type 0} (device : Device D) (registered : List Registration) : List StoreEvent → StoreLocation D
+    → Type 0 where
   -- a host is created
   Created : (a b : D) (host : Hosted D) → AreHonest device a b → WasCreated device registered a b host
       → Life device registered [] (UnderHost host)
@@ -147,71 +149,71 @@ pub data Life {D : Type 0} (device : Device D) (registered : List Registration) 
       → (opened : WasOpened device registered a' b' host)
       → Life device registered (Found opened.state ∷ []) (UnderHost host)
   -- a request is answered
-  Replied : (events : List Event) (budget : ℕ) (request : Request) (old : Hosted D) (end : End) (seq : ℕ)
+  Replied : (events : List StoreEvent) (budget : ℕ) (request : Request) (old : Hosted D) (end : End) (seq : ℕ)
       (happened : List HostEvent)
       (new : Hosted D) → Life device registered events (UnderHost old)
       → Handles device budget request old (Answered end seq happened) new
       → Life device registered (Acknowledged budget request end seq happened ∷ events) (UnderHost new)
   -- a request has another reply, and the host runs on, or has to be reopened as before
-  Unanswered : (events : List Event) (budget : ℕ) (request : Request) (old : Hosted D) (reply : Reply SourceFault)
+  Unanswered : (events : List StoreEvent) (budget : ℕ) (request : Request) (old : Hosted D) (reply : Reply SourceFault)
       (new : Hosted D)
       → Life device registered events (UnderHost old) → Handles device budget request old reply new
       → (IsAnswer reply → ⊥) → (new.state ≡ None → old.state ≡ None) → Life device registered events (UnderHost new)
   -- a request has another reply, and the host has to be reopened from now on
-  Failed : (events : List Event) (budget : ℕ) (request : Request) (old : Hosted D) (reply : Reply SourceFault)
+  Failed : (events : List StoreEvent) (budget : ℕ) (request : Request) (old : Hosted D) (reply : Reply SourceFault)
       (new : Hosted D)
       → Life device registered events (UnderHost old) → Handles device budget request old reply new
       → (IsAnswer reply → ⊥) → (old.state ≡ None → ⊥) → new.state ≡ None
       → Life device registered (InDoubt budget request ∷ events) (UnderHost new)
   -- a crash while a host that runs handles a request, at any moment from its beginning to its reply; one that must be
   -- reopened does nothing
-  CrashedHandling : (events : List Event) (budget : ℕ) (request : Request) (old : Hosted D) (reply : Reply SourceFault)
-      (new : Hosted D) (a b : D) → Life device registered events (UnderHost old)
+  CrashedHandling : (events : List StoreEvent) (budget : ℕ) (request : Request) (old : Hosted D)
+      (reply : Reply SourceFault) (new : Hosted D) (a b : D) → Life device registered events (UnderHost old)
       → Handles device budget request old reply new → (old.state ≡ None → ⊥)
       → Crashed device (device.clock (first old)) (device.clock (second old)) (first new) (second new) a b
       → Life device registered (InDoubt budget request ∷ events) (OnDisks a b)
   -- a host is closed
-  Closed : (events : List Event) (host : Hosted D) → Life device registered events (UnderHost host)
+  Closed : (events : List StoreEvent) (host : Hosted D) → Life device registered events (UnderHost host)
       → Life device registered events (OnDisks (first host) (second host))
   -- a crash between two calls
-  CrashedBetween : (events : List Event) (place : Place D) (a b : D) → Life device registered events place
+  CrashedBetween : (events : List StoreEvent) (place : StoreLocation D) (a b : D) → Life device registered events place
       → Crashed device (device.clock (first_at place)) (device.clock (second_at place)) (first_at place)
       (second_at place) a b → Life device registered events (OnDisks a b)
   -- a host is opened
-  Opened : (events : List Event) (a b : D) (host : Hosted D) → Life device registered events (OnDisks a b)
+  Opened : (events : List StoreEvent) (a b : D) (host : Hosted D) → Life device registered events (OnDisks a b)
       → (opened : WasOpened device registered a b host)
       → Life device registered (Found opened.state ∷ events) (UnderHost host)
   -- that is refused, whatever is registered with the host
-  Refused : (events : List Event) (others : List Registration) (a b : D) (refused : HostRefused D)
+  Refused : (events : List StoreEvent) (others : List Registration) (a b : D) (refused : HostRefused D)
       → Life device registered events (OnDisks a b) → WasRefused device others a b refused
       → Life device registered events (OnDisks refused.a refused.b)
   -- a crash while a host is opened, be it refused, until the generation that is found is repaired
-  CrashedOpening : (events : List Event) (others : List Registration) (a b : D)
+  CrashedOpening : (events : List StoreEvent) (others : List Registration) (a b : D)
       (result : Result (Hosted D) (HostRefused D)) (a' b' : D) → Life device registered events (OnDisks a b)
       → (opens : Opens device others a b result)
       → Crashed device (device.clock a) (device.clock b) (first_found device others a b result opens)
       (second_found device others a b result opens) a' b' → Life device registered events (OnDisks a' b')
   -- a crash from then on, while that generation is moved to version 2
-  CrashedMoving : (events : List Event) (others : List Registration) (a b : D)
+  CrashedMoving : (events : List StoreEvent) (others : List Registration) (a b : D)
       (result : Result (Hosted D) (HostRefused D)) (a' b' : D) → Life device registered events (OnDisks a b)
       → (opens : Opens device others a b result)
       → Crashed device (device.clock (first_found device others a b result opens))
       (device.clock (second_found device others a b result opens)) (first_of result) (second_of result) a' b'
       → Life device registered events (OnDisks a' b')
   -- a host is to be created where the store is, and is refused
-  NotCreated : (events : List Event) (others : List Registration) (a b : D) (refused : HostRefused D)
+  NotCreated : (events : List StoreEvent) (others : List Registration) (a b : D) (refused : HostRefused D)
       → Life device registered events (OnDisks a b) → WasNotMade device (empty others) a b refused
       → Life device registered events (OnDisks refused.a refused.b)
   -- a crash while a host is to be created there
-  CrashedNotCreating : (events : List Event) (others : List Registration) (a b : D)
+  CrashedNotCreating : (events : List StoreEvent) (others : List Registration) (a b : D)
       (result : Result (Hosted D) (HostRefused D)) (a' b' : D) → Life device registered events (OnDisks a b)
       → Creates device others a b result → Crashed device (device.clock a) (device.clock b) (first_of result)
       (second_of result) a' b' → Life device registered events (OnDisks a' b')
   -- the disks are read or synced by somebody else
-  WasRead : (events : List Event) (a b a' b' : D) → Life device registered events (OnDisks a b)
+  WasRead : (events : List StoreEvent) (a b a' b' : D) → Life device registered events (OnDisks a b)
       → WereOnlyRead device a b a' b' → Life device registered events (OnDisks a' b')
   -- the disks are handed over the other way round
-  Swapped : (events : List Event) (a b : D) → Life device registered events (OnDisks a b)
+  Swapped : (events : List StoreEvent) (a b : D) → Life device registered events (OnDisks a b)
       → Life device registered events (OnDisks b a)
 
 -- ---- what is left
@@ -219,7 +221,7 @@ pub data Life {D : Type 0} (device : Device D) (registered : List Registration) 
 -- Whatever a crash now does, the files settle on one of two states to which the events lead from the one before any
 -- request, and on one alone where the newest event is not in doubt. So each acknowledged request is in every image, in
 -- its order, and each other once at the most, at its place.
-pub record IsWhole {D : Type 0} (device : Device D) (registered : List Registration) (events : List Event)
+pub record IsWholeHistory {D : Type 0} (device : Device D) (registered : List Registration) (events : List StoreEvent)
     (a b : D) : Type 0 where
   pub s : HostState
   pub t : HostState
@@ -230,7 +232,7 @@ pub record IsWhole {D : Type 0} (device : Device D) (registered : List Registrat
 
 -- A host has what the store was created with. Where it runs, it is in a state to which the events lead; its files hold
 -- that state, and settle on it alone, whatever a crash now does.
-pub record RunsOn {D : Type 0} (device : Device D) (registered : List Registration) (events : List Event)
+pub record RunsOn {D : Type 0} (device : Device D) (registered : List Registration) (events : List StoreEvent)
     (host : Hosted D) : Type 0 where
   pub registered_is : host.registered ≡ registered
   pub running : (state : HostState) → host.state ≡ Some state → IsRunning state host
@@ -239,36 +241,36 @@ pub record RunsOn {D : Type 0} (device : Device D) (registered : List Registrati
   pub settles : (state : HostState) → IsRunning state host → SettleNow device (first host) (second host) (IsOne state)
 
 -- where the store is under a host, that host runs on
-abbrev pub RunsAt : {D : Type 0} → Device D → List Registration → List Event → Place D → Type 0
+abbrev pub RunsAt : {D : Type 0} → Device D → List Registration → List StoreEvent → StoreLocation D → Type 0
 RunsAt device registered events (UnderHost host) = RunsOn device registered events host
 RunsAt device registered events (OnDisks one other) = Unit {0}
 
 -- Where the store is under a host that runs, each event since the store was made or last opened is a request that was
 -- answered. Where it is under one that must be reopened, or under none, the newest may be in doubt.
-abbrev pub IsPrefixAt : {D : Type 0} → List Event → Place D → Type 0
+abbrev pub IsPrefixAt : {D : Type 0} → List StoreEvent → StoreLocation D → Type 0
 IsPrefixAt events (UnderHost host) = ((host.state ≡ None) × IsOfPrefix events) ⊎ AreAcknowledged events
 IsPrefixAt events (OnDisks one other) = IsOfPrefix events
 
 -- What holds in each life.
-pub record Outlives {D : Type 0} (device : Device D) (registered : List Registration) (events : List Event)
-    (place : Place D) : Type 0 where
+pub record Outlives {D : Type 0} (device : Device D) (registered : List Registration) (events : List StoreEvent)
+    (place : StoreLocation D) : Type 0 where
   pub honest : AreHonest device (first_at place) (second_at place)
-  pub whole : IsWhole device registered events (first_at place) (second_at place)
+  pub whole : IsWholeHistory device registered events (first_at place) (second_at place)
   pub runs : RunsAt device registered events place
 
 -- ---- what handling requests makes of a life
 
 -- The events of a request by its reply: an answer is acknowledged; a request that lost its answer or the state, or
 -- before which a device failed, is in doubt; another reply is no event.
-abbrev pub Records : ℕ → Request → Reply SourceFault → List Event → Type 0
+abbrev pub Records : ℕ → Request → Reply SourceFault → List StoreEvent → Type 0
 Records budget request (Answered end seq happened) events = events ≡ Acknowledged budget request end seq happened ∷ []
 Records budget request reply events = (events ≡ []) ⊎ (LosesAnswer reply × (events ≡ InDoubt budget request ∷ []))
 
 -- the events of requests by their replies, the newest first
-abbrev pub RecordAll : ℕ → List Request → List (Reply SourceFault) → List Event → Type 0
+abbrev pub RecordAll : ℕ → List Request → List (Reply SourceFault) → List StoreEvent → Type 0
 RecordAll budget [] [] events = events ≡ []
 RecordAll budget (request ∷ requests) (reply ∷ replies) events =
-    (later : List Event) × (one : List Event) × Records budget request reply one
+    (later : List StoreEvent) × (one : List StoreEvent) × Records budget request reply one
     × RecordAll budget requests replies later
     × (events ≡ later ++ one)
 RecordAll budget _ _ events = ⊥
@@ -278,6 +280,6 @@ RecordAll budget _ _ events = ⊥
 abbrev pub LivesOn : {D : Type 0} → Device D → ℕ → Hosted D → List Request → List (Reply SourceFault) → Hosted D
     → Type 0
 LivesOn device budget old requests replies new =
-    (registered : List Registration) (events : List Event) → Life device registered events (UnderHost old)
-    → (later : List Event) × Life device registered (later ++ events) (UnderHost new)
+    (registered : List Registration) (events : List StoreEvent) → Life device registered events (UnderHost old)
+    → (later : List StoreEvent) × Life device registered (later ++ events) (UnderHost new)
     × RecordAll budget requests replies later

@@ -9,21 +9,22 @@ use Rattle.ash_journal.specs.declared.journal.OpenedJournal.{OpenedJournal}
 use Rattle.ash_journal.specs.Current.{Contents, IsContents, HoldsOneOf, Represent}
 use Rattle.ash_journal.specs.Installing.{IsNext}
 use Rattle.ash_journal.specs.Journal.{first_disk, second_disk, generation, record_bytes, HasFailed}
-use Rattle.ash_journal.specs.Journal.{IsReady, Holds, LeavesCurrent, LeavesRepaired, WritesGates, Finds as FindsIn}
+use Rattle.ash_journal.specs.Journal.{IsReady, Holds, LeavesCurrent, LeavesRepaired, WritesGates}
+use Rattle.ash_journal.specs.Journal.{HoldsBeforeRepair}
 use Rattle.ash_journal.specs.Layout.{HasMark}
 use Rattle.ash_journal.specs.Opening.{FaultIs}
 use Rattle.ash_journal.specs.Reading.{AreAt, bodies_of}
-use Rattle.ash_journal.specs.Runs.{Extends, HoldsSince, NoContents}
+use Rattle.ash_journal.specs.SettledSince.{Extends, HoldsSince, NoContents}
 use Rattle.ash_state_image.specs.declared.version.Version.{Version}
 use Rattle.ash_state_image.specs.declared.version.Version.TheVariants.{One, Two}
-use Rattle.ash_states.specs.States.{HostState}
+use Rattle.ash_states.specs.HostStates.{HostState}
 use Rattle.ash_states.specs.Images.{IsImageIn}
-use Rattle.ash_registry.specs.Registrations.{Registration}
+use Rattle.ash_registry.specs.AcceptedRegistrations.{Registration}
 use Rattle.ash_durable.specs.Contents.{after_image, ReadsAs, IsMisshapen, IsNotAdmitted, AreOfOthers}
-use Rattle.ash_durable.specs.Faults.{IsFailed, IsMishap}
+use Rattle.ash_durable.specs.StoreFaults.{IsFailed, IsMishap}
 use Rattle.ash_durable.specs.Hosting.{Hosted, IsRunning, IsSaved, IsHonest}
 use Rattle.ash_durable.specs.Saving.{last_generation}
-use Rattle.ash_durable.specs.States.{AreHonest, AreIn, SettleNow, IsEither, IsStateOf}
+use Rattle.ash_durable.specs.StoredStates.{AreHonest, AreIn, SettleNow, IsEither, IsStateOf}
 use Rattle.ash_durable.specs.Store.{HandsBack, WereOnlyRead}
 use Rattle.ash_durable.specs.declared.fault.HostRefused.{HostRefused}
 use Rattle.ash_durable.specs.declared.fault.StoreFault.{StoreFault}
@@ -73,7 +74,8 @@ pub record HoldsAsRead {D : Type 0} (device : Device D) (a b : D) (version : Ver
 -- another nothing was written but that gate, and the generation has the same number and the size of its records.
 pub record OnlySettled {D : Type 0} (device : Device D) (was journal : Journal D) : Type 0 where
   pub only_pending : LeavesRepaired was journal
-  pub only_gates : (contents : Contents) → FindsIn device was contents.0 contents.1 → WritesGates device was journal
+  pub only_gates : (contents : Contents) → HoldsBeforeRepair device was contents.0 contents.1
+      → WritesGates device was journal
   pub number_same : generation journal ≡ generation was
   pub size_same : record_bytes journal ≡ record_bytes was
 
@@ -81,7 +83,7 @@ pub record OnlySettled {D : Type 0} (device : Device D) (was journal : Journal D
 pub record WasRepaired {D : Type 0} (device : Device D) (a b : D) (journal : Journal D) : Type 0 where
   pub was : Journal D
   pub read : WereOnlyRead device a b (first_disk was) (second_disk was)
-  pub finds : AreHonest device a b → (contents : Contents) × FindsIn device was contents.0 contents.1
+  pub finds : AreHonest device a b → (contents : Contents) × HoldsBeforeRepair device was contents.0 contents.1
   pub only : OnlySettled device was journal
 
 -- two disks are those of a journal that was found on them and was begun to be settled
@@ -176,9 +178,9 @@ pub data WasRefused {D : Type 0} (device : Device D) (registered : List Registra
   LeftThere : WasLeft device registered a b refused → WasRefused device registered a b refused
 
 -- The state of a store is found on two disks and kept, or both are handed back.
-abbrev pub Finds : {D : Type 0} → Device D → List Registration → D → D → Result (Found D) (HostRefused D) → Type 0
-Finds device registered a b (Ok found) = WasKept device registered a b found.state found.journal
-Finds device registered a b (Err refused) = WasRefused device registered a b refused
+abbrev pub OpensState : {D : Type 0} → Device D → List Registration → D → D → Result (Found D) (HostRefused D) → Type 0
+OpensState device registered a b (Ok found) = WasKept device registered a b found.state found.journal
+OpensState device registered a b (Err refused) = WasRefused device registered a b refused
 
 -- what a journal that was opened holds
 abbrev pub contents_of : {D : Type 0} → OpenedJournal D → Contents
@@ -190,15 +192,15 @@ AreInPlace opened = AreAt (after_image opened.image.items) opened.records.items
 
 -- the files hold what was read of them
 abbrev pub HoldsRead : {D : Type 0} → Device D → OpenedJournal D → Type 0
-HoldsRead device opened = FindsIn device opened.journal opened.image.items (bodies_of opened.records.items)
+HoldsRead device opened = HoldsBeforeRepair device opened.journal opened.image.items (bodies_of opened.records.items)
 
 -- The gates of a journal's files were written over that a crash left.
 pub record HasSettled {D : Type 0} (device : Device D) (was journal : Journal D) : Type 0 where
   pub ready : (HasFailed was → ⊥) → IsReady journal
   pub only : OnlySettled device was journal
-  pub holds : (contents : Contents) → FindsIn device was contents.0 contents.1
+  pub holds : (contents : Contents) → HoldsBeforeRepair device was contents.0 contents.1
       → Holds device journal contents.0 contents.1
-  pub extends : (contents : Contents) → FindsIn device was contents.0 contents.1
+  pub extends : (contents : Contents) → HoldsBeforeRepair device was contents.0 contents.1
       → Extends device (first_disk was) (second_disk was) (first_disk journal) (second_disk journal) NoContents
   pub disks : HandsBack device ⊥ (first_disk was) (second_disk was) (first_disk journal) (second_disk journal)
 
@@ -209,7 +211,7 @@ pub record FailedToSettle {D : Type 0} (device : Device D) (was : Journal D) (re
   pub first_is : refused.a ≡ first_disk journal
   pub second_is : refused.b ≡ second_disk journal
   pub only : OnlySettled device was journal
-  pub extends : (contents : Contents) → FindsIn device was contents.0 contents.1
+  pub extends : (contents : Contents) → HoldsBeforeRepair device was contents.0 contents.1
       → Extends device (first_disk was) (second_disk was) (first_disk journal) (second_disk journal) NoContents
   pub disks : HandsBack device (Unit {0}) (first_disk was) (second_disk was) (first_disk journal) (second_disk journal)
 

@@ -2,16 +2,16 @@
 use Rattle.std.specs.Prelude.{◌≡◌, ℕ, ◌+◌, ◌-◌, ◌^◌, List, length, Result, Ok, Err, OnOk}
 use Rattle.ash_disk.specs.Device.{Device}
 use Rattle.ash_journal.specs.declared.journal.Journal.{Journal}
-use Rattle.ash_journal.specs.Failures.{CountsFailures}
+use Rattle.ash_journal.specs.JournalFailures.{CountsFailures}
 use Rattle.ash_journal.specs.Journal.{first_disk, second_disk, generation, record_bytes, HasFailed, IsReady}
 use Rattle.ash_sources.specs.declared.fault.SourceFault.{SourceFault as CodeFault}
 use Rattle.ash_plain_steps.specs.declared.request.Refusal.{Refusal}
 use Rattle.ash_plain_steps.specs.declared.request.Refusal.TheVariants as the
 use Rattle.ash_state_image.specs.declared.version.Version.TheVariants.{Two}
-use Rattle.ash_states.specs.States.{HostState}
+use Rattle.ash_states.specs.HostStates.{HostState}
 use Rattle.ash_states.specs.Images.{IsBodyIn}
 use Rattle.ash_durable.specs.Contents.{record_header_size}
-use Rattle.ash_durable.specs.States.{HoldsState, GoesOn, BeginsAnew}
+use Rattle.ash_durable.specs.StoredStates.{HoldsState, ExtendsHistory, BeginsAnew}
 
 -- Why the code refuses a request.
 abbrev pub HostRefusal : Type 0
@@ -50,7 +50,7 @@ pub record Adds {D : Type 0} (device : Device D) (state : HostState) (old : Jour
   pub holds : OnOk result ((before : HostState) → before.registered ≡ state.registered → HoldsState device before old
       → HoldsState device state new)
   pub moments : (before : HostState) → before.registered ≡ state.registered → HoldsState device before old
-      → GoesOn device before state old new
+      → ExtendsHistory device before state old new
   pub failures : CountsFailures (FailsBy result) (device.failures (first_disk old))
       (device.failures (second_disk old)) (device.failures (first_disk new)) (device.failures (second_disk new))
   pub honesty_first : device.honest (first_disk new) ≡ device.honest (first_disk old)

@@ -6,17 +6,17 @@ use Rattle.ash_journal.specs.declared.error.CreateFault.{CreateFault}
 use Rattle.ash_journal.specs.declared.error.CreateFault.TheVariants as creating
 use Rattle.ash_journal.specs.declared.journal.Journal.{Journal}
 use Rattle.ash_journal.specs.Current.{SettleOn}
-use Rattle.ash_journal.specs.Failures.{CountsFailures}
+use Rattle.ash_journal.specs.JournalFailures.{CountsFailures}
 use Rattle.ash_journal.specs.Journal.{first_disk, second_disk, current_disk, generation, record_bytes, IsReady}
 use Rattle.ash_journal.specs.Layout.{IsClosed}
 use Rattle.ash_journal.specs.Writes.{WasUnused}
 use Rattle.ash_state_image.specs.declared.version.Version.TheVariants.{Two}
-use Rattle.ash_states.specs.States.{HostState, empty}
+use Rattle.ash_states.specs.HostStates.{HostState, empty}
 use Rattle.ash_states.specs.Images.{IsImageIn}
-use Rattle.ash_registry.specs.Registrations.{Registration}
-use Rattle.ash_durable.specs.Faults.{IsFailed}
+use Rattle.ash_registry.specs.AcceptedRegistrations.{Registration}
+use Rattle.ash_durable.specs.StoreFaults.{IsFailed}
 use Rattle.ash_durable.specs.Hosting.{Hosted, IsRunning, IsSaved}
-use Rattle.ash_durable.specs.States.{AreHonest, HoldsState, IsOne, HaveState}
+use Rattle.ash_durable.specs.StoredStates.{AreHonest, HoldsState, IsOne, HaveState}
 use Rattle.ash_durable.specs.declared.fault.HostRefused.{HostRefused}
 use Rattle.ash_durable.specs.declared.fault.StoreFault.{StoreFault}
 use Rattle.ash_durable.specs.declared.fault.StoreFault.TheVariants as faults

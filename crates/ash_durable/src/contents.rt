@@ -3,14 +3,14 @@
 ghost use Rattle.std.specs.Prelude.{◌≡◌, ◌↔◌, IsTrue, IfOk, IfErr};
 ghost use Rattle.std.specs.List.{AllByRecursion};
 ghost use Rattle.ash_journal.specs.Reading.{AreAt, bodies_of};
-ghost use Rattle.ash_registry.specs.Registered.{registered};
-ghost use Rattle.ash_registry.specs.Text.{text_of};
+ghost use Rattle.ash_registry.specs.RegistryViews.{registered};
+ghost use Rattle.ash_registry.specs.RegistryText.{text_of};
 ghost use Rattle.ash_state_image.specs.Rules.{IsShaped};
-ghost use Rattle.ash_state_image.specs.Views.{snapshot_of};
+ghost use Rattle.ash_state_image.specs.SnapshotViews.{snapshot_of};
 ghost use Rattle.ash_state_image.specs.declared.version.Version.{Version};
 ghost use Rattle.ash_durable.specs.Contents.{after_image, IsBodyWith, ReadsAs, ReadsImage};
 ghost use Rattle.ash_durable.specs.Contents.{ChecksShapes, Restores, LeadsOn, LeadsThrough};
-ghost use Rattle.ash_durable.specs.Faults.{IsFailed};
+ghost use Rattle.ash_durable.specs.StoreFaults.{IsFailed};
 
 use crate::fault::StoreFault;
 use ash_journal::{OpenFault, Record};

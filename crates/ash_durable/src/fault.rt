@@ -25,7 +25,7 @@ pub enum StoreFault {
 
 impl StoreFault {
     ghost use Rattle.std.specs.Prelude.{◌≡◌};
-    ghost use Rattle.ash_durable.specs.Faults.{code_of};
+    ghost use Rattle.ash_durable.specs.StoreFaults.{code_of};
 
     /// The code by which it is reported: its number and its name, without the offset.
     pub fn code(self) -> &'static str

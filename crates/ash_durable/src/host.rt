@@ -1,19 +1,19 @@
 //! The host.
 
 ghost use Rattle.std.specs.Prelude.{◌≡◌, ◌↔◌, ℕ, map, Some, IfOk, IsSome, IsTrue, OnOk, OnErr};
-ghost use Rattle.ash_registry.specs.Registered.{registered};
+ghost use Rattle.ash_registry.specs.RegistryViews.{registered};
 ghost use Rattle.ash_steps.specs.Requests.{Call, Discard, Get, Load, Number, Object, Seq, Snapshot};
 ghost use Rattle.ash_plain_steps.specs.RequestViews.{request_seen, reply_seen};
 ghost use Rattle.ash_sources.specs.SourceFaults.{fault_of};
-ghost use Rattle.ash_states.specs.States.{HostState};
+ghost use Rattle.ash_states.specs.HostStates.{HostState};
 ghost use Rattle.ash_durable.specs.Hosting.{first, second, Handles, HandlesAll, IsAnswer, IsFull};
 ghost use Rattle.ash_durable.specs.Hosting.{IsInstalled, IsRunning, RefusesFirst, WantsInstall};
 ghost use Rattle.ash_durable.specs.Hosting.{reply_stopped};
 ghost use Rattle.ash_durable.specs.Lives.{LivesOn};
 ghost use Rattle.ash_durable.specs.OpenedStore.{Opens, OpensAgain};
-ghost use Rattle.ash_durable.specs.Replies.{done_of, reply_of};
-ghost use Rattle.ash_durable.specs.Requests.{Commits, MakesRoom, TriesInstall};
-ghost use Rattle.ash_durable.specs.Running.{RunsToFailure};
+ghost use Rattle.ash_durable.specs.HostReplies.{done_of, reply_of};
+ghost use Rattle.ash_durable.specs.HostRequests.{Commits, MakesRoom, TriesInstall};
+ghost use Rattle.ash_durable.specs.RequestRuns.{RunsToFailure};
 ghost use Rattle.ash_durable.specs.Store.{Creates};
 
 use crate::fault::HostRefused;

@@ -11,11 +11,11 @@
 //!
 //! In reading order: `fault` (why there is no store), `contents` (which state an image and records are read as),
 //! `saving` (a state as a record more, or as a new generation), `header` (how a file begins), `store` (making a store
-//! and finding its state), `host`, `lives` (the theorem). The words of the clauses are in `specs/Faults`,
-//! `specs/States` (what files hold, said of states), `specs/Contents`, `specs/Saving`, `specs/Store` (making a store),
-//! `specs/OpenedStore`, `specs/Hosting` (a host and its requests), `specs/Replies` (what the code replies),
-//! `specs/Requests` (the parts of a request), `specs/Running` (a list of requests as a run of the written steps) and
-//! `specs/Lives` (everything that can happen to a store).
+//! and finding its state), `host`, `lives` (the theorem). The words of the clauses are in `specs/StoreFaults`,
+//! `specs/StoredStates` (what files hold, said of states), `specs/Contents`, `specs/Saving`, `specs/Store` (making a
+//! store), `specs/OpenedStore`, `specs/Hosting` (a host and its requests), `specs/HostReplies` (what the code replies),
+//! `specs/HostRequests` (the parts of a request), `specs/RequestRuns` (a list of requests as a run of the written
+//! steps) and `specs/Lives` (everything that can happen to a store).
 #![tactic(auto)]
 
 mod contents;

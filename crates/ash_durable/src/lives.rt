@@ -1,14 +1,14 @@
 //! The life of a store, as a theorem.
 
 ghost use Rattle.std.specs.Prelude.{ℕ, List, ◌∷◌, ◌++◌};
-ghost use Rattle.ash_durable.specs.Faults.{MayRefuse};
-ghost use Rattle.ash_durable.specs.Lives.{AreLeft, BeginWith, Crashed, Event, IsPrefixAt, LeadBy};
-ghost use Rattle.ash_durable.specs.Lives.{Life, OnDisks, Outlives, Place, first_at, second_at};
+ghost use Rattle.ash_durable.specs.StoreFaults.{MayRefuse};
+ghost use Rattle.ash_durable.specs.Lives.{AreLeft, BeginWith, Crashed, StoreEvent, IsPrefixAt, LeadBy};
+ghost use Rattle.ash_durable.specs.Lives.{Life, OnDisks, Outlives, StoreLocation, first_at, second_at};
 ghost use Rattle.ash_durable.specs.OpenedStore.{WasRefused};
-ghost use Rattle.ash_durable.specs.States.{AreHonest, SettleNow};
+ghost use Rattle.ash_durable.specs.StoredStates.{AreHonest, SettleNow};
 ghost use Rattle.ash_durable.specs.declared.fault.HostRefused.{HostRefused};
-ghost use Rattle.ash_registry.specs.Registrations.{Registration};
-ghost use Rattle.ash_states.specs.States.{empty};
+ghost use Rattle.ash_registry.specs.AcceptedRegistrations.{Registration};
+ghost use Rattle.ash_states.specs.HostStates.{empty};
 
 use ash_disk::Disk;
 
@@ -31,16 +31,18 @@ use ash_disk::Disk;
 ///
 /// It does nothing: the clauses are the theorem. Each step of a life is what the contract of a public call says.
 pub fn nothing_acknowledged_is_lost<D: Disk>()
-    ensures whole { (registered : List Registration) (events : List Event) (place : Place D)
+    ensures whole { (registered : List Registration) (events : List StoreEvent)
+        (place : StoreLocation D)
         → Life D.Disk registered events place → Outlives D.Disk registered events place }
-    ensures each { (registered : List Registration) (later : List Event) (event : Event)
-        (earlier : List Event) (place : Place D)
+    ensures each { (registered : List Registration) (later : List StoreEvent) (event : StoreEvent)
+        (earlier : List StoreEvent) (place : StoreLocation D)
         → Life D.Disk registered (later ++ event ∷ earlier) place
         → SettleNow D.Disk (first_at place) (second_at place)
         (LeadBy later event earlier (empty registered)) }
-    ensures prefix { (registered : List Registration) (events : List Event) (place : Place D)
+    ensures prefix { (registered : List Registration) (events : List StoreEvent)
+        (place : StoreLocation D)
         → Life D.Disk registered events place → IsPrefixAt events place }
-    ensures opens { (registered : List Registration) (events : List Event) (a b : D)
+    ensures opens { (registered : List Registration) (events : List StoreEvent) (a b : D)
         (refused : HostRefused D)
         → Life D.Disk registered events (OnDisks a b) → WasRefused D.Disk registered a b refused
         → MayRefuse refused.fault }

@@ -2,9 +2,9 @@
 
 ghost use Rattle.std.specs.Prelude.{◌≡◌};
 ghost use Rattle.ash_journal.specs.Journal.{first_disk, second_disk, HasFailed};
-ghost use Rattle.ash_durable.specs.OpenedStore.{Finds, Moves, Prepares, Repairs, Settled};
+ghost use Rattle.ash_durable.specs.OpenedStore.{OpensState, Moves, Prepares, Repairs, Settled};
 ghost use Rattle.ash_durable.specs.Store.{LooksFor, Makes};
-ghost use Rattle.ash_registry.specs.Registered.{registered};
+ghost use Rattle.ash_registry.specs.RegistryViews.{registered};
 
 use crate::contents::state_in;
 use crate::fault::{HostRefused, StoreFault};
@@ -163,7 +163,7 @@ pub fn find<D: Disk>(
     a: D,
     b: D,
 ) -> Result<Found<D>, HostRefused<D>>
-    ensures { Finds D.Disk (registered registry) a b result }
+    ensures { OpensState D.Disk (registered registry) a b result }
 {
     match Journal::open(alloc, a, b) {
         Ok(opened) => settle(alloc, registry, opened),

@@ -8,7 +8,7 @@ use Rattle.std.proofs.Math.ListN.{length-map}
 use Rattle.ash_typing.specs.declared.types.Ty.{Ty}
 use Rattle.ash_typing.specs.Environment.{Declared, last_named}
 use Rattle.ash_environment.specs.declared.signatures.Binding as code
-use Rattle.ash_environment.specs.Views.{binding_of}
+use Rattle.ash_environment.specs.EnvironmentViews.{binding_of}
 
 -- the one at the end, where it has the name, else the last of those before it
 pushed : (name : List ℕ) (i : ℕ) (found : Option (ℕ × Ty)) (vs : List Declared) (v : Declared) → last_named name i found (vs ++ v ∷ []) ≡ cond (bytes_eq name v.name) (Some (i + length vs, v.of)) (last_named name i found vs)

@@ -1,3 +1,3 @@
 pub mod Agreement
 pub mod NameIndex
-pub mod Views
+pub mod EnvironmentViews

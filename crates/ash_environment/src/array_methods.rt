@@ -3,7 +3,7 @@
 ghost use Rattle.std.specs.Prelude.{◌≡◌, [], ◌∷◌, find, option_map};
 ghost use Rattle.ash_typed.specs.declared.tree.operations.ArrayMethod.TheVariants as arrays;
 ghost use Rattle.ash_typing.specs.Environment as environment;
-ghost use Rattle.ash_environment.specs.Views.{method_callee_of};
+ghost use Rattle.ash_environment.specs.EnvironmentViews.{method_callee_of};
 
 use crate::callees::MethodCallee;
 use crate::parameters::Parameters;

@@ -3,9 +3,9 @@
 ghost use Rattle.std.specs.Prelude.{◌≡◌, map, option_map};
 ghost use Rattle.ash_registrations.specs.Registrations.{registration_of};
 ghost use Rattle.ash_typing.specs.Environment as environment;
-ghost use Rattle.ash_environment.specs.Views.{function_signature_of, interface_signature_of};
-ghost use Rattle.ash_environment.specs.Views.{class_signature_of, callee_of, parameters_of};
-ghost use Rattle.ash_environment.specs.Views.{method_callee_of};
+ghost use Rattle.ash_environment.specs.EnvironmentViews.{function_signature_of, interface_signature_of};
+ghost use Rattle.ash_environment.specs.EnvironmentViews.{class_signature_of, callee_of, parameters_of};
+ghost use Rattle.ash_environment.specs.EnvironmentViews.{method_callee_of};
 
 use crate::lookup::first_function;
 use crate::parameters::Parameters;
@@ -13,7 +13,7 @@ use crate::signatures::{ClassSignature, InterfaceSignature, Signatures};
 use crate::types::{result_type, ty_of};
 use ash_registrations::Registration;
 use ash_tree::Primitive;
-use ash_typed::{Method, ObjectType, Target};
+use ash_typed::{CallTarget, Method, ObjectType};
 use ash_typing::{Callable, Ty};
 
 /// What is called, the type of its result, and its parameters: none are known of a type without factory.
@@ -51,7 +51,7 @@ pub(crate) fn function_callee<'a>(signatures: &'a Signatures<'_>, name: &str) ->
     let (place, function) = signatures.function(name)?;
     let result = function.result;
     Some(Callee {
-        target: Callable::Target(Target::Function {
+        target: Callable::Target(CallTarget::Function {
             function: place,
             result: result_type(result),
         }),
@@ -67,7 +67,7 @@ pub(crate) fn class_callee<'a>(signatures: &'a Signatures<'_>, name: &str) -> Op
 {
     let (place, class) = signatures.class(name)?;
     Some(Callee {
-        target: Callable::Target(Target::Class(place)),
+        target: Callable::Target(CallTarget::Class(place)),
         result: Ty::Handle(ObjectType::Class(place)),
         parameters: Some(Parameters::Script(&class.parameters)),
     })
@@ -151,7 +151,7 @@ pub(crate) fn service_callee(call: &Registration) -> Option<Callee<'_>>
         } => {
             let result = operation_result(operation.result);
             Some(Callee {
-                target: Callable::Target(Target::Service {
+                target: Callable::Target(CallTarget::Service {
                     service: *service,
                     id: *id,
                     result: result_type(result),

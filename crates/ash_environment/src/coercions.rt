@@ -2,7 +2,7 @@
 
 ghost use Rattle.std.specs.Prelude.{◌≡◌, map};
 ghost use Rattle.ash_typing.specs.Coercions as coercions;
-ghost use Rattle.ash_environment.specs.Views.{class_signature_of};
+ghost use Rattle.ash_environment.specs.EnvironmentViews.{class_signature_of};
 
 use crate::signatures::ClassSignature;
 use crate::types::is_same_object;

@@ -5,10 +5,10 @@ ghost use Rattle.std.specs.Option.{option_copied};
 ghost use Rattle.ash_registrations.specs.Registered.{registered};
 ghost use Rattle.ash_registrations.specs.Registrations.{registration_of};
 ghost use Rattle.ash_typing.specs.Environment as environment;
-ghost use Rattle.ash_environment.specs.Views.{binding_of, interface_signature_of};
-ghost use Rattle.ash_environment.specs.Views.{class_signature_of};
-ghost use Rattle.ash_environment.specs.Views.{environment_of, placed_class, known_of, callee_of};
-ghost use Rattle.ash_environment.specs.Views.{parameters_of, method_callee_of};
+ghost use Rattle.ash_environment.specs.EnvironmentViews.{binding_of, interface_signature_of};
+ghost use Rattle.ash_environment.specs.EnvironmentViews.{class_signature_of};
+ghost use Rattle.ash_environment.specs.EnvironmentViews.{environment_of, placed_class, known_of, callee_of};
+ghost use Rattle.ash_environment.specs.EnvironmentViews.{parameters_of, method_callee_of};
 
 use crate::array_methods::array_method_named;
 use crate::callees::{
@@ -20,7 +20,7 @@ use crate::parameters::Parameters;
 use crate::signatures::{Binding, ClassSignature, Signatures};
 use crate::types::{result_type, ty_of, var_type};
 use ash_registrations::{Registration, Registrations};
-use ash_typed::{Expr, Member, ObjectType, Target, Variable, nodes};
+use ash_typed::{CallTarget, Expr, ObjectMember, ObjectType, Variable, nodes};
 use ash_typing::{Callable, Ty};
 use std::alloc::{AllocError, Global};
 
@@ -36,11 +36,11 @@ pub struct Environment<'a, 'n> {
 }
 
 /// A field of the class of this place, with its type.
-fn class_field(class: usize, of: &ClassSignature, name: &str) -> Option<(Member, Ty)>
+fn class_field(class: usize, of: &ClassSignature, name: &str) -> Option<(ObjectMember, Ty)>
     ensures { result ≡ environment.field_in class (class_signature_of of.now) name.now }
 {
     let (place, ty) = first_binding(&of.fields, name)?;
-    let member = Member::Field {
+    let member = ObjectMember::Field {
         class,
         place,
         of: var_type(ty),
@@ -75,13 +75,13 @@ fn global_named(signatures: &Signatures, name: &str) -> Option<(Expr, Ty)>
 }
 
 /// A property of a registered type, with its type.
-fn host_property(call: &Registration) -> Option<(Member, Ty)>
+fn host_property(call: &Registration) -> Option<(ObjectMember, Ty)>
     ensures { result ≡ environment.property (registration_of call.now) }
 {
     match call {
         Registration::Property { id, value, .. } => {
             let of = ty_of(*value);
-            let property = Member::Property {
+            let property = ObjectMember::Property {
                 id: *id,
                 of: var_type(of),
             };
@@ -159,7 +159,7 @@ impl<'a, 'n> Environment<'a, 'n> {
     {
         match call {
             Registration::Type { name, kind } => Some(Callee {
-                target: Callable::Target(Target::Host(*kind)),
+                target: Callable::Target(CallTarget::Host(*kind)),
                 result: Ty::Handle(ObjectType::Host(*kind)),
                 parameters: self.factory_parameters(name.as_str()),
             }),
@@ -231,7 +231,7 @@ impl<'a, 'n> Environment<'a, 'n> {
 
     /// A field or a property of an object, with its type.
     #[tactic(auto, unfolding(ash_typing::specs::Environment::member_in))]
-    pub fn member(&self, of: ObjectType, name: &str) -> Option<(Member, Ty)>
+    pub fn member(&self, of: ObjectType, name: &str) -> Option<(ObjectMember, Ty)>
         ensures member_found { result
             ≡ environment.member_in (environment_of self.now) of name.now }
     {

@@ -3,8 +3,8 @@
 //! A phrase is in an environment, which has what a module declares, what is registered, the class whose object runs,
 //! and the locals. Each function returns what a definition of `ash_typing` gives, unless memory runs out. In its
 //! `specs/`, `Environment` has what a name means in an environment: a variable, what a call calls, a member or a method
-//! of an object; `ModuleDeclarations`, which type a name is; `Types`, what two types have in common; and `Coercions`,
-//! what may be stored in which variable. The crate uses `ash_tree`, which has types as they are written,
+//! of an object; `ModuleDeclarations`, which type a name is; `TypeRules`, what two types have in common; and
+//! `Coercions`, what may be stored in which variable. The crate uses `ash_tree`, which has types as they are written,
 //! `ash_registrations`, `ash_typed`, which has what names become in a typed tree, and the rules of `ash_typing`.
 //!
 //! Nothing is checked here. But the crate has the error that ends checking, and `Agrees` of `specs/Agreement.antt`,

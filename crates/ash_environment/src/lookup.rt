@@ -2,8 +2,8 @@
 
 ghost use Rattle.std.specs.Prelude.{◌≡◌, None, map, option_map};
 ghost use Rattle.ash_typing.specs.Environment as environment;
-ghost use Rattle.ash_environment.specs.Views.{binding_of, function_signature_of};
-ghost use Rattle.ash_environment.specs.Views.{placed_type, placed_function};
+ghost use Rattle.ash_environment.specs.EnvironmentViews.{binding_of, function_signature_of};
+ghost use Rattle.ash_environment.specs.EnvironmentViews.{placed_type, placed_function};
 
 use crate::signatures::{Binding, FunctionSignature};
 use ash_typing::Ty;

@@ -1,8 +1,8 @@
 //! The parameters of a call.
 
 ghost use Rattle.std.specs.Prelude.{◌≡◌, [], ◌∷◌, length, map, option_map, IfOk};
-ghost use Rattle.ash_typing.specs.Types as definition;
-ghost use Rattle.ash_environment.specs.Views.{parameters_of, first_and_rest, split_of};
+ghost use Rattle.ash_typing.specs.TypeRules as definition;
+ghost use Rattle.ash_environment.specs.EnvironmentViews.{parameters_of, first_and_rest, split_of};
 
 use crate::types::{ty_of, var_type};
 use ash_tree::Primitive;

@@ -63,10 +63,10 @@ pub struct Signatures<'a> {
 impl<'a> Signatures<'a> {
     ghost use Rattle.std.specs.Prelude.{◌≡◌, option_map, IfOk};
     ghost use Rattle.ash_typing.specs.Environment as environment;
-    ghost use Rattle.ash_environment.specs.Views.{binding_of, function_signature_of};
-    ghost use Rattle.ash_environment.specs.Views.{interface_signature_of};
-    ghost use Rattle.ash_environment.specs.Views.{class_signature_of, placed_type, placed_function};
-    ghost use Rattle.ash_environment.specs.Views.{placed_interface, placed_class};
+    ghost use Rattle.ash_environment.specs.EnvironmentViews.{binding_of, function_signature_of};
+    ghost use Rattle.ash_environment.specs.EnvironmentViews.{interface_signature_of};
+    ghost use Rattle.ash_environment.specs.EnvironmentViews.{class_signature_of, placed_type, placed_function};
+    ghost use Rattle.ash_environment.specs.EnvironmentViews.{placed_interface, placed_class};
 
     /// What is declared.
     pub fn new(

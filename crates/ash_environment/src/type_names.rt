@@ -3,9 +3,9 @@
 ghost use Rattle.std.specs.Prelude.{◌≡◌, option_map};
 ghost use Rattle.ash_registrations.specs.Registered.{registered};
 ghost use Rattle.ash_registrations.specs.Registrations.{registration_of};
-ghost use Rattle.ash_tree.specs.Views.{element_of, type_of};
+ghost use Rattle.ash_tree.specs.TreeViews.{element_of, type_of};
 ghost use Rattle.ash_typing.specs.ModuleDeclarations as definition;
-ghost use Rattle.ash_environment.specs.Views.{signatures_of};
+ghost use Rattle.ash_environment.specs.EnvironmentViews.{signatures_of};
 
 use crate::signatures::Signatures;
 use crate::types::ty_of;

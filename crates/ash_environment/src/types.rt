@@ -1,9 +1,9 @@
 //! Types, and what operators take.
 
 ghost use Rattle.std.specs.Prelude.{◌≡◌};
-ghost use Rattle.ash_typing.specs.Types as types;
+ghost use Rattle.ash_typing.specs.TypeRules as types;
 ghost use Rattle.ash_typing.specs.Terms as terms;
-ghost use Rattle.ash_typing.specs.Expressions as typing;
+ghost use Rattle.ash_typing.specs.ExpressionRules as typing;
 
 use ash_tree::Primitive;
 use ash_typed::{Conversion, Element, IntType, ObjectType, VarType};

@@ -10,8 +10,8 @@ use Rattle.ash_phrases.specs.Activity.{World, Activity}
 use Rattle.ash_phrases.specs.Runs.{Progress, Done, Ended, NoStep, OutOfTicks, Run, give, onward, found, ◌>>=◌, ◌>>◌}
 use Rattle.ash_phrases.specs.Frames.{frame_of, tick, demand_frame, in_frame_of}
 use Rattle.ash_phrases.specs.ObjectSteps.{demand_number, make}
-use Rattle.ash_phrases.specs.Classes.{Program, FreeFunction, Callee, Entry, entry_of, entry_of_construction}
-use Rattle.ash_phrases.specs.Calls.{Calls, blank, construct}
+use Rattle.ash_phrases.specs.Classes.{Program, FreeFunction, ModuleCallee, Entry, entry_of, entry_of_construction}
+use Rattle.ash_phrases.specs.CallMeaning.{Calls, blank, construct}
 use Rattle.ash_phrases.specs.Functions.{body, calls_within}
 use Rattle.ash_phrases.specs.Ends.{outcome_of, begun, call_entry, call_function}
 use Rattle.ash_evaluator.specs.Entering.{function_run, construction_run, entry_run}
@@ -34,14 +34,14 @@ no_class calls class args a h =
 
 -- bodies
 
-pub body_deeper : (p : Program) (depth below : ℕ) (callee : Callee) (a : Activity) → depth ≡ below + 1 → body_of_callee p depth callee a ≡ entry_run p (calls_within p below) below callee a
+pub body_deeper : (p : Program) (depth below : ℕ) (callee : ModuleCallee) (a : Activity) → depth ≡ below + 1 → body_of_callee p depth callee a ≡ entry_run p (calls_within p below) below callee a
 body_deeper p depth below callee a is = ap (λ (n : ℕ). body_of_callee p n callee a) (is ∙ add-one below)
 
-pub body_deepest : (p : Program) (depth : ℕ) (callee : Callee) (e : Entry) (a : Activity) → depth ≡ 0 → entry_of p.tree callee ≡ Some e → body_of_callee p depth callee a ≡ Ended OutOfTicks a
+pub body_deepest : (p : Program) (depth : ℕ) (callee : ModuleCallee) (e : Entry) (a : Activity) → depth ≡ 0 → entry_of p.tree callee ≡ Some e → body_of_callee p depth callee a ≡ Ended OutOfTicks a
 body_deepest p depth callee e a is h =
     ap (λ (n : ℕ). body_of_callee p n callee a) is ∙ ap (λ (o : Option Entry). onward (found o a) (body p 0)) h
 
-pub no_body : (p : Program) (depth : ℕ) (callee : Callee) (a : Activity) → entry_of p.tree callee ≡ None → body_of_callee p depth callee a ≡ NoStep
+pub no_body : (p : Program) (depth : ℕ) (callee : ModuleCallee) (a : Activity) → entry_of p.tree callee ≡ None → body_of_callee p depth callee a ≡ NoStep
 no_body p depth callee a h = ap (λ (o : Option Entry). onward (found o a) (body p depth)) h
 
 -- calls from outside

@@ -4,7 +4,7 @@ use Rattle.ash_phrases.specs.Activity.{Activity}
 use Rattle.ash_phrases.specs.Runs.{Progress, Done, Ended, NoStep, Run, give, onward, ◌>>=◌}
 use Rattle.ash_plain_data.specs.declared.run_error.RunError.{RunError}
 use Rattle.ash_plain_data.specs.declared.run_error.RunError.TheVariants as errors
-use Rattle.ash_plain_data.specs.Running.{FailsAs}
+use Rattle.ash_plain_data.specs.CallRuns.{FailsAs}
 
 pub fails_onward : {A B : Type 0} (e : RunError) (a : Activity) (p : Progress A) (next : A → Run B) → FailsAs e a p → FailsAs e a (onward p next)
 fails_onward (errors.Raising exception) a p next h = ap (λ (q : Progress _). onward q next) h

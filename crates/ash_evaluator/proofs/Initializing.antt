@@ -7,7 +7,7 @@ use Rattle.ash_typed.specs.Modules.{variables_of}
 use Rattle.ash_phrases.specs.Activity.{Activity}
 use Rattle.ash_phrases.specs.Runs.{Run, onward, ◌>>◌}
 use Rattle.ash_phrases.specs.Frames.{tick}
-use Rattle.ash_phrases.specs.Calls.{Calls}
+use Rattle.ash_phrases.specs.CallMeaning.{Calls}
 use Rattle.ash_phrases.specs.Functions.{initialize_globals, initialize_module}
 
 -- one declaration, with the tick before it

@@ -4,9 +4,9 @@ use Rattle.ash_host.specs.declared.word.Word.{Word}
 use Rattle.ash_host.specs.declared.word.Word.TheVariants.{Null}
 use Rattle.ash_typed.specs.Signatures.{types_of_globals}
 use Rattle.ash_phrases.specs.Activity.{World, Frame}
-use Rattle.ash_phrases.specs.Operators.{zero_of}
+use Rattle.ash_phrases.specs.OperatorMeaning.{zero_of}
 use Rattle.ash_phrases.specs.Classes.{Program}
-use Rattle.ash_phrases.specs.Laws.{initialized}
+use Rattle.ash_phrases.specs.MeaningLaws.{initialized}
 use Rattle.ash_phrases.specs.Ends.{outcome_of, begun, with_globals, load_module}
 use Rattle.ash_evaluator.specs.Entering.{without_value}
 

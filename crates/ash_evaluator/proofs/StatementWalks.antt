@@ -7,13 +7,13 @@ use Rattle.ash_typed.specs.declared.tree.statements.Initialization as initializa
 use Rattle.ash_typed.specs.declared.tree.statements.Case as case_code
 use Rattle.ash_typed.specs.declared.tree.expressions.Expr as expr_code
 use Rattle.ash_integers.specs.declared.int_type.IntType.{IntType}
-use Rattle.ash_typed.specs.Views.{expr_of}
+use Rattle.ash_typed.specs.TypedTreeViews.{expr_of}
 use Rattle.ash_typed.specs.StatementTree.{Stmt, Declare, Switch, cases}
 use Rattle.ash_typed.specs.BodyViews.{stmt_at, stmt_of, body_of, value_of, case_of}
 use Rattle.ash_typed.proofs.StatementRows.{block_is, switch_is}
 use Rattle.ash_phrases.specs.Activity.{Activity}
-use Rattle.ash_phrases.specs.Calls.{Calls}
-use Rattle.ash_phrases.specs.Statements.{statement, statements, in_block}
+use Rattle.ash_phrases.specs.CallMeaning.{Calls}
+use Rattle.ash_phrases.specs.StatementMeaning.{statement, statements, in_block}
 
 pub block_follows : (calls : Calls) (depth : ℕ) (s : stmt_code.Stmt) (ss : Vec stmt_code.Stmt Global) (a : Activity) → s.kind ≡ views.Block ss → statement calls depth (stmt_of s) a ≡ in_block (statements calls depth (body_of ss.items)) a
 block_follows calls depth s ss a is =

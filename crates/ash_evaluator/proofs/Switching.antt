@@ -12,10 +12,10 @@ use Rattle.ash_typed.specs.BodyViews.{stmt_of, case_of, body_of}
 use Rattle.ash_typed.proofs.StatementRows.{stmts_of-row}
 use Rattle.ash_phrases.specs.Activity.{Activity}
 use Rattle.ash_phrases.specs.Runs.{onward}
-use Rattle.ash_phrases.specs.Calls.{Calls}
-use Rattle.ash_phrases.specs.Statements.{Labelled, case_run, cases as labels, from_label, is_constant, or_else, chosen, statements, go_on}
+use Rattle.ash_phrases.specs.CallMeaning.{Calls}
+use Rattle.ash_phrases.specs.StatementMeaning.{Labelled, case_run, cases as labels, from_label, is_constant, or_else, chosen, statements, go_on}
 use Rattle.ash_evaluator.specs.Choosing.{constant_in, from_case}
-use Rattle.ash_evaluator.specs.Phrases.{fall_run}
+use Rattle.ash_evaluator.specs.WalkedPhrases.{fall_run}
 
 case_made : (l : Label) (body : Vec stmt_code.Stmt Global) → case_of (case_code.roll-Case (record { label = l; body = body })) ≡ labelled l (stmts (map stmt_of body.items))
 case_made l body = search (rules, views.the_lemmas, stmts_of-row)

@@ -5,8 +5,8 @@ use Rattle.ash_phrases.specs.Activity.{Activity}
 use Rattle.ash_phrases.specs.Runs.{Progress, Done, Ended, NoStep, Run, give, onward, ◌>>=◌, ◌>>◌, out_of_ticks}
 use Rattle.ash_phrases.specs.Frames.{tick}
 use Rattle.ash_phrases.specs.Releases.{release}
-use Rattle.ash_phrases.specs.Statements.{Flow, On, Broke, Continued, Returned, Turn, turn, turns, after_body}
-use Rattle.ash_evaluator.specs.Phrases.{after_turn, turn_run, next_turn}
+use Rattle.ash_phrases.specs.StatementMeaning.{Flow, On, Broke, Continued, Returned, Turn, turn, turns, after_body}
+use Rattle.ash_evaluator.specs.WalkedPhrases.{after_turn, turn_run, next_turn}
 
 -- the next turn, unless the loop is left
 abbrev pub left_or : Run Flow → Option Flow → Run Flow

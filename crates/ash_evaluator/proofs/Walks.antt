@@ -10,19 +10,19 @@ use Rattle.ash_typed.specs.declared.tree.expressions.Operand as operand_code
 use Rattle.ash_typed.specs.declared.tree.operations.Conversion.{Conversion}
 use Rattle.ash_typed.specs.declared.tree.operations.Operation.{Operation}
 use Rattle.ash_typed.specs.declared.tree.operations.Lazy.{Lazy}
-use Rattle.ash_typed.specs.declared.tree.operations.Target.{Target}
+use Rattle.ash_typed.specs.declared.tree.operations.CallTarget.{CallTarget}
 use Rattle.ash_typed.specs.declared.tree.operations.Method.{Method}
 use Rattle.ash_typed.specs.declared.types.VarType.{VarType}
-use Rattle.ash_typed.specs.Tree.{Expr, Exprs, exprs, Operate, Lazily, converted}
-use Rattle.ash_typed.specs.Views.{expr_of, linked, chained, all_linked, all_chained, all_lazies}
+use Rattle.ash_typed.specs.TypedTree.{Expr, Exprs, exprs, Operate, Lazily, converted}
+use Rattle.ash_typed.specs.TypedTreeViews.{expr_of, linked, chained, all_linked, all_chained, all_lazies}
 use Rattle.ash_typed.proofs.Rows.{path_is, chain_is, lazy_is, call_is, exprs_of-row}
 use Rattle.ash_phrases.specs.Activity.{Activity}
 use Rattle.ash_phrases.specs.Runs.{Progress, Done, Ended, NoStep, Run, give, onward, ◌>>=◌}
-use Rattle.ash_phrases.specs.Operators.{converted_to, is_true, operate}
-use Rattle.ash_phrases.specs.Calls.{Calls}
-use Rattle.ash_phrases.specs.Expressions.{expression, arguments, lazily}
+use Rattle.ash_phrases.specs.OperatorMeaning.{converted_to, is_true, operate}
+use Rattle.ash_phrases.specs.CallMeaning.{Calls}
+use Rattle.ash_phrases.specs.ExpressionMeaning.{expression, arguments, lazily}
 use Rattle.ash_plain_data.specs.Conversions.{converted_by}
-use Rattle.ash_evaluator.specs.Phrases.{operand_run, operands_run, link_run, links_run, lazies_run, arguments_after, target_run, invocation_run}
+use Rattle.ash_evaluator.specs.WalkedPhrases.{operand_run, operands_run, link_run, links_run, lazies_run, arguments_after, target_run, invocation_run}
 use Rattle.ash_evaluator.proofs.Failing.{onward_assoc, onward_give}
 
 three : {A B C D : Type 0} (p : Progress A) (f : A → Run B) (g : B → Run C) (h : C → Run D) → onward (onward (onward p f) g) h ≡ onward p (λ v. f v >>= g >>= h)
@@ -71,7 +71,7 @@ module _ (calls : Calls) where
   chain_follows e first os a is =
       ap (λ (x : Expr). expression calls x a) (ap expr_of is ∙ chain_is first os) ∙ operands_follow (expr_of first.value) os.items a
 
-  pub call_follows : (e : expr_code.Expr) (target : Target) (ps : Vec VarType Global) (es : Vec expr_code.Expr Global) (a : Activity) → e ≡ views.Call target ps es → expression calls (expr_of e) a ≡ target_run calls target es.items a
+  pub call_follows : (e : expr_code.Expr) (target : CallTarget) (ps : Vec VarType Global) (es : Vec expr_code.Expr Global) (a : Activity) → e ≡ views.Call target ps es → expression calls (expr_of e) a ≡ target_run calls target es.items a
   call_follows e target ps es a is = ap (λ (x : Expr). expression calls x a) (ap expr_of is ∙ call_is target ps es)
 
   pub invoke_follows : (l : link_code.Link) (method : Method) (ps : Vec VarType Global) (es : Vec expr_code.Expr Global) (handle : Word) (a : Activity) → l ≡ views.Invoke method ps es → link_run calls l handle a ≡ invocation_run calls handle method es.items a

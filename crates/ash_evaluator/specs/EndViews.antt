@@ -4,7 +4,7 @@ use Rattle.ash_phrases.specs.Activity.{World}
 use Rattle.ash_phrases.specs.Ends.{End, Finished, Threw, Aborted, Outcome, outcome_with}
 use Rattle.ash_plain_data.specs.declared.run_error.RunError.{RunError}
 use Rattle.ash_plain_data.specs.declared.run_error.RunError.TheVariants as errors
-use Rattle.ash_plain.specs.Views.{world_seen}
+use Rattle.ash_plain.specs.ActivityViews.{world_seen}
 use Rattle.ash_evaluator.specs.declared.ends.End as end
 use Rattle.ash_evaluator.specs.declared.ends.End.TheVariants as ends
 use Rattle.ash_evaluator.specs.declared.ends.Outcome as outcome_code
@@ -19,18 +19,18 @@ outcome_seen o = record { end = end_seen o.end; world = world_seen o.world }
 
 -- A run of the code ends without an outcome where the definitions have none; an exception and a refused tick are
 -- outcomes. Where memory ran out, nothing is said.
-abbrev pub HasNoEnd : RunError → Option Outcome → Type 0
-HasNoEnd (errors.Raising exception) outcome = ⊥
-HasNoEnd errors.OutOfTicks outcome = ⊥
-HasNoEnd errors.NoStep outcome = outcome ≡ None
-HasNoEnd errors.NoMemory outcome = Unit {0}
+abbrev pub HasNoOutcome : RunError → Option Outcome → Type 0
+HasNoOutcome (errors.Raising exception) outcome = ⊥
+HasNoOutcome errors.OutOfTicks outcome = ⊥
+HasNoOutcome errors.NoStep outcome = outcome ≡ None
+HasNoOutcome errors.NoMemory outcome = Unit {0}
 
 -- the end is that of the outcome, at the world before the frames are given up
 abbrev pub HasEnd : Result end.End RunError → World → Option Outcome → Type 0
 HasEnd (Ok e) world outcome = outcome ≡ Some (outcome_with (end_seen e) world)
-HasEnd (Err e) world outcome = HasNoEnd e outcome
+HasEnd (Err e) world outcome = HasNoOutcome e outcome
 
 -- what the code returns is the outcome of the definitions
 abbrev pub EndsAs : Result outcome_code.Outcome RunError → Option Outcome → Type 0
 EndsAs (Ok o) outcome = outcome ≡ Some (outcome_seen o)
-EndsAs (Err e) outcome = HasNoEnd e outcome
+EndsAs (Err e) outcome = HasNoOutcome e outcome

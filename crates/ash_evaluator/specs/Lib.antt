@@ -1,6 +1,6 @@
-pub mod Views
+pub mod EvaluatorViews
 pub mod Bodies
 pub mod Entering
 pub mod EndViews
-pub mod Phrases
+pub mod WalkedPhrases
 pub mod Choosing

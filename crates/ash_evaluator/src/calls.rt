@@ -2,26 +2,26 @@
 
 ghost use Rattle.std.specs.Prelude.{◌≡◌};
 ghost use Rattle.ash_phrases.specs.Runs.{Done};
-ghost use Rattle.ash_phrases.specs.Calls.{call, construct, class_at, call_through};
-ghost use Rattle.ash_phrases.specs.Calls.{invoke, call_target, cast};
+ghost use Rattle.ash_phrases.specs.CallMeaning.{call, construct, class_at, call_through};
+ghost use Rattle.ash_phrases.specs.CallMeaning.{invoke, call_target, cast};
 ghost use Rattle.ash_plain_data.specs.ClassViews.{program_seen, callee_seen};
-ghost use Rattle.ash_plain_data.specs.Running.{RunsAs};
-ghost use Rattle.ash_plain.specs.Views.{activity_seen};
-ghost use Rattle.ash_evaluator.specs.Views.{calls_seen};
+ghost use Rattle.ash_plain_data.specs.CallRuns.{RunsAs};
+ghost use Rattle.ash_plain.specs.ActivityViews.{activity_seen};
+ghost use Rattle.ash_evaluator.specs.EvaluatorViews.{calls_seen};
 ghost use Rattle.ash_evaluator.specs.Bodies.{RunsBodies, body_of_callee};
 ghost use Rattle.ash_evaluator.specs.Entering.{construction_run};
 
 use crate::evaluator::Evaluator;
 use ash_host::{Target as HostTarget, Word};
 use ash_plain::activity::Activity;
-use ash_plain_data::classes::{Callee, entry_of, implemented};
+use ash_plain_data::classes::{ModuleCallee, entry_of, implemented};
 use ash_plain_data::run_error::{RunError, RunResult};
-use ash_typed::{Method, ObjectType, Target};
+use ash_typed::{CallTarget, Method, ObjectType};
 
-impl<F: Fn(&mut Activity, Callee) -> RunResult<Option<Word>> + Drop> Evaluator<'_, '_, F> {
+impl<F: Fn(&mut Activity, ModuleCallee) -> RunResult<Option<Word>> + Drop> Evaluator<'_, '_, F> {
     /// What the frame of a call does after the tick of its entry.
     #[tactic(auto, unfolding(crate::specs::Bodies::RunsBodies))]
-    fn run_body(&self, activity: &mut Activity, callee: Callee) -> RunResult<Option<Word>>
+    fn run_body(&self, activity: &mut Activity, callee: ModuleCallee) -> RunResult<Option<Word>>
         requires callable { F.IsAlwaysCallable self.now.body }
         requires bodies { RunsBodies F.Fn self.now }
         ensures { RunsAs (λ v. v) result (activity_seen activity.new)
@@ -32,11 +32,11 @@ impl<F: Fn(&mut Activity, Callee) -> RunResult<Option<Word>> + Drop> Evaluator<'
     }
 
     /// Calls a function, or a method of an object.
-    #[tactic(auto, unfolding(crate::specs::Views::calls_seen))]
+    #[tactic(auto, unfolding(crate::specs::EvaluatorViews::calls_seen))]
     pub(crate) fn call(
         &self,
         activity: &mut Activity,
-        callee: Callee,
+        callee: ModuleCallee,
         this: Word,
         args: Vec<Word>,
     ) -> RunResult<Word>
@@ -57,7 +57,7 @@ impl<F: Fn(&mut Activity, Callee) -> RunResult<Option<Word>> + Drop> Evaluator<'
     }
 
     /// The frame that constructs an object of a class, once the object is made.
-    #[tactic(auto, unfolding(crate::specs::Views::calls_seen))]
+    #[tactic(auto, unfolding(crate::specs::EvaluatorViews::calls_seen))]
     fn construct_in(
         &self,
         activity: &mut Activity,
@@ -71,7 +71,7 @@ impl<F: Fn(&mut Activity, Callee) -> RunResult<Option<Word>> + Drop> Evaluator<'
             (construction_run (calls_seen self.now) class number args.items
             (activity_seen activity.old)) }
     {
-        let callee = Callee::Construction(class);
+        let callee = ModuleCallee::Construction(class);
         let Some(entry) = entry_of(self.program.alloc, self.program.tree, callee)? else {
             return Err(RunError::NoStep);
         };
@@ -83,7 +83,7 @@ impl<F: Fn(&mut Activity, Callee) -> RunResult<Option<Word>> + Drop> Evaluator<'
     }
 
     /// Constructs an object of a class, whose frame has it as `this`, and gives it.
-    #[tactic(auto, using(crate::proofs::Calling::construct_is, crate::proofs::Calling::no_class), unfolding(crate::specs::Views::calls_seen))]
+    #[tactic(auto, using(crate::proofs::Calling::construct_is, crate::proofs::Calling::no_class), unfolding(crate::specs::EvaluatorViews::calls_seen))]
     fn construct(&self, activity: &mut Activity, class: usize, args: Vec<Word>) -> RunResult<Word>
         requires callable { F.IsAlwaysCallable self.now.body }
         requires bodies { RunsBodies F.Fn self.now }
@@ -101,7 +101,7 @@ impl<F: Fn(&mut Activity, Callee) -> RunResult<Option<Word>> + Drop> Evaluator<'
     }
 
     /// The class of an object.
-    #[tactic(auto, unfolding(crate::specs::Views::calls_seen, ash_plain::specs::Views::activity_seen))]
+    #[tactic(auto, unfolding(crate::specs::EvaluatorViews::calls_seen, ash_plain::specs::ActivityViews::activity_seen))]
     fn class_at(&self, activity: &Activity, number: u64) -> RunResult<usize>
         ensures { RunsAs (λ class. class) result (activity_seen activity.now)
             (class_at (calls_seen self.now) number (activity_seen activity.now)) }
@@ -113,7 +113,7 @@ impl<F: Fn(&mut Activity, Callee) -> RunResult<Option<Word>> + Drop> Evaluator<'
     }
 
     /// Calls the object's own method for one that an interface declares.
-    #[tactic(auto, unfolding(crate::specs::Views::calls_seen))]
+    #[tactic(auto, unfolding(crate::specs::EvaluatorViews::calls_seen))]
     fn call_through(
         &self,
         activity: &mut Activity,
@@ -134,7 +134,7 @@ impl<F: Fn(&mut Activity, Callee) -> RunResult<Option<Word>> + Drop> Evaluator<'
         };
         self.call(
             activity,
-            Callee::Method { class, place },
+            ModuleCallee::Method { class, place },
             Word::Object(number),
             args,
         )
@@ -155,7 +155,7 @@ impl<F: Fn(&mut Activity, Callee) -> RunResult<Option<Word>> + Drop> Evaluator<'
     {
         match method {
             Method::Script { class, method, .. } => {
-                let callee = Callee::Method {
+                let callee = ModuleCallee::Method {
                     class,
                     place: method,
                 };
@@ -174,11 +174,11 @@ impl<F: Fn(&mut Activity, Callee) -> RunResult<Option<Word>> + Drop> Evaluator<'
     }
 
     /// Calls what is named: a function, a service, or a construction.
-    #[tactic(auto, unfolding(crate::specs::Views::calls_seen))]
+    #[tactic(auto, unfolding(crate::specs::EvaluatorViews::calls_seen))]
     pub(crate) fn call_target(
         &self,
         activity: &mut Activity,
-        target: Target,
+        target: CallTarget,
         args: Vec<Word>,
     ) -> RunResult<Word>
         requires callable { F.IsAlwaysCallable self.now.body }
@@ -187,17 +187,17 @@ impl<F: Fn(&mut Activity, Callee) -> RunResult<Option<Word>> + Drop> Evaluator<'
             (call_target (calls_seen self.now) target args.items (activity_seen activity.old)) }
     {
         match target {
-            Target::Function { function, .. } => {
-                self.call(activity, Callee::Function(function), Word::Null, args)
+            CallTarget::Function { function, .. } => {
+                self.call(activity, ModuleCallee::Function(function), Word::Null, args)
             }
-            Target::Service {
+            CallTarget::Service {
                 service,
                 id,
                 result: of,
             } => activity.invoke_host(HostTarget::Service(service), id, of, args),
-            Target::Class(class) => self.construct(activity, class, args),
-            Target::Host(kind) => activity.construct_host(kind, args),
-            Target::Array(of) => {
+            CallTarget::Class(class) => self.construct(activity, class, args),
+            CallTarget::Host(kind) => activity.construct_host(kind, args),
+            CallTarget::Array(of) => {
                 let of = self.program.element_of(of)?;
                 activity.construct_array(of, &args)
             }
@@ -205,7 +205,7 @@ impl<F: Fn(&mut Activity, Callee) -> RunResult<Option<Word>> + Drop> Evaluator<'
     }
 
     /// A cast gives the object where it is of the type, and else null.
-    #[tactic(auto, unfolding(crate::specs::Views::calls_seen, ash_plain::specs::Views::activity_seen))]
+    #[tactic(auto, unfolding(crate::specs::EvaluatorViews::calls_seen, ash_plain::specs::ActivityViews::activity_seen))]
     pub(crate) fn cast(&self, activity: &Activity, to: ObjectType, word: Word) -> Word
         ensures { cast (calls_seen self.now).program to word (activity_seen activity.now)
             ≡ Done result (activity_seen activity.now) }

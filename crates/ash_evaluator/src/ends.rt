@@ -5,13 +5,13 @@ ghost use Rattle.ash_host.specs.declared.word.Word.{Word as WordData};
 ghost use Rattle.ash_typed.specs.BodyViews.{value_of as variable_of};
 ghost use Rattle.ash_typed.specs.Modules.{variables_of};
 ghost use Rattle.ash_typed.specs.Signatures.{type_declared, types_of_globals};
-ghost use Rattle.ash_phrases.specs.Operators.{zero_of};
+ghost use Rattle.ash_phrases.specs.OperatorMeaning.{zero_of};
 ghost use Rattle.ash_phrases.specs.Activity.{Activity as ActivityData};
 ghost use Rattle.ash_phrases.specs.Runs.{Progress};
 ghost use Rattle.ash_phrases.specs.Ends.{outcome_of, begun, call_function, load_module};
 ghost use Rattle.ash_plain_data.specs.ClassViews.{program_seen, callee_seen};
-ghost use Rattle.ash_plain_data.specs.Running.{RunsAs};
-ghost use Rattle.ash_plain.specs.Views.{world_seen, frame_seen, activity_seen};
+ghost use Rattle.ash_plain_data.specs.CallRuns.{RunsAs};
+ghost use Rattle.ash_plain.specs.ActivityViews.{world_seen, frame_seen, activity_seen};
 ghost use Rattle.ash_evaluator.specs.Entering.{function_run, without_value};
 ghost use Rattle.ash_evaluator.specs.EndViews.{HasEnd, EndsAs};
 
@@ -19,7 +19,7 @@ use crate::functions::{body, initialize};
 use ash_host::Word;
 use ash_phrases::Exception;
 use ash_plain::activity::{Activity, Frame, World};
-use ash_plain_data::classes::{Callee, Program, entry_of};
+use ash_plain_data::classes::{ModuleCallee, Program, entry_of};
 use ash_plain_data::operators::zero_of;
 use ash_plain_data::run_error::{RunError, RunResult};
 use ash_typed::{Initialization, Variables};
@@ -74,7 +74,7 @@ fn end_of(frame: Frame, value: RunResult<Option<Word>>) -> RunResult<End>
 }
 
 /// How a run ends that came so far, and the world that it leaves. What was done before stays.
-#[tactic(auto, unfolding(ash_plain::specs::Views::activity_seen))]
+#[tactic(auto, unfolding(ash_plain::specs::ActivityViews::activity_seen))]
 fn finish(activity: Activity, value: RunResult<Option<Word>>) -> RunResult<Outcome>
     ensures { (p : Progress (Option WordData)) → RunsAs (λ v. v) value (activity_seen activity) p
         → EndsAs result (outcome_of p) }
@@ -92,7 +92,7 @@ fn finish(activity: Activity, value: RunResult<Option<Word>>) -> RunResult<Outco
 }
 
 /// One frame, and no callers.
-#[tactic(auto, unfolding(ash_plain::specs::Views::activity_seen))]
+#[tactic(auto, unfolding(ash_plain::specs::ActivityViews::activity_seen))]
 fn begun(alloc: Global, world: World, budget: u64, frame: Frame) -> Activity
     ensures { activity_seen result ≡ begun (world_seen world) budget (frame_seen frame) }
 {
@@ -111,7 +111,7 @@ fn run_function(
     budget: u64,
     activity: &mut Activity,
     line: usize,
-    callee: Callee,
+    callee: ModuleCallee,
 ) -> RunResult<Option<Word>>
     ensures { RunsAs (λ v. v) result (activity_seen activity.new)
         (function_run (program_seen program.now) budget line (callee_seen callee)
@@ -134,7 +134,7 @@ pub fn call_function(
     ensures outcome { EndsAs result
         (call_function (program_seen program.now) place args.items budget (world_seen world)) }
 {
-    let callee = Callee::Function(place);
+    let callee = ModuleCallee::Function(place);
     let Some(entry) = entry_of(program.alloc, program.tree, callee)? else {
         return Err(RunError::NoStep);
     };

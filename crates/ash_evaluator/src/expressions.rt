@@ -1,29 +1,29 @@
 //! What expressions and places do. Operands and arguments go from left to right.
 
 ghost use Rattle.std.specs.Prelude.{map};
-ghost use Rattle.ash_typed.specs.Tree.{exprs, Conditional, Update};
-ghost use Rattle.ash_typed.specs.Views.{expr_of, place_of};
-ghost use Rattle.ash_phrases.specs.Operators.{is_true};
-ghost use Rattle.ash_phrases.specs.Expressions.{expression, location, arguments, lazily};
-ghost use Rattle.ash_plain_data.specs.Running.{RunsAs};
-ghost use Rattle.ash_plain.specs.Views.{activity_seen};
+ghost use Rattle.ash_typed.specs.TypedTree.{exprs, Conditional, Update};
+ghost use Rattle.ash_typed.specs.TypedTreeViews.{expr_of, place_of};
+ghost use Rattle.ash_phrases.specs.OperatorMeaning.{is_true};
+ghost use Rattle.ash_phrases.specs.ExpressionMeaning.{expression, location, arguments, lazily};
+ghost use Rattle.ash_plain_data.specs.CallRuns.{RunsAs};
+ghost use Rattle.ash_plain.specs.ActivityViews.{activity_seen};
 ghost use Rattle.ash_plain.specs.LocationViews.{location_seen};
-ghost use Rattle.ash_evaluator.specs.Views.{calls_seen};
-ghost use Rattle.ash_evaluator.specs.Phrases.{operand_run, operands_run, link_run};
-ghost use Rattle.ash_evaluator.specs.Phrases.{links_run, lazies_run, path_run};
-ghost use Rattle.ash_evaluator.specs.Phrases.{chain_run, lazy_run, target_run, invocation_run};
+ghost use Rattle.ash_evaluator.specs.EvaluatorViews.{calls_seen};
+ghost use Rattle.ash_evaluator.specs.WalkedPhrases.{operand_run, operands_run, link_run};
+ghost use Rattle.ash_evaluator.specs.WalkedPhrases.{links_run, lazies_run, path_run};
+ghost use Rattle.ash_evaluator.specs.WalkedPhrases.{chain_run, lazy_run, target_run, invocation_run};
 ghost use Rattle.ash_evaluator.specs.Bodies.{RunsBodies};
 
 use crate::evaluator::Evaluator;
 use ash_host::Word;
 use ash_plain::activity::Activity;
 use ash_plain::locations::{Location, location_of_member, location_of_variable};
-use ash_plain_data::classes::Callee;
+use ash_plain_data::classes::ModuleCallee;
 use ash_plain_data::operators::{altered, converted_by, converted_to, is_true, numeral};
 use ash_plain_data::run_error::RunResult;
-use ash_typed::{Calculation, Expr, IntType, Lazy, Link, Method, Operand, Place, Target};
+use ash_typed::{Calculation, CallTarget, Expr, IntType, Lazy, Link, Method, Operand, Place};
 
-impl<F: Fn(&mut Activity, Callee) -> RunResult<Option<Word>> + Drop> Evaluator<'_, '_, F> {
+impl<F: Fn(&mut Activity, ModuleCallee) -> RunResult<Option<Word>> + Drop> Evaluator<'_, '_, F> {
     #[cycle(expressions)]
     pub(crate) fn expression(&self, activity: &mut Activity, expr: &Expr) -> RunResult<Word>
         requires callable { F.IsAlwaysCallable self.now.body }
@@ -334,7 +334,7 @@ impl<F: Fn(&mut Activity, Callee) -> RunResult<Option<Word>> + Drop> Evaluator<'
     fn target_call(
         &self,
         activity: &mut Activity,
-        target: Target,
+        target: CallTarget,
         exprs: &[Expr],
     ) -> RunResult<Word>
         requires callable { F.IsAlwaysCallable self.now.body }

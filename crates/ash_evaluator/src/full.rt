@@ -1,27 +1,27 @@
 //! Full expressions of statements: what is done with a value before the expression ends.
 
 ghost use Rattle.std.specs.Prelude.{map, option_map};
-ghost use Rattle.ash_typed.specs.Views.{expr_of};
+ghost use Rattle.ash_typed.specs.TypedTreeViews.{expr_of};
 ghost use Rattle.ash_typed.specs.BodyViews.{value_of, head_of};
-ghost use Rattle.ash_phrases.specs.Statements.{declare_one, declare_all, evaluate};
-ghost use Rattle.ash_phrases.specs.Statements.{evaluate_all, condition};
-ghost use Rattle.ash_phrases.specs.Statements.{condition_or_true, begin, return_value};
-ghost use Rattle.ash_plain_data.specs.Running.{RunsAs};
-ghost use Rattle.ash_plain.specs.Views.{activity_seen};
+ghost use Rattle.ash_phrases.specs.StatementMeaning.{declare_one, declare_all, evaluate};
+ghost use Rattle.ash_phrases.specs.StatementMeaning.{evaluate_all, condition};
+ghost use Rattle.ash_phrases.specs.StatementMeaning.{condition_or_true, begin, return_value};
+ghost use Rattle.ash_plain_data.specs.CallRuns.{RunsAs};
+ghost use Rattle.ash_plain.specs.ActivityViews.{activity_seen};
 ghost use Rattle.ash_plain.specs.FlowViews.{flow_seen};
-ghost use Rattle.ash_evaluator.specs.Views.{calls_seen};
+ghost use Rattle.ash_evaluator.specs.EvaluatorViews.{calls_seen};
 ghost use Rattle.ash_evaluator.specs.Bodies.{RunsBodies};
 
 use crate::evaluator::Evaluator;
 use ash_host::Word;
 use ash_plain::activity::Activity;
 use ash_plain::flow::Flow;
-use ash_plain_data::classes::Callee;
+use ash_plain_data::classes::ModuleCallee;
 use ash_plain_data::operators::{is_true, zero_of};
 use ash_plain_data::run_error::RunResult;
 use ash_typed::{Expr, Head, Initialization};
 
-impl<F: Fn(&mut Activity, Callee) -> RunResult<Option<Word>> + Drop> Evaluator<'_, '_, F> {
+impl<F: Fn(&mut Activity, ModuleCallee) -> RunResult<Option<Word>> + Drop> Evaluator<'_, '_, F> {
     /// A variable is zero, `false` or null, or has a value, which it gets before the full expression ends.
     fn declare_one(&self, activity: &mut Activity, variable: &Initialization) -> RunResult<()>
         requires callable { F.IsAlwaysCallable self.now.body }

@@ -7,11 +7,11 @@ ghost use Rattle.ash_typed.specs.Modules.{variables_of};
 ghost use Rattle.ash_phrases.specs.Functions.{initialize_field, initialize_fields};
 ghost use Rattle.ash_phrases.specs.Functions.{initialize_global};
 ghost use Rattle.ash_phrases.specs.Functions.{initialize_globals, initialize_module};
-ghost use Rattle.ash_phrases.specs.Laws.{initialized};
+ghost use Rattle.ash_phrases.specs.MeaningLaws.{initialized};
 ghost use Rattle.ash_plain_data.specs.ClassViews.{program_seen, callee_seen};
-ghost use Rattle.ash_plain_data.specs.Running.{RunsAs};
-ghost use Rattle.ash_plain.specs.Views.{activity_seen};
-ghost use Rattle.ash_evaluator.specs.Views.{calls_seen};
+ghost use Rattle.ash_plain_data.specs.CallRuns.{RunsAs};
+ghost use Rattle.ash_plain.specs.ActivityViews.{activity_seen};
+ghost use Rattle.ash_evaluator.specs.EvaluatorViews.{calls_seen};
 ghost use Rattle.ash_evaluator.specs.Bodies.{RunsBodies, body_of_callee};
 ghost use Rattle.ash_evaluator.specs.Entering.{entry_run};
 
@@ -19,11 +19,11 @@ use crate::evaluator::Evaluator;
 use ash_host::Word;
 use ash_plain::activity::Activity;
 use ash_plain::locations::Location;
-use ash_plain_data::classes::{Callee, Program, entry_of};
+use ash_plain_data::classes::{ModuleCallee, Program, entry_of};
 use ash_plain_data::run_error::{RunError, RunResult};
 use ash_typed::{Initialization, Variables};
 
-impl<F: Fn(&mut Activity, Callee) -> RunResult<Option<Word>> + Drop> Evaluator<'_, '_, F> {
+impl<F: Fn(&mut Activity, ModuleCallee) -> RunResult<Option<Word>> + Drop> Evaluator<'_, '_, F> {
     /// A field that has no initializer stays as it is.
     fn initialize_field(
         &self,
@@ -64,7 +64,7 @@ impl<F: Fn(&mut Activity, Callee) -> RunResult<Option<Word>> + Drop> Evaluator<'
     pub(crate) fn run_entry(
         &self,
         activity: &mut Activity,
-        callee: Callee,
+        callee: ModuleCallee,
     ) -> RunResult<Option<Word>>
         requires callable { F.IsAlwaysCallable self.now.body }
         requires bodies { RunsBodies F.Fn self.now }
@@ -150,12 +150,12 @@ impl<F: Fn(&mut Activity, Callee) -> RunResult<Option<Word>> + Drop> Evaluator<'
 }
 
 /// What the frame of a call does after the tick of its entry, where calls go so deep at most.
-#[tactic(auto, using(crate::proofs::Calling::body_deeper, crate::proofs::Calling::body_deepest, crate::proofs::Calling::no_body), unfolding(crate::specs::Bodies::RunsBodies, crate::specs::Views::calls_seen))]
+#[tactic(auto, using(crate::proofs::Calling::body_deeper, crate::proofs::Calling::body_deepest, crate::proofs::Calling::no_body), unfolding(crate::specs::Bodies::RunsBodies, crate::specs::EvaluatorViews::calls_seen))]
 pub(crate) fn body(
     program: &Program<'_>,
     depth: u64,
     activity: &mut Activity,
-    callee: Callee,
+    callee: ModuleCallee,
 ) -> RunResult<Option<Word>>
     ensures { RunsAs (λ v. v) result (activity_seen activity.new)
         (body_of_callee (program_seen program.now) depth (callee_seen callee)
@@ -167,7 +167,7 @@ pub(crate) fn body(
             None => Err(RunError::NoStep),
         };
     };
-    let enter = |inside: &mut Activity, called: Callee| -> RunResult<Option<Word>>
+    let enter = |inside: &mut Activity, called: ModuleCallee| -> RunResult<Option<Word>>
         ensures { RunsAs (λ v. v) result (activity_seen inside.new)
             (body_of_callee (program_seen program.entry.now) below (callee_seen called)
             (activity_seen inside.old)) }
@@ -181,7 +181,7 @@ pub(crate) fn body(
 }
 
 /// The initializers of a module, where calls go so deep at most.
-#[tactic(auto, unfolding(crate::specs::Bodies::RunsBodies, crate::specs::Views::calls_seen))]
+#[tactic(auto, unfolding(crate::specs::Bodies::RunsBodies, crate::specs::EvaluatorViews::calls_seen))]
 pub(crate) fn initialize(
     program: &Program<'_>,
     depth: u64,
@@ -190,7 +190,7 @@ pub(crate) fn initialize(
     ensures { RunsAs (λ _. tt) result (activity_seen activity.new)
         (initialized (program_seen program.now) depth (activity_seen activity.old)) }
 {
-    let enter = |inside: &mut Activity, called: Callee| -> RunResult<Option<Word>>
+    let enter = |inside: &mut Activity, called: ModuleCallee| -> RunResult<Option<Word>>
         ensures { RunsAs (λ v. v) result (activity_seen inside.new)
             (body_of_callee (program_seen program.entry.now) depth (callee_seen called)
             (activity_seen inside.old)) }

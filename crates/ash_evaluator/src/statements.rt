@@ -3,13 +3,13 @@
 ghost use Rattle.std.specs.Prelude.{map, option_map};
 ghost use Rattle.ash_typed.specs.BodyViews.{stmt_of, body_of, case_of, loop_of, head_of, value_of};
 ghost use Rattle.ash_typed.specs.StatementTree.{Declare, Switch, cases as case_list};
-ghost use Rattle.ash_typed.specs.Views.{expr_of};
-ghost use Rattle.ash_phrases.specs.Statements.{statement, statements, in_block, loop, turns};
-ghost use Rattle.ash_plain_data.specs.Running.{RunsAs};
-ghost use Rattle.ash_plain.specs.Views.{activity_seen};
+ghost use Rattle.ash_typed.specs.TypedTreeViews.{expr_of};
+ghost use Rattle.ash_phrases.specs.StatementMeaning.{statement, statements, in_block, loop, turns};
+ghost use Rattle.ash_plain_data.specs.CallRuns.{RunsAs};
+ghost use Rattle.ash_plain.specs.ActivityViews.{activity_seen};
 ghost use Rattle.ash_plain.specs.FlowViews.{flow_seen};
-ghost use Rattle.ash_evaluator.specs.Views.{calls_seen, turn_seen};
-ghost use Rattle.ash_evaluator.specs.Phrases.{fall_run, for_run, turn_run, next_turn};
+ghost use Rattle.ash_evaluator.specs.EvaluatorViews.{calls_seen, turn_seen};
+ghost use Rattle.ash_evaluator.specs.WalkedPhrases.{fall_run, for_run, turn_run, next_turn};
 ghost use Rattle.ash_evaluator.specs.Bodies.{RunsBodies};
 
 use crate::evaluator::Evaluator;
@@ -18,11 +18,11 @@ use ash_host::Word;
 use ash_integers::number;
 use ash_plain::activity::Activity;
 use ash_plain::flow::Flow;
-use ash_plain_data::classes::Callee;
+use ash_plain_data::classes::ModuleCallee;
 use ash_plain_data::run_error::{RunError, RunResult};
 use ash_typed::{Case, Expr, Head, Initialization, IntType, Loop, Stmt, StmtKind, Test};
 
-impl<F: Fn(&mut Activity, Callee) -> RunResult<Option<Word>> + Drop> Evaluator<'_, '_, F> {
+impl<F: Fn(&mut Activity, ModuleCallee) -> RunResult<Option<Word>> + Drop> Evaluator<'_, '_, F> {
     #[cycle(statements)]
     pub(crate) fn statement(&self, activity: &mut Activity, stmt: &Stmt) -> RunResult<Flow>
         requires callable { F.IsAlwaysCallable self.now.body }

@@ -6,8 +6,8 @@ ghost use Rattle.ash_typed.specs.declared.tree.statements.Case.{size-Case};
 ghost use Rattle.ash_typed.specs.StatementTree.{cases};
 ghost use Rattle.ash_typed.specs.BodyViews.{case_of};
 ghost use Rattle.ash_typed.specs.SoundStatements.{constant_of};
-ghost use Rattle.ash_phrases.specs.Calls.{Calls};
-ghost use Rattle.ash_phrases.specs.Statements.{is_constant, chosen, cases as labelled};
+ghost use Rattle.ash_phrases.specs.CallMeaning.{Calls};
+ghost use Rattle.ash_phrases.specs.StatementMeaning.{is_constant, chosen, cases as labelled};
 ghost use Rattle.ash_evaluator.specs.Choosing.{from_case};
 
 use ash_tree::Label;

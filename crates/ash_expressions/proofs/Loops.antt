@@ -6,14 +6,14 @@ use Rattle.ash_typing.specs.declared.fault.Fault.{Fault}
 use Rattle.ash_typing.specs.declared.types.Ty.{Ty}
 use Rattle.ash_typed.specs.declared.tree.expressions.Expr as code
 use Rattle.ash_typing.specs.TypingResult.{TypingResult, ◌>>=◌}
-use Rattle.ash_typed.specs.Tree.{Expr, Exprs, no_expr, expr, exprs}
-use Rattle.ash_typed.specs.Views.{expr_of}
-use Rattle.ash_typing.specs.Environment.{Environment, Class}
-use Rattle.ash_typing.specs.Expressions.{TypedExpr, coerced_for_assignment, all_coerced, check_expr, check_exprs}
+use Rattle.ash_typed.specs.TypedTree.{Expr, Exprs, no_expr, expr, exprs}
+use Rattle.ash_typed.specs.TypedTreeViews.{expr_of}
+use Rattle.ash_typing.specs.Environment.{Environment, ClassSignature}
+use Rattle.ash_typing.specs.ExpressionRules.{TypedExpr, coerced_for_assignment, all_coerced, check_expr, check_exprs}
 use Rattle.ash_environment.specs.declared.error.CheckError.{CheckError}
 use Rattle.ash_environment.specs.declared.error.CheckError.TheVariants as errors
 use Rattle.ash_environment.specs.Agreement.{FailsWith}
-use Rattle.ash_environment.specs.Views.{first_and_rest}
+use Rattle.ash_environment.specs.EnvironmentViews.{first_and_rest}
 
 -- arguments that are converted to the types of their parameters
 
@@ -51,14 +51,14 @@ map_push : (es : List code.Expr) (e : code.Expr) → map expr_of (es ++ e ∷ []
 map_push [] e = refl
 map_push (x ∷ es) e = ap (λ r. expr_of x ∷ r) (map_push es e)
 
-abbrev pub coerced_after : List Class → List Expr → List Ty → List TypedExpr → TypingResult Exprs
+abbrev pub coerced_after : List ClassSignature → List Expr → List Ty → List TypedExpr → TypingResult Exprs
 coerced_after classes done ps ts = all_coerced classes ps ts >>= λ es. Ok (before done es)
 
 -- the outcome of one argument, and then of those after it
-abbrev first_then : List Class → List Expr → List Ty → List TypedExpr → TypingResult Expr → TypingResult Exprs
+abbrev first_then : List ClassSignature → List Expr → List Ty → List TypedExpr → TypingResult Expr → TypingResult Exprs
 first_then classes done ps ts r = (r >>= λ e. all_coerced classes ps ts >>= λ es. Ok (expr e es)) >>= λ es. Ok (before done es)
 
-module _ (classes : List Class) where
+module _ (classes : List ClassSignature) where
   pub none_before : (ps : List Ty) (ts : List TypedExpr) → coerced_after classes [] ps ts ≡ all_coerced classes ps ts
   none_before ps ts = bind_same (all_coerced classes ps ts)
 

@@ -4,23 +4,23 @@ use Rattle.std.specs.declared.boxed.Box.{Box}
 use Rattle.std.specs.declared.vec.Vec.{Vec}
 use Rattle.std.specs.declared.string.String.{String}
 use Rattle.std.specs.declared.alloc.Global.{Global}
-use Rattle.ash_tree.specs.declared.tree.places.Place.{Place}
+use Rattle.ash_tree.specs.declared.tree.places.Position.{Position}
 use Rattle.ash_tree.specs.declared.tree.types.Element as code_element
 use Rattle.ash_tree.specs.declared.tree.expressions.ExprKind.TheViews as kinds
 use Rattle.ash_tree.specs.declared.tree.expressions.Expr as code_expr
 use Rattle.ash_tree.specs.declared.tree.expressions.Suffix as code_suffix
 use Rattle.ash_tree.specs.declared.tree.expressions.Link as code_link
 use Rattle.ash_tree.specs.Tree as written
-use Rattle.ash_tree.specs.Views.{element_of, expr_at, expr_of, suffix_of, operation_of}
+use Rattle.ash_tree.specs.TreeViews.{element_of, expr_at, expr_of, suffix_of, operation_of}
 use Rattle.ash_tree.proofs.Rows.{call_is, new_array_is, method_is, binary_is, postfix_is}
 use Rattle.ash_typing.specs.TypingResult.{◌>>=◌}
 use Rattle.ash_typing.specs.Environment.{Environment}
-use Rattle.ash_typing.specs.Expressions.{check_expr, check_exprs, check_call, check_array, check_invocation, check_links}
-use Rattle.ash_typing.specs.Expressions.{check_suffixes, check_suffix}
+use Rattle.ash_typing.specs.ExpressionRules.{check_expr, check_exprs, check_call, check_array, check_invocation, check_links}
+use Rattle.ash_typing.specs.ExpressionRules.{check_suffixes, check_suffix}
 use Rattle.ash_expressions.specs.declared.typed_expr.TypedExpr as code_typed_expr
 use Rattle.ash_environment.specs.declared.error.CheckError.{CheckError}
 use Rattle.ash_environment.specs.Agreement.{Agrees}
-use Rattle.ash_expressions.specs.Views.{typed_of}
+use Rattle.ash_expressions.specs.TypedExprViews.{typed_of}
 
 pub typed_call : (env : Environment) (left : Bool) (source : code_expr.Expr) (name : String Global) (es : Vec code_expr.Expr Global) (text : List ℕ) (items : List code_expr.Expr) (outcome : Result code_typed_expr.TypedExpr CheckError) → source.kind ≡ kinds.Call name es → text ≡ string_bytes name → items ≡ es.items → Agrees typed_of outcome (check_call env source.place.at text (check_exprs env (written.exprs (map expr_of items)))) → Agrees typed_of outcome (check_expr env left (expr_of source))
 typed_call env left source name es text items outcome is t i h =
@@ -54,7 +54,7 @@ typed_binary env left source operand ls first items outcome is f i h =
     let R : List code_link.Link → Type 0 = λ x. Agrees typed_of outcome (check_expr env false (expr_of operand.value) >>= λ t. check_links env t (written.links (map operation_of x))) in
     subst P (sym whole) (subst R i (subst Q f h))
 
-pub typed_method : (env : Environment) (base : code_typed_expr.TypedExpr) (s : code_suffix.Suffix) (p : Place) (name : String Global) (es : Vec code_expr.Expr Global) (text : List ℕ) (items : List code_expr.Expr) (outcome : Result code_typed_expr.TypedExpr CheckError) → s ≡ kinds.Method p name es → text ≡ string_bytes name → items ≡ es.items → Agrees typed_of outcome (check_invocation env (typed_of base) p.at text (check_exprs env (written.exprs (map expr_of items)))) → Agrees typed_of outcome (check_suffix env (typed_of base) (suffix_of s))
+pub typed_method : (env : Environment) (base : code_typed_expr.TypedExpr) (s : code_suffix.Suffix) (p : Position) (name : String Global) (es : Vec code_expr.Expr Global) (text : List ℕ) (items : List code_expr.Expr) (outcome : Result code_typed_expr.TypedExpr CheckError) → s ≡ kinds.Method p name es → text ≡ string_bytes name → items ≡ es.items → Agrees typed_of outcome (check_invocation env (typed_of base) p.at text (check_exprs env (written.exprs (map expr_of items)))) → Agrees typed_of outcome (check_suffix env (typed_of base) (suffix_of s))
 typed_method env base s p name es text items outcome is t i h =
     let whole : suffix_of s ≡ written.Method p (string_bytes name) (written.exprs (map expr_of es.items)) = ap suffix_of is ∙ method_is p name es in
     let P : written.Suffix → Type 0 = λ x. Agrees typed_of outcome (check_suffix env (typed_of base) x) in

@@ -1,17 +1,17 @@
 //! Arrays: their construction, and what is at an index.
 
 ghost use Rattle.std.specs.Prelude.{◌≡◌};
-ghost use Rattle.ash_typed.specs.Views.{expr_of};
+ghost use Rattle.ash_typed.specs.TypedTreeViews.{expr_of};
 ghost use Rattle.ash_typing.specs.Environment as environment;
 ghost use Rattle.ash_typing.specs.Terms as terms;
-ghost use Rattle.ash_typing.specs.Expressions as typing;
+ghost use Rattle.ash_typing.specs.ExpressionRules as typing;
 ghost use Rattle.ash_environment.specs.Agreement.{Agrees};
-ghost use Rattle.ash_environment.specs.Views.{callee_of, parameters_of};
-ghost use Rattle.ash_expressions.specs.Views.{typed_of};
+ghost use Rattle.ash_environment.specs.EnvironmentViews.{callee_of, parameters_of};
+ghost use Rattle.ash_expressions.specs.TypedExprViews.{typed_of};
 
 use crate::typed_expr::{TypedExpr, coerce, integer_type};
 use ash_environment::{Callee, CheckResult, Parameters, fault_at, ty_of_element};
-use ash_typed::{Element, Expr, IntType, ObjectType, Target, nodes};
+use ash_typed::{CallTarget, Element, Expr, IntType, ObjectType, nodes};
 use ash_typing::{Callable, Rule, Ty};
 use std::alloc::Global;
 
@@ -32,7 +32,7 @@ pub fn array_callee<'a>(of: Element, count: usize) -> Callee<'a>
     ensures constructs_array { callee_of result ≡ environment.array_built of count }
 {
     Callee {
-        target: Callable::Target(Target::Array(of)),
+        target: Callable::Target(CallTarget::Array(of)),
         result: Ty::Handle(ObjectType::Array(of)),
         parameters: Some(array_parameters(count)),
     }
@@ -86,7 +86,7 @@ fn build_object_index(
 }
 
 /// `array[index]`
-#[tactic(auto, unfolding(ash_typing::specs::Expressions::indexed))]
+#[tactic(auto, unfolding(ash_typing::specs::ExpressionRules::indexed))]
 pub(crate) fn build_index(
     alloc: Global,
     array: TypedExpr,

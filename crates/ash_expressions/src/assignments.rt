@@ -1,11 +1,11 @@
 //! Assignments, once both sides are typed.
 
 ghost use Rattle.std.specs.Prelude.{None};
-ghost use Rattle.ash_typed.specs.Views.{place_of};
-ghost use Rattle.ash_typing.specs.Expressions as typing;
+ghost use Rattle.ash_typed.specs.TypedTreeViews.{place_of};
+ghost use Rattle.ash_typing.specs.ExpressionRules as typing;
 ghost use Rattle.ash_environment.specs.Agreement.{Agrees};
-ghost use Rattle.ash_environment.specs.Views.{classes_of};
-ghost use Rattle.ash_expressions.specs.Views.{typed_of};
+ghost use Rattle.ash_environment.specs.EnvironmentViews.{classes_of};
+ghost use Rattle.ash_expressions.specs.TypedExprViews.{typed_of};
 
 use crate::forms::{assignable_place, is_assignable_form};
 use crate::operator_types::{assign_calculator, calculator_operator, operand_integer_type};
@@ -47,7 +47,7 @@ fn build_update(
 }
 
 /// `place = value`
-#[tactic(auto, unfolding(ash_typing::specs::Expressions::stored))]
+#[tactic(auto, unfolding(ash_typing::specs::ExpressionRules::stored))]
 fn build_store(env: &Environment, target: Destination, value: TypedExpr) -> CheckResult<TypedExpr>
     ensures { Agrees typed_of result
         (typing.stored (classes_of env.now) target.at target.of (place_of target.place) None
@@ -59,7 +59,7 @@ fn build_store(env: &Environment, target: Destination, value: TypedExpr) -> Chec
 }
 
 /// An assignment, once both sides are typed.
-#[tactic(auto, unfolding(ash_typing::specs::Expressions::assigned, ash_typing::specs::Expressions::stored))]
+#[tactic(auto, unfolding(ash_typing::specs::ExpressionRules::assigned, ash_typing::specs::ExpressionRules::stored))]
 pub(crate) fn build_assignment(
     env: &Environment,
     target: TypedExpr,

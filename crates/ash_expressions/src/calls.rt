@@ -1,20 +1,20 @@
 //! Names, calls and suffixes, once their parts are typed.
 
 ghost use Rattle.std.specs.Prelude.{◌≡◌, map, option_map, IfOk};
-ghost use Rattle.ash_typed.specs.Views.{expr_of};
+ghost use Rattle.ash_typed.specs.TypedTreeViews.{expr_of};
 ghost use Rattle.ash_typing.specs.Environment as environment;
 ghost use Rattle.ash_typing.specs.Terms as terms;
-ghost use Rattle.ash_typing.specs.Expressions as typing;
+ghost use Rattle.ash_typing.specs.ExpressionRules as typing;
 ghost use Rattle.ash_environment.specs.Agreement.{Agrees};
-ghost use Rattle.ash_environment.specs.Views.{parameters_of, callee_of, environment_of, classes_of};
-ghost use Rattle.ash_expressions.specs.Views.{typed_of, arguments_of, optional_method_callee};
+ghost use Rattle.ash_environment.specs.EnvironmentViews.{parameters_of, callee_of, environment_of, classes_of};
+ghost use Rattle.ash_expressions.specs.TypedExprViews.{typed_of, arguments_of, optional_method_callee};
 
 use crate::forms::bracketed_form;
 use crate::typed_expr::{TypedExpr, coerce_for_assignment};
 use ash_environment::{
     Callee, CheckResult, Environment, MethodCallee, Parameters, fault_at, var_type,
 };
-use ash_typed::{Expr, Member, Method, ObjectType, VarType, nodes};
+use ash_typed::{Expr, Method, ObjectMember, ObjectType, VarType, nodes};
 use ash_typing::{Callable, Rule, Ty};
 use std::alloc::{AllocError, Global};
 
@@ -55,7 +55,7 @@ fn coerce_arguments(
 }
 
 /// Compares the number of arguments with that of the parameters, and converts each argument.
-#[tactic(auto, unfolding(ash_typing::specs::Expressions::arguments_at))]
+#[tactic(auto, unfolding(ash_typing::specs::ExpressionRules::arguments_at))]
 fn check_arguments(
     env: &Environment,
     parameters: &Parameters,
@@ -99,7 +99,7 @@ fn call_tree(
 }
 
 /// A call of this callee.
-#[tactic(auto, unfolding(ash_typing::specs::Expressions::called))]
+#[tactic(auto, unfolding(ash_typing::specs::ExpressionRules::called))]
 pub fn build_call(
     env: &Environment,
     callee: &Callee,
@@ -178,7 +178,7 @@ fn build_member(
 }
 
 /// `base.name`
-#[tactic(auto, unfolding(ash_typing::specs::Expressions::field_of))]
+#[tactic(auto, unfolding(ash_typing::specs::ExpressionRules::field_of))]
 pub(crate) fn build_field(env: &Environment, base: TypedExpr, name: Name) -> CheckResult<TypedExpr>
     ensures { Agrees typed_of result
         (typing.field_of (environment_of env.now) (typed_of base) base.ty name.entry.at
@@ -187,7 +187,7 @@ pub(crate) fn build_field(env: &Environment, base: TypedExpr, name: Name) -> Che
     match base.ty {
         Ty::Object(of) | Ty::Handle(of) => build_member(env, base, of, name),
         Ty::Unknown => {
-            let unknown = Member::Field {
+            let unknown = ObjectMember::Field {
                 class: 0,
                 place: 0,
                 of: var_type(Ty::Unknown),
@@ -215,7 +215,7 @@ fn object_method<'a>(
 }
 
 /// The method of `base.name(..)`; nothing where the type of the base is unknown.
-#[tactic(auto, unfolding(ash_typing::specs::Expressions::method_of))]
+#[tactic(auto, unfolding(ash_typing::specs::ExpressionRules::method_of))]
 pub(crate) fn find_method<'a>(
     env: &Environment<'a, '_>,
     base: &TypedExpr,
@@ -233,7 +233,7 @@ pub(crate) fn find_method<'a>(
 }
 
 /// `base.name(..)`
-#[tactic(auto, unfolding(ash_typing::specs::Expressions::invoked))]
+#[tactic(auto, unfolding(ash_typing::specs::ExpressionRules::invoked))]
 pub(crate) fn build_method_call(
     env: &Environment,
     base: TypedExpr,

@@ -2,13 +2,13 @@
 
 ghost use Rattle.std.specs.Prelude.{false, Ok, map};
 ghost use Rattle.ash_tree.specs.Tree.{exprs, links, suffixes};
-ghost use Rattle.ash_tree.specs.Views as written;
+ghost use Rattle.ash_tree.specs.TreeViews as written;
 ghost use Rattle.ash_typing.specs.TypingResult.{◌>>=◌ as ◌and_then◌};
 ghost use Rattle.ash_typing.specs.ModuleDeclarations.{object_named};
-ghost use Rattle.ash_typing.specs.Expressions as typing;
+ghost use Rattle.ash_typing.specs.ExpressionRules as typing;
 ghost use Rattle.ash_environment.specs.Agreement.{Agrees};
-ghost use Rattle.ash_environment.specs.Views.{environment_of, classes_of};
-ghost use Rattle.ash_expressions.specs.Views.{typed_of, all_typed_of, is_target};
+ghost use Rattle.ash_environment.specs.EnvironmentViews.{environment_of, classes_of};
+ghost use Rattle.ash_expressions.specs.TypedExprViews.{typed_of, all_typed_of, is_target};
 
 use crate::arrays::{array_callee, build_index, check_element_type};
 use crate::assignments::build_assignment;
@@ -191,7 +191,8 @@ fn check_conditional(
     ensures { Agrees typed_of result
         (typing.check_expr (environment_of env.now) false (written.expr_of condition.now)
         and_then λ c. typing.check_expr (environment_of env.now) false (written.expr_of then.now)
-        and_then λ a. typing.check_expr (environment_of env.now) false (written.expr_of otherwise.now)
+        and_then λ a.
+        typing.check_expr (environment_of env.now) false (written.expr_of otherwise.now)
         and_then λ b. typing.choice c a b) }
 {
     let condition = check_expr(env, AssignmentSide::Value, condition)?;

@@ -1,10 +1,10 @@
 //! The form of an expression and its side: what can be assigned, and where.
 
 ghost use Rattle.std.specs.Prelude.{◌≡◌, option_map, IfOk};
-ghost use Rattle.ash_typed.specs.Views.{expr_of, place_of};
+ghost use Rattle.ash_typed.specs.TypedTreeViews.{expr_of, place_of};
 ghost use Rattle.ash_typing.specs.Terms as terms;
-ghost use Rattle.ash_typing.specs.Expressions as typing;
-ghost use Rattle.ash_expressions.specs.Views.{is_target};
+ghost use Rattle.ash_typing.specs.ExpressionRules as typing;
+ghost use Rattle.ash_expressions.specs.TypedExprViews.{is_target};
 
 use ash_tree::AssignOp;
 use ash_typed::{Expr, Place, nodes};

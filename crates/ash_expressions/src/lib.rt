@@ -1,10 +1,10 @@
 //! The check of expressions: an expression in an environment, typed, or its first fault.
 //!
-//! `check_expr` of `ash_typing/specs/Expressions.antt` defines what an expression is in an environment, and which fault
-//! of it is the first: its parts in the order of the text, then the expression. The function `check_expr` returns what
-//! it defines, unless memory runs out; `Agrees` of `ash_environment/specs/Agreement.antt` says so of each function that
-//! may fail. The crate uses `ash_tree`, whose trees it checks, `ash_typed`, whose trees it makes, `ash_environment`,
-//! which has what names and types mean, and the rules of `ash_typing`.
+//! `check_expr` of `ash_typing/specs/ExpressionRules.antt` defines what an expression is in an environment, and which
+//! fault of it is the first: its parts in the order of the text, then the expression. The function `check_expr` returns
+//! what it defines, unless memory runs out; `Agrees` of `ash_environment/specs/Agreement.antt` says so of each function
+//! that may fail. The crate uses `ash_tree`, whose trees it checks, `ash_typed`, whose trees it makes,
+//! `ash_environment`, which has what names and types mean, and the rules of `ash_typing`.
 //!
 //! A function `check_*` takes a part of a script; a function `build_*` takes parts that are checked, and returns the
 //! typed phrase that they are the parts of, or its fault.

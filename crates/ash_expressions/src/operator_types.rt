@@ -1,7 +1,7 @@
 //! The types that operators take, and those of their results.
 
 ghost use Rattle.std.specs.Prelude.{◌≡◌};
-ghost use Rattle.ash_typing.specs.Types as types;
+ghost use Rattle.ash_typing.specs.TypeRules as types;
 ghost use Rattle.ash_typing.specs.Terms as terms;
 
 use ash_environment::{common_integer_type, is_same_object};

@@ -1,12 +1,12 @@
 //! Operators and conversions, once their operands are typed.
 
 ghost use Rattle.std.specs.Prelude.{◌≡◌, Ok, IfOk};
-ghost use Rattle.ash_typed.specs.Tree.{Alter, Operate, Lazily};
-ghost use Rattle.ash_typed.specs.Views.{expr_of};
+ghost use Rattle.ash_typed.specs.TypedTree.{Alter, Operate, Lazily};
+ghost use Rattle.ash_typed.specs.TypedTreeViews.{expr_of};
 ghost use Rattle.ash_typing.specs.Terms as terms;
-ghost use Rattle.ash_typing.specs.Expressions as typing;
+ghost use Rattle.ash_typing.specs.ExpressionRules as typing;
 ghost use Rattle.ash_environment.specs.Agreement.{Agrees};
-ghost use Rattle.ash_expressions.specs.Views.{typed_of, unified_of, is_target};
+ghost use Rattle.ash_expressions.specs.TypedExprViews.{typed_of, unified_of, is_target};
 
 use crate::forms::{AssignmentSide, assignable_place, handle_form};
 use crate::operator_types::{
@@ -82,7 +82,7 @@ fn unify_adapted(
     })
 }
 
-#[tactic(auto, unfolding(ash_typing::specs::Expressions::unify_operands))]
+#[tactic(auto, unfolding(ash_typing::specs::ExpressionRules::unify_operands))]
 pub(crate) fn unify_operands(
     alloc: Global,
     operator: BinaryOp,
@@ -171,7 +171,7 @@ fn operator_tree(
 }
 
 /// An operator between two operands.
-#[tactic(auto, unfolding(ash_typing::specs::Expressions::operate))]
+#[tactic(auto, unfolding(ash_typing::specs::ExpressionRules::operate))]
 pub(crate) fn build_binary(
     alloc: Global,
     operator: BinaryOp,
@@ -192,7 +192,7 @@ pub(crate) fn build_binary(
 }
 
 /// `++` or `--` at a place.
-#[tactic(auto, unfolding(ash_typing::specs::Expressions::counted))]
+#[tactic(auto, unfolding(ash_typing::specs::ExpressionRules::counted))]
 pub(crate) fn build_step(
     alloc: Global,
     at: usize,
@@ -276,7 +276,7 @@ fn build_handle(side: AssignmentSide, at: usize, operand: TypedExpr) -> CheckRes
 }
 
 /// An operator before its operand.
-#[tactic(auto, unfolding(ash_typing::specs::Expressions::unary_at))]
+#[tactic(auto, unfolding(ash_typing::specs::ExpressionRules::unary_at))]
 pub(crate) fn build_unary(
     alloc: Global,
     prefix: Prefix,
@@ -310,7 +310,7 @@ pub(crate) fn build_unary(
 }
 
 /// `prim(e)`
-#[tactic(auto, unfolding(ash_typing::specs::Expressions::convert_at))]
+#[tactic(auto, unfolding(ash_typing::specs::ExpressionRules::convert_at))]
 pub(crate) fn build_conversion(
     alloc: Global,
     at: usize,
@@ -344,7 +344,7 @@ pub(crate) fn cast_target(at: usize, object: Option<ObjectType>) -> CheckResult<
 }
 
 /// `cast<to>(value)`
-#[tactic(auto, unfolding(ash_typing::specs::Expressions::cast_at))]
+#[tactic(auto, unfolding(ash_typing::specs::ExpressionRules::cast_at))]
 pub(crate) fn build_cast(
     alloc: Global,
     at: usize,
@@ -359,7 +359,7 @@ pub(crate) fn build_cast(
 }
 
 /// `condition ? then : otherwise`
-#[tactic(auto, unfolding(ash_typing::specs::Expressions::choice))]
+#[tactic(auto, unfolding(ash_typing::specs::ExpressionRules::choice))]
 pub(crate) fn build_conditional(
     alloc: Global,
     condition: TypedExpr,

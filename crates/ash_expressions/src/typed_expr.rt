@@ -1,13 +1,13 @@
 //! Typed expressions, and conversions of their values.
 
 ghost use Rattle.std.specs.Prelude.{◌≡◌, IfOk};
-ghost use Rattle.ash_typed.specs.Tree.{converted};
-ghost use Rattle.ash_typed.specs.Views.{expr_of};
+ghost use Rattle.ash_typed.specs.TypedTree.{converted};
+ghost use Rattle.ash_typed.specs.TypedTreeViews.{expr_of};
 ghost use Rattle.ash_typing.specs.Terms as terms;
-ghost use Rattle.ash_typing.specs.Expressions as typing;
+ghost use Rattle.ash_typing.specs.ExpressionRules as typing;
 ghost use Rattle.ash_environment.specs.Agreement.{Agrees};
-ghost use Rattle.ash_environment.specs.Views.{classes_of};
-ghost use Rattle.ash_expressions.specs.Views.{typed_of};
+ghost use Rattle.ash_environment.specs.EnvironmentViews.{classes_of};
+ghost use Rattle.ash_expressions.specs.TypedExprViews.{typed_of};
 
 use ash_environment::{CheckResult, Environment, conversion, fault_at, fits, holds, number_type};
 use ash_typed::{Expr, IntType, nodes};
@@ -73,7 +73,7 @@ pub(crate) fn coerce(alloc: Global, to: Ty, typed: TypedExpr) -> Result<Expr, Al
 }
 
 /// The value, converted to the type `to` of the variable that it is assigned to.
-#[tactic(auto, unfolding(ash_typing::specs::Expressions::coerced_for_assignment))]
+#[tactic(auto, unfolding(ash_typing::specs::ExpressionRules::coerced_for_assignment))]
 pub fn coerce_for_assignment(env: &Environment, to: Ty, typed: TypedExpr) -> CheckResult<Expr>
     ensures fits_and_converted { Agrees expr_of result
         (typing.coerced_for_assignment (classes_of env.now) to (typed_of typed)) }
@@ -136,7 +136,7 @@ fn adapt_number(other: Form, of: Ty, typed: &mut TypedExpr)
 }
 
 /// An operand beside another, whose type and form are given.
-#[tactic(auto, unfolding(ash_typing::specs::Expressions::adapted))]
+#[tactic(auto, unfolding(ash_typing::specs::ExpressionRules::adapted))]
 pub(crate) fn adapt_operand(class: OperatorClass, other: Form, of: Ty, typed: &mut TypedExpr)
     ensures { typed_of typed.new ≡ typing.adapted class other of (typed_of typed.old) }
 {

@@ -12,7 +12,7 @@ use Rattle.std.specs.Map.{values_of, lookup}
 use Rattle.std.proofs.lemmas.List.Sums.{sum_by-cons}
 use Rattle.ash_host.specs.declared.word.Word.{Word}
 use Rattle.ash_host.specs.declared.word.Word.TheVariants.{Object}
-use Rattle.ash_host.specs.Objects.{Plain, Objects, object_at, numbers, references, Refers, IsInOrder, handles, handles_to, is_handle_to, fields_of, fields_to, count_of, with_at}
+use Rattle.ash_host.specs.Objects.{Plain, LiveObjects, object_at, numbers, references, Refers, IsInOrder, handles, handles_to, is_handle_to, fields_of, fields_to, count_of, with_at}
 use Rattle.ash_host.specs.Reach.{Root, Field, ReachableIn, is_among}
 use Rattle.ash_host.proofs.Membership.{or_cases, or_first, or_second, is_among_yes, is_among_says, refers_lives}
 use Rattle.ash_host.proofs.SweepLaws.{references_same}
@@ -41,11 +41,11 @@ counted_handles n (Object m ∷ ws) h =
     go false e later = let none : cond {A = ℕ} (nat_eq n m) 1 0 ≡ 0 = ap (λ (b : Bool). cond {A = ℕ} b 1 0) e in or_second (nat_eq n m) (is_among (handles ws) n) (later (omega (arith, none, handles_to-cons n (Object m) ws)))
 counted_handles n (w ∷ ws) h = counted_handles n ws (omega (arith, handles_to-cons n w ws))
 
-fields_to-cons : {M : Type 0} (n : ℕ) (e : ℕ × Plain M) (l : Objects M) → fields_to n (e ∷ l) ≡ handles_to n (fields_of e.1) + fields_to n l
+fields_to-cons : {M : Type 0} (n : ℕ) (e : ℕ × Plain M) (l : LiveObjects M) → fields_to n (e ∷ l) ≡ handles_to n (fields_of e.1) + fields_to n l
 fields_to-cons n e l = sum_by-cons (λ object. handles_to n (fields_of object)) e.1 (values_of l)
 
 -- what an object's fields hold is at most what all fields hold
-pub fields_to-object_at : {M : Type 0} (n one : ℕ) (objects : Objects M) (object : Plain M) → object_at one objects ≡ Some object → handles_to n (fields_of object) ≤ fields_to n objects
+pub fields_to-object_at : {M : Type 0} (n one : ℕ) (objects : LiveObjects M) (object : Plain M) → object_at one objects ≡ Some object → handles_to n (fields_of object) ≤ fields_to n objects
 fields_to-object_at n one [] object h = cc
 fields_to-object_at n one (e ∷ l) object h =
     go (nat_eq one e.0) refl (λ later. fields_to-object_at n one l object later)
@@ -59,7 +59,7 @@ fields_to-object_at n one (e ∷ l) object h =
     go false is later = omega (arith, fields_to-cons n e l, later (sym (object_later one e l is) ∙ h))
 
 -- what is referred to is counted
-pub refers_counted : {M : Type 0} (objects : Objects M) (one other : ℕ) → Refers objects one other → 0 < fields_to other objects
+pub refers_counted : {M : Type 0} (objects : LiveObjects M) (one other : ℕ) → Refers objects one other → 0 < fields_to other objects
 refers_counted {M} objects one other f =
     go (object_at one objects) refl (is_among_yes other (references objects one) f)
   where
@@ -70,7 +70,7 @@ refers_counted {M} objects one other f =
         omega (arith, handles_counted other (fields_of object) at, fields_to-object_at other one objects object is)
 
 -- what is counted is referred to
-pub counted_refers : {M : Type 0} (objects : Objects M) (n : ℕ) → IsInOrder objects → 0 < fields_to n objects → (one : ℕ) × Refers objects one n
+pub counted_refers : {M : Type 0} (objects : LiveObjects M) (n : ℕ) → IsInOrder objects → 0 < fields_to n objects → (one : ℕ) × Refers objects one n
 counted_refers [] n o h = absurd (omega arith)
 counted_refers {M} (e ∷ l) n o h =
     go (is_among (handles (fields_of e.1)) n) refl (λ more. counted_refers l n (in_order_after e l o) more)
@@ -86,19 +86,19 @@ counted_refers {M} (e ∷ l) n o h =
         (one, references_same l (e ∷ l) one n (sym (object_later one e l (none_after e l one o (refers_lives l one n (is_among_yes n (references l one) f))))) f)
 
 -- what is counted with the globals is held by one of them or referred to, and the other way round
-pub counted_held : {M : Type 0} (globals : List Word) (objects : Objects M) (n : ℕ) → IsInOrder objects → 0 < count_of n globals objects → Contains (handles globals) n ⊎ ((one : ℕ) × Refers objects one n)
+pub counted_held : {M : Type 0} (globals : List Word) (objects : LiveObjects M) (n : ℕ) → IsInOrder objects → 0 < count_of n globals objects → Contains (handles globals) n ⊎ ((one : ℕ) × Refers objects one n)
 counted_held globals objects n o h = go (handles_to n globals) refl
   where
     go : (held : ℕ) → handles_to n globals ≡ held → Contains (handles globals) n ⊎ ((one : ℕ) × Refers objects one n)
     go zero none = inr (counted_refers objects n o (omega (arith, none, h)))
     go (suc more) some = inl (is_among_says n (handles globals) (counted_handles n globals (omega (arith, some))))
 
-pub held_counted : {M : Type 0} (globals : List Word) (objects : Objects M) (n : ℕ) → Contains (handles globals) n ⊎ ((one : ℕ) × Refers objects one n) → 0 < count_of n globals objects
+pub held_counted : {M : Type 0} (globals : List Word) (objects : LiveObjects M) (n : ℕ) → Contains (handles globals) n ⊎ ((one : ℕ) × Refers objects one n) → 0 < count_of n globals objects
 held_counted globals objects n (inl held) = omega (arith, handles_counted n globals (is_among_yes n (handles globals) held))
 held_counted globals objects n (inr (one, f)) = omega (arith, refers_counted objects one n f)
 
 -- what is reachable is held or counted
-pub reachable_counted : {M : Type 0} {IsHeld : ℕ → Type 0} (objects : Objects M) (n : ℕ) → ReachableIn IsHeld objects n → IsHeld n ⊎ (0 < fields_to n objects)
+pub reachable_counted : {M : Type 0} {IsHeld : ℕ → Type 0} (objects : LiveObjects M) (n : ℕ) → ReachableIn IsHeld objects n → IsHeld n ⊎ (0 < fields_to n objects)
 reachable_counted objects n (Root h) = inl h
 reachable_counted objects n (Field {one} r f) = inr (refers_counted objects one n f)
 
@@ -114,7 +114,7 @@ map_or f None = refl
 map_or f (Some x) = refl
 
 -- the fields that are handles to an object, after another object was put at a number
-pub fields_to-with_at : {M : Type 0} (n number : ℕ) (object : Plain M) (objects : Objects M) → IsInOrder objects → fields_to n (with_at number object objects) + option_map_or (λ old. handles_to n (fields_of old)) (object_at number objects) 0 ≡ fields_to n objects + handles_to n (fields_of object)
+pub fields_to-with_at : {M : Type 0} (n number : ℕ) (object : Plain M) (objects : LiveObjects M) → IsInOrder objects → fields_to n (with_at number object objects) + option_map_or (λ old. handles_to n (fields_of old)) (object_at number objects) 0 ≡ fields_to n objects + handles_to n (fields_of object)
 fields_to-with_at n number object objects o =
     let sums = sum_by-insert_entry (λ old. handles_to n (fields_of old)) nat_cmp_total objects number object (sorted_from_strictly_increasing (numbers objects) o) in
     let there = ap (λ (found : Option (Plain _)). unwrap_or (option_map (λ old. handles_to n (fields_of old)) found) 0) (lookup_same (is_at (nat_cmp number)) (nat_eq number) (is_at_eq number) objects) in

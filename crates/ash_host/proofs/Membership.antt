@@ -6,7 +6,7 @@ use Rattle.std.specs.Option.{option_map_or}
 use Rattle.std.proofs.lemmas.Bool.{eqb-true, eq-eqb}
 use Rattle.std.proofs.lemmas.Cmp.{nat_eq_equiv}
 use Rattle.std.proofs.lemmas.Map.Views.{Contains-from_any, list_any-from_Contains}
-use Rattle.ash_host.specs.Objects.{Objects, object_at, numbers, handles, fields_of}
+use Rattle.ash_host.specs.Objects.{LiveObjects, object_at, numbers, handles, fields_of}
 use Rattle.ash_host.specs.Reach.{is_among, refers}
 
 pub or_cases : (a b : Bool) → a || b ≡ true → (a ≡ true) ⊎ (b ≡ true)
@@ -73,7 +73,7 @@ is_among-numbers n (e ∷ entries) =
     ]
 
 -- an object that refers to another lives
-pub refers_lives : {M : Type 0} (objects : Objects M) (one other : ℕ) → refers objects one other ≡ true → is_some (object_at one objects) ≡ true
+pub refers_lives : {M : Type 0} (objects : LiveObjects M) (one other : ℕ) → refers objects one other ≡ true → is_some (object_at one objects) ≡ true
 refers_lives objects one other h =
     elim (object_at one objects) as (λ o. is_among (option_map_or (λ object. handles (fields_of object)) o []) other ≡ true → is_some o ≡ true) [
       | None ↦ λ none. none

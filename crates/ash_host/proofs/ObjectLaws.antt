@@ -1,5 +1,5 @@
 -- The laws, as the contracts state them.
-use Rattle.ash_host.specs.Laws.{ReachIsDecided, SweepIsExact, SweepIsOne, SweepSettles, CascadeIsSweep, CountIsReferences, InsertIsExact, NumbersRise, SweepKeepsLast, RecordIsExact}
+use Rattle.ash_host.specs.ObjectLaws.{ReachIsDecided, SweepIsExact, SweepIsOne, SweepSettles, CascadeIsSweep, CountIsReferences, InsertIsExact, NumbersRise, SweepKeepsLast, RecordIsExact}
 use Rattle.ash_host.proofs.ReachLaws as reach
 use Rattle.ash_host.proofs.SweepLaws as sweep
 use Rattle.ash_host.proofs.CountLaws as counts

@@ -6,7 +6,7 @@ use Rattle.std.proofs.lemmas.List.Kept.{IsStrictlyIncreasing-filter}
 use Rattle.std.proofs.lemmas.Map.Entries.{lookup-filter-keys}
 use Rattle.std.specs.List.{list_any}
 use Rattle.std.proofs.lemmas.Bool.{eqb-true}
-use Rattle.ash_host.specs.Objects.{Objects, object_at, numbers, references, IsInOrder}
+use Rattle.ash_host.specs.Objects.{LiveObjects, object_at, numbers, references, IsInOrder}
 use Rattle.ash_host.specs.Reach.{Reachable, Root, Field, ReachableIn, is_among, leads, refers, is_reachable, Swept, after_sweep, drops_of_sweep}
 use Rattle.ash_host.proofs.Membership.{or_cases, or_first, or_second, and_both, both_and, is_among_yes, is_among_says, list_any_weaker, list_any_at, list_any_some, is_among-numbers, refers_lives, numbers-filter}
 
@@ -60,7 +60,7 @@ leads-reaches refers says (stop ∷ stops) m n h r =
           leads-reaches refers says stops stop n two.1 (leads-reaches refers says stops m stop two.0 r)
     ]
 
-module _ {M : Type 0} (held : List ℕ) (objects : Objects M) where
+module _ {M : Type 0} (held : List ℕ) (objects : LiveObjects M) where
   abbrev ways : ℕ → ℕ → Bool
   ways = leads (refers objects) (numbers objects)
 

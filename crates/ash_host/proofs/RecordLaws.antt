@@ -10,7 +10,7 @@ use Rattle.ash_host.specs.declared.word.Word.TheVariants as words
 use Rattle.ash_host.specs.declared.event.Target.{Target}
 use Rattle.ash_host.specs.declared.event.Target.TheVariants as targets
 use Rattle.ash_host.specs.Calls.{HostCall, Start, Invoke, Get, Set}
-use Rattle.ash_host.specs.Records.{HostRecord, Takes, is_same_word, is_same_call, is_same_target, is_of, next_record}
+use Rattle.ash_host.specs.Records.{HostRecord, TakesRecord, is_same_word, is_same_call, is_same_target, is_of, next_record}
 use Rattle.ash_host.proofs.Membership.{and_both, both_and}
 
 word_says : (a b : Word) → is_same_word a b ≡ true → a ≡ b
@@ -78,12 +78,12 @@ some_same : {A : Type 0} (a b : A) → Some a ≡ Some b → a ≡ b
 some_same a b h = cc
 
 -- what is taken is the next record, of this call
-pub next_record_says : (target : Target) (call : HostCall) (before : List ℕ) (records : List HostRecord) (next : HostRecord) (left : List HostRecord) → next_record target call before records ≡ Some (next, left) → Takes target call before records next left
+pub next_record_says : (target : Target) (call : HostCall) (before : List ℕ) (records : List HostRecord) (next : HostRecord) (left : List HostRecord) → next_record target call before records ≡ Some (next, left) → TakesRecord target call before records next left
 next_record_says target call before [] next left h = cc
 next_record_says target call before (first ∷ rest) next left h =
     go (is_of target call before first) refl h
   where
-    go : (b : Bool) → is_of target call before first ≡ b → cond {A = Option (HostRecord × List HostRecord)} b (Some (first, rest)) None ≡ Some (next, left) → Takes target call before (first ∷ rest) next left
+    go : (b : Bool) → is_of target call before first ≡ b → cond {A = Option (HostRecord × List HostRecord)} b (Some (first, rest)) None ≡ Some (next, left) → TakesRecord target call before (first ∷ rest) next left
     go true is same =
         let parts = and_both (is_same_target first.target target && is_same_call first.call call) (pointwise nat_eq first.before before) is in
         let two = and_both (is_same_target first.target target) (is_same_call first.call call) parts.0 in
@@ -102,7 +102,7 @@ next_record_says target call before (first ∷ rest) next left h =
     go false is same = cc
 
 -- and where the next record is of this call it is taken
-pub next_record_takes : (target : Target) (call : HostCall) (before : List ℕ) (records : List HostRecord) (next : HostRecord) (left : List HostRecord) → Takes target call before records next left → next_record target call before records ≡ Some (next, left)
+pub next_record_takes : (target : Target) (call : HostCall) (before : List ℕ) (records : List HostRecord) (next : HostRecord) (left : List HostRecord) → TakesRecord target call before records next left → next_record target call before records ≡ Some (next, left)
 next_record_takes target call before records next left t =
     subst (λ (r : List HostRecord). next_record target call before r ≡ Some (next, left)) (sym t.first) (ap (λ (b : Bool). cond {A = Option (HostRecord × List HostRecord)} b (Some (next, left)) None) passes)
   where

@@ -4,14 +4,14 @@ use Rattle.std.specs.Prelude.{Option, None, Some, Contains, filter, is_some, ◌
 use Rattle.std.specs.Option.{option_map_or, is_none}
 use Rattle.std.specs.Map.{keys_of}
 use Rattle.std.proofs.lemmas.Bool.{eq-eqb}
-use Rattle.ash_host.specs.Objects.{Plain, Objects, object_at, numbers, Refers, Lives, handles, fields_of, is_host}
-use Rattle.ash_host.specs.Reach.{Reachable, Root, Field, ReachableIn, NoneDangles, Swept, Cascaded, AreRanks, hosts_gone, is_reachable, is_among}
+use Rattle.ash_host.specs.Objects.{Plain, LiveObjects, object_at, numbers, Refers, Lives, handles, fields_of, is_host}
+use Rattle.ash_host.specs.Reach.{Reachable, Root, Field, ReachableIn, NoneDangles, Swept, Cascaded, AreObjectRanks, hosts_gone, is_reachable, is_among}
 use Rattle.ash_host.proofs.Membership.{is_among-numbers, or_first, or_second}
 use Rattle.ash_host.proofs.Order.{same_in_order}
 use Rattle.ash_host.proofs.ReachLaws.{is_reachable_says, is_reachable_yes}
 
 -- what is at a number decides what is referred to from there
-pub references_same : {M : Type 0} (a b : Objects M) (one other : ℕ) → object_at one a ≡ object_at one b → Refers a one other → Refers b one other
+pub references_same : {M : Type 0} (a b : LiveObjects M) (one other : ℕ) → object_at one a ≡ object_at one b → Refers a one other → Refers b one other
 references_same a b one other e r = subst (λ o. Contains (option_map_or (λ object. handles (fields_of object)) o []) other) e r
 
 -- reach along more references from more that is held
@@ -20,7 +20,7 @@ reachable_along held refers n (Root h) = Root (held n h)
 reachable_along held refers n (Field {one} r f) = Field (reachable_along held refers one r) (refers one n f)
 
 -- nothing refers from a number at which nothing lives
-pub none_refers : {M : Type 0} (objects : Objects M) (one other : ℕ) → object_at one objects ≡ None → Refers objects one other → ⊥
+pub none_refers : {M : Type 0} (objects : LiveObjects M) (one other : ℕ) → object_at one objects ≡ None → Refers objects one other → ⊥
 none_refers objects one other e r =
     let h = subst (λ o. Contains (option_map_or (λ object. handles (fields_of object)) o []) other) e r in
     omega (arith, h.1)
@@ -30,13 +30,13 @@ is_none_from None h = refl
 is_none_from (Some x) h = cc
 
 -- none goes where each lives still
-none_gone : {M : Type 0} (l new : Objects M) → ((n : ℕ) → is_among (numbers l) n ≡ true → is_some (object_at n new) ≡ true) → hosts_gone l new ≡ []
+none_gone : {M : Type 0} (l new : LiveObjects M) → ((n : ℕ) → is_among (numbers l) n ≡ true → is_some (object_at n new) ≡ true) → hosts_gone l new ≡ []
 none_gone [] new h = refl
 none_gone {M} (e ∷ l) new h =
     ap (λ (b : Bool). keys_of (cond b (e ∷ rest) rest)) (not_gone (is_host e.1) (object_at e.0 new) (h e.0 (or_first (nat_eq e.0 e.0) (is_among (numbers l) e.0) (eq-eqb e.0 e.0 refl))))
     ∙ none_gone l new (λ n among. h n (or_second (nat_eq n e.0) (is_among (numbers l) n) among))
   where
-    rest : Objects M
+    rest : LiveObjects M
     rest = filter (λ f. is_host f.1 && is_none (object_at f.0 new)) l
 
     not_gone : (b : Bool) (o : Option (Plain M)) → is_some o ≡ true → b && is_none o ≡ false
@@ -45,11 +45,11 @@ none_gone {M} (e ∷ l) new h =
     not_gone false o some = refl
 
 -- where no handle dangles, what is reachable lives
-pub reachable_lives : {M : Type 0} {IsHeld : ℕ → Type 0} (objects : Objects M) → NoneDangles IsHeld objects → (n : ℕ) → ReachableIn IsHeld objects n → Lives objects n
+pub reachable_lives : {M : Type 0} {IsHeld : ℕ → Type 0} (objects : LiveObjects M) → NoneDangles IsHeld objects → (n : ℕ) → ReachableIn IsHeld objects n → Lives objects n
 reachable_lives objects closed n (Root h) = closed.held n h
 reachable_lives objects closed n (Field {one} r f) = closed.fields one n f
 
-module _ {M : Type 0} {IsHeld : ℕ → Type 0} {old new : Objects M} {dropped : List ℕ} (s : Swept IsHeld old new dropped) where
+module _ {M : Type 0} {IsHeld : ℕ → Type 0} {old new : LiveObjects M} {dropped : List ℕ} (s : Swept IsHeld old new dropped) where
   -- after a sweep the same is reachable
   pub swept_reachable : (n : ℕ) → ReachableIn IsHeld old n → ReachableIn IsHeld new n
   swept_reachable n (Root h) = Root h
@@ -85,7 +85,7 @@ module _ {M : Type 0} {IsHeld : ℕ → Type 0} {old new : Objects M} {dropped :
   }
 
 -- A cascade of counts is a sweep: where ranks fall along every reference, what it leaves is what is reachable.
-module _ {M : Type 0} {IsHeld : ℕ → Type 0} {rank : ℕ → ℕ} {top : ℕ} (old new : Objects M) (c : Cascaded IsHeld old new) (closed : NoneDangles IsHeld old) (ranks : AreRanks rank top old) where
+module _ {M : Type 0} {IsHeld : ℕ → Type 0} {rank : ℕ → ℕ} {top : ℕ} (old new : LiveObjects M) (c : Cascaded IsHeld old new) (closed : NoneDangles IsHeld old) (ranks : AreObjectRanks rank top old) where
   unless_gone : (n : ℕ) (b : Bool) → is_some (object_at n new) ≡ b → (object_at n new ≡ None → ⊥) → b ≡ true
   unless_gone n true e still = refl
   unless_gone n false e still = absurd (still (is_none_from (object_at n new) e))
@@ -120,7 +120,7 @@ module _ {M : Type 0} {IsHeld : ℕ → Type 0} {rank : ℕ → ℕ} {top : ℕ}
   }
 
 -- There is one sweep.
-module _ {M : Type 0} (held : List ℕ) {old a b : Objects M} {gone_a gone_b : List ℕ} (s : Swept (Contains held) old a gone_a) (t : Swept (Contains held) old b gone_b) where
+module _ {M : Type 0} (held : List ℕ) {old a b : LiveObjects M} {gone_a gone_b : List ℕ} (s : Swept (Contains held) old a gone_a) (t : Swept (Contains held) old b gone_b) where
   same_at : (n : ℕ) (r : Bool) → is_reachable held old n ≡ r → object_at n a ≡ object_at n b
   same_at n true e = let r = is_reachable_says held old n e in s.stays n r ∙ sym (t.stays n r)
   same_at n false e = let unreached : ReachableIn (Contains held) old n → ⊥ = λ r. let yes = is_reachable_yes held old n r in cc in s.goes n unreached ∙ sym (t.goes n unreached)

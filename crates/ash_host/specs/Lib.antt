@@ -7,5 +7,5 @@ pub mod Objects
 pub mod Reach
 pub mod Records
 pub mod Saved
-pub mod Laws
+pub mod ObjectLaws
 pub mod FaultCodes

@@ -14,26 +14,26 @@ use Rattle.ash_host.specs.declared.word.Word.TheVariants.{Object}
 
 -- What the elements of an array are of. Handles of objects of a class or an interface have the module and the place of
 -- the class or the interface in its source; handles of host objects have the kind.
-pub data Element (M : Type 0) : Type 0 where
-  Bools : Element M
-  Ints : Element M
-  Uints : Element M
-  Int64s : Element M
-  Uint64s : Element M
-  Handles : (owner : M) (place : ℕ) → Element M
-  Hosts : (kind : ℕ) → Element M
+pub data Elements (M : Type 0) : Type 0 where
+  Bools : Elements M
+  Ints : Elements M
+  Uints : Elements M
+  Int64s : Elements M
+  Uint64s : Elements M
+  Handles : (owner : M) (place : ℕ) → Elements M
+  Hosts : (kind : ℕ) → Elements M
 
 -- An object. A script object has the module and the place of its class in the module's source, and its fields in
 -- order of declaration; an array has what its elements are of, and the elements; a host object has its kind and its
 -- state.
 pub data Plain (M : Type 0) : Type 0 where
   Script : (owner : M) (place : ℕ) (fields : List Word) → Plain M
-  Array : (of : Element M) (elements : List Word) → Plain M
+  Array : (of : Elements M) (elements : List Word) → Plain M
   Host : (kind : ℕ) (state : List ℕ) → Plain M
 
 -- the live objects by their numbers, each number below the next
-abbrev pub Objects : Type 0 → Type 0
-Objects M = List (ℕ × Plain M)
+abbrev pub LiveObjects : Type 0 → Type 0
+LiveObjects M = List (ℕ × Plain M)
 
 -- what lives at a number, if anything does
 abbrev pub object_at : {A : Type 0} → ℕ → List (ℕ × A) → Option A
@@ -77,11 +77,11 @@ is_host (Array _ _) = false
 is_host (Host _ _) = true
 
 -- what the object of a number refers to by its words; nothing where none lives
-abbrev pub references : {M : Type 0} → Objects M → ℕ → List ℕ
+abbrev pub references : {M : Type 0} → LiveObjects M → ℕ → List ℕ
 references objects number = option_map_or (λ object. handles (fields_of object)) (object_at number objects) []
 
 -- a field or an element of the object of one number is a handle to the other
-abbrev pub Refers : {M : Type 0} → Objects M → ℕ → ℕ → Type 0
+abbrev pub Refers : {M : Type 0} → LiveObjects M → ℕ → ℕ → Type 0
 Refers objects one other = Contains (references objects one) other
 
 -- whether a word is a handle to an object
@@ -94,11 +94,11 @@ abbrev pub handles_to : ℕ → List Word → ℕ
 handles_to number words = count_by (is_handle_to number) words
 
 -- how many fields and elements are handles to an object
-abbrev pub fields_to : {M : Type 0} → ℕ → Objects M → ℕ
+abbrev pub fields_to : {M : Type 0} → ℕ → LiveObjects M → ℕ
 fields_to number objects = sum_by (λ object. handles_to number (fields_of object)) (values_of objects)
 
 -- the count of an object: the globals, the fields and the elements that are handles to it
-abbrev pub count_of : {M : Type 0} → ℕ → List Word → Objects M → ℕ
+abbrev pub count_of : {M : Type 0} → ℕ → List Word → LiveObjects M → ℕ
 count_of number globals objects = handles_to number globals + fields_to number objects
 
 -- numbers begin at 1, rise, and none is above the last that was given

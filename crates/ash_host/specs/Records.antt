@@ -29,8 +29,8 @@ pub record IsValidRecord {B : Type 0} (host : Ghosts B) (object : B) (r : HostRe
   pub after_fits : length r.after ≤ max_state_bytes
 
 -- The next record is of this call, made at this state, and these are left after it.
-pub record Takes (target : Target) (call : HostCall) (before : List ℕ) (records : List HostRecord) (next : HostRecord)
-    (left : List HostRecord) : Type 0 where
+pub record TakesRecord (target : Target) (call : HostCall) (before : List ℕ) (records : List HostRecord)
+    (next : HostRecord) (left : List HostRecord) : Type 0 where
   pub first : records ≡ next ∷ left
   pub same_target : next.target ≡ target
   pub same_call : next.call ≡ call

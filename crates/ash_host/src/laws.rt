@@ -4,10 +4,10 @@ ghost use Rattle.std.specs.Prelude.{◌≤◌, length};
 ghost use Rattle.ash_host.specs.declared.event.Target.{Target};
 ghost use Rattle.ash_host.specs.Calls.{Invoke};
 ghost use Rattle.ash_host.specs.Limits.{max_state_bytes};
-ghost use Rattle.ash_host.specs.Laws.{ReachIsDecided, SweepIsExact, SweepIsOne};
-ghost use Rattle.ash_host.specs.Laws.{SweepSettles, CascadeIsSweep};
-ghost use Rattle.ash_host.specs.Laws.{CountIsReferences, InsertIsExact, NumbersRise};
-ghost use Rattle.ash_host.specs.Laws.{SweepKeepsLast, RecordIsExact};
+ghost use Rattle.ash_host.specs.ObjectLaws.{ReachIsDecided, SweepIsExact, SweepIsOne};
+ghost use Rattle.ash_host.specs.ObjectLaws.{SweepSettles, CascadeIsSweep};
+ghost use Rattle.ash_host.specs.ObjectLaws.{CountIsReferences, InsertIsExact, NumbersRise};
+ghost use Rattle.ash_host.specs.ObjectLaws.{SweepKeepsLast, RecordIsExact};
 ghost use Rattle.ash_host.specs.Records.{IsValidRecord};
 
 use crate::{HostAnswer, HostObject, Word};

@@ -1,18 +1,18 @@
 //! A table at its limits.
 
 use crate::checks::expect_all;
-use crate::steps::{Memory, Sequence, Step, first_unmet};
+use crate::steps::{Memory, Sequence, TableStep, first_unmet};
 use ash_host::Event;
 use ash_objects::{MAX_OBJECTS, MakeFault};
 
 static FULL_TABLE: Sequence<'static> = Sequence {
     pool: &[11],
     steps: &[
-        Step::MakeEach(MAX_OBJECTS),
-        Step::Make(0, Err(MakeFault::ObjectLimit)),
-        Step::Draw(1, 0, Err(MakeFault::ObjectLimit)),
-        Step::Sweep,
-        Step::Draw(1, 0, Ok(4097)),
+        TableStep::MakeEach(MAX_OBJECTS),
+        TableStep::Make(0, Err(MakeFault::ObjectLimit)),
+        TableStep::Draw(1, 0, Err(MakeFault::ObjectLimit)),
+        TableStep::Sweep,
+        TableStep::Draw(1, 0, Ok(4097)),
     ],
     events: &[Event::Drew(4097)],
     given_up: &[],

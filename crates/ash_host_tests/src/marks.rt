@@ -1,24 +1,24 @@
 //! What is named as made, changed or taken away.
 
 use crate::checks::expect_all;
-use crate::steps::{Memory, Sequence, Step, first_unmet};
+use crate::steps::{Memory, Sequence, TableStep, first_unmet};
 use ash_host::{Event, Target, Word};
 
 static CHANGED: Sequence<'static> = Sequence {
     pool: &[11, 12],
     steps: &[
-        Step::Make(1, Ok(1)),
-        Step::Make(1, Ok(2)),
-        Step::Draw(1, 1, Ok(3)),
-        Step::SetField(1, 0, Word::Object(3)),
-        Step::Hold(1),
-        Step::Touched(&[1, 2, 3], &[]),
+        TableStep::Make(1, Ok(1)),
+        TableStep::Make(1, Ok(2)),
+        TableStep::Draw(1, 1, Ok(3)),
+        TableStep::SetField(1, 0, Word::Object(3)),
+        TableStep::Hold(1),
+        TableStep::Touched(&[1, 2, 3], &[]),
         // Only what a call changed, or a sweep took; what was made and went is not named.
-        Step::Add(3, 1, 2),
-        Step::Draw(1, 1, Ok(4)),
-        Step::Sweep,
-        Step::Touched(&[3], &[2]),
-        Step::Touched(&[], &[]),
+        TableStep::Add(3, 1, 2),
+        TableStep::Draw(1, 1, Ok(4)),
+        TableStep::Sweep,
+        TableStep::Touched(&[3], &[2]),
+        TableStep::Touched(&[], &[]),
     ],
     events: &[
         Event::Drew(3),
@@ -38,22 +38,22 @@ fn what_changed_is_named_once(rt: HostRuntime) {
 static SLOTS: Sequence<'static> = Sequence {
     pool: &[],
     steps: &[
-        Step::Make(1, Ok(1)),
-        Step::Make(1, Ok(2)),
-        Step::Make(1, Ok(3)),
-        Step::Touched(&[1, 2, 3], &[]),
+        TableStep::Make(1, Ok(1)),
+        TableStep::Make(1, Ok(2)),
+        TableStep::Make(1, Ok(3)),
+        TableStep::Touched(&[1, 2, 3], &[]),
         // Two objects take the slots of two that went, and are named after an older one that is in a later slot.
-        Step::SweepBut(3),
-        Step::Make(1, Ok(4)),
-        Step::Make(1, Ok(5)),
-        Step::SetField(3, 0, Word::Object(5)),
-        Step::Touched(&[3, 4, 5], &[1, 2]),
+        TableStep::SweepBut(3),
+        TableStep::Make(1, Ok(4)),
+        TableStep::Make(1, Ok(5)),
+        TableStep::SetField(3, 0, Word::Object(5)),
+        TableStep::Touched(&[3, 4, 5], &[1, 2]),
         // One object after the other takes a slot, and only the last of them lives.
-        Step::SweepBut(5),
-        Step::Make(1, Ok(6)),
-        Step::SweepBut(5),
-        Step::Make(1, Ok(7)),
-        Step::Touched(&[7], &[3, 4]),
+        TableStep::SweepBut(5),
+        TableStep::Make(1, Ok(6)),
+        TableStep::SweepBut(5),
+        TableStep::Make(1, Ok(7)),
+        TableStep::Touched(&[7], &[3, 4]),
     ],
     events: &[],
     given_up: &[],

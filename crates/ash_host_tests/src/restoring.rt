@@ -2,7 +2,7 @@
 
 use crate::checks::expect_all;
 use crate::states::{RestoreInput, SavedHost, restored};
-use crate::steps::{Sequence, Step, first_unmet_of};
+use crate::steps::{Sequence, TableStep, first_unmet_of};
 use crate::table::new_log;
 use ash_host::{Event, NoMemory};
 use std::alloc::Global;
@@ -33,11 +33,11 @@ fn first_unmet(alloc: Global, sequence: &Sequence<'_>) -> Result<Option<usize>, 
 static COUNTED: Sequence<'static> = Sequence {
     pool: &[],
     steps: &[
-        Step::HasCount(1, 0),
-        Step::HasCount(3, 2),
-        Step::HasCount(5, 1),
-        Step::IsGone(6),
-        Step::Sweep,
+        TableStep::HasCount(1, 0),
+        TableStep::HasCount(3, 2),
+        TableStep::HasCount(5, 1),
+        TableStep::IsGone(6),
+        TableStep::Sweep,
     ],
     events: &[Event::Dropped(3), Event::Dropped(5)],
     given_up: &[(11, 3), (12, 5)],
@@ -51,7 +51,7 @@ fn counts_of_a_state_are_its_handles(rt: HostRuntime) {
 
 static NUMBERED: Sequence<'static> = Sequence {
     pool: &[],
-    steps: &[Step::Draw(1, 1, Ok(10)), Step::Sweep],
+    steps: &[TableStep::Draw(1, 1, Ok(10)), TableStep::Sweep],
     events: &[
         Event::Drew(10),
         Event::Dropped(3),

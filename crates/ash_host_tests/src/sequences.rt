@@ -1,13 +1,17 @@
 //! Sequences of calls, with the events that they leave.
 
 use crate::checks::expect_all;
-use crate::steps::{Memory, Sequence, Step, first_unmet};
+use crate::steps::{Memory, Sequence, TableStep, first_unmet};
 use ash_host::{Event, Target, Word};
 use ash_objects::MakeFault;
 
 static LET_GO: Sequence<'static> = Sequence {
     pool: &[11],
-    steps: &[Step::Draw(1, 1, Ok(1)), Step::Add(1, 1, 2), Step::Sweep],
+    steps: &[
+        TableStep::Draw(1, 1, Ok(1)),
+        TableStep::Add(1, 1, 2),
+        TableStep::Sweep,
+    ],
     events: &[
         Event::Drew(1),
         Event::Called(Target::Object(1), 1),
@@ -25,12 +29,12 @@ fn an_object_that_is_let_go_is_dropped(rt: HostRuntime) {
 static EACH: Sequence<'static> = Sequence {
     pool: &[11, 12],
     steps: &[
-        Step::Draw(1, 1, Ok(1)),
-        Step::Draw(1, 5, Ok(2)),
-        Step::Add(2, 1, 6),
-        Step::SweepBut(2),
-        Step::Add(2, 1, 7),
-        Step::Sweep,
+        TableStep::Draw(1, 1, Ok(1)),
+        TableStep::Draw(1, 5, Ok(2)),
+        TableStep::Add(2, 1, 6),
+        TableStep::SweepBut(2),
+        TableStep::Add(2, 1, 7),
+        TableStep::Sweep,
     ],
     events: &[
         Event::Drew(1),
@@ -53,17 +57,17 @@ fn each_is_dropped_where_it_is_let_go(rt: HostRuntime) {
 static ASCENDING: Sequence<'static> = Sequence {
     pool: &[11, 12, 13],
     steps: &[
-        Step::Make(1, Ok(1)),
-        Step::Make(1, Ok(2)),
-        Step::Draw(1, 3, Ok(3)),
-        Step::SetField(1, 0, Word::Object(3)),
-        Step::Make(1, Ok(4)),
-        Step::Draw(1, 5, Ok(5)),
-        Step::SetField(2, 0, Word::Object(5)),
-        Step::SetField(4, 0, Word::Object(3)),
-        Step::HasCount(3, 2),
-        Step::HasCount(5, 1),
-        Step::Sweep,
+        TableStep::Make(1, Ok(1)),
+        TableStep::Make(1, Ok(2)),
+        TableStep::Draw(1, 3, Ok(3)),
+        TableStep::SetField(1, 0, Word::Object(3)),
+        TableStep::Make(1, Ok(4)),
+        TableStep::Draw(1, 5, Ok(5)),
+        TableStep::SetField(2, 0, Word::Object(5)),
+        TableStep::SetField(4, 0, Word::Object(3)),
+        TableStep::HasCount(3, 2),
+        TableStep::HasCount(5, 1),
+        TableStep::Sweep,
     ],
     events: &[
         Event::Drew(3),
@@ -83,19 +87,19 @@ fn boxes_are_given_up_by_ascending_number(rt: HostRuntime) {
 static CHAIN: Sequence<'static> = Sequence {
     pool: &[11],
     steps: &[
-        Step::Make(1, Ok(1)),
-        Step::Make(1, Ok(2)),
-        Step::Make(1, Ok(3)),
-        Step::Draw(1, 7, Ok(4)),
-        Step::SetField(1, 0, Word::Object(2)),
-        Step::SetField(2, 0, Word::Object(3)),
-        Step::SetField(3, 0, Word::Object(4)),
-        Step::Hold(3),
-        Step::Sweep,
-        Step::IsGone(1),
-        Step::IsGone(2),
-        Step::HasCount(3, 1),
-        Step::HasCount(4, 1),
+        TableStep::Make(1, Ok(1)),
+        TableStep::Make(1, Ok(2)),
+        TableStep::Make(1, Ok(3)),
+        TableStep::Draw(1, 7, Ok(4)),
+        TableStep::SetField(1, 0, Word::Object(2)),
+        TableStep::SetField(2, 0, Word::Object(3)),
+        TableStep::SetField(3, 0, Word::Object(4)),
+        TableStep::Hold(3),
+        TableStep::Sweep,
+        TableStep::IsGone(1),
+        TableStep::IsGone(2),
+        TableStep::HasCount(3, 1),
+        TableStep::HasCount(4, 1),
     ],
     events: &[Event::Drew(4)],
     given_up: &[],
@@ -110,10 +114,10 @@ fn a_chain_goes_at_once(rt: HostRuntime) {
 static ONCE: Sequence<'static> = Sequence {
     pool: &[11],
     steps: &[
-        Step::Draw(1, 1, Ok(1)),
-        Step::Sweep,
-        Step::Draw(1, 0, Err(MakeFault::PoolEmpty)),
-        Step::Draw(2, 0, Err(MakeFault::PoolEmpty)),
+        TableStep::Draw(1, 1, Ok(1)),
+        TableStep::Sweep,
+        TableStep::Draw(1, 0, Err(MakeFault::PoolEmpty)),
+        TableStep::Draw(2, 0, Err(MakeFault::PoolEmpty)),
     ],
     events: &[Event::Drew(1), Event::Dropped(1)],
     given_up: &[(11, 1)],
@@ -127,7 +131,11 @@ fn a_box_is_drawn_once(rt: HostRuntime) {
 
 static RAISED: Sequence<'static> = Sequence {
     pool: &[11],
-    steps: &[Step::Draw(1, 1, Ok(1)), Step::Raise(1, 9), Step::Sweep],
+    steps: &[
+        TableStep::Draw(1, 1, Ok(1)),
+        TableStep::Raise(1, 9),
+        TableStep::Sweep,
+    ],
     events: &[
         Event::Drew(1),
         Event::Called(Target::Object(1), 2),
@@ -145,14 +153,14 @@ fn an_object_that_raised_is_dropped(rt: HostRuntime) {
 static SLOTS: Sequence<'static> = Sequence {
     pool: &[11, 12, 13],
     steps: &[
-        Step::Draw(1, 1, Ok(1)),
-        Step::IsIn(1, 0),
-        Step::Draw(1, 2, Ok(2)),
-        Step::SweepBut(2),
-        Step::IsGone(1),
-        Step::Draw(1, 3, Ok(3)),
-        Step::IsIn(3, 0),
-        Step::Sweep,
+        TableStep::Draw(1, 1, Ok(1)),
+        TableStep::IsIn(1, 0),
+        TableStep::Draw(1, 2, Ok(2)),
+        TableStep::SweepBut(2),
+        TableStep::IsGone(1),
+        TableStep::Draw(1, 3, Ok(3)),
+        TableStep::IsIn(3, 0),
+        TableStep::Sweep,
     ],
     events: &[
         Event::Drew(1),
@@ -174,15 +182,15 @@ fn a_slot_is_used_again_and_a_number_is_not(rt: HostRuntime) {
 static OVER_ITSELF: Sequence<'static> = Sequence {
     pool: &[11],
     steps: &[
-        Step::Make(1, Ok(1)),
-        Step::Draw(1, 1, Ok(2)),
-        Step::SetField(1, 0, Word::Object(2)),
-        Step::SetField(1, 0, Word::Object(2)),
-        Step::HasCount(2, 1),
-        Step::SweepBut(1),
-        Step::HasCount(2, 1),
-        Step::SetField(1, 0, Word::Null),
-        Step::SweepBut(1),
+        TableStep::Make(1, Ok(1)),
+        TableStep::Draw(1, 1, Ok(2)),
+        TableStep::SetField(1, 0, Word::Object(2)),
+        TableStep::SetField(1, 0, Word::Object(2)),
+        TableStep::HasCount(2, 1),
+        TableStep::SweepBut(1),
+        TableStep::HasCount(2, 1),
+        TableStep::SetField(1, 0, Word::Null),
+        TableStep::SweepBut(1),
     ],
     events: &[Event::Drew(2), Event::Dropped(2)],
     given_up: &[(11, 1)],

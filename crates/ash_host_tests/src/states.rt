@@ -10,12 +10,12 @@ use crate::reporter::{Log, Reporter};
 use crate::table::{Table, new_box, new_boxes};
 use ash_host::{NoMemory, Word};
 use ash_objects::{
-    Body, Objects, SavedHostObject, Script, StoredObject, StoredObjects, TableFault, Words,
+    Body, Objects, SavedHostObject, SavedObject, SavedObjects, Script, TableFault, Words,
 };
 use std::alloc::Global;
 
 // An object of a class with one field.
-fn script(alloc: Global, number: u64, field: u64) -> Result<StoredObject, NoMemory>
+fn script(alloc: Global, number: u64, field: u64) -> Result<SavedObject, NoMemory>
     ensures number { IfOk result (λ stored. stored.number ≡ number) }
     ensures words { IfOk result (λ stored. words_of stored.body ≡ Word.Object field ∷ []) }
 {
@@ -26,7 +26,7 @@ fn script(alloc: Global, number: u64, field: u64) -> Result<StoredObject, NoMemo
         class: 0,
         fields: Words::new(words),
     };
-    Ok(StoredObject {
+    Ok(SavedObject {
         number,
         body: Body::Script(script),
     })
@@ -42,7 +42,7 @@ pub struct SavedHost<'a> {
 }
 
 // A host object.
-fn host(alloc: Global, number: u64, of: SavedHost<'_>) -> Result<StoredObject, NoMemory>
+fn host(alloc: Global, number: u64, of: SavedHost<'_>) -> Result<SavedObject, NoMemory>
     ensures number { IfOk result (λ stored. stored.number ≡ number) }
     ensures words { IfOk result (λ stored. words_of stored.body ≡ []) }
 {
@@ -52,7 +52,7 @@ fn host(alloc: Global, number: u64, of: SavedHost<'_>) -> Result<StoredObject, N
         kind: of.kind,
         state,
     };
-    Ok(StoredObject {
+    Ok(SavedObject {
         number,
         body: Body::Host(saved),
     })
@@ -64,7 +64,7 @@ fn stored_objects(
     alloc: Global,
     third: SavedHost<'_>,
     fifth: SavedHost<'_>,
-) -> Result<StoredObjects, NoMemory>
+) -> Result<SavedObjects, NoMemory>
     ensures numbered { IfOk result
         (λ stored. AreNumbered stored.last (stored_in stored.objects.items)) }
     ensures few { IfOk result (λ stored. vec_len stored.objects ≤ max_objects) }
@@ -82,7 +82,7 @@ fn stored_objects(
     objects.push(host(alloc, 3, third)?)?;
     objects.push(script(alloc, 4, 3)?)?;
     objects.push(host(alloc, 5, fifth)?)?;
-    Ok(StoredObjects { objects, last: 9 })
+    Ok(SavedObjects { objects, last: 9 })
 }
 
 /// A service, and the state that it had.

@@ -8,18 +8,18 @@ use crate::table::{
     words_in,
 };
 use ash_host::{Event, HostAnswer, NoMemory, Word};
-use ash_objects::{Element, IndexOutOfBounds, LengthFault, MakeFault};
+use ash_objects::{ElementTag, IndexOutOfBounds, LengthFault, MakeFault};
 use std::alloc::Global;
 
 /// A step, with what it must come to.
 #[derive(Clone, Copy)]
-pub enum Step {
+pub enum TableStep {
     /// An object of a class with so many fields is made, and gets this number, or is not made.
     Make(usize, Result<u64, MakeFault>),
     /// So many objects of a class without fields are made.
     MakeEach(usize),
     /// An array of so many elements is made, and gets this number, or is not made.
-    MakeArray(Element, usize, Result<u64, MakeFault>),
+    MakeArray(ElementTag, usize, Result<u64, MakeFault>),
     /// A box of this kind is drawn, and gets this number and is started with this value, or is not drawn.
     Draw(u16, i32, Result<u64, MakeFault>),
     /// A counter adds the first value and returns the second.
@@ -59,7 +59,7 @@ pub enum Step {
 }
 
 /// What the elements of an array of handles are.
-pub const HANDLES: Element = Element::Class(0, 0);
+pub const HANDLES: ElementTag = ElementTag::Class(0, 0);
 
 /// Whether memory is ample, or one allocation may be refused.
 #[derive(Clone, Copy)]
@@ -72,7 +72,7 @@ pub enum Memory {
 pub struct Sequence<'a> {
     /// The names of the free boxes, in order.
     pub pool: &'a [u16],
-    pub steps: &'a [Step],
+    pub steps: &'a [TableStep],
     pub events: &'a [Event],
     /// The names and numbers of the counters that were given up, in order.
     pub given_up: &'a [(u16, i32)],
@@ -100,7 +100,7 @@ fn make_each(alloc: Global, objects: &mut Table, many: usize) -> bool {
     true
 }
 
-fn make_array(objects: &mut Table, element: Element, length: usize) -> Result<u64, MakeFault> {
+fn make_array(objects: &mut Table, element: ElementTag, length: usize) -> Result<u64, MakeFault> {
     objects.new_array(element, length)
 }
 
@@ -203,44 +203,44 @@ fn element(objects: &Table, number: u64, index: usize) -> Option<Word> {
 fn take(
     alloc: Global,
     objects: &mut Table,
-    step: Step,
+    step: TableStep,
     events: &mut Vec<Event>,
 ) -> Result<bool, NoMemory> {
     match step {
-        Step::Make(fields, wanted) => is_made(make(alloc, objects, fields), wanted),
-        Step::MakeEach(many) => Ok(make_each(alloc, objects, many)),
-        Step::MakeArray(element, length, wanted) => {
+        TableStep::Make(fields, wanted) => is_made(make(alloc, objects, fields), wanted),
+        TableStep::MakeEach(many) => Ok(make_each(alloc, objects, many)),
+        TableStep::MakeArray(element, length, wanted) => {
             is_made(make_array(objects, element, length), wanted)
         }
-        Step::Draw(kind, start, wanted) => is_made(draw(objects, kind, start, events), wanted),
-        Step::Add(number, by, sum) => adds(objects, number, by, sum, events),
-        Step::Raise(number, code) => raises(objects, number, code, events),
-        Step::SetField(number, place, word) => Ok(set_field(objects, number, place, word)),
-        Step::SetElement(number, index, word, wanted) => {
+        TableStep::Draw(kind, start, wanted) => is_made(draw(objects, kind, start, events), wanted),
+        TableStep::Add(number, by, sum) => adds(objects, number, by, sum, events),
+        TableStep::Raise(number, code) => raises(objects, number, code, events),
+        TableStep::SetField(number, place, word) => Ok(set_field(objects, number, place, word)),
+        TableStep::SetElement(number, index, word, wanted) => {
             Ok(is_written(objects, number, index, word, wanted))
         }
-        Step::Resize(number, length, wanted) => resizes(objects, number, length, wanted),
-        Step::Insert(number, word, wanted) => inserts(objects, number, word, wanted),
-        Step::Remove(number, wanted) => Ok(removes(objects, number, wanted)),
-        Step::Hold(number) => Ok(hold(objects, number)),
-        Step::Sweep => sweeps(objects, events),
-        Step::SweepBut(number) => sweep_but(objects, number, events),
-        Step::Touched(living, gone) => touches(objects, living, gone),
+        TableStep::Resize(number, length, wanted) => resizes(objects, number, length, wanted),
+        TableStep::Insert(number, word, wanted) => inserts(objects, number, word, wanted),
+        TableStep::Remove(number, wanted) => Ok(removes(objects, number, wanted)),
+        TableStep::Hold(number) => Ok(hold(objects, number)),
+        TableStep::Sweep => sweeps(objects, events),
+        TableStep::SweepBut(number) => sweep_but(objects, number, events),
+        TableStep::Touched(living, gone) => touches(objects, living, gone),
         _ => Ok(shows(objects, step)),
     }
 }
 
 // Whether a table is as a step that only looks at it says.
-fn shows(objects: &Table, step: Step) -> bool {
+fn shows(objects: &Table, step: TableStep) -> bool {
     match step {
-        Step::HasWords(number, many) => words_in(objects, number) == many,
-        Step::HasCount(number, many) => count(objects, number) == Some(many),
-        Step::HasNumber(number, index, wanted) => {
+        TableStep::HasWords(number, many) => words_in(objects, number) == many,
+        TableStep::HasCount(number, many) => count(objects, number) == Some(many),
+        TableStep::HasNumber(number, index, wanted) => {
             matches!(element(objects, number, index), Some(Word::Int(found)) if found == wanted)
         }
-        Step::HasNothing(number, index) => element(objects, number, index).is_none(),
-        Step::IsIn(number, slot) => objects.slot(number) == Some(slot),
-        Step::IsGone(number) => objects.slot(number).is_none(),
+        TableStep::HasNothing(number, index) => element(objects, number, index).is_none(),
+        TableStep::IsIn(number, slot) => objects.slot(number) == Some(slot),
+        TableStep::IsGone(number) => objects.slot(number).is_none(),
         _ => false,
     }
 }
@@ -269,7 +269,7 @@ fn words(objects: &Table) -> [usize; 4] {
 fn take_with_retry(
     alloc: Global,
     objects: &mut Table,
-    step: Step,
+    step: TableStep,
     events: &mut Vec<Event>,
 ) -> bool {
     let before = (counts(objects), words(objects), events.len());
@@ -283,7 +283,7 @@ fn take_with_retry(
 fn take_with(
     alloc: Global,
     objects: &mut Table,
-    step: Step,
+    step: TableStep,
     events: &mut Vec<Event>,
     memory: Memory,
 ) -> Result<bool, NoMemory> {
@@ -297,7 +297,7 @@ fn take_with(
 fn first_unmet_step(
     alloc: Global,
     objects: &mut Table,
-    steps: &[Step],
+    steps: &[TableStep],
     events: &mut Vec<Event>,
     memory: Memory,
 ) -> Result<Option<usize>, NoMemory> {

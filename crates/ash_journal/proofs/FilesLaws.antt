@@ -8,7 +8,7 @@ use Rattle.ash_journal.specs.declared.other_state.OtherState.{OtherState}
 use Rattle.ash_journal.specs.declared.other_state.OtherState.TheVariants.{Shut, Older, Stray}
 use Rattle.ash_journal.specs.Layout.{mark, block, records, committed_bytes, FieldsFit, IsShut, HasMark}
 use Rattle.ash_journal.specs.Current.{IsContents, HoldsOneOf, IsOlder, Represent, reopened, SettleOn, MaySettleOn, SettleFurther}
-use Rattle.ash_journal.specs.Runs.{HoldsSince, Extends, NoContents}
+use Rattle.ash_journal.specs.SettledSince.{HoldsSince, Extends, NoContents}
 use Rattle.ash_journal.specs.Writes.{IsOn, WhileCommitted, WhileRepaired, WhileReplaced, repaired}
 use Rattle.ash_journal.specs.OtherState.{is_older, is_stray, repaired as state_repaired, first_of, second_of, OtherIs}
 use Rattle.ash_journal.specs.Journal.{EndIs, NeedsNoRepair, FilesAre}

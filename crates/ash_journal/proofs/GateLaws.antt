@@ -2,7 +2,7 @@
 use Rattle.std.proofs.Common.{◌≡◌, inl, inr, ℕ, ◌+◌, ◌≤◌, List, [], ◌∷◌, ◌++◌, length, drop, refl, sym, ◌∙◌, ap, subst}
 use Rattle.std.proofs.Common.{arith, append_assoc, length-append, length-drop, Result, Ok, Err, OnOk, Bool, true, false}
 use Rattle.ash_disk.specs.Device.{Device, IsDurable, HoldsThroughout}
-use Rattle.ash_disk.specs.Image.{after_write, Torn, TornFrom, LeavesOnly, torn_not}
+use Rattle.ash_disk.specs.DiskImage.{after_write, Torn, TornFrom, LeavesOnly, torn_not}
 use Rattle.ash_disk.specs.Moments.{HoldsDuring}
 use Rattle.ash_disk.proofs.MomentLaws.{at_start, weaker}
 use Rattle.ash_disk.proofs.TornLaws.{prefix_stays, byte_torn, written_after, torn_from_only}

@@ -16,7 +16,7 @@ use Rattle.ash_journal.specs.Current.{IsOlder, Represent}
 use Rattle.ash_journal.specs.Journal.{EndIs, FilesAre}
 use Rattle.ash_journal.specs.Layout.{HasMark}
 use Rattle.ash_journal.specs.Opening.{ChoiceIs, ContentsAre, FaultIs}
-use Rattle.ash_journal.specs.Reading.{IsRead, IsCutFault, bodies_of}
+use Rattle.ash_journal.specs.Reading.{IsFileRead, IsCutFault, bodies_of}
 use Rattle.ash_journal.proofs.LayoutLaws.{length-committed_bytes}
 use Rattle.ash_journal.proofs.InstallLaws.{aside_closed_or_older}
 use Rattle.ash_journal.proofs.SettleLaws.{represent_turned}
@@ -48,7 +48,7 @@ pub chosen_first : (choice : Choice) (r : Result CurrentFile OpenFault) (x y : L
     → (HasMark choice.generation x
     → MatchResult r
     (λ current_file.
-    IsRead choice.generation current_file.image.items current_file.tail.records.items current_file.tail.end
+    IsFileRead choice.generation current_file.image.items current_file.tail.records.items current_file.tail.end
     current_file.tail.gate x)
     (λ fault. IsCutFault fault x)) → MatchResult r
     (λ current_file. ContentsAre choice current_file x y) (λ fault. FaultIs fault x y)
@@ -58,7 +58,7 @@ chosen_first choice r x y swapped is read =
     MatchResult-weaker r (read marked)
     (λ current_file whole. (
       subst (λ (s : Bool).
-          IsRead choice.generation current_file.image.items current_file.tail.records.items current_file.tail.end
+          IsFileRead choice.generation current_file.image.items current_file.tail.records.items current_file.tail.end
           current_file.tail.gate (first_of s x y)) (sym swapped) whole,
       is.1,
     ))
@@ -72,7 +72,7 @@ pub chosen_second : (choice : Choice) (r : Result CurrentFile OpenFault) (x y : 
     → (HasMark choice.generation y
     → MatchResult r
     (λ current_file.
-    IsRead choice.generation current_file.image.items current_file.tail.records.items current_file.tail.end
+    IsFileRead choice.generation current_file.image.items current_file.tail.records.items current_file.tail.end
     current_file.tail.gate y)
     (λ fault. IsCutFault fault y)) → MatchResult r
     (λ current_file. ContentsAre choice current_file x y) (λ fault. FaultIs fault x y)
@@ -82,7 +82,7 @@ chosen_second choice r x y swapped is read =
     MatchResult-weaker r (read marked)
     (λ current_file whole. (
       subst (λ (s : Bool).
-          IsRead choice.generation current_file.image.items current_file.tail.records.items current_file.tail.end
+          IsFileRead choice.generation current_file.image.items current_file.tail.records.items current_file.tail.end
           current_file.tail.gate (first_of s x y)) (sym swapped) whole,
       is.1,
     ))
@@ -99,7 +99,7 @@ stray_is gate = elim (cases_eq gate 0) [
 module _ {D : Type 0} (device : Device D) where
   files_read : (c o : D) (x y : List ℕ) (other_state : OtherState) (g end gate size : ℕ) (image : List ℕ)
       (found : List Record) → IsTrue (device.honest c) → IsTrue (device.honest o) → device.seen c ≡ x
-      → device.seen o ≡ y → IsDurable device c → IsDurable device o → IsRead g image found end gate x
+      → device.seen o ≡ y → IsDurable device c → IsDurable device o → IsFileRead g image found end gate x
       → OtherIs other_state g y → size ≡ end - 21 - length image
       → FilesAre device g end size (not (nat_eq gate 0)) other_state c o image (bodies_of found)
   files_read c o x y other_state g end gate size image found honest_c honest_o seen_c seen_o only_c only_o read other
@@ -122,7 +122,7 @@ module _ {D : Type 0} (device : Device D) where
   pub open_files : (swapped : Bool) (a b : D) (x y : List ℕ) (other_state : OtherState) (g end gate size : ℕ)
       (image : List ℕ) (found : List Record) → IsTrue (device.honest a) → IsTrue (device.honest b) → device.seen a ≡ x
       → device.seen b ≡ y → IsDurable device a → IsDurable device b
-      → IsRead g image found end gate (first_of swapped x y) → OtherIs other_state g (second_of swapped x y)
+      → IsFileRead g image found end gate (first_of swapped x y) → OtherIs other_state g (second_of swapped x y)
       → size ≡ end - 21 - length image
       → FilesAre device g end size (not (nat_eq gate 0)) other_state (first_of swapped a b) (second_of swapped a b)
       image (bodies_of found)

@@ -8,13 +8,13 @@ use Rattle.std.proofs.lemmas.Slice.Eq.{bytes_eq-Decides}
 use Rattle.std.specs.Str.{bytes_eq}
 use Rattle.byteorder.specs.Endian.{little_number}
 use Rattle.ash_journal.specs.Layout.{prefix_size, magic, eight_bytes, four_bytes, mark, block, records, committed_bytes, FieldsFit, IsOpen}
-use Rattle.ash_journal.specs.Layout.{IsShut, IsCut, IsCutAt, HasMark, LacksMark}
-use Rattle.ash_disk.specs.Image.{bytes_at}
+use Rattle.ash_journal.specs.Layout.{IsShut, IsCutShort, IsCutAt, HasMark, LacksMark}
+use Rattle.ash_disk.specs.DiskImage.{bytes_at}
 use Rattle.ash_disk.specs.Device.{Device, IsOnlyRead, HoldsThroughout}
 use Rattle.ash_journal.specs.Writes.{IsUnused, AreUnused, WasUnused, WhileStarted, WhileCreated}
 use Rattle.ash_disk.proofs.MomentLaws.{at_end, goes_on, weaker}
 use Rattle.ash_journal.specs.declared.record.Record.{Record}
-use Rattle.ash_journal.specs.Reading.{IsBlock, IsReadTo, AreAt, bodies_of}
+use Rattle.ash_journal.specs.Reading.{IsFileBlock, IsReadTo, AreAt, bodies_of}
 use Rattle.ash_journal.proofs.LayoutLaws.{AreBytes, eight_round_trip, length-mark, length-block, length-committed_bytes}
 use Rattle.ash_journal.proofs.LayoutLaws.{records-nil, records-cons, committed_bytes-push, solid_no_records}
 use Rattle.ash_journal.proofs.InstallLaws.{fits_push, grown}
@@ -91,7 +91,7 @@ size_prefix seen at n is =
     sym (take-append-drop 4 (drop at seen)) ∙ ap (λ (l : List ℕ). l ++ drop 4 (drop at seen)) (sym is)
 
 pub cut_block : (seen : List ℕ) (at n : ℕ) → n < 2 ^ 32 → four_bytes n ≡ bytes_at seen at 4 → length seen - at - 4 ≤ n
-    → IsCut (drop at seen)
+    → IsCutShort (drop at seen)
 cut_block seen at n fits is short =
     inr (
       n,
@@ -103,7 +103,7 @@ cut_block seen at n fits is short =
 
 pub whole_block : (seen : List ℕ) (at n : ℕ) (bytes body : List ℕ) (gate : ℕ) → n < 2 ^ 32
     → four_bytes n ≡ bytes_at seen at 4 → bytes ≡ bytes_at seen (at + 4) (n + 1) → length bytes ≡ n + 1
-    → bytes ≡ body ++ gate ∷ [] → IsBlock body gate (drop at seen)
+    → bytes ≡ body ++ gate ∷ [] → IsFileBlock body gate (drop at seen)
 unfolding block
 whole_block seen at n bytes body gate fits is read long parts =
     let body_long : length body ≡ n = omega (arith, long, ap length parts, length-append body (gate ∷ [])) in
@@ -151,7 +151,7 @@ after_gate prefix suffix file at gate is at_is =
 
 -- an open gate with nothing whole after it
 pub read_cut : (g : ℕ) (image file : List ℕ) (found : List Record) (at gate : ℕ) → gate ≡ 1
-    → IsReadTo g image found at gate file → IsCut (drop (at + 1) file) → IsCutAt at file
+    → IsReadTo g image found at gate file → IsCutShort (drop (at + 1) file) → IsCutAt at file
 read_cut g image file found at gate is_open so_far cut =
     inr (
       g,
@@ -160,14 +160,14 @@ read_cut g image file found at gate is_open so_far cut =
       so_far.after,
       so_far.fits,
       so_far.bytes ∙ ap (λ (b : ℕ). committed_bytes g image (bodies_of found) ++ b ∷ so_far.after) is_open,
-      subst IsCut (after_gate (committed_bytes g image (bodies_of found)) so_far.after file at gate so_far.bytes so_far.end_is)
+      subst IsCutShort (after_gate (committed_bytes g image (bodies_of found)) so_far.after file at gate so_far.bytes so_far.end_is)
           cut,
       so_far.end_is,
     )
 
 -- one record more
 pub read_more : (g : ℕ) (image file : List ℕ) (found : List Record) (r : Record) (at gate next end : ℕ) → gate ≡ 1
-    → IsReadTo g image found at gate file → IsBlock r.body.items next (drop (at + 1) file) → r.gate ≡ at
+    → IsReadTo g image found at gate file → IsFileBlock r.body.items next (drop (at + 1) file) → r.gate ≡ at
     → end ≡ at + (5 + length r.body.items) → IsReadTo g image (found ++ r ∷ []) end next file
 read_more g image file found r at gate next end is_open so_far is_block gate_is end_is = record {
   after = is_block.1;
@@ -203,11 +203,11 @@ after_mark : (g : ℕ) (file : List ℕ) (marked : HasMark g file) → drop pref
 after_mark g file marked =
     ap (λ (l : List ℕ). drop prefix_size l) marked.bytes ∙ drop_at (1 ∷ mark g) marked.rest prefix_size (omega (arith, length-mark g))
 
-pub image_cut : (g : ℕ) (file : List ℕ) → HasMark g file → IsCut (drop prefix_size file) → IsCutAt 0 file
-image_cut g file marked cut = inl (g, marked.rest, marked.bytes, subst IsCut (after_mark g file marked) cut, refl)
+pub image_cut : (g : ℕ) (file : List ℕ) → HasMark g file → IsCutShort (drop prefix_size file) → IsCutAt 0 file
+image_cut g file marked cut = inl (g, marked.rest, marked.bytes, subst IsCutShort (after_mark g file marked) cut, refl)
 
 -- the image after a mark, and the first gate after it
-pub image_read : (g : ℕ) (file image : List ℕ) (gate : ℕ) → HasMark g file → IsBlock image gate (drop prefix_size file)
+pub image_read : (g : ℕ) (file image : List ℕ) (gate : ℕ) → HasMark g file → IsFileBlock image gate (drop prefix_size file)
     → FieldsFit g image [] × (rest : List ℕ) × (file ≡ committed_bytes g image [] ++ gate ∷ rest)
 image_read g file image gate marked is_block = (
   record { numbered = marked.numbered; image_short = is_block.0; bodies_short = tt },

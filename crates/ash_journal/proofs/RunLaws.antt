@@ -7,7 +7,7 @@ use Rattle.ash_disk.specs.Device.{Device, IsDurable, IsOnlyRead, HoldsThroughout
 use Rattle.ash_disk.specs.Moments.{HoldsDuring}
 use Rattle.ash_disk.proofs.MomentLaws.{at_start, every_moment}
 use Rattle.ash_journal.specs.Current.{Contents, HoldsOneOf, Represent, SettleOn, SettleFurther}
-use Rattle.ash_journal.specs.Runs.{HoldsSince, Extends, NoContents}
+use Rattle.ash_journal.specs.SettledSince.{HoldsSince, Extends, NoContents}
 use Rattle.ash_journal.specs.OtherState.{first_of, second_of}
 use Rattle.ash_journal.proofs.SettleLaws.{Property, settle_turned, further, further_same, further_turned}
 use Rattle.ash_journal.proofs.SettleLaws.{represent_once}

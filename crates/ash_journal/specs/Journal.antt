@@ -4,11 +4,11 @@ use Rattle.ash_disk.specs.Device.{Device, IsDurable}
 use Rattle.ash_journal.specs.declared.journal.Journal.{Journal}
 use Rattle.ash_journal.specs.declared.other_state.OtherState.{OtherState}
 use Rattle.ash_journal.specs.declared.other_state.OtherState.TheVariants.{Shut, Older}
-use Rattle.ash_journal.specs.Failures.{CountsFailuresOf}
+use Rattle.ash_journal.specs.JournalFailures.{CountsFailuresOf}
 use Rattle.ash_journal.specs.Layout.{committed_bytes, records, FieldsFit}
 use Rattle.ash_journal.specs.Current.{IsContents}
 use Rattle.ash_journal.specs.OtherState.{first_of, second_of, is_stray, OtherIs}
-use Rattle.ash_journal.specs.Runs.{HoldsSince}
+use Rattle.ash_journal.specs.SettledSince.{HoldsSince}
 use Rattle.ash_journal.specs.Writes.{WritesByte}
 
 -- `first_disk j` is the disk that was handed over first.
@@ -71,8 +71,8 @@ pub record FilesAre {D : Type 0} (device : Device D) (number end size : ℕ) (st
   pub other_durable : IsDurable device other
 
 -- The files hold this image and these records, as `open` finds them: gates may have to be repaired.
-abbrev pub Finds : {D : Type 0} → Device D → Journal D → List ℕ → List (List ℕ) → Type 0
-Finds device j image bodies =
+abbrev pub HoldsBeforeRepair : {D : Type 0} → Device D → Journal D → List ℕ → List (List ℕ) → Type 0
+HoldsBeforeRepair device j image bodies =
     FilesAre device j.generation j.end j.record_bytes j.stray j.other_state j.current j.other image bodies
 
 -- No gate of a journal's files is to be written over.
@@ -92,7 +92,7 @@ pub record IsReady {D : Type 0} (j : Journal D) : Type 0 where
 -- alone.
 pub record Holds {D : Type 0} (device : Device D) (j : Journal D) (image : List ℕ)
     (bodies : List (List ℕ)) : Type 0 where
-  pub files : Finds device j image bodies
+  pub files : HoldsBeforeRepair device j image bodies
   pub repaired : IsRepaired j
   pub run : HoldsSince device (device.clock (first_disk j)) (device.clock (second_disk j)) (first_disk j)
       (second_disk j)

@@ -87,8 +87,8 @@ pub record HasMark (generation : ℕ) (file : List ℕ) : Type 0 where
   pub numbered : generation < 2 ^ 64
 
 -- The length is cut short, or what it is the length of, or the gate after that.
-abbrev pub IsCut : List ℕ → Type 0
-IsCut rest =
+abbrev pub IsCutShort : List ℕ → Type 0
+IsCutShort rest =
     (length rest < 4) ⊎ ((n : ℕ) × (more : List ℕ) × (n < 2 ^ 32) × (rest ≡ four_bytes n ++ more) × (length more ≤ n))
 
 -- The file is open, and it has no magic and generation.
@@ -98,8 +98,8 @@ LacksMark file = IsOpen file × ((generation : ℕ) → HasMark generation file 
 -- An open file is cut short, as this offset says: 0 where its image is, else the gate before the record that is.
 abbrev pub IsCutAt : ℕ → List ℕ → Type 0
 IsCutAt at file =
-    ((generation : ℕ) × (rest : List ℕ) × (file ≡ 1 ∷ (mark generation ++ rest)) × IsCut rest × (at ≡ 0))
+    ((generation : ℕ) × (rest : List ℕ) × (file ≡ 1 ∷ (mark generation ++ rest)) × IsCutShort rest × (at ≡ 0))
     ⊎ ((generation : ℕ) × (image : List ℕ) × (bodies : List (List ℕ)) × (rest : List ℕ)
     × FieldsFit generation image bodies
-    × (file ≡ committed_bytes generation image bodies ++ 1 ∷ rest) × IsCut rest
+    × (file ≡ committed_bytes generation image bodies ++ 1 ∷ rest) × IsCutShort rest
     × (at ≡ length (committed_bytes generation image bodies)))

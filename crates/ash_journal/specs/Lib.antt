@@ -1,11 +1,11 @@
 pub mod Current
-pub mod Failures
+pub mod JournalFailures
 pub mod Installing
 pub mod Journal
 pub mod Layout
 pub mod Opening
 pub mod OtherState
 pub mod Reading
-pub mod Runs
+pub mod SettledSince
 pub mod Writes
-pub mod FaultCodes
+pub mod JournalCodes

@@ -10,7 +10,7 @@ use Rattle.ash_journal.specs.declared.one_file.CurrentFile.{CurrentFile}
 use Rattle.ash_journal.specs.OtherState.{first_of, second_of, OtherIs}
 use Rattle.ash_journal.specs.Current.{IsContents, IsOlder, SettleOn}
 use Rattle.ash_journal.specs.Layout.{IsOpen, IsClosed, IsCutAt, HasMark, LacksMark}
-use Rattle.ash_journal.specs.Reading.{HeaderIs, IsRead}
+use Rattle.ash_journal.specs.Reading.{HeaderIs, IsFileRead}
 
 -- One of two files is open and has no generation, or both are open with one number.
 abbrev pub IsUnsound : List ℕ → List ℕ → Type 0
@@ -45,7 +45,7 @@ ChoiceIs choice first second =
 -- This is the current of two files as it was read, and the choice has the state of the other.
 abbrev pub ContentsAre : Choice → CurrentFile → List ℕ → List ℕ → Type 0
 ContentsAre choice current_file first second =
-    IsRead choice.generation current_file.image.items current_file.tail.records.items current_file.tail.end
+    IsFileRead choice.generation current_file.image.items current_file.tail.records.items current_file.tail.end
     current_file.tail.gate (first_of choice.swapped first second)
     × OtherIs choice.other_state choice.generation (second_of choice.swapped first second)
 

@@ -29,8 +29,8 @@ pub record Counts (failed : Type 0) (before after : ℕ) : Type 0 where
   pub none : (failed → ⊥) → after ≡ before
 
 -- The bytes begin with the block of this body and this gate.
-abbrev pub IsBlock : List ℕ → ℕ → List ℕ → Type 0
-IsBlock body gate bytes = (length body < 2 ^ 32) × (more : List ℕ) × (bytes ≡ block body ++ gate ∷ more)
+abbrev pub IsFileBlock : List ℕ → ℕ → List ℕ → Type 0
+IsFileBlock body gate bytes = (length body < 2 ^ 32) × (more : List ℕ) × (bytes ≡ block body ++ gate ∷ more)
 
 -- `bodies_of found` are the bodies of records.
 abbrev pub bodies_of : List Record → List (List ℕ)
@@ -51,8 +51,8 @@ pub record IsReadTo (generation : ℕ) (image : List ℕ) (found : List Record) 
   pub placed : AreAt (header_size + length image) found
 
 -- The file is read whole, up to a gate that is not open.
-abbrev pub IsRead : ℕ → List ℕ → List Record → ℕ → ℕ → List ℕ → Type 0
-IsRead generation image found end gate file = IsReadTo generation image found end gate file × (gate ≢ 1)
+abbrev pub IsFileRead : ℕ → List ℕ → List Record → ℕ → ℕ → List ℕ → Type 0
+IsFileRead generation image found end gate file = IsReadTo generation image found end gate file × (gate ≢ 1)
 
 -- `IsCutFault fault file` says what a current file is like where a fault is reported as it is read.
 abbrev pub IsCutFault : OpenFault → List ℕ → Type 0

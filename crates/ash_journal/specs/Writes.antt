@@ -1,7 +1,7 @@
 -- These definitions say what one disk holds before and while a gate is written.
 use Rattle.std.specs.Prelude.{◌≡◌, ◌⊎◌, ℕ, ◌≤◌, Bool, true, false, IsTrue, List, [], ◌∷◌, ◌++◌, length, drop}
 use Rattle.ash_disk.specs.Device.{Device, IsDurable, HoldsThroughout}
-use Rattle.ash_disk.specs.Image.{Torn}
+use Rattle.ash_disk.specs.DiskImage.{Torn}
 use Rattle.ash_journal.specs.Layout.{mark, block, IsShut}
 
 -- The disk is honest, its file is all on the device, and the file has these bytes before an offset and these from it

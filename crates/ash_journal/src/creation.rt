@@ -3,7 +3,7 @@ ghost use Rattle.std.specs.Prelude.{◌≡◌, ◌<◌, ◌^◌, ◌∷◌, ◌+
 ghost use Rattle.std.specs.Prelude.{length, drop, IsTrue, IfErr, OnOk, IsErr, IsErrOf};
 ghost use Rattle.ash_disk.specs.Failures.{CountsFailure};
 ghost use Rattle.ash_disk.specs.Device.{IsOnlyRead, HoldsThroughout};
-ghost use Rattle.ash_journal.specs.Failures.{CountsFailuresOf};
+ghost use Rattle.ash_journal.specs.JournalFailures.{CountsFailuresOf};
 ghost use Rattle.ash_journal.specs.Layout.{mark, block, IsClosed};
 ghost use Rattle.ash_journal.specs.Opening.{CreateFaultIs};
 ghost use Rattle.ash_journal.specs.Reading.{ShutIs};

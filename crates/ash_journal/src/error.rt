@@ -1,7 +1,7 @@
 //! Why a call is refused: one type a call, with the errors that it can answer.
 
 ghost use Rattle.std.specs.Prelude.{◌≡◌};
-ghost use Rattle.ash_journal.specs.FaultCodes.{append_code, create_code, install_code, open_code};
+ghost use Rattle.ash_journal.specs.JournalCodes.{append_code, create_code, install_code, open_code};
 ghost use Rattle.ash_journal.specs.declared.error.CreateFault.TheVariants as create_faults;
 ghost use Rattle.ash_journal.specs.declared.error.OpenFault.TheVariants as open_faults;
 

@@ -1,6 +1,6 @@
 //! The first record after an opening.
 ghost use Rattle.std.specs.Prelude.{◌<◌, ◌^◌, ◌∷◌, ◌++◌, [], ℕ, List, length, IsErrOf, OnOk};
-ghost use Rattle.ash_journal.specs.Journal.{record_bytes, Finds, Holds, HasFailed, IsReady};
+ghost use Rattle.ash_journal.specs.Journal.{record_bytes, HoldsBeforeRepair, Holds, HasFailed, IsReady};
 
 use crate::error::AppendError;
 use crate::journal::Journal;
@@ -13,7 +13,7 @@ pub fn append_first<D: Disk>(journal: &mut Journal<D>, body: &[u8]) -> Result<()
     requires room { record_bytes journal.old < 2 ^ 62 }
     requires sound { HasFailed journal.old → ⊥ }
     ensures acknowledged { OnOk result ((image : List ℕ) (bodies : List (List ℕ))
-        → Finds D.Disk journal.old image bodies
+        → HoldsBeforeRepair D.Disk journal.old image bodies
         → Holds D.Disk journal.new image (bodies ++ body.now ∷ [])) }
     ensures ready { (IsErrOf result AppendError.DeviceFailed → ⊥) → IsReady journal.new }
     ensures failed { IsErrOf result AppendError.DeviceFailed → HasFailed journal.new }

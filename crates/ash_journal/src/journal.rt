@@ -56,11 +56,11 @@ impl<D: Disk> Journal<D> {
     ghost use Rattle.std.specs.Prelude.{◌≡◌, ◌<◌, ◌↔◌, ◌∷◌, ◌++◌, []};
     ghost use Rattle.std.specs.Prelude.{ℕ, List, length, IsTrue, IfOk, IfErr, OnOk};
     ghost use Rattle.std.specs.Prelude.{OnErr, IsErr, IsErrOf, MatchResult};
-    ghost use Rattle.ash_journal.specs.Failures.{CountsFailuresOf};
+    ghost use Rattle.ash_journal.specs.JournalFailures.{CountsFailuresOf};
     ghost use Rattle.ash_journal.specs.Journal.{first_disk, second_disk, generation};
     ghost use Rattle.ash_journal.specs.Journal.{record_bytes, current_disk};
     ghost use Rattle.ash_journal.specs.Journal.{IsReady, IsRepaired, HasFailed};
-    ghost use Rattle.ash_journal.specs.Journal.{Finds, Holds, CountsFailuresIn};
+    ghost use Rattle.ash_journal.specs.Journal.{HoldsBeforeRepair, Holds, CountsFailuresIn};
     ghost use Rattle.ash_journal.specs.Journal.{LeavesOther, LeavesRepaired, WritesGates};
     ghost use Rattle.ash_journal.specs.Current.{IsContents, Represent};
     ghost use Rattle.ash_disk.specs.Device.{IsOnlyRead, EveryMomentSince};
@@ -68,7 +68,7 @@ impl<D: Disk> Journal<D> {
     ghost use Rattle.ash_journal.specs.Opening.{FaultIs, CreateFaultIs, IsCreatedOrClosed};
     ghost use Rattle.ash_journal.specs.Writes.{WasUnused};
     ghost use Rattle.ash_journal.specs.Reading.{AreAt, bodies_of};
-    ghost use Rattle.ash_journal.specs.Runs.{Extends, NoContents};
+    ghost use Rattle.ash_journal.specs.SettledSince.{Extends, NoContents};
 
     /// Makes a journal of two disks of which neither file is open: generation 1 with an image and no records, in the
     /// first. The journal is ready for records.
@@ -147,7 +147,7 @@ impl<D: Disk> Journal<D> {
     /// is, else 0; `DeviceFailed`; `NoMemory`. They hand the disks back as they were read.
     pub fn open(alloc: Global, first: D, second: D) -> Result<OpenedJournal<D>, OpenRefused<D>>
         ensures found { IfOk result (λ o. IsTrue (D.honest first) → IsTrue (D.honest second)
-            → Finds D.Disk o.journal o.image.items (bodies_of o.records.items)) }
+            → HoldsBeforeRepair D.Disk o.journal o.image.items (bodies_of o.records.items)) }
         ensures offsets { IfOk result (λ o. IsTrue (D.honest first) → IsTrue (D.honest second)
             → AreAt (header_size + length o.image.items) o.records.items) }
         ensures fault { IfErr result (λ r. IsTrue (D.honest first) → IsTrue (D.honest second)
@@ -303,10 +303,10 @@ impl<D: Disk> Journal<D> {
     /// After `DeviceFailed` it is to be opened again.
     pub fn settle(&mut self) -> Result<(), DeviceFailed>
         ensures settled { OnOk result ((image : List ℕ) (bodies : List (List ℕ))
-            → Finds D.Disk self.old image bodies
+            → HoldsBeforeRepair D.Disk self.old image bodies
             → Holds D.Disk self.new image bodies) }
         ensures extends { (image : List ℕ) (bodies : List (List ℕ))
-            → Finds D.Disk self.old image bodies
+            → HoldsBeforeRepair D.Disk self.old image bodies
             → Extends D.Disk (first_disk self.old) (second_disk self.old)
             (first_disk self.new) (second_disk self.new) NoContents }
         ensures ready { OnOk result ((HasFailed self.old → ⊥) → IsReady self.new) }
@@ -317,7 +317,7 @@ impl<D: Disk> Journal<D> {
             × (second_disk self.new ≡ second_disk self.old) }
         ensures untouched { LeavesRepaired self.old self.new }
         ensures gates { (image : List ℕ) (bodies : List (List ℕ))
-            → Finds D.Disk self.old image bodies
+            → HoldsBeforeRepair D.Disk self.old image bodies
             → WritesGates D.Disk self.old self.new }
         ensures number { generation self.new ≡ generation self.old }
         ensures size { record_bytes self.new ≡ record_bytes self.old }

@@ -3,12 +3,12 @@ ghost use Rattle.std.specs.Prelude.{◌≡◌, ◌+◌, ◌<◌, ◌≤◌, ◌^
 ghost use Rattle.std.specs.Prelude.{[], ℕ, List, length, take, drop};
 ghost use Rattle.std.specs.Prelude.{IsTrue, IfOk, IfSome, IsErr, IsErrOf, MatchOption, MatchResult};
 ghost use Rattle.ash_disk.specs.Device.{IsOnlyRead};
-ghost use Rattle.ash_disk.specs.Image.{bytes_at};
+ghost use Rattle.ash_disk.specs.DiskImage.{bytes_at};
 ghost use Rattle.ash_journal.specs.Layout.{four_bytes, mark, mark_size, prefix_size};
 ghost use Rattle.ash_journal.specs.Layout.{header_size, committed_bytes};
-ghost use Rattle.ash_journal.specs.Layout.{IsShut, FieldsFit, IsCut, HasMark};
+ghost use Rattle.ash_journal.specs.Layout.{IsShut, FieldsFit, IsCutShort, HasMark};
 ghost use Rattle.ash_journal.specs.Reading.{HeaderIs, IsFailure, IsCutFault};
-ghost use Rattle.ash_journal.specs.Reading.{Counts, IsBlock, IsRead};
+ghost use Rattle.ash_journal.specs.Reading.{Counts, IsFileBlock, IsFileRead};
 
 use crate::bytes::{HEADER_SIZE, MAGIC, MARK_SIZE, PREFIX_SIZE};
 use crate::error::OpenFault;
@@ -146,8 +146,8 @@ fn read_block<D: Disk>(
 ) -> Result<Option<Block>, OpenFault>
     ensures answer { IfOk result (λ found. IsTrue (D.honest disk.old)
         → len ≡ length (D.seen disk.old)
-        → MatchOption found (IsCut (drop at (D.seen disk.old)))
-        (λ block. IsBlock block.body.items block.gate (drop at (D.seen disk.old)))) }
+        → MatchOption found (IsCutShort (drop at (D.seen disk.old)))
+        (λ block. IsFileBlock block.body.items block.gate (drop at (D.seen disk.old)))) }
     ensures within { IfOk result (λ found. IfSome found (λ block.
         at + length block.body.items + 4 < len)) }
     ensures short { IfOk result (λ found. IfSome found (λ block.
@@ -200,7 +200,8 @@ fn read_records<D: Disk>(
         → D.seen disk.old ≡ committed_bytes generation image [] ++ first ∷ rest
         → at ≡ length (committed_bytes generation image [])
         → MatchResult result
-        (λ tail. IsRead generation image tail.records.items tail.end tail.gate (D.seen disk.old))
+        (λ tail.
+        IsFileRead generation image tail.records.items tail.end tail.gate (D.seen disk.old))
         (λ fault. IsCutFault fault (D.seen disk.old)) }
     ensures within { IfOk result (λ tail. at ≤ tail.end) }
     ensures only_read { IsOnlyRead D.Disk disk.old disk.new }
@@ -247,7 +248,7 @@ pub(crate) fn read_current<D: Disk>(
     ensures answer { (generation : ℕ) → IsTrue (D.honest disk.old) → len ≡ length (D.seen disk.old)
         → HasMark generation (D.seen disk.old)
         → MatchResult result
-        (λ r. IsRead generation r.image.items r.tail.records.items r.tail.end r.tail.gate
+        (λ r. IsFileRead generation r.image.items r.tail.records.items r.tail.end r.tail.gate
         (D.seen disk.old))
         (λ fault. IsCutFault fault (D.seen disk.old)) }
     ensures within { IfOk result (λ r. header_size + length r.image.items ≤ r.tail.end) }

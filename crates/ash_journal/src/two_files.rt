@@ -3,7 +3,7 @@ ghost use Rattle.std.specs.Prelude.{◌≡◌, ◌+◌, ◌<◌, ◌≤◌, ◌^
 ghost use Rattle.std.specs.Prelude.{ℕ, List, length, IsTrue, IfOk, OnOk, IsErr, IsErrOf};
 ghost use Rattle.std.specs.Prelude.{MatchOption, MatchResult, ◌⊎◌, if◌then◌else◌};
 ghost use Rattle.ash_disk.specs.Device.{IsDurable, IsOnlyRead};
-ghost use Rattle.ash_journal.specs.Failures.{CountsFailuresOf};
+ghost use Rattle.ash_journal.specs.JournalFailures.{CountsFailuresOf};
 ghost use Rattle.ash_journal.specs.Layout.{IsOpen, IsClosed, HasMark, header_size};
 ghost use Rattle.ash_journal.specs.Opening.{HeadersAre, ChoiceIs, ContentsAre, FaultIs};
 ghost use Rattle.ash_journal.specs.Reading.{HeaderIs, ShutIs};

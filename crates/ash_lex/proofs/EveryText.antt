@@ -10,8 +10,8 @@ use Rattle.ash_lex.specs.Signs.{sign_text}
 use Rattle.ash_lex.specs.Pieces.{IsName, IsNumeral}
 use Rattle.ash_lex.specs.Scan.{longest_piece, reserved_word, unsupported_word}
 use Rattle.ash_lex.specs.Tokens.{Meaning, name, number, sign, reserved, unsupported, Lexeme, Means, byte_order_mark}
-use Rattle.ash_lex.specs.Tokens.{Spells, FirstFault}
-use Rattle.ash_lex.specs.ScannedPieces.{IsCut, BeginsWith}
+use Rattle.ash_lex.specs.Tokens.{HasTokens, FirstLexFault}
+use Rattle.ash_lex.specs.ScannedPieces.{IsLongestPiece, BeginsWithPiece}
 use Rattle.ash_lex.specs.declared.words.ReservedWord.{ReservedWord}
 use Rattle.ash_lex.specs.declared.words.UnsupportedWord.{UnsupportedWord}
 use Rattle.ash_lex.specs.declared.pieces.Piece.{Piece}
@@ -25,7 +25,7 @@ use Rattle.ash_lex.proofs.LongestPiece.{longest_piece_is, none_begins}
 use Rattle.ash_lex.proofs.Reading.{IsReadTo, past_gap, past_token, first_fault, has_tokens, read_mark, read_nothing}
 
 abbrev pub HasReading : List ℕ → Type 0
-HasReading text = ((tokens : List Lexeme) × Spells text tokens) ⊎ ((f : LexFault) × FirstFault text f)
+HasReading text = ((tokens : List Lexeme) × HasTokens text tokens) ⊎ ((f : LexFault) × FirstLexFault text f)
 
 -- a word means something
 word_means : (piece : List ℕ) → IsName piece → (m : Meaning) × Means piece m
@@ -43,12 +43,12 @@ word_means piece h = at_reserved (reserved_word piece) refl
 -- a fault of the text, or a place further on to which it is read
 abbrev Onward : List ℕ → ℕ → Type 0
 Onward text place =
-    ((f : LexFault) × FirstFault text f) ⊎ ((n line : ℕ) × (tokens : List Lexeme) × (0 < n)
+    ((f : LexFault) × FirstLexFault text f) ⊎ ((n line : ℕ) × (tokens : List Lexeme) × (0 < n)
     × IsReadTo text (place + n) line tokens)
 
 module _ (text : List ℕ) (place line : ℕ) (tokens : List Lexeme) (read : IsReadTo text place line tokens)
     (more : place < length text) where
-  at_token : (n : ℕ) (m : Meaning) → IsCut (drop place text) n → Means (take n (drop place text)) m → Onward text place
+  at_token : (n : ℕ) (m : Meaning) → IsLongestPiece (drop place text) n → Means (take n (drop place text)) m → Onward text place
   at_token n m cut means =
       inr (
         n,
@@ -58,7 +58,7 @@ module _ (text : List ℕ) (place line : ℕ) (tokens : List Lexeme) (read : IsR
         past_token text place line n tokens read cut m means,
       )
 
-  at_numeral : (n value : ℕ) → IsCut (drop place text) n → IsNumeral (take n (drop place text)) value
+  at_numeral : (n value : ℕ) → IsLongestPiece (drop place text) n → IsNumeral (take n (drop place text)) value
       → Onward text place
   at_numeral n value cut is =
       ⊎_elim (λ small. at_token n (number value) cut (is, small))
@@ -77,7 +77,7 @@ module _ (text : List ℕ) (place line : ℕ) (tokens : List Lexeme) (read : IsR
       ))
       (order value (2 ^ 64))
 
-  at_piece : (p : Piece) → BeginsWith (drop place text) p → Onward text place
+  at_piece : (p : Piece) → BeginsWithPiece (drop place text) p → Onward text place
   at_piece (Gap n) h =
       inr (
         n,

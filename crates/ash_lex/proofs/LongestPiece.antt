@@ -12,7 +12,7 @@ use Rattle.ash_lex.specs.Pieces.{IsOpenComment, IsGap, IsName, IsDecimal, IsHexa
 use Rattle.ash_lex.specs.Pieces.{open_comment, name, numeral, sign, IsLongest}
 use Rattle.ash_lex.specs.Scan.{comment_end, block_comment, sign_piece, slash_piece, numeral_piece, longest_piece}
 use Rattle.ash_lex.specs.Scan.{first_sign}
-use Rattle.ash_lex.specs.ScannedPieces.{IsCut, BeginsWith}
+use Rattle.ash_lex.specs.ScannedPieces.{IsLongestPiece, BeginsWithPiece}
 use Rattle.ash_lex.specs.declared.signs.Sign.{Sign}
 use Rattle.ash_lex.specs.declared.signs.Sign.TheVariants.{NotIs}
 use Rattle.ash_lex.specs.declared.pieces.Piece.{Piece}
@@ -235,12 +235,12 @@ found_longest text p n h is within here = record {
 }
 
 cut : (text : List ℕ) (p : Piece) (n : ℕ) → longest_piece text ≡ Some p → size text (Some p) ≡ n → 0 < n
-    → n ≤ length text → IsPiece (take n text) (drop n text) → IsCut text n
+    → n ≤ length text → IsPiece (take n text) (drop n text) → IsLongestPiece text n
 cut text p n h is some within here =
     record { some = some; within = within; longest = found_longest text p n h is within here }
 
 -- what is found is the longest piece, with its meaning
-pub longest_piece_is : (text : List ℕ) (p : Piece) → longest_piece text ≡ Some p → BeginsWith text p
+pub longest_piece_is : (text : List ℕ) (p : Piece) → longest_piece text ≡ Some p → BeginsWithPiece text p
 longest_piece_is text (Gap n) h =
     let w = found_matches text (Gap n) h in (cut text (Gap n) n h refl w.0 w.1 (gap w.2), w.2)
 longest_piece_is text UnclosedComment h = found_matches text UnclosedComment h

@@ -5,7 +5,7 @@ use Rattle.std.specs.List.{starts_with}
 use Rattle.std.proofs.lemmas.List.{append_assoc, append-nil, length-append, take_at, drop_at, nil_from_length}
 use Rattle.ash_lex.specs.Pieces.{IsOpenComment, IsGap, IsNumeral, open_comment, IsLongest}
 use Rattle.ash_lex.specs.Tokens.{Meaning, Lexeme, Means, byte_order_mark, lexeme_at, Reads, marked, unmarked, gap}
-use Rattle.ash_lex.specs.Tokens.{token, Spells, FaultAt, FirstFault, Rises}
+use Rattle.ash_lex.specs.Tokens.{token, HasTokens, FaultAt, FirstLexFault, Rises}
 use Rattle.ash_lex.specs.declared.faults.LexFault.{LexFault}
 use Rattle.ash_lex.specs.declared.faults.LexFault.TheVariants.{BadCharacter, UnclosedComment, NumberTooLarge}
 use Rattle.ash_lex.specs.declared.faults.LexFault.TheVariants.{SourceTooLong, NoMemory}
@@ -198,11 +198,11 @@ no_fault_at_end place SourceTooLong h = h
 no_fault_at_end place NoMemory h = h
 
 -- a text has at most one list of tokens
-pub tokens_agree : (text : List ℕ) (a b : List Lexeme) → Spells text a → Spells text b → a ≡ b
+pub tokens_agree : (text : List ℕ) (a b : List Lexeme) → HasTokens text a → HasTokens text b → a ≡ b
 tokens_agree text a b h g = (read_once text [] text [] a b h stuck_at_end g stuck_at_end refl).0
 
 -- a text has at most one first fault
-pub faults_agree : (text : List ℕ) (f g : LexFault) → FirstFault text f → FirstFault text g → f ≡ g
+pub faults_agree : (text : List ℕ) (f g : LexFault) → FirstLexFault text f → FirstLexFault text g → f ≡ g
 faults_agree text f g (before, left, tokens, split, reads, at) (before', left', tokens', split', reads', at') =
     let same =
     read_once before left before' left' tokens tokens' reads (stuck_at_fault (length before) left f at) reads'
@@ -211,7 +211,7 @@ faults_agree text f g (before, left, tokens, split, reads, at) (before', left', 
     (subst (λ l. FaultAt (length before) l g) (sym same.2) (subst (λ b. FaultAt (length b) left' g) (sym same.1) at'))
 
 -- a text that has tokens has no fault
-pub tokens_or_fault : (text : List ℕ) (tokens : List Lexeme) (f : LexFault) → Spells text tokens → FirstFault text f → ⊥
+pub tokens_or_fault : (text : List ℕ) (tokens : List Lexeme) (f : LexFault) → HasTokens text tokens → FirstLexFault text f → ⊥
 tokens_or_fault text tokens f h (before, left, tokens', split, reads, at) =
     let same =
     read_once text [] before left tokens tokens' h stuck_at_end reads (stuck_at_fault (length before) left f at)

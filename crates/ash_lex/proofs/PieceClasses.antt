@@ -4,8 +4,8 @@ use Rattle.std.proofs.Common.{slice_index, Some, None, codes, sym, refl, ap, ◌
 use Rattle.std.specs.List.{starts_with}
 use Rattle.ash_lex.specs.Bytes.{is_blank, is_digit, is_letter, Each, value_in}
 use Rattle.ash_lex.specs.Signs.{sign_text}
-use Rattle.ash_lex.specs.Words.{reserved_text, unsupported_text}
-use Rattle.ash_lex.specs.Pieces.{HasNoEnd, IsOpenComment, IsGap, IsName, IsNumeral}
+use Rattle.ash_lex.specs.ReservedWords.{reserved_text, unsupported_text}
+use Rattle.ash_lex.specs.Pieces.{HasNoCommentEnd, IsOpenComment, IsGap, IsName, IsNumeral}
 use Rattle.ash_lex.specs.Scan.{comment_end, reserved_word}
 use Rattle.ash_lex.specs.Tokens.{Meaning, name, number, sign, reserved, unsupported, Means}
 use Rattle.ash_lex.specs.declared.signs.Sign.{Sign}
@@ -40,7 +40,7 @@ none_is_no_some : (n : ℕ) → None ≡ Some n → ⊥
 none_is_no_some n h = cc
 
 -- a text doesn't end a comment and leave it open
-no_two_ends : (t u : List ℕ) → HasNoEnd t → HasNoEnd (u ++ 42 ∷ []) → t ≡ u ++ 42 ∷ 47 ∷ [] → ⊥
+no_two_ends : (t u : List ℕ) → HasNoCommentEnd t → HasNoCommentEnd (u ++ 42 ∷ []) → t ≡ u ++ 42 ∷ 47 ∷ [] → ⊥
 no_two_ends t u h g e =
     none_is_no_some (length u + 2) (sym (comment_end-none t h) ∙ ap comment_end e ∙ comment_end-at u [] g)
 

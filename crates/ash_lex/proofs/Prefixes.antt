@@ -7,7 +7,7 @@ use Rattle.std.proofs.lemmas.Bool.Decides.{Decides-eqb}
 use Rattle.std.proofs.lemmas.List.Sums.{take_while-cons}
 use Rattle.std.proofs.lemmas.Slice.Eq.{starts_is}
 use Rattle.ash_lex.specs.Bytes.{Each}
-use Rattle.ash_lex.specs.Pieces.{HasNoEnd}
+use Rattle.ash_lex.specs.Pieces.{HasNoCommentEnd}
 use Rattle.ash_lex.specs.Scan.{comment_end}
 
 pub both_true : (a b : Bool) → (a && b) ≡ true → (a ≡ true) × (b ≡ true)
@@ -56,13 +56,13 @@ same_start x [] r = refl
 same_start x (y ∷ t) r = refl
 
 -- a comment's text ends where `*/` begins nowhere before
-pub comment_end-at : (t r : List ℕ) → HasNoEnd (t ++ 42 ∷ []) → comment_end (t ++ 42 ∷ 47 ∷ r) ≡ Some (length t + 2)
+pub comment_end-at : (t r : List ℕ) → HasNoCommentEnd (t ++ 42 ∷ []) → comment_end (t ++ 42 ∷ 47 ∷ r) ≡ Some (length t + 2)
 comment_end-at [] r h = refl
 comment_end-at (x ∷ t) r h =
     rw (same_start x t r, not_true _ h.0, comment_end-at t r h.1) (ap Some (omega arith))
 
 -- without a `*/` there is no end
-pub comment_end-none : (t : List ℕ) → HasNoEnd t → comment_end t ≡ None
+pub comment_end-none : (t : List ℕ) → HasNoCommentEnd t → comment_end t ≡ None
 comment_end-none [] h = refl
 comment_end-none (x ∷ t) h = rw (not_true _ h.0, comment_end-none t h.1) refl
 
@@ -76,7 +76,7 @@ map_none (Some m) h = cc
 
 -- the end that is found is the first `*/`
 pub comment_end-some : (xs : List ℕ) (n : ℕ) → comment_end xs ≡ Some n
-    → (t r : List ℕ) × (xs ≡ t ++ 42 ∷ 47 ∷ r) × (n ≡ length t + 2) × HasNoEnd (t ++ 42 ∷ [])
+    → (t r : List ℕ) × (xs ≡ t ++ 42 ∷ 47 ∷ r) × (n ≡ length t + 2) × HasNoCommentEnd (t ++ 42 ∷ [])
 comment_end-some [] n h = cc
 comment_end-some (x ∷ xs) n h =
     elim (cond_cases (starts_with nat_eq (x ∷ xs) (codes "*/")) (Some 2) (option_map (λ k. k + 1) (comment_end xs))
@@ -97,7 +97,7 @@ comment_end-some (x ∷ xs) n h =
           )
     ]
 
-pub comment_end-none_found : (xs : List ℕ) → comment_end xs ≡ None → HasNoEnd xs
+pub comment_end-none_found : (xs : List ℕ) → comment_end xs ≡ None → HasNoCommentEnd xs
 comment_end-none_found [] h = tt
 comment_end-none_found (x ∷ xs) h =
     elim (cond_cases (starts_with nat_eq (x ∷ xs) (codes "*/")) (Some 2)

@@ -9,12 +9,12 @@ use Rattle.std.proofs.lemmas.List.{length-take-le, length-drop, take-append-drop
 use Rattle.std.proofs.lemmas.List.{map_push}
 use Rattle.ash_lex.specs.Bytes.{is_line_feed, is_digit, is_hex_digit, is_word, Each}
 use Rattle.ash_lex.specs.Signs.{sign_text}
-use Rattle.ash_lex.specs.Words.{reserved_text, unsupported_text}
+use Rattle.ash_lex.specs.ReservedWords.{reserved_text, unsupported_text}
 use Rattle.ash_lex.specs.Pieces.{IsGap, IsName, IsNumeral}
 use Rattle.ash_lex.specs.Tokens.{Meaning, name, number, sign, reserved, unsupported, Lexeme, lexeme_of, lexemes}
 use Rattle.ash_lex.specs.Tokens.{meaning_of, Means, byte_order_mark, lexeme_at, Reads, marked, unmarked, gap, token}
-use Rattle.ash_lex.specs.Tokens.{Spells, FaultAt, FirstFault}
-use Rattle.ash_lex.specs.ScannedPieces.{IsCut, IsScanned, IsPieceFault, IsTextFault}
+use Rattle.ash_lex.specs.Tokens.{HasTokens, FaultAt, FirstLexFault}
+use Rattle.ash_lex.specs.ScannedPieces.{IsLongestPiece, IsScanned, IsPieceFault, IsTextFault}
 use Rattle.ash_lex.specs.declared.lexer.ScannedPiece.{ScannedPiece}
 use Rattle.ash_lex.specs.declared.lexer.ScannedPiece.TheVariants.{Gap, Token as TokenPiece}
 use Rattle.ash_lex.specs.declared.tokens.TokenKind.{TokenKind}
@@ -93,7 +93,7 @@ feeds_further text place n =
     ∙ sum_by-append (λ b. cond (is_line_feed b) 1 0) (take place text) (take n (drop place text))
 
 module _ (text : List ℕ) (place line n : ℕ) (tokens : List Lexeme) (read : IsReadTo text place line tokens)
-    (cut : IsCut (drop place text) n) where
+    (cut : IsLongestPiece (drop place text) n) where
   -- what is left begins with the piece
   at_piece : Reads (take place text) tokens (take n (drop place text) ++ drop n (drop place text))
   at_piece = subst (Reads (take place text) tokens) (sym (take-append-drop n (drop place text))) read.reads
@@ -140,7 +140,7 @@ module _ (text : List ℕ) (place line n : ℕ) (tokens : List Lexeme) (read : I
 
 -- a fault where the text is read to is the text's first
 pub first_fault : (text : List ℕ) (place line : ℕ) (tokens : List Lexeme) (f : LexFault)
-    → IsReadTo text place line tokens → FaultAt place (drop place text) f → FirstFault text f
+    → IsReadTo text place line tokens → FaultAt place (drop place text) f → FirstLexFault text f
 first_fault text place line tokens f read h = (
   take place text,
   drop place text,
@@ -152,7 +152,7 @@ first_fault text place line tokens f read h = (
 
 -- a text that is read to its end has these tokens
 pub has_tokens : (text : List ℕ) (place line : ℕ) (tokens : List Lexeme) → IsReadTo text place line tokens
-    → length text ≤ place → Spells text tokens
+    → length text ≤ place → HasTokens text tokens
 has_tokens text place line tokens read h =
     subst (λ l. Reads l tokens []) (take_all place text h)
     (subst (λ l. Reads (take place text) tokens l) (drop_all place text h) read.reads)

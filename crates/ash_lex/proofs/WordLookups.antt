@@ -4,7 +4,7 @@ use Rattle.std.proofs.Common.{subst}
 use Rattle.std.specs.Prelude.{find}
 use Rattle.std.specs.Str.{bytes_eq}
 use Rattle.std.proofs.lemmas.Slice.Eq.{bytes_eq-Decides}
-use Rattle.ash_lex.specs.Words.{reserved_text, unsupported_text}
+use Rattle.ash_lex.specs.ReservedWords.{reserved_text, unsupported_text}
 use Rattle.ash_lex.specs.Scan.{reserved_word, unsupported_word, reserved_words, unsupported_words}
 use Rattle.ash_lex.specs.declared.words.ReservedWord.{ReservedWord}
 use Rattle.ash_lex.specs.declared.words.UnsupportedWord.{UnsupportedWord}

@@ -1,7 +1,7 @@
 -- Each word is in its table: the look-up finds it by its characters.
 use Rattle.std.proofs.Common.{◌≡◌, ℕ, ◌<◌, List, [], ◌∷◌, length, Some, get_or, refl, arith, find}
 use Rattle.std.specs.Str.{bytes_eq}
-use Rattle.ash_lex.specs.Words.{reserved_text, unsupported_text}
+use Rattle.ash_lex.specs.ReservedWords.{reserved_text, unsupported_text}
 use Rattle.ash_lex.specs.Scan.{reserved_word, unsupported_word}
 use Rattle.ash_lex.specs.declared.words.ReservedWord.{ReservedWord}
 use Rattle.ash_lex.specs.declared.words.ReservedWord.TheVariants.{And, Or, Xor, Not, Is, Null, True, False, Void}

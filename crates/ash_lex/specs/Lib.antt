@@ -1,8 +1,8 @@
 pub mod Bytes
 pub mod Signs
-pub mod Words
+pub mod ReservedWords
 pub mod Pieces
 pub mod Tokens
 pub mod Scan
 pub mod ScannedPieces
-pub mod FaultCodes
+pub mod LexCodes

@@ -15,18 +15,18 @@ IsLineComment piece =
     (text : List ℕ) × (piece ≡ codes "//" ++ text) × Each (λ b. not (is_line_feed b)) text
 
 -- `*/` begins nowhere in the text.
-abbrev pub HasNoEnd : List ℕ → Type 0
-HasNoEnd [] = Unit {0}
-HasNoEnd (b ∷ bs) = IsTrue (not (starts_with nat_eq (b ∷ bs) (codes "*/"))) × HasNoEnd bs
+abbrev pub HasNoCommentEnd : List ℕ → Type 0
+HasNoCommentEnd [] = Unit {0}
+HasNoCommentEnd (b ∷ bs) = IsTrue (not (starts_with nat_eq (b ∷ bs) (codes "*/"))) × HasNoCommentEnd bs
 
 -- The piece is `/*` and what follows it up to the first `*/`: a `/*` inside means nothing.
 abbrev pub IsBlockComment : List ℕ → Type 0
 IsBlockComment piece =
-    (text : List ℕ) × (piece ≡ codes "/*" ++ (text ++ codes "*/")) × HasNoEnd (text ++ codes "*")
+    (text : List ℕ) × (piece ≡ codes "/*" ++ (text ++ codes "*/")) × HasNoCommentEnd (text ++ codes "*")
 
 -- The piece is `/*` with no `*/` after it.
 abbrev pub IsOpenComment : List ℕ → Type 0
-IsOpenComment piece = (text : List ℕ) × (piece ≡ codes "/*" ++ text) × HasNoEnd text
+IsOpenComment piece = (text : List ℕ) × (piece ≡ codes "/*" ++ text) × HasNoCommentEnd text
 
 -- The piece parts tokens and is none.
 abbrev pub IsGap : List ℕ → Type 0

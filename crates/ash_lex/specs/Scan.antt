@@ -8,7 +8,7 @@ use Rattle.std.specs.Str.{bytes_eq}
 use Rattle.ash_lex.specs.Bytes.{is_blank, is_line_feed, is_digit, is_hex_digit, is_letter, is_word}
 use Rattle.ash_lex.specs.Bytes.{begins_with_hex_digit}
 use Rattle.ash_lex.specs.Signs.{sign_text, may_follow}
-use Rattle.ash_lex.specs.Words.{reserved_text, unsupported_text}
+use Rattle.ash_lex.specs.ReservedWords.{reserved_text, unsupported_text}
 use Rattle.ash_lex.specs.declared.signs.Sign.{Sign}
 use Rattle.ash_lex.specs.declared.signs.Sign.TheVariants.{OpenParenthesis, CloseParenthesis, OpenBrace, CloseBrace}
 use Rattle.ash_lex.specs.declared.signs.Sign.TheVariants.{OpenBracket, CloseBracket, Semicolon, Comma, Colon, Question}

@@ -4,7 +4,7 @@ use Rattle.std.specs.Prelude.{string_bytes}
 use Rattle.std.specs.List.{starts_with, count_by}
 use Rattle.ash_lex.specs.Bytes.{is_line_feed}
 use Rattle.ash_lex.specs.Signs.{sign_text}
-use Rattle.ash_lex.specs.Words.{reserved_text, unsupported_text}
+use Rattle.ash_lex.specs.ReservedWords.{reserved_text, unsupported_text}
 use Rattle.ash_lex.specs.Pieces.{IsGap, IsName, IsNumeral, IsOpenComment, IsPiece, IsLongest}
 use Rattle.ash_lex.specs.declared.signs.Sign.{Sign}
 use Rattle.ash_lex.specs.declared.words.ReservedWord.{ReservedWord}
@@ -83,8 +83,8 @@ pub data Reads : List ℕ → List Lexeme → List ℕ → Type 0 where
       → Means piece m → IsLongest piece rest → Reads (before ++ piece) (tokens ++ lexeme_at before piece m ∷ []) rest
 
 -- The text is cut to its end, and these are its tokens.
-abbrev pub Spells : List ℕ → List Lexeme → Type 0
-Spells text tokens = Reads text tokens []
+abbrev pub HasTokens : List ℕ → List Lexeme → Type 0
+HasTokens text tokens = Reads text tokens []
 
 -- No piece begins the text.
 abbrev pub BeginsNothing : List ℕ → Type 0
@@ -103,8 +103,8 @@ FaultAt place left SourceTooLong = ⊥
 FaultAt place left NoMemory = ⊥
 
 -- The text is cut without a fault up to the place of this fault.
-abbrev pub FirstFault : List ℕ → LexFault → Type 0
-FirstFault text fault =
+abbrev pub FirstLexFault : List ℕ → LexFault → Type 0
+FirstLexFault text fault =
     (before left : List ℕ) × (tokens : List Lexeme) × (before ++ left ≡ text) × Reads before tokens left
     × FaultAt (length before) left fault
 
@@ -116,7 +116,7 @@ max_source_bytes = 65536
 abbrev pub IsRefusal : List ℕ → LexFault → Type 0
 IsRefusal text SourceTooLong = max_source_bytes < length text
 IsRefusal text NoMemory = Unit {0}
-IsRefusal text fault = (length text ≤ max_source_bytes) × FirstFault text fault
+IsRefusal text fault = (length text ≤ max_source_bytes) × FirstLexFault text fault
 
 -- Each token begins at or after the place, and ends before the next begins and at most at the end.
 abbrev pub Rises : ℕ → ℕ → List Lexeme → Type 0

@@ -1,6 +1,6 @@
 //! Why a text has no tokens.
 
-ghost use Rattle.ash_lex.specs.FaultCodes.{code_of};
+ghost use Rattle.ash_lex.specs.LexCodes.{code_of};
 ghost use Rattle.ash_lex.specs.declared.faults.LexFault.TheVariants.{NoMemory};
 ghost use Rattle.std.specs.Prelude.{◌≡◌};
 

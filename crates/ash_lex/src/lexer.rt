@@ -8,8 +8,8 @@ ghost use Rattle.ash_lex.specs.declared.faults.LexFault.TheVariants.{NoMemory, N
 ghost use Rattle.ash_lex.specs.Pieces.{IsName};
 ghost use Rattle.ash_lex.specs.Bytes as spec;
 ghost use Rattle.ash_lex.specs.Tokens.{Means, meaning_of, number, Lexeme};
-ghost use Rattle.ash_lex.specs.Tokens.{lexemes, Reads, Spells, Rises};
-ghost use Rattle.ash_lex.specs.Tokens.{FirstFault, IsRefusal};
+ghost use Rattle.ash_lex.specs.Tokens.{lexemes, Reads, HasTokens, Rises};
+ghost use Rattle.ash_lex.specs.Tokens.{FirstLexFault, IsRefusal};
 ghost use Rattle.ash_lex.specs.ScannedPieces.{IsScanned, IsPieceFault, IsTextFault};
 
 use crate::bytes::line_feeds;
@@ -111,7 +111,7 @@ fn mark_len(text: &[u8]) -> usize
 /// The tokens of a text that is not too long.
 fn tokens_of(alloc: Global, text: &[u8]) -> Result<Vec<Token>, LexFault>
     requires { length text.now ≤ MAX_SOURCE_BYTES }
-    ensures tokens { IfOk result (λ tokens. Spells text.now (lexemes tokens.items)) }
+    ensures tokens { IfOk result (λ tokens. HasTokens text.now (lexemes tokens.items)) }
     ensures stopped { IfErr result (λ fault. IsTextFault text.now fault) }
 {
     let mut tokens = Vec::with_capacity(alloc, text.len() / BYTES_A_TOKEN)?;
@@ -149,15 +149,15 @@ pub fn lex(alloc: Global, text: &str) -> Result<Vec<Token>, LexFault>
     ensures too_long { (result ≡ Err LexFault.SourceTooLong)
         ↔ (MAX_SOURCE_BYTES < length text.now) }
     // What is answered is the text's tokens.
-    ensures found { IfOk result (λ tokens. Spells text.now (lexemes tokens.items)) }
+    ensures found { IfOk result (λ tokens. HasTokens text.now (lexemes tokens.items)) }
     ensures rising { IfOk result (λ tokens. Rises 0 (length text.now) (lexemes tokens.items)) }
     // The text's tokens are answered.
-    ensures only { (tokens : List Lexeme) → Spells text.now tokens
+    ensures only { (tokens : List Lexeme) → HasTokens text.now tokens
         → length text.now ≤ MAX_SOURCE_BYTES
         → MatchResult result (λ answer. lexemes answer.items ≡ tokens) (λ fault. fault ≡ NoMemory) }
     // A fault that is answered is the text's first, and the first is answered.
     ensures fault { IfErr result (λ fault. IsRefusal text.now fault) }
-    ensures refused { (fault : LexFault) → FirstFault text.now fault
+    ensures refused { (fault : LexFault) → FirstLexFault text.now fault
         → length text.now ≤ MAX_SOURCE_BYTES
         → IsErrAnd result (λ answer. (answer ≡ fault) ⊎ (answer ≡ NoMemory)) }
 {
@@ -169,11 +169,12 @@ pub fn lex(alloc: Global, text: &str) -> Result<Vec<Token>, LexFault>
 
 /// That a text has one list of tokens or one first fault, and not both. It does nothing when it runs.
 pub fn one_reading()
-    ensures total { (text : List ℕ) → ((tokens : List Lexeme) × Spells text tokens)
-        ⊎ ((fault : LexFault) × FirstFault text fault) }
-    ensures tokens { (text : List ℕ) (a b : List Lexeme) → Spells text a → Spells text b → a ≡ b }
-    ensures faults { (text : List ℕ) (f g : LexFault) → FirstFault text f → FirstFault text g
+    ensures total { (text : List ℕ) → ((tokens : List Lexeme) × HasTokens text tokens)
+        ⊎ ((fault : LexFault) × FirstLexFault text fault) }
+    ensures tokens { (text : List ℕ) (a b : List Lexeme) → HasTokens text a → HasTokens text b
+        → a ≡ b }
+    ensures faults { (text : List ℕ) (f g : LexFault) → FirstLexFault text f → FirstLexFault text g
         → f ≡ g }
-    ensures apart { (text : List ℕ) (tokens : List Lexeme) (f : LexFault) → Spells text tokens
-        → ¬ FirstFault text f }
+    ensures apart { (text : List ℕ) (tokens : List Lexeme) (f : LexFault) → HasTokens text tokens
+        → ¬ FirstLexFault text f }
 {}

@@ -4,7 +4,7 @@ ghost use Rattle.std.specs.Prelude.{◌≡◌, ◌+◌, ◌<◌, ◌≤◌, ◌^
 ghost use Rattle.std.specs.Prelude.{IfSome, IsTrue, MatchOption};
 ghost use Rattle.ash_lex.specs.declared.pieces.Piece.TheVariants.{Gap as GapPiece};
 ghost use Rattle.ash_lex.specs.Scan as spec;
-ghost use Rattle.ash_lex.specs.ScannedPieces.{BeginsWith};
+ghost use Rattle.ash_lex.specs.ScannedPieces.{BeginsWithPiece};
 ghost use Rattle.ash_lex.specs.Tokens.{BeginsNothing};
 
 use crate::bytes::{
@@ -115,7 +115,7 @@ fn by_first_byte(text: &[u8]) -> Option<Piece>
 /// Whether the text begins with a blank, which is then its longest piece.
 pub fn begins_with_blank(text: &[u8]) -> bool
     requires some { 0 < length text.now }
-    ensures blank { IsTrue result → BeginsWith text.now (GapPiece 1) }
+    ensures blank { IsTrue result → BeginsWithPiece text.now (GapPiece 1) }
 {
     is_blank(text[0])
 }
@@ -123,7 +123,7 @@ pub fn begins_with_blank(text: &[u8]) -> bool
 /// The longest piece that the text begins with.
 pub fn longest_piece(text: &[u8]) -> Option<Piece>
     requires some { 0 < length text.now }
-    ensures longest { MatchOption result (BeginsNothing text.now) (BeginsWith text.now) }
+    ensures longest { MatchOption result (BeginsNothing text.now) (BeginsWithPiece text.now) }
 {
     by_first_byte(text)
 }

@@ -2,7 +2,7 @@
 
 ghost use Rattle.std.specs.Prelude.{◌≡◌, ℕ, List, ◌∷◌, Some, find};
 ghost use Rattle.std.specs.Str.{bytes_eq};
-ghost use Rattle.ash_lex.specs.Words.{reserved_text, unsupported_text};
+ghost use Rattle.ash_lex.specs.ReservedWords.{reserved_text, unsupported_text};
 ghost use Rattle.ash_lex.specs.Scan.{reserved_word, unsupported_word};
 
 use std::fmt;

@@ -3,7 +3,7 @@ use Rattle.std.proofs.Common.{◌≡◌, ℕ, ◌==◌, Bool, true, false, List,
 use Rattle.std.specs.List.{flat_map, list_any}
 use Rattle.ash_host.specs.declared.event.Event.{Event}
 use Rattle.ash_lines.specs.ObjectTexts.{byte_text, state_text}
-use Rattle.ash_lines.specs.Replies.{is_drop, drop_text, drops_text}
+use Rattle.ash_lines.specs.ReplyText.{is_drop, drop_text, drops_text}
 
 -- a state that has bytes
 pub some-state : (state : List ℕ) (empty : Bool) → empty ≡ (length state == 0) → empty ≡ false → state_text state ≡ codes " state " ++ flat_map byte_text state

@@ -12,7 +12,7 @@ use Rattle.std.specs.Borrow.{Bor}
 use Rattle.ash_steps.specs.declared.argument.Argument.{Argument}
 use Rattle.ash_lines.specs.Lines.{pieces, onto, is_visible, is_word, both, argument_of, arguments_of, Complete}
 use Rattle.ash_lines.specs.Lines.{BadRequest, call_request, parse_call, parse_line, parse_words}
-use Rattle.ash_lines.specs.Words.{is_none_left, words_left}
+use Rattle.ash_lines.specs.LineWords.{is_none_left, words_left}
 use Rattle.ash_lines.proofs.LineLemmas.{pieces-space, pieces-other}
 
 -- a line has a piece

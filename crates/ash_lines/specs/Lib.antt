@@ -2,11 +2,11 @@ pub mod Source
 pub mod Sink
 pub mod Reading
 pub mod Lines
-pub mod Words
+pub mod LineWords
 pub mod ParsedLines
 pub mod FaultDetails
 pub mod RefusalTexts
 pub mod ObjectTexts
-pub mod Replies
+pub mod ReplyText
 pub mod Reader
 pub mod Writer

@@ -15,9 +15,9 @@ pub data Line : Type 0 where
   LineTooLong : Line
 
 -- The run goes on after this line: after any but `quit`.
-abbrev pub GoesOn : Line → Type 0
-GoesOn Quit = ⊥
-GoesOn _ = Unit {0}
+abbrev pub ContinuesRun : Line → Type 0
+ContinuesRun Quit = ⊥
+ContinuesRun _ = Unit {0}
 
 -- the most bytes of a line, its line feed not counted
 abbrev pub max_line_bytes : ℕ

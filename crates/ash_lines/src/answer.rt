@@ -4,9 +4,9 @@ ghost use Rattle.std.specs.Prelude.{◌≡◌, ◌++◌, codes};
 ghost use Rattle.std.specs.List.{flat_map, list_any};
 ghost use Rattle.ash_evaluator.specs.EndViews.{end_seen};
 ghost use Rattle.ash_lines.specs.Sink.{Writes};
-ghost use Rattle.ash_lines.specs.Replies.{answer_text, end_text, finished_text, exception_text};
-ghost use Rattle.ash_lines.specs.Replies.{raised_text, place_text, seq_text, is_drop, drop_text};
-ghost use Rattle.ash_lines.specs.Replies.{drops_text};
+ghost use Rattle.ash_lines.specs.ReplyText.{answer_text, end_text, finished_text, exception_text};
+ghost use Rattle.ash_lines.specs.ReplyText.{raised_text, place_text, seq_text, is_drop, drop_text};
+ghost use Rattle.ash_lines.specs.ReplyText.{drops_text};
 
 use crate::object::write_ok;
 use crate::pieces::write_all;

@@ -5,7 +5,7 @@ ghost use Rattle.ash_plain_steps.specs.RequestViews.{reply_seen};
 ghost use Rattle.ash_sources.specs.SourceFaults.{fault_of};
 ghost use Rattle.ash_lines.specs.Sink.{Writes, WritesAndFlushes};
 ghost use Rattle.ash_lines.specs.RefusalTexts.{fault_text};
-ghost use Rattle.ash_lines.specs.Replies.{line_reply_of, reply_line, reply_text};
+ghost use Rattle.ash_lines.specs.ReplyText.{line_reply_of, reply_line, reply_text};
 
 use crate::answer::write_answer;
 use crate::object::{write_ok, write_shown};

@@ -8,7 +8,7 @@ ghost use Rattle.ash_lines.specs.Lines.{Line, Complete, is_word, arguments_of, m
 ghost use Rattle.ash_lines.specs.Lines.{max_arguments, parse_line, parse_verb, parse_load};
 ghost use Rattle.ash_lines.specs.Lines.{parse_call, parse_discard, parse_get, parse_object};
 ghost use Rattle.ash_lines.specs.Lines.{parse_lone};
-ghost use Rattle.ash_lines.specs.Words.{words_left};
+ghost use Rattle.ash_lines.specs.LineWords.{words_left};
 ghost use Rattle.ash_lines.specs.ParsedLines.{parsed_of, IsNotOneWord, IsNotTwoWords};
 
 use crate::line::MAX_LINE_BYTES;

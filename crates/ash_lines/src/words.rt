@@ -3,7 +3,7 @@
 ghost use Rattle.std.specs.Prelude.{◌≡◌, [], ◌∷◌, ◌==◌, position, MatchOption, Some, None};
 ghost use Rattle.std.specs.List.{list_all};
 ghost use Rattle.ash_lines.specs.Lines.{pieces, is_visible, is_word};
-ghost use Rattle.ash_lines.specs.Words.{words_left, is_none_left};
+ghost use Rattle.ash_lines.specs.LineWords.{words_left, is_none_left};
 
 use std::str;
 

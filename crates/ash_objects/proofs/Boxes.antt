@@ -9,7 +9,7 @@ use Rattle.ash_slots.specs.declared.body.Body.TheVariants.{Script, Array, Host}
 use Rattle.ash_slots.specs.Bodies.{words_of}
 use Rattle.ash_slots.specs.Store.{SlotEntry, change_at}
 use Rattle.ash_objects.specs.Table.{Living}
-use Rattle.ash_slots.specs.Responses.{box_of, stored_box, boxed}
+use Rattle.ash_slots.specs.SlotResponses.{box_of, stored_box, boxed}
 use Rattle.ash_objects.specs.Responses.{with_box, called}
 use Rattle.ash_host.specs.declared.answer.HostAnswer.{HostAnswer}
 use Rattle.ash_host.specs.declared.answer.HostAnswer.TheVariants as answers

@@ -22,7 +22,7 @@ use Rattle.ash_slots.specs.Bodies.{words_of, is_boxed}
 use Rattle.ash_slots.specs.Store.{SlotEntry, NoneWaits}
 use Rattle.ash_objects.specs.Table.{Living, Table, fields_holding, holds_of}
 use Rattle.ash_objects.specs.Counting.{holding, fields_in, living, living_among, living_in, face, face_at, AreCounted, IsTable}
-use Rattle.ash_slots.specs.Counting.{counted}
+use Rattle.ash_slots.specs.SlotCounting.{counted}
 use Rattle.ash_objects.specs.Collecting.{mark_of, HaveGone, AreInOrder, marked_since, marked_drops}
 use Rattle.ash_objects.specs.Sweeping.{RefersTo, gone_from, gone_since, drops, Collects, RanksFall, LeavesReachable}
 use Rattle.ash_objects.proofs.Counts.{object_at-living, numbers-living, count_is}

@@ -9,12 +9,12 @@ use Rattle.std.proofs.lemmas.List.{length-append}
 use Rattle.std.proofs.lemmas.Map.Entries.{sum_by-remove_entry}
 use Rattle.ash_host.specs.declared.word.Word.{Word}
 use Rattle.ash_host.specs.Objects.{object_at, IsInOrder, Lives, handles_to}
-use Rattle.ash_slots.specs.declared.entry.Item.{Item}
+use Rattle.ash_slots.specs.declared.entry.Occupant.{Occupant}
 use Rattle.ash_slots.specs.declared.entry.Entry.{Entry}
 use Rattle.ash_slots.specs.Bodies.{words_of, is_boxed}
 use Rattle.ash_slots.specs.Store.{SlotEntry, AreStored, IsIn, IsIdle, change_in, with_waiting}
 use Rattle.ash_objects.specs.Counting.{holding, fields_in, AreCounted, face, face_at, release_all}
-use Rattle.ash_slots.specs.Counting.{counted, decremented}
+use Rattle.ash_slots.specs.SlotCounting.{counted, decremented}
 use Rattle.ash_objects.specs.Collecting.{mark_of, entry_mark, HaveGone}
 use Rattle.ash_objects.proofs.Fields.{in_face}
 use Rattle.ash_slots.proofs.Removing.{object_at-removed}
@@ -72,7 +72,7 @@ module _ {B : Type 0} where
   }
 
   -- the handles of an object that is taken out are counted
-  pub taken_covers : (l : List (ℕ × SlotEntry B)) (n : ℕ) (it : Item B) → IsInOrder l
+  pub taken_covers : (l : List (ℕ × SlotEntry B)) (n : ℕ) (it : Occupant B) → IsInOrder l
       → ((m : ℕ) → fields_in m l ≤ counted m l) → IsSomeAnd (object_at n l) (λ object. object.item ≡ it)
       → counted n l ≡ 0 → (m : ℕ) → handles_to m (words_of it.body) ≤ counted m (remove_entry (nat_eq n) l)
   taken_covers l n it o covered mine none m =
@@ -82,7 +82,7 @@ module _ {B : Type 0} where
       held : (v : Option (SlotEntry B)) → IsSomeAnd v (λ object. object.item ≡ it)
           → unwrap_or (option_map (holding m) v) 0 ≡ handles_to m (words_of it.body)
       held None h = absurd h
-      held (Some p) h = ap (λ (i : Item B). handles_to m (words_of i.body)) h
+      held (Some p) h = ap (λ (i : Occupant B). handles_to m (words_of i.body)) h
 
       counts : counted m (remove_entry (nat_eq n) l) ≡ counted m l
       counts = ap (λ (v : Option (SlotEntry B)). option_map_or (λ object. (object.item).count) v 0) (object_at-removed n m l o) ∙ go (nat_eq n m) refl
@@ -200,7 +200,7 @@ module _ {B : Type 0} where
     taken_fields m =
         let sums = sum_by-remove_entry (holding m) (nat_eq entry.number) l1 in
         let there = ap (λ (v : Option (SlotEntry B)). unwrap_or (option_map (holding m) v) 0) it.1 in
-        let words = ap (λ (i : Item B). handles_to m (words_of i.body)) it.2 in
+        let words = ap (λ (i : Occupant B). handles_to m (words_of i.body)) it.2 in
         omega (arith, sums, there, words, seen_fields slot m l)
 
     covers : (m : ℕ) → handles_to m ws ≤ counted m l2
@@ -314,7 +314,7 @@ module _ {B : Type 0} where
       whole = λ measure.
           let pushed = sum_by_push (λ e. measure (entry_mark e)) taken entry in
           let removed = sum_entries-removed (λ e. measure (mark_of e)) entry.number it.0 l1 it.1 in
-          let same = ap (λ (i : Item B). measure (entry.number, is_boxed i.body)) it.2 in
+          let same = ap (λ (i : Occupant B). measure (entry.number, is_boxed i.body)) it.2 in
           let before = seen_sum slot (λ e. measure (mark_of e)) (λ k p. refl) l in
           let after = released_marks measure ws l2 in
           omega (arith, pushed, removed, same, before, after, h.whole measure);

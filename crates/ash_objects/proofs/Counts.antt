@@ -11,7 +11,7 @@ use Rattle.ash_slots.specs.Bodies.{words_of}
 use Rattle.ash_slots.specs.Store.{SlotEntry, change_at}
 use Rattle.ash_objects.specs.Table.{Living, fields_holding, held, unheld}
 use Rattle.ash_objects.specs.Counting.{holding, fields_in, living, living_among, living_in, AreCounted, AreGiven}
-use Rattle.ash_slots.specs.Counting.{counted, incremented, decremented}
+use Rattle.ash_slots.specs.SlotCounting.{counted, incremented, decremented}
 use Rattle.ash_slots.proofs.Changing.{object_at-change, length-change, in_order-change, sum_same-change}
 
 module _ {B : Type 0} where

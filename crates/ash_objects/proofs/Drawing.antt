@@ -6,9 +6,9 @@ use Rattle.std.specs.List.{remove, position}
 use Rattle.ash_host.specs.declared.host_object.HostObject.{Ghosts}
 use Rattle.ash_slots.specs.declared.body.Body.{Body}
 use Rattle.ash_slots.specs.declared.body.Body.TheVariants.{Script, Array, Host}
-use Rattle.ash_slots.specs.Responses.{box_of}
+use Rattle.ash_slots.specs.SlotResponses.{box_of}
 use Rattle.ash_slots.specs.Store.{SlotEntry}
-use Rattle.ash_objects.specs.declared.restoring.StoredObject.{StoredObject}
+use Rattle.ash_objects.specs.declared.restoring.SavedObject.{SavedObject}
 use Rattle.ash_objects.specs.declared.restoring.SavedHostObject.{SavedHostObject}
 use Rattle.ash_objects.specs.Restoring.{Drawn, Short, Enough, kind_wanted, draw_box, draw_others, draw_then, draw_boxes, with_box_first, RestoresBox, RestoresBoxes, IsBody, AreBodies, with_drawn, AreFit, AreInserted}
 use Rattle.ash_objects.proofs.Marks.{appended}
@@ -52,13 +52,13 @@ module _ {B : Type 0} where
       ∙ ap (λ (l : List B). with_box_first (Some box) (others l)) (sym rest)
 
   -- the turn of the object at a place
-  pub draw_turn : (G : Ghosts B) (objects : List StoredObject) (k : ℕ) (object : StoredObject) (pool : List B)
+  pub draw_turn : (G : Ghosts B) (objects : List SavedObject) (k : ℕ) (object : SavedObject) (pool : List B)
       → drop k objects ≡ object ∷ drop (k + 1) objects → draw_boxes G (drop k objects) pool
       ≡ draw_then G (kind_wanted object) pool (λ left. draw_boxes G (drop (k + 1) objects) left)
-  draw_turn G objects k object pool is = ap (λ (os : List StoredObject). draw_boxes G os pool) is
+  draw_turn G objects k object pool is = ap (λ (os : List SavedObject). draw_boxes G os pool) is
 
   -- one object more took what it had to, or found no box
-  pub drawn_more : (G : Ghosts B) (objects : List StoredObject) (k : ℕ) (object : StoredObject) (boxes more : List (Option B))
+  pub drawn_more : (G : Ghosts B) (objects : List SavedObject) (k : ℕ) (object : SavedObject) (boxes more : List (Option B))
       (taken : Option B) (pool left : List B) (d : Drawn B) → drop k objects ≡ object ∷ drop (k + 1) objects
       → d ≡ with_boxes boxes (draw_boxes G (drop k objects) pool)
       → ((others : List B → Drawn B) → draw_then G (kind_wanted object) pool others
@@ -70,7 +70,7 @@ module _ {B : Type 0} where
       ∙ boxes_more boxes taken (draw_boxes G (drop (k + 1) objects) left)
       ∙ ap (λ (bs : List (Option B)). with_boxes bs (draw_boxes G (drop (k + 1) objects) left)) (sym all)
 
-  pub drawn_short : (G : Ghosts B) (objects : List StoredObject) (k : ℕ) (object : StoredObject) (boxes : List (Option B))
+  pub drawn_short : (G : Ghosts B) (objects : List SavedObject) (k : ℕ) (object : SavedObject) (boxes : List (Option B))
       (kind : ℕ) (pool : List B) (d : Drawn B) → drop k objects ≡ object ∷ drop (k + 1) objects
       → d ≡ with_boxes boxes (draw_boxes G (drop k objects) pool)
       → ((others : List B → Drawn B) → draw_then G (kind_wanted object) pool others ≡ Short kind) → d ≡ Short kind
@@ -78,7 +78,7 @@ module _ {B : Type 0} where
       drawn ∙ ap (λ (x : Drawn B). with_boxes boxes x) (draw_turn G objects k object pool next ∙ is (λ rest. draw_boxes G (drop (k + 1) objects) rest))
 
   -- each host object took a box
-  pub fit_drawn : (G : Ghosts B) (objects : List StoredObject) (pool : List B) (boxes : List (Option B)) (left : List B)
+  pub fit_drawn : (G : Ghosts B) (objects : List SavedObject) (pool : List B) (boxes : List (Option B)) (left : List B)
       → draw_boxes G objects pool ≡ Enough boxes left → AreFit objects boxes
   fit_drawn G [] pool boxes left h = let none : [] ≡ boxes = cc in subst (λ (bs : List (Option B)). AreFit [] bs) none tt
   fit_drawn G (object ∷ objects) pool boxes left h =
@@ -121,7 +121,7 @@ module _ {B : Type 0} where
           (λ box. subst (λ (b : Body SavedHostObject). IsSome (with_drawn b (Some box))) (sym is) refl)
           (at (Host saved) is h)
 
-  pub fit_length : (objects : List StoredObject) (boxes : List (Option B)) → AreFit objects boxes
+  pub fit_length : (objects : List SavedObject) (boxes : List (Option B)) → AreFit objects boxes
       → length boxes ≡ length objects
   fit_length [] [] fit = refl
   fit_length [] (box ∷ boxes) fit = absurd fit
@@ -150,7 +150,7 @@ module _ {B : Type 0} where
       (back.0, same, back.2)
 
   -- the same after the first of them
-  boxes_after : (G : Ghosts B) (object : StoredObject) (objects : List StoredObject) (one other : Option B)
+  boxes_after : (G : Ghosts B) (object : SavedObject) (objects : List SavedObject) (one other : Option B)
       (before after : List (Option B)) → RestoresBoxes G (object ∷ objects) (one ∷ before) (other ∷ after)
       → RestoresBoxes G objects before after
   boxes_after G object objects one other before after back = let all = back.many in record {
@@ -159,7 +159,7 @@ module _ {B : Type 0} where
   }
 
   -- the boxes still fit once they are restored
-  pub fit_restored : (G : Ghosts B) (objects : List StoredObject) (before after : List (Option B)) → AreFit objects before
+  pub fit_restored : (G : Ghosts B) (objects : List SavedObject) (before after : List (Option B)) → AreFit objects before
       → RestoresBoxes G objects before after → AreFit objects after
   fit_restored G [] [] [] fit back = tt
   fit_restored G [] [] (other ∷ after) fit back = let many = back.many in absurd (cc)
@@ -172,7 +172,7 @@ module _ {B : Type 0} where
   )
 
   -- what the objects are in the table is what they were stored as
-  pub bodies_put : (G : Ghosts B) (objects : List StoredObject) (before after : List (Option B))
+  pub bodies_put : (G : Ghosts B) (objects : List SavedObject) (before after : List (Option B))
       (entries : List (ℕ × SlotEntry B)) → AreFit objects before → RestoresBoxes G objects before after
       → AreInserted objects after entries → AreBodies G objects before (map (λ e. (e.0, (e.1.item).body)) entries)
   bodies_put G [] [] [] [] fit back put = tt

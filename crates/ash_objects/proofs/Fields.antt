@@ -14,7 +14,7 @@ use Rattle.ash_slots.specs.Bodies.{words_of, with_word}
 use Rattle.ash_slots.specs.Store.{SlotEntry, change_at}
 use Rattle.ash_objects.specs.Table.{Living, with_field}
 use Rattle.ash_objects.specs.Counting.{face, face_at, holding, fields_in, living, living_in, AreCounted}
-use Rattle.ash_slots.specs.Counting.{counted, incremented, decremented, change_handle, written}
+use Rattle.ash_slots.specs.SlotCounting.{counted, incremented, decremented, change_handle, written}
 use Rattle.ash_slots.proofs.Changing.{object_at-change, length-change, in_order-change, sum-change, sum_same-change}
 use Rattle.ash_objects.proofs.Counts.{view_change, counted-change, each-change}
 use Rattle.ash_objects.proofs.Handles.{hits, same_test, handles-set, handles-at}

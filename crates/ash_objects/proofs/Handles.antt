@@ -6,7 +6,7 @@ use Rattle.std.proofs.lemmas.List.Sums.{sum_by-set, get_or-le-sum_by}
 use Rattle.ash_host.specs.declared.word.Word.{Word}
 use Rattle.ash_host.specs.declared.word.Word.TheVariants as words
 use Rattle.ash_host.specs.Objects.{handles_to, is_handle_to, handle}
-use Rattle.ash_slots.specs.Counting.{counted, written}
+use Rattle.ash_slots.specs.SlotCounting.{counted, written}
 
 -- whether a handle is to an object, as a number
 abbrev pub hits : Option ℕ → ℕ → ℕ

@@ -19,7 +19,7 @@ use Rattle.ash_host.specs.declared.host_object.HostObject.{Ghosts}
 use Rattle.ash_slots.specs.declared.body.Body.{Body}
 use Rattle.ash_slots.specs.declared.body.Body.TheVariants.{Host}
 use Rattle.ash_objects.specs.Counting.{holding, fields_in, living_among, living_in, words_at, AllLive, refer_all, AreCounted, AreGiven, IsTable, face, face_at}
-use Rattle.ash_slots.specs.Counting.{counted}
+use Rattle.ash_slots.specs.SlotCounting.{counted}
 use Rattle.ash_slots.proofs.Placing.{found_by_number}
 use Rattle.ash_objects.proofs.Counts.{object_at-living, numbers-living, counted_fits}
 use Rattle.ash_objects.proofs.Fields.{with_holds, living_face}

@@ -7,7 +7,7 @@ use Rattle.std.proofs.lemmas.List.Sums.{sum_by-cons}
 use Rattle.ash_host.specs.Objects.{object_at, IsInOrder}
 use Rattle.ash_slots.specs.Store.{SlotEntry, AreStored, change_in, with_waiting}
 use Rattle.ash_objects.specs.Counting.{holding, fields_in, face, face_at}
-use Rattle.ash_slots.specs.Counting.{counted}
+use Rattle.ash_slots.specs.SlotCounting.{counted}
 use Rattle.ash_slots.proofs.Changing.{object_at-change_in, numbers-change_in}
 use Rattle.ash_objects.proofs.Fields.{in_face}
 

@@ -13,7 +13,7 @@ use Rattle.ash_slots.specs.declared.body.Body.{Body}
 use Rattle.ash_slots.specs.declared.body.Body.TheVariants.{Script, Array, Host}
 use Rattle.ash_slots.specs.Bodies.{words_of}
 use Rattle.ash_slots.specs.Store.{SlotEntry}
-use Rattle.ash_objects.specs.declared.restoring.StoredObject.{StoredObject}
+use Rattle.ash_objects.specs.declared.restoring.SavedObject.{SavedObject}
 use Rattle.ash_objects.specs.declared.restoring.SavedHostObject.{SavedHostObject}
 use Rattle.ash_objects.specs.Restoring.{stored_in, with_drawn, AreFit, IsFresh, AreInserted}
 use Rattle.ash_objects.proofs.Pointwise.{IsPopped, popped}
@@ -41,7 +41,7 @@ module _ {B : Type 0} where
   words_joined (Host saved) None out is = absurd (cc)
   words_joined (Host saved) (Some box) out is = let same : out ≡ Host box = cc in ap (λ (b : Body B). words_of b) same
 
-  pub put_numbers : (objects : List StoredObject) (boxes : List (Option B)) (l : List (ℕ × SlotEntry B))
+  pub put_numbers : (objects : List SavedObject) (boxes : List (Option B)) (l : List (ℕ × SlotEntry B))
       → AreInserted objects boxes l → numbers l ≡ numbers (stored_in objects)
   put_numbers [] [] [] put = refl
   put_numbers [] [] (e ∷ l) put = absurd put
@@ -51,7 +51,7 @@ module _ {B : Type 0} where
   put_numbers (object ∷ objects) (box ∷ boxes) (e ∷ l) put =
       ap (λ (n : ℕ). n ∷ numbers l) put.0 ∙ ap (λ (ns : List ℕ). object.number ∷ ns) (put_numbers objects boxes l put.3)
 
-  pub put_length : (objects : List StoredObject) (boxes : List (Option B)) (l : List (ℕ × SlotEntry B))
+  pub put_length : (objects : List SavedObject) (boxes : List (Option B)) (l : List (ℕ × SlotEntry B))
       → AreInserted objects boxes l → length l ≡ length objects
   put_length [] [] [] put = refl
   put_length [] [] (e ∷ l) put = absurd put
@@ -60,7 +60,7 @@ module _ {B : Type 0} where
   put_length (object ∷ objects) (box ∷ boxes) [] put = absurd put
   put_length (object ∷ objects) (box ∷ boxes) (e ∷ l) put = ap suc (put_length objects boxes l put.3)
 
-  pub put_words : (m : ℕ) (objects : List StoredObject) (boxes : List (Option B)) (l : List (ℕ × SlotEntry B))
+  pub put_words : (m : ℕ) (objects : List SavedObject) (boxes : List (Option B)) (l : List (ℕ × SlotEntry B))
       → AreInserted objects boxes l → option_map (λ p. words_of (p.item).body) (object_at m l)
       ≡ option_map (λ body. words_of body) (object_at m (stored_in objects))
   put_words m [] [] [] put = refl
@@ -79,7 +79,7 @@ module _ {B : Type 0} where
       go true later = ap Some (words_joined object.body box (e.1.item).body put.1)
       go false later = later
 
-  pub put_fresh : (m : ℕ) (objects : List StoredObject) (boxes : List (Option B)) (l : List (ℕ × SlotEntry B))
+  pub put_fresh : (m : ℕ) (objects : List SavedObject) (boxes : List (Option B)) (l : List (ℕ × SlotEntry B))
       → AreInserted objects boxes l → IfSome (object_at m l) IsFresh
   put_fresh m [] [] [] put = tt
   put_fresh m [] [] (e ∷ l) put = absurd put
@@ -93,7 +93,7 @@ module _ {B : Type 0} where
       go false later = later
 
   -- an object that is put before all others
-  pub put_first : (objects : List StoredObject) (boxes : List (Option B)) (k : ℕ) (object : StoredObject) (box : Option B)
+  pub put_first : (objects : List SavedObject) (boxes : List (Option B)) (k : ℕ) (object : SavedObject) (box : Option B)
       (p : SlotEntry B) (l : List (ℕ × SlotEntry B)) → IsInOrder (stored_in objects)
       → drop k objects ≡ object ∷ drop (k + 1) objects → drop k boxes ≡ box ∷ drop (k + 1) boxes
       → AreInserted (drop (k + 1) objects) (drop (k + 1) boxes) l → with_drawn object.body box ≡ Some (p.item).body
@@ -103,7 +103,7 @@ module _ {B : Type 0} where
     where
       ordered : IsInOrder (stored_in (object ∷ drop (k + 1) objects))
       ordered =
-          subst (λ (xs : List StoredObject). IsInOrder (stored_in xs)) os
+          subst (λ (xs : List SavedObject). IsInOrder (stored_in xs)) os
           (subst (λ (es : List (ℕ × Body SavedHostObject)). IsInOrder es)
           (drop-map (λ object. (object.number, object.body)) k objects) (order_drop k (stored_in objects) order))
 
@@ -113,14 +113,14 @@ module _ {B : Type 0} where
           (sym (put_numbers (drop (k + 1) objects) (drop (k + 1) boxes) l put))
           (sorted_from_strictly_increasing (numbers (stored_in (object ∷ drop (k + 1) objects))) ordered)
 
-  pub put_absent : (objects : List StoredObject) (boxes : List (Option B)) (k : ℕ) (object : StoredObject)
+  pub put_absent : (objects : List SavedObject) (boxes : List (Option B)) (k : ℕ) (object : SavedObject)
       (l : List (ℕ × SlotEntry B)) → IsInOrder (stored_in objects) → drop k objects ≡ object ∷ drop (k + 1) objects
       → AreInserted (drop (k + 1) objects) (drop (k + 1) boxes) l → object_at object.number l ≡ None
   put_absent objects boxes k object l order os put = go (object_at object.number l) refl
     where
       ordered : IsInOrder (stored_in (object ∷ drop (k + 1) objects))
       ordered =
-          subst (λ (xs : List StoredObject). IsInOrder (stored_in xs)) os
+          subst (λ (xs : List SavedObject). IsInOrder (stored_in xs)) os
           (subst (λ (es : List (ℕ × Body SavedHostObject)). IsInOrder es)
           (drop-map (λ object. (object.number, object.body)) k objects) (order_drop k (stored_in objects) order))
 
@@ -136,7 +136,7 @@ module _ {B : Type 0} where
           let same = eq-eqb object.number object.number refl in
           absurd (cc)
 
-  pub fit_at : (objects : List StoredObject) (boxes : List (Option B)) (k : ℕ) (object : StoredObject) (box : Option B)
+  pub fit_at : (objects : List SavedObject) (boxes : List (Option B)) (k : ℕ) (object : SavedObject) (box : Option B)
       → AreFit objects boxes → slice_get objects k ≡ Some object → slice_get boxes k ≡ Some box
       → IsSome (with_drawn object.body box)
   fit_at [] [] k object box fit one two = absurd (cc)
@@ -150,13 +150,13 @@ module _ {B : Type 0} where
 
   -- How far the putting of objects has come, the last first: what is left of them and of what they took,
   -- and what is there.
-  pub record PutState (objects : List StoredObject) (boxes : List (Option B)) (os : List StoredObject) (bs : List (Option B)) (l : List (ℕ × SlotEntry B)) : Type 0 where
+  pub record PutState (objects : List SavedObject) (boxes : List (Option B)) (os : List SavedObject) (bs : List (Option B)) (l : List (ℕ × SlotEntry B)) : Type 0 where
     pub left : os ≡ take (length os) objects
     pub right : bs ≡ take (length os) boxes
     pub within : length os ≤ length objects
     pub put : AreInserted (drop (length os) objects) (drop (length os) boxes) l
 
-  pub put_begin : (objects : List StoredObject) (boxes : List (Option B)) (l : List (ℕ × SlotEntry B)) → AreFit objects boxes
+  pub put_begin : (objects : List SavedObject) (boxes : List (Option B)) (l : List (ℕ × SlotEntry B)) → AreFit objects boxes
       → l ≡ [] → PutState objects boxes objects boxes l
   put_begin objects boxes l fit none = record {
     left = sym (take_all (length objects) objects (omega arith));
@@ -166,8 +166,8 @@ module _ {B : Type 0} where
   }
 
   -- there is a box for each object
-  pub put_box : (objects : List StoredObject) (boxes : List (Option B)) (os os' : List StoredObject) (bs : List (Option B))
-      (object : StoredObject) (l : List (ℕ × SlotEntry B)) → AreFit objects boxes → PutState objects boxes os bs l
+  pub put_box : (objects : List SavedObject) (boxes : List (Option B)) (os os' : List SavedObject) (bs : List (Option B))
+      (object : SavedObject) (l : List (ℕ × SlotEntry B)) → AreFit objects boxes → PutState objects boxes os bs l
       → os ≡ os' ++ object ∷ [] → length bs ≡ 0 → ⊥
   put_box objects boxes os os' bs object l fit s is none =
       let many = fit_length objects boxes fit in
@@ -178,7 +178,7 @@ module _ {B : Type 0} where
       absurd (omega (arith, many, long, all, nothing, inside))
 
   -- one object more is put
-  module _ (objects : List StoredObject) (boxes : List (Option B)) (os os' : List StoredObject) (bs bs' : List (Option B)) (object : StoredObject) (box : Option B) (l : List (ℕ × SlotEntry B)) (order : IsInOrder (stored_in objects)) (fit : AreFit objects boxes) (s : PutState objects boxes os bs l) (one : os ≡ os' ++ object ∷ []) (two : bs ≡ bs' ++ box ∷ []) where
+  module _ (objects : List SavedObject) (boxes : List (Option B)) (os os' : List SavedObject) (bs bs' : List (Option B)) (object : SavedObject) (box : Option B) (l : List (ℕ × SlotEntry B)) (order : IsInOrder (stored_in objects)) (fit : AreFit objects boxes) (s : PutState objects boxes os bs l) (one : os ≡ os' ++ object ∷ []) (two : bs ≡ bs' ++ box ∷ []) where
     first : IsPopped objects os' object
     first = popped objects os' object (length os) (sym s.left ∙ one)
 
@@ -220,6 +220,6 @@ module _ {B : Type 0} where
     }
 
   -- all are put
-  pub put_end : (objects : List StoredObject) (boxes : List (Option B)) (os : List StoredObject) (bs : List (Option B))
+  pub put_end : (objects : List SavedObject) (boxes : List (Option B)) (os : List SavedObject) (bs : List (Option B))
       (l : List (ℕ × SlotEntry B)) → length os ≡ 0 → PutState objects boxes os bs l → AreInserted objects boxes l
   put_end objects boxes os bs l none s = subst (λ (n : ℕ). AreInserted (drop n objects) (drop n boxes) l) none s.put

@@ -9,7 +9,7 @@ use Rattle.ash_host.specs.Objects.{object_at, numbers, Lives, IsInOrder, handles
 use Rattle.ash_host.proofs.Order.{object_here, object_later, none_after, in_order_after}
 use Rattle.ash_slots.specs.Bodies.{words_of}
 use Rattle.ash_slots.specs.Store.{SlotEntry, IsIn}
-use Rattle.ash_slots.specs.Counting.{counted}
+use Rattle.ash_slots.specs.SlotCounting.{counted}
 use Rattle.ash_objects.specs.Counting.{holding, fields_in, words_at, AllLive, refer_all, face_at}
 use Rattle.ash_objects.specs.Restoring.{refer_objects}
 use Rattle.ash_objects.proofs.Referring.{all_face, all_fields, all_order, all_length, all_each, all_counted, all_alive_face, words_at_face}

@@ -6,11 +6,11 @@ use Rattle.std.proofs.lemmas.List.Elements.{All-head, All-tail}
 use Rattle.std.proofs.lemmas.List.Sums.{sum_by-cons}
 use Rattle.ash_host.specs.declared.word.Word.{Word}
 use Rattle.ash_host.specs.Objects.{object_at, IsInOrder, Lives, handles_to, is_handle_to, handle}
-use Rattle.ash_slots.specs.declared.entry.Item.{Item}
+use Rattle.ash_slots.specs.declared.entry.Occupant.{Occupant}
 use Rattle.ash_slots.specs.Bodies.{words_of}
 use Rattle.ash_slots.specs.Store.{SlotEntry, IsIn}
 use Rattle.ash_objects.specs.Counting.{fields_in, AllLive, AreGiven, refer_all, words_at, living_in, face, face_at}
-use Rattle.ash_slots.specs.Counting.{counted, incremented, change_handle}
+use Rattle.ash_slots.specs.SlotCounting.{counted, incremented, change_handle}
 use Rattle.ash_objects.specs.Table.{Living}
 use Rattle.ash_objects.proofs.Counts.{given-change}
 use Rattle.ash_objects.proofs.Views.{alive_view}
@@ -98,14 +98,14 @@ module _ {B : Type 0} where
   more_most h m l alive = omega (arith, more_handle h m l alive, hits_small h m)
 
   -- the words of an object are those of its item
-  pub words_item : (n : ℕ) (l : List (ℕ × SlotEntry B)) (it : Item B)
+  pub words_item : (n : ℕ) (l : List (ℕ × SlotEntry B)) (it : Occupant B)
       → IsSomeAnd (object_at n l) (λ object. object.item ≡ it) → words_at n l ≡ words_of it.body
   words_item n l it h = go (object_at n l) h
     where
       go : (v : Option (SlotEntry B)) → IsSomeAnd v (λ object. object.item ≡ it)
           → option_map_or (λ object. words_of (object.item).body) v [] ≡ words_of it.body
       go None h = absurd h
-      go (Some p) h = ap (λ (i : Item B). words_of i.body) h
+      go (Some p) h = ap (λ (i : Occupant B). words_of i.body) h
 
   pub word_within : (n slot place : ℕ) (l : List (ℕ × SlotEntry B)) → IsIn n slot l → place < length (words_at n l)
       → IsSomeAnd (object_at n l) (λ object. place < length (words_of (object.item).body))

@@ -11,16 +11,16 @@ use Rattle.ash_host.specs.Objects.{object_at, IsInOrder, handles_to, is_handle_t
 use Rattle.ash_slots.specs.declared.body.Body.{Body}
 use Rattle.ash_slots.specs.declared.body.Body.TheVariants.{Script, Array, Host}
 use Rattle.ash_slots.specs.declared.body.Array as arrays
-use Rattle.ash_slots.specs.declared.body.Element.{Element}
-use Rattle.ash_slots.specs.declared.entry.Item.{Item}
-use Rattle.ash_slots.specs.declared.body.Element.TheVariants as elements
+use Rattle.ash_slots.specs.declared.body.ElementTag.{ElementTag}
+use Rattle.ash_slots.specs.declared.entry.Occupant.{Occupant}
+use Rattle.ash_slots.specs.declared.body.ElementTag.TheVariants as elements
 use Rattle.ash_slots.specs.Bodies.{words_of, initial_of}
-use Rattle.ash_slots.specs.Arrays.{array_of, with_words, stored_array, refilled, lengthened}
+use Rattle.ash_slots.specs.SlotArrays.{array_of, with_words, stored_array, refilled, lengthened}
 use Rattle.ash_objects.specs.Arrays.{array_at, elements_of, elements_at, with_elements}
 use Rattle.ash_slots.specs.Store.{SlotEntry, IsIn, with_item, change_at}
 use Rattle.ash_objects.specs.Table.{Living, Table, body_of}
 use Rattle.ash_objects.specs.Counting.{face, face_at, holding, fields_in, living_in, AreCounted, AreGiven, IsTable, release_all}
-use Rattle.ash_slots.specs.Counting.{counted, decremented, change_handle}
+use Rattle.ash_slots.specs.SlotCounting.{counted, decremented, change_handle}
 use Rattle.ash_slots.proofs.Changing.{object_at-change, length-change, in_order-change, sum-change, change_over}
 use Rattle.ash_slots.proofs.Options.{some_of}
 use Rattle.ash_objects.proofs.Counts.{numbers-living, each-change, given-change}
@@ -39,7 +39,7 @@ take_short k ws =
     omega (arith, both)
 
 -- no initial value is a handle
-initial_none : (m : ℕ) (e : Element) → is_handle_to m (initial_of e) ≡ false
+initial_none : (m : ℕ) (e : ElementTag) → is_handle_to m (initial_of e) ≡ false
 initial_none m elements.Bool = refl
 initial_none m elements.Int = refl
 initial_none m elements.Uint = refl
@@ -108,7 +108,7 @@ module _ {B : Type 0} where
       go (Some p) = refl
 
   -- and so are its elements
-  pub elements_view : (n : ℕ) (l : List (ℕ × SlotEntry B)) (it : Item B)
+  pub elements_view : (n : ℕ) (l : List (ℕ × SlotEntry B)) (it : Occupant B)
       → IsSomeAnd (object_at n l) (λ object. object.item ≡ it)
       → option_and_then elements_of (option_map (λ object. object.body) (object_at n (living_in l)))
       ≡ elements_of it.body

@@ -8,7 +8,7 @@ use Rattle.ash_host.specs.declared.word.Word.{Word}
 use Rattle.ash_host.specs.Objects.{object_at, IsInOrder, handles_to, handle}
 use Rattle.ash_slots.specs.Store.{SlotEntry, change_at}
 use Rattle.ash_objects.specs.Counting.{fields_in, release_all, face_at}
-use Rattle.ash_slots.specs.Counting.{counted, decremented, change_handle}
+use Rattle.ash_slots.specs.SlotCounting.{counted, decremented, change_handle}
 use Rattle.ash_objects.specs.Collecting.{mark_of}
 use Rattle.ash_objects.proofs.Handles.{hits}
 use Rattle.ash_objects.proofs.Fields.{handle_face, handle_fields, handle_order, handle_length, handle_each, less_handle}

@@ -9,8 +9,8 @@ use Rattle.ash_host.proofs.Order.{same_in_order}
 use Rattle.ash_slots.specs.declared.body.Body.{Body}
 use Rattle.ash_slots.specs.Bodies.{words_of}
 use Rattle.ash_slots.specs.Store.{SlotEntry}
-use Rattle.ash_slots.specs.Counting.{counted}
-use Rattle.ash_objects.specs.declared.restoring.StoredObject.{StoredObject}
+use Rattle.ash_slots.specs.SlotCounting.{counted}
+use Rattle.ash_objects.specs.declared.restoring.SavedObject.{SavedObject}
 use Rattle.ash_objects.specs.declared.restoring.SavedHostObject.{SavedHostObject}
 use Rattle.ash_objects.specs.Table.{Living}
 use Rattle.ash_objects.specs.Counting.{fields_in, living, living_in, words_at, AllLive, AreGiven, IsTable, face, face_at}
@@ -23,7 +23,7 @@ use Rattle.ash_objects.proofs.Putting.{put_numbers, put_length, put_words, put_f
 
 module _ {B : Type 0} where
   -- All objects of a state, put into slots.
-  module _ (objects : List StoredObject) (boxes : List (Option B)) (l : List (ℕ × SlotEntry B)) (last : ℕ) (put : AreInserted objects boxes l) (numbered : AreNumbered last (stored_in objects)) (few : length objects ≤ 4096) (short : (m : ℕ) → IfSome (object_at m (stored_in objects)) (λ body. length (words_of body) ≤ 4096)) (alive : (m : ℕ) → IfSome (object_at m (stored_in objects)) (λ body. All (λ word. IfSome (handle word) (Lives (stored_in objects))) (words_of body))) where
+  module _ (objects : List SavedObject) (boxes : List (Option B)) (l : List (ℕ × SlotEntry B)) (last : ℕ) (put : AreInserted objects boxes l) (numbered : AreNumbered last (stored_in objects)) (few : length objects ≤ 4096) (short : (m : ℕ) → IfSome (object_at m (stored_in objects)) (λ body. length (words_of body) ≤ 4096)) (alive : (m : ℕ) → IfSome (object_at m (stored_in objects)) (λ body. All (λ word. IfSome (handle word) (Lives (stored_in objects))) (words_of body))) where
     pub stock_order : IsInOrder l
     stock_order =
         subst (λ (ns : List ℕ). IsStrictlyIncreasing ns) (sym (put_numbers objects boxes l put)) numbered.in_order

@@ -14,13 +14,13 @@ use Rattle.ash_host.specs.Objects.{object_at, numbers, IsInOrder}
 use Rattle.ash_host.specs.Reach.{is_among}
 use Rattle.ash_host.proofs.Membership.{is_among-numbers}
 use Rattle.ash_host.proofs.Order.{same_in_order, object_here, object_later, none_after, in_order_after}
-use Rattle.ash_slots.specs.declared.entry.Item.{Item}
+use Rattle.ash_slots.specs.declared.entry.Occupant.{Occupant}
 use Rattle.ash_slots.specs.Bodies.{words_of}
 use Rattle.ash_slots.specs.Store.{SlotEntry, AreStored, IsIn, change_in, with_item, change_at}
 use Rattle.ash_objects.specs.Table.{Living}
 use Rattle.ash_objects.specs.Listing.{Marks, AreListed}
 use Rattle.ash_objects.specs.Counting.{holding, fields_in, living, living_among, living_in, IsTable}
-use Rattle.ash_slots.specs.Counting.{counted}
+use Rattle.ash_slots.specs.SlotCounting.{counted}
 use Rattle.ash_objects.specs.Marking.{settled_object, marked_in, NoneMarked, unmarked, unmark_all}
 use Rattle.ash_slots.proofs.Changing.{object_at-change, length-change, in_order-change, sum_same-change, object_at-change_in, change_in_is, none_later, change_none}
 use Rattle.ash_objects.proofs.Counts.{object_at-living, numbers-living, each-change, given-change}
@@ -49,13 +49,13 @@ module _ {B : Type 0} where
       go false = refl
 
   -- what is written in a slot is a change at a number
-  pub unmarked_at : (slot n : ℕ) (l : List (ℕ × SlotEntry B)) (it : Item B) → AreStored l → IsIn n slot l → IsSomeAnd (object_at n l) (λ object. object.item ≡ it) → change_in slot (with_item (record { count = it.count; touched = false; body = it.body })) l ≡ change_at n unmarked l
+  pub unmarked_at : (slot n : ℕ) (l : List (ℕ × SlotEntry B)) (it : Occupant B) → AreStored l → IsIn n slot l → IsSomeAnd (object_at n l) (λ object. object.item ≡ it) → change_in slot (with_item (record { count = it.count; touched = false; body = it.body })) l ≡ change_at n unmarked l
   unmarked_at slot n l it s here mine =
       change_in_is slot n _ l s here
-      ∙ change_same n _ unmarked l s.in_order (λ p is. ap (λ (i : Item B). with_item (record { count = i.count; touched = false; body = i.body }) p) (sym (subst (λ (v : Option (SlotEntry B)). IsSomeAnd v (λ object. object.item ≡ it)) is mine)))
+      ∙ change_same n _ unmarked l s.in_order (λ p is. ap (λ (i : Occupant B). with_item (record { count = i.count; touched = false; body = i.body }) p) (sym (subst (λ (v : Option (SlotEntry B)). IsSomeAnd v (λ object. object.item ≡ it)) is mine)))
 
   -- no object in a slot has a mark after it was cleared there
-  pub clear_after : (slot : ℕ) (it : Item B) (l : List (ℕ × SlotEntry B)) → it.touched ≡ false → (m : ℕ)
+  pub clear_after : (slot : ℕ) (it : Occupant B) (l : List (ℕ × SlotEntry B)) → it.touched ≡ false → (m : ℕ)
       → IfSome (object_at m (change_in slot (with_item it) l)) (λ object. object.slot ≡ slot → (object.item).touched
       ≡ false)
   clear_after slot it l clear m =

@@ -4,12 +4,12 @@ use Rattle.std.specs.Prelude.{IsSomeAnd, IsSome, IfSome, slice_get}
 use Rattle.std.specs.Option.{option_map, option_map_or, option_and_then}
 use Rattle.ash_host.specs.declared.word.Word.{Word}
 use Rattle.ash_host.specs.Objects.{object_at, Lives, handle}
-use Rattle.ash_slots.specs.declared.entry.Item.{Item}
+use Rattle.ash_slots.specs.declared.entry.Occupant.{Occupant}
 use Rattle.ash_slots.specs.Bodies.{words_of}
 use Rattle.ash_slots.specs.Store.{SlotEntry, IsIn, change_at}
 use Rattle.ash_objects.specs.Table.{Living, fields_holding}
 use Rattle.ash_objects.specs.Counting.{fields_in, living, living_in, AreGiven, IsTable}
-use Rattle.ash_slots.specs.Counting.{counted, incremented, decremented, change_handle, written}
+use Rattle.ash_slots.specs.SlotCounting.{counted, incremented, decremented, change_handle, written}
 use Rattle.ash_slots.proofs.Changing.{in_order-change}
 use Rattle.ash_objects.proofs.Counts.{object_at-living, count_is, counted_fits, sound_more, sound_less, given-change}
 use Rattle.ash_objects.proofs.Fields.{after_all, sound_field, order_write, handle_order}
@@ -40,7 +40,7 @@ module _ {B : Type 0} where
       go None = refl
       go (Some p) = refl
 
-  pub body_item : (n : ℕ) (l : List (ℕ × SlotEntry B)) (it : Item B)
+  pub body_item : (n : ℕ) (l : List (ℕ × SlotEntry B)) (it : Occupant B)
       → IsSomeAnd (object_at n l) (λ object. object.item ≡ it)
       → option_map (λ object. (object.item).body) (object_at n l) ≡ Some it.body
   body_item n l it h = go (object_at n l) h
@@ -48,7 +48,7 @@ module _ {B : Type 0} where
       go : (v : Option (SlotEntry B)) → IsSomeAnd v (λ object. object.item ≡ it)
           → option_map (λ object. (object.item).body) v ≡ Some it.body
       go None h = absurd h
-      go (Some p) h = ap (λ (i : Item B). Some i.body) h
+      go (Some p) h = ap (λ (i : Occupant B). Some i.body) h
 
   -- the slot that a contract sees is the one
   pub slot_seen : (n : ℕ) (l : List (ℕ × SlotEntry B)) → option_map (λ object. object.slot) (object_at n l)

@@ -5,7 +5,7 @@ use Rattle.ash_host.specs.declared.word.Word.{Word}
 use Rattle.ash_slots.specs.declared.body.Array as arrays
 use Rattle.ash_slots.specs.declared.body.Body.{Body}
 use Rattle.ash_slots.specs.declared.body.Body.TheVariants.{Script, Array, Host}
-use Rattle.ash_slots.specs.Arrays.{array_of, with_words}
+use Rattle.ash_slots.specs.SlotArrays.{array_of, with_words}
 use Rattle.ash_objects.specs.Table.{Living, Table, slot_of, body_of}
 
 module _ {B : Type 0} where
@@ -28,8 +28,8 @@ module _ {B : Type 0} where
   HasElementsIn slot table = (number : ℕ) × (slot_of number table ≡ Some slot) × IsSome (elements_at number table)
 
   -- The object in a slot is an array.
-  abbrev pub IsArrayIn : ℕ → Table B → Type 0
-  IsArrayIn slot table = (number : ℕ) × (slot_of number table ≡ Some slot) × IsSome (array_at number table)
+  abbrev pub IsArrayOfTable : ℕ → Table B → Type 0
+  IsArrayOfTable slot table = (number : ℕ) × (slot_of number table ≡ Some slot) × IsSome (array_at number table)
 
   -- an array with other elements, which touches it
   abbrev pub with_elements : List Word → Living B → Living B

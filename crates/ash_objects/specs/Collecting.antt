@@ -8,7 +8,7 @@ use Rattle.ash_slots.specs.declared.entry.Entry.{Entry}
 use Rattle.ash_slots.specs.Bodies.{is_boxed}
 use Rattle.ash_slots.specs.Store.{SlotEntry}
 use Rattle.ash_objects.specs.Counting.{fields_in, face_at}
-use Rattle.ash_slots.specs.Counting.{counted}
+use Rattle.ash_slots.specs.SlotCounting.{counted}
 
 module _ {B : Type 0} where
   -- the number of an object, and whether it is a host object

@@ -6,7 +6,7 @@ use Rattle.ash_host.specs.declared.word.Word.{Word}
 use Rattle.ash_host.specs.Objects.{object_at, Lives, IsInOrder, handle, handles_to}
 use Rattle.ash_slots.specs.Bodies.{words_of}
 use Rattle.ash_slots.specs.Store.{SlotEntry}
-use Rattle.ash_slots.specs.Counting.{counted, change_handle, incremented, decremented}
+use Rattle.ash_slots.specs.SlotCounting.{counted, change_handle, incremented, decremented}
 use Rattle.ash_objects.specs.Table.{Living}
 use Rattle.ash_host.specs.Limits.{max_objects, max_elements}
 

@@ -30,6 +30,6 @@ module _ {B : Type 0} where
       × ((object.item).touched ≡ true → Contains marks.slots object.slot))
 
   -- what holds of the objects of a table and of the list of slots beside them
-  pub record IsListed (objects : List (ℕ × SlotEntry B)) (last settled : ℕ) (marks : Marks) : Type 0 where
+  pub record IsInListing (objects : List (ℕ × SlotEntry B)) (last settled : ℕ) (marks : Marks) : Type 0 where
     pub table : IsTable objects last settled
     pub listed : AreListed objects marks

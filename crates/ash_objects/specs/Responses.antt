@@ -10,7 +10,7 @@ use Rattle.ash_host.specs.declared.host_object.HostObject.{Ghosts}
 use Rattle.ash_host.specs.Calls.{HostCall}
 use Rattle.ash_host.specs.Objects.{object_at}
 use Rattle.ash_slots.specs.declared.body.Body.TheVariants.{Host}
-use Rattle.ash_slots.specs.Responses.{Responds, box_of}
+use Rattle.ash_slots.specs.SlotResponses.{Responds, box_of}
 use Rattle.ash_objects.specs.Table.{Living, Table, slot_of, with_object}
 
 module _ {B : Type 0} where
@@ -19,8 +19,8 @@ module _ {B : Type 0} where
   box_at number table = option_and_then (λ object. box_of object.body) (object_at number table.objects)
 
   -- The object in a slot is a host object.
-  abbrev pub IsHostIn : ℕ → Table B → Type 0
-  IsHostIn slot table = (number : ℕ) × (slot_of number table ≡ Some slot) × IsSome (box_at number table)
+  abbrev pub IsHostOfTable : ℕ → Table B → Type 0
+  IsHostOfTable slot table = (number : ℕ) × (slot_of number table ≡ Some slot) × IsSome (box_at number table)
 
   -- an object with another box, which touches it
   abbrev pub with_box : B → Living B → Living B

@@ -11,15 +11,15 @@ use Rattle.ash_host.specs.Limits.{max_state_bytes}
 use Rattle.ash_host.specs.Objects.{object_at}
 use Rattle.ash_slots.specs.declared.body.Body.{Body}
 use Rattle.ash_slots.specs.declared.body.Body.TheVariants.{Script, Array, Host}
-use Rattle.ash_slots.specs.Responses.{box_of}
+use Rattle.ash_slots.specs.SlotResponses.{box_of}
 use Rattle.ash_slots.specs.Store.{SlotEntry}
-use Rattle.ash_objects.specs.declared.restoring.StoredObject.{StoredObject}
+use Rattle.ash_objects.specs.declared.restoring.SavedObject.{SavedObject}
 use Rattle.ash_objects.specs.declared.restoring.SavedHostObject.{SavedHostObject}
 use Rattle.ash_objects.specs.Table.{Living, Table, holds_of}
 use Rattle.ash_objects.specs.Counting.{refer_all, words_at}
 
 -- the objects of a state by their numbers
-abbrev pub stored_in : List StoredObject → List (ℕ × Body SavedHostObject)
+abbrev pub stored_in : List SavedObject → List (ℕ × Body SavedHostObject)
 stored_in objects = map (λ object. (object.number, object.body)) objects
 
 -- the states of services
@@ -27,7 +27,7 @@ abbrev pub states_in : List (Vec ℕ Global) → List (List ℕ)
 states_in states = map (λ state. state.items) states
 
 -- the kind of a host object; what is none has none
-abbrev pub kind_wanted : StoredObject → Option ℕ
+abbrev pub kind_wanted : SavedObject → Option ℕ
 kind_wanted object = option_map (λ saved. saved.kind) (box_of object.body)
 
 -- the state of a host object; what is none has none
@@ -64,7 +64,7 @@ module _ {B : Type 0} where
   draw_then G (Some kind) pool others = draw_others kind (draw_box G kind pool) others
 
   -- each host object takes the first box of its kind that is left, in order
-  abbrev pub draw_boxes : Ghosts B → List StoredObject → List B → Drawn B
+  abbrev pub draw_boxes : Ghosts B → List SavedObject → List B → Drawn B
   draw_boxes G [] pool = Enough [] pool
   draw_boxes G (object ∷ objects) pool = draw_then G (kind_wanted object) pool (λ left. draw_boxes G objects left)
 
@@ -84,7 +84,7 @@ module _ {B : Type 0} where
       × RestoresState G before saved.state.items after
 
   -- the same of all, in order
-  abbrev pub AreBodies : Ghosts B → List StoredObject → List (Option B) → List (ℕ × Body B) → Type 0
+  abbrev pub AreBodies : Ghosts B → List SavedObject → List (Option B) → List (ℕ × Body B) → Type 0
   AreBodies G [] [] [] = Unit {0}
   AreBodies G (object ∷ objects) (box ∷ boxes) (e ∷ entries) = (e.0 ≡ object.number) × IsBody G object.body box e.1
       × AreBodies G objects boxes entries
@@ -99,7 +99,7 @@ module _ {B : Type 0} where
 
   -- A table has the objects of a state: each host object took the first box of its kind that was left, which has its
   -- state now; nothing is held but by fields and elements, and nothing is marked.
-  pub record IsRestored (G : Ghosts B) (objects : List StoredObject) (pool : List B) (table : Table B) : Type 0 where
+  pub record IsRestored (G : Ghosts B) (objects : List SavedObject) (pool : List B) (table : Table B) : Type 0 where
     pub boxes : List (Option B)
     pub drawn : draw_boxes G objects pool ≡ Enough boxes table.pool
     pub bodies : AreBodies G objects boxes (bodies_of table.objects)
@@ -118,9 +118,9 @@ module _ {B : Type 0} where
   RestoresBox G body (Some before) after = (box : B) × (after ≡ Some box) × RestoresState G before (bytes_of body) box
 
   -- The boxes that objects took have the states of their objects.
-  pub record RestoresBoxes (G : Ghosts B) (objects : List StoredObject) (before after : List (Option B)) : Type 0 where
+  pub record RestoresBoxes (G : Ghosts B) (objects : List SavedObject) (before after : List (Option B)) : Type 0 where
     pub many : length after ≡ length before
-    pub each : (place : ℕ) (object : StoredObject) (one other : Option B) → slice_get objects place ≡ Some object
+    pub each : (place : ℕ) (object : SavedObject) (one other : Option B) → slice_get objects place ≡ Some object
         → slice_get before place ≡ Some one → slice_get after place ≡ Some other → RestoresBox G object.body one other
 
   -- The service at a place refused its state, and those before it took theirs.
@@ -135,10 +135,10 @@ module _ {B : Type 0} where
     pub refused : G.refuses service bytes
 
   -- The box that the object of a number took refused the object's state, and those before it took theirs.
-  pub record BoxRefused (G : Ghosts B) (objects : List StoredObject) (boxes : List (Option B)) (number : ℕ)
+  pub record BoxRefused (G : Ghosts B) (objects : List SavedObject) (boxes : List (Option B)) (number : ℕ)
       : Type 0 where
     pub place : ℕ
-    pub object : StoredObject
+    pub object : SavedObject
     pub box : B
     pub back : List (Option B)
     pub there : slice_get objects place ≡ Some object
@@ -149,7 +149,7 @@ module _ {B : Type 0} where
 
   -- What was refused, once the pool was long enough: the state of the first service that refused; or, where all
   -- services took theirs, the state of the first host object, by number, whose box refused.
-  pub data IsRefused (G : Ghosts B) (objects : List StoredObject) (states : List (List ℕ))
+  pub data IsRefused (G : Ghosts B) (objects : List SavedObject) (states : List (List ℕ))
       (pool services : List B) : ℕ → Type 0 where
     Service : (boxes : List (Option B)) (left : List B) → draw_boxes G objects pool ≡ Enough boxes left
         → ServiceRefused G services states → IsRefused G objects states pool services 0
@@ -166,7 +166,7 @@ module _ {B : Type 0} where
   with_drawn (Host saved) (Some box) = Some (Host box)
 
   -- each host object took a box
-  abbrev pub AreFit : List StoredObject → List (Option B) → Type 0
+  abbrev pub AreFit : List SavedObject → List (Option B) → Type 0
   AreFit [] [] = Unit {0}
   AreFit [] (box ∷ boxes) = ⊥
   AreFit (object ∷ objects) [] = ⊥
@@ -179,7 +179,7 @@ module _ {B : Type 0} where
     pub unmarked : (object.item).touched ≡ false
 
   -- objects as they are put into their slots, with the boxes that they took
-  abbrev pub AreInserted : List StoredObject → List (Option B) → List (ℕ × SlotEntry B) → Type 0
+  abbrev pub AreInserted : List SavedObject → List (Option B) → List (ℕ × SlotEntry B) → Type 0
   AreInserted [] [] [] = Unit {0}
   AreInserted (object ∷ objects) (box ∷ boxes) (e ∷ entries) = (e.0 ≡ object.number)
       × (with_drawn object.body box ≡ Some ((e.1).item).body) × IsFresh e.1 × AreInserted objects boxes entries

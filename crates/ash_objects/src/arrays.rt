@@ -7,8 +7,8 @@ ghost use Rattle.ash_host.specs.Objects.{IsInOrder};
 ghost use Rattle.ash_objects.specs.Table.{slot_of, IsAlive, with_object, with_field};
 ghost use Rattle.ash_host.specs.Limits.{max_elements};
 ghost use Rattle.ash_objects.specs.Arrays.{elements_at, array_at, HasElementsIn};
-ghost use Rattle.ash_objects.specs.Arrays.{IsArrayIn, with_elements};
-ghost use Rattle.ash_slots.specs.Arrays.{lengthened};
+ghost use Rattle.ash_objects.specs.Arrays.{IsArrayOfTable, with_elements};
+ghost use Rattle.ash_slots.specs.SlotArrays.{lengthened};
 
 use crate::counting::release_words;
 use crate::objects::Objects;
@@ -133,7 +133,7 @@ impl<B> Objects<B> {
 
     // Appends the initial value of its elements to the array in a slot until there are so many.
     fn lengthen(&mut self, slot: usize, len: usize) -> Result<(), NoMemory>
-        requires array { IsArrayIn slot self.old }
+        requires array { IsArrayOfTable slot self.old }
         requires short { len ≤ max_elements }
         ensures lengthened { OnOk result ((number : ℕ) → slot_of number self.old ≡ Some slot
             → IfSome (array_at number self.old) (λ array. self.new
@@ -148,7 +148,7 @@ impl<B> Objects<B> {
 
     // Cuts the elements of the array in a slot off from a length on, and gives up what they hold.
     fn shorten(&mut self, slot: usize, len: usize)
-        requires { IsArrayIn slot self.old }
+        requires { IsArrayOfTable slot self.old }
         ensures { (number : ℕ) → slot_of number self.old ≡ Some slot
             → IfSome (array_at number self.old) (λ array. self.new
             ≡ with_object number (with_elements (take len array.elements)) self.old) }
@@ -163,7 +163,7 @@ impl<B> Objects<B> {
     /// Gives the array in a slot a length: what is beyond it goes, and what it holds is counted once less for each
     /// element that held it; what is added is zero or null. It takes memory only where the array has fewer elements.
     pub fn resize_at(&mut self, slot: usize, len: usize) -> Result<(), LengthFault>
-        requires array { IsArrayIn slot self.old }
+        requires array { IsArrayOfTable slot self.old }
         ensures long { IsErrOf result LengthFault.TooLong ↔ (max_elements < len) }
         ensures shorter { OnOk result ((number : ℕ) → slot_of number self.old ≡ Some slot
             → IfSome (array_at number self.old) (λ array. len ≤ length array.elements
@@ -212,7 +212,7 @@ impl<B> Objects<B> {
 
     /// Appends an element to the array in a slot. What it is a handle to is counted once more.
     pub fn insert_last_at(&mut self, slot: usize, word: Word) -> Result<(), LengthFault>
-        requires array { IsArrayIn slot self.old }
+        requires array { IsArrayOfTable slot self.old }
         requires alive { IsAlive word self.old }
         ensures long { (number : ℕ) → slot_of number self.old ≡ Some slot
             → IfSome (array_at number self.old) (λ array. IsErrOf result LengthFault.TooLong
@@ -251,7 +251,7 @@ impl<B> Objects<B> {
 
     /// Takes the last element of the array in a slot away. What it held is counted once less. It takes no memory.
     pub fn remove_last_at(&mut self, slot: usize) -> Result<(), IndexOutOfBounds>
-        requires array { IsArrayIn slot self.old }
+        requires array { IsArrayOfTable slot self.old }
         ensures empty { OnErr result ((number : ℕ) → slot_of number self.old ≡ Some slot
             → IfSome (array_at number self.old) (λ array. length array.elements ≡ 0)) }
         ensures some { OnOk result ((number : ℕ) → slot_of number self.old ≡ Some slot

@@ -2,7 +2,7 @@
 ghost use Rattle.std.specs.Prelude.{◌≡◌, ◌<◌, ◌≤◌, ◌+◌, ◌^◌, ℕ, length};
 ghost use Rattle.ash_host.specs.Objects.{handles_to};
 ghost use Rattle.ash_slots.specs.Store.{IsIn};
-ghost use Rattle.ash_slots.specs.Counting.{counted};
+ghost use Rattle.ash_slots.specs.SlotCounting.{counted};
 ghost use Rattle.ash_objects.specs.Counting.{words_at, AllLive, refer_all, release_all};
 
 use ash_host::Word;

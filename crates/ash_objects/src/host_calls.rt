@@ -5,7 +5,7 @@ ghost use Rattle.ash_host.specs.declared.answer.HostAnswer.{HostAnswer};
 ghost use Rattle.ash_host.specs.declared.event.Target.{Target};
 ghost use Rattle.ash_host.specs.Calls.{Start, Invoke, Get, Set};
 ghost use Rattle.ash_objects.specs.Table.{slot_of};
-ghost use Rattle.ash_objects.specs.Responses.{Answers, ServiceAnswers, box_at, IsHostIn, called};
+ghost use Rattle.ash_objects.specs.Responses.{Answers, ServiceAnswers, box_at, IsHostOfTable, called};
 
 use crate::objects::Objects;
 use ash_host::{Event, HostAnswer, HostObject, NoMemory, Target, Word};
@@ -24,7 +24,7 @@ impl<B: HostObject> Objects<B> {
     }
 
     fn start_at(&mut self, slot: usize, args: &[Word]) -> HostAnswer
-        requires { IsHostIn slot self.old }
+        requires { IsHostOfTable slot self.old }
         ensures { (number : ℕ) → slot_of number self.old ≡ Some slot
             → Answers B.HostObject number (Start args.now) result self.old self.new }
     {
@@ -34,7 +34,7 @@ impl<B: HostObject> Objects<B> {
 
     /// The value of a property of the host object in a slot. It takes no memory.
     pub fn get_prop_at(&self, slot: usize, prop: u16) -> Word
-        requires host { IsHostIn slot self.now }
+        requires host { IsHostOfTable slot self.now }
         ensures allowed { (number : ℕ) → slot_of number self.now ≡ Some slot
             → IsSomeAnd (box_at number self.now)
             (λ box. B.allows box (Get prop) (B.state box) (HostAnswer.Value result) (B.state box)) }
@@ -56,7 +56,7 @@ impl<B: HostObject> Objects<B> {
 
     /// Writes a property of the host object in a slot. It takes no memory.
     pub fn set_prop_at(&mut self, slot: usize, prop: u16, value: Word)
-        requires host { IsHostIn slot self.old }
+        requires host { IsHostOfTable slot self.old }
         ensures answered { (number : ℕ) → slot_of number self.old ≡ Some slot
             → Answers B.HostObject number (Set prop value) HostAnswer.Nothing self.old self.new }
     {
@@ -85,7 +85,7 @@ impl<B: HostObject> Objects<B> {
         args: &[Word],
         events: &mut Vec<Event>,
     ) -> Result<HostAnswer, NoMemory>
-        requires host { IsHostIn slot self.old }
+        requires host { IsHostOfTable slot self.old }
         ensures answered { IfOk result (λ answer. (number : ℕ) → slot_of number self.old ≡ Some slot
             → Answers B.HostObject number (Invoke method args.now) answer self.old self.new) }
         ensures called { IfOk result (λ answer. (number : ℕ) → slot_of number self.old ≡ Some slot

@@ -22,8 +22,8 @@ mod sweeping;
 
 pub use arrays::{IndexOutOfBounds, LengthFault};
 pub use ash_host::{MAX_ELEMENTS, MAX_OBJECTS};
-pub use ash_slots::{Array, Body, Element, Script, Words};
+pub use ash_slots::{Array, Body, ElementTag, Script, Words};
 pub use making::MakeFault;
 pub use marking::Changes;
 pub use objects::Objects;
-pub use restoring::{SavedHostObject, StoredObject, StoredObjects, TableFault};
+pub use restoring::{SavedHostObject, SavedObject, SavedObjects, TableFault};

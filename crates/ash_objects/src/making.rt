@@ -14,7 +14,7 @@ ghost use Rattle.ash_objects.specs.Making.{IsFull, IsSpent, first_of_kind, with_
 use crate::counting::refer_words;
 use crate::objects::Objects;
 use ash_host::{Event, HostObject, MAX_ELEMENTS, MAX_OBJECTS, NoMemory};
-use ash_slots::{Array, Body, Element, Item, Script, Words};
+use ash_slots::{Array, Body, ElementTag, Occupant, Script, Words};
 
 /// Why no object was made.
 #[derive(Clone, Copy, Debug, PartialEq, Eq)]
@@ -72,7 +72,7 @@ impl<B: HostObject> Objects<B> {
             (λ slot. self.new ≡ with_new_object slot body self.old)) }
     {
         self.marks.reserve(self.store.vacant())?;
-        let item = Item {
+        let item = Occupant {
             count: 0,
             touched: true,
             body,
@@ -117,7 +117,7 @@ impl<B: HostObject> Objects<B> {
     }
 
     /// Makes an array of so many elements, each zero or null, and gives it the next number. Nothing holds it yet.
-    pub fn new_array(&mut self, element: Element, length: usize) -> Result<u64, MakeFault>
+    pub fn new_array(&mut self, element: ElementTag, length: usize) -> Result<u64, MakeFault>
         ensures full { IsErrOf result MakeFault.ObjectLimit ↔ IsFull self.old }
         ensures spent { IsErrOf result MakeFault.NumbersSpent
             ↔ ((IsFull self.old → ⊥) × IsSpent self.old) }
@@ -181,7 +181,7 @@ impl<B: HostObject> Objects<B> {
         if events.reserve(1).is_err() || self.marks.reserve(vacant).is_err() {
             return Err(MakeFault::NoMemory);
         }
-        let item = Item {
+        let item = Occupant {
             count: 0,
             touched: true,
             body: Body::Host(self.pool.remove(place)),

@@ -33,7 +33,7 @@ pub struct Objects<B = Box<dyn HostObject>> {
 impl<B> Model for Objects<B> {
     ghost use Rattle.ash_objects.specs.Table.{Table};
     ghost use Rattle.ash_objects.specs.Counting.{living_in};
-    ghost use Rattle.ash_objects.specs.Listing.{IsListed};
+    ghost use Rattle.ash_objects.specs.Listing.{IsInListing};
 
     ghost Value = { Table B };
 
@@ -46,7 +46,7 @@ impl<B> Model for Objects<B> {
       gone = s.gone.items;
     } };
 
-    ghost invariant = { λ s. IsListed s.store.objects s.last s.settled s.marks };
+    ghost invariant = { λ s. IsInListing s.store.objects s.last s.settled s.marks };
 }
 
 impl<B> Objects<B> {

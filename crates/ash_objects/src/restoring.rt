@@ -4,9 +4,9 @@ ghost use Rattle.std.specs.Prelude.{length, slice_get, IsSome, IfSome};
 ghost use Rattle.std.specs.Prelude.{IfOk, OnOk, IsErrOf, vec_len};
 ghost use Rattle.ash_host.specs.Objects.{object_at, numbers, Lives, IsInOrder, AreNumbered, handle};
 ghost use Rattle.ash_slots.specs.Bodies.{words_of};
-ghost use Rattle.ash_slots.specs.Counting.{counted};
+ghost use Rattle.ash_slots.specs.SlotCounting.{counted};
 ghost use Rattle.ash_objects.specs.declared.restoring.TableFault.{TableFault};
-ghost use Rattle.ash_objects.specs.declared.restoring.StoredObject.{StoredObject};
+ghost use Rattle.ash_objects.specs.declared.restoring.SavedObject.{SavedObject};
 ghost use Rattle.ash_objects.specs.Counting.{words_at, AllLive};
 ghost use Rattle.ash_host.specs.Limits.{max_objects, max_elements};
 ghost use Rattle.ash_objects.specs.Listing.{AreListed};
@@ -23,7 +23,7 @@ use crate::making::place_of_kind;
 use crate::marked_slots::MarkedSlots;
 use crate::objects::Objects;
 use ash_host::{HostObject, RestoreFault};
-use ash_slots::{Body, Item, Store};
+use ash_slots::{Body, Occupant, Store};
 use std::alloc::Global;
 
 /// A host object as a state has it.
@@ -37,16 +37,16 @@ pub struct SavedHostObject {
 
 /// An object as a state has it: a host object with its kind and its state in place of its box.
 #[derive(Drop)]
-pub struct StoredObject {
+pub struct SavedObject {
     pub number: u64,
     pub body: Body<SavedHostObject>,
 }
 
 /// The objects of a state, and the last number that was given to one.
 #[derive(Drop)]
-pub struct StoredObjects {
+pub struct SavedObjects {
     /// By ascending number.
-    pub objects: Vec<StoredObject>,
+    pub objects: Vec<SavedObject>,
     pub last: u64,
 }
 
@@ -61,7 +61,7 @@ pub enum TableFault {
     NoMemory,
 }
 
-impl StoredObject {
+impl SavedObject {
     // The state of a host object; none of what is none.
     fn bytes(&self) -> &[u8]
         ensures { result.now ≡ bytes_of self.now.body }
@@ -74,10 +74,7 @@ impl StoredObject {
 }
 
 // Takes the first box of an object's kind from the pool, if it is a host object.
-fn take_box<B: HostObject>(
-    pool: &mut Vec<B>,
-    object: &StoredObject,
-) -> Result<Option<B>, TableFault>
+fn take_box<B: HostObject>(pool: &mut Vec<B>, object: &SavedObject) -> Result<Option<B>, TableFault>
     ensures taken { IfOk result (λ taken. (others : List B → Drawn B)
         → draw_then B.HostObject (kind_wanted object.now) pool.old.items others
         ≡ with_box_first taken (others pool.new.items)) }
@@ -100,7 +97,7 @@ fn take_box<B: HostObject>(
 // Takes the boxes of these objects from the pool, in order.
 fn take_boxes<B: HostObject>(
     alloc: Global,
-    objects: &[StoredObject],
+    objects: &[SavedObject],
     pool: &mut Vec<B>,
 ) -> Result<Vec<Option<B>>, TableFault>
     ensures enough { IfOk result (λ boxes. draw_boxes B.HostObject objects.now pool.old.items
@@ -153,10 +150,7 @@ fn restore_services<B: HostObject>(
 }
 
 // Restores the box that an object took, if it took one, from the object's state.
-fn restore_box<B: HostObject>(
-    object: &StoredObject,
-    taken: &mut Option<B>,
-) -> Result<(), TableFault>
+fn restore_box<B: HostObject>(object: &SavedObject, taken: &mut Option<B>) -> Result<(), TableFault>
     ensures restored { OnOk result (RestoresBox B.HostObject object.now.body taken.old taken.new) }
     ensures refused { (number : ℕ) → IsErrOf result (TableFault.RestoreRefused number)
         → (number ≡ object.now.number)
@@ -171,7 +165,7 @@ fn restore_box<B: HostObject>(
 
 // Restores the box that each object took from the object's state, in order.
 fn restore_boxes<B: HostObject>(
-    objects: &[StoredObject],
+    objects: &[SavedObject],
     boxes: &mut Vec<Option<B>>,
 ) -> Result<(), TableFault>
     requires { length objects.now ≡ vec_len boxes.old }
@@ -207,7 +201,7 @@ fn join<B: HostObject>(body: Body<SavedHostObject>, taken: Option<B>) -> Body<B>
 fn insert_objects<B: HostObject>(
     store: &mut Store<B>,
     marks: &mut MarkedSlots,
-    mut objects: Vec<StoredObject>,
+    mut objects: Vec<SavedObject>,
     mut boxes: Vec<Option<B>>,
 ) -> Result<(), TableFault>
     requires empty { store.old.objects ≡ [] }
@@ -224,7 +218,7 @@ fn insert_objects<B: HostObject>(
         if marks.reserve(store.vacant()).is_err() {
             return Err(TableFault::NoMemory);
         }
-        let item = Item {
+        let item = Occupant {
             count: 0,
             touched: false,
             body: join(object.body, taken),
@@ -237,7 +231,7 @@ fn insert_objects<B: HostObject>(
 }
 
 // The numbers of these objects, in order.
-fn numbers_of(alloc: Global, objects: &[StoredObject]) -> Result<Vec<u64>, TableFault>
+fn numbers_of(alloc: Global, objects: &[SavedObject]) -> Result<Vec<u64>, TableFault>
     ensures numbers { IfOk result (λ list. list.items ≡ numbers (stored_in objects.now)) }
     ensures memory { (fault : TableFault) → IsErrOf result fault → fault ≡ TableFault.NoMemory }
 {
@@ -275,7 +269,7 @@ impl<B: HostObject> Objects<B> {
     /// given up.
     pub fn restored(
         alloc: Global,
-        stored: StoredObjects,
+        stored: SavedObjects,
         states: &[Vec<u8>],
         mut pool: Vec<B>,
         mut services: Vec<B>,
@@ -302,7 +296,7 @@ impl<B: HostObject> Objects<B> {
             → IsRefused B.HostObject stored.objects.items
             (states_in states.now) pool.items services.items number }
     {
-        let StoredObjects { objects, last } = stored;
+        let SavedObjects { objects, last } = stored;
         let mut boxes = take_boxes(alloc, &objects, &mut pool)?;
         restore_services(&mut services, states)?;
         restore_boxes(&objects, &mut boxes)?;

@@ -7,7 +7,7 @@ ghost use Rattle.ash_host.specs.Objects.{object_at, IsInOrder};
 ghost use Rattle.ash_slots.specs.Bodies.{words_of};
 ghost use Rattle.ash_slots.specs.Store.{IsIn, IsIdle, AreStored, NoneWaits};
 ghost use Rattle.ash_objects.specs.Counting.{fields_in, release_all, AreCounted};
-ghost use Rattle.ash_slots.specs.Counting.{counted};
+ghost use Rattle.ash_slots.specs.SlotCounting.{counted};
 ghost use Rattle.ash_objects.specs.Collecting.{HaveGone, AreInOrder, entry_mark};
 ghost use Rattle.ash_objects.specs.Collecting.{marked_since, marked_drops};
 ghost use Rattle.ash_objects.specs.Sweeping.{Collects, RanksFall, LeavesReachable};

@@ -3,15 +3,15 @@ use Rattle.std.proofs.Common.{◌≡◌, ℕ, List, [], ◌∷◌, ◌++◌, con
 use Rattle.std.proofs.lemmas.List.{append-nil}
 use Rattle.ash_lex.specs.Tokens.{name, sign}
 use Rattle.ash_lex.specs.declared.signs.Sign.TheVariants as signs
-use Rattle.ash_tree.specs.declared.tree.places.Place.{Place}
+use Rattle.ash_tree.specs.declared.tree.places.Position.{Position}
 use Rattle.ash_tree.specs.Tree.{Named, Prim, Declaration, ASignature, AProperty}
-use Rattle.ash_tree.specs.Tokens.{Tokens}
+use Rattle.ash_tree.specs.GrammarTokens.{Tokens}
 use Rattle.ash_tree.specs.Types.{IsType}
 use Rattle.ash_tree.specs.Grammar.{IsResultType, typed, IsUnnamed, unnamed, with_name, AreMoreUnnamed, no_more_unnamed, more_unnamed, AreUnnamed, no_unnamed, some_unnamed, Declares, signature, property}
 use Rattle.ash_parse.specs.Readers.{Unexpected, next_is_sign}
 use Rattle.ash_parse.specs.StatementReader.{is_name, next_is_name, type_at}
 use Rattle.ash_parse.specs.ItemReader.{without_first, is_left, result_type_at, unnamed_at, next_unnamed_at, more_unnamed_at, unnamed_list_at, unnamed_parameters_at, property_by, declaration_after, declaration_at}
-use Rattle.ash_parse.specs.Faults.{whole_declaration_at}
+use Rattle.ash_parse.specs.ParseFaults.{whole_declaration_at}
 use Rattle.ash_parse.proofs.BeginLaws.{Stopped, Law, Then, After, Grows, then, law_as, done, fill_here, stops_here, after, fill_after, either, sign_then, name_then, put_law, all_of, nowhere}
 use Rattle.ash_parse.proofs.BeginTypes.{begin_type}
 use Rattle.ash_parse.proofs.BeginItems.{begin_result_type, stops_with}
@@ -42,7 +42,7 @@ data AreListed : Tokens → List Named → Tokens → Type 0 where
   none : {left : Tokens} → AreListed left [] left
   some : {from after left : Tokens} {x : Named} {xs : List Named} → IsUnnamed from x after → AreMoreUnnamed after xs left → AreListed from (x ∷ xs) left
 
-listed : {p q : Place} {from left : Tokens} {xs : List Named} → AreListed from xs ((sign signs.CloseParenthesis, q) ∷ left) → AreUnnamed ((sign signs.OpenParenthesis, p) ∷ from) xs left
+listed : {p q : Position} {from left : Tokens} {xs : List Named} → AreListed from xs ((sign signs.CloseParenthesis, q) ∷ left) → AreUnnamed ((sign signs.OpenParenthesis, p) ∷ from) xs left
 listed none = no_unnamed
 listed (some x xs) = some_unnamed x xs
 
@@ -66,24 +66,24 @@ begin_unnamed_parameters ts =
 abbrev Whole : ℕ → Tokens → Declaration → Tokens → Type 0
 Whole free from d left = left ≡ [] → Declares from d
 
-property_whole : {p : Place} {text : List ℕ} {from : Tokens} {t : Named} (left : Tokens) → IsResultType from (Some t) ((name text, p) ∷ left) → left ≡ [] → Declares from (AProperty (record { place = p; of = t; name = text }))
+property_whole : {p : Position} {text : List ℕ} {from : Tokens} {t : Named} (left : Tokens) → IsResultType from (Some t) ((name text, p) ∷ left) → left ≡ [] → Declares from (AProperty (record { place = p; of = t; name = text }))
 property_whole {p} {text} {from} {t} left (typed d) e = property (subst (λ (l : Tokens). IsType from t ((name text, p) ∷ l)) e d)
 
 -- what is after the type and the name of a declaration
-abbrev Follows : Option Named → Place → List ℕ → ℕ → Tokens → Declaration → Tokens → Type 0
+abbrev Follows : Option Named → Position → List ℕ → ℕ → Tokens → Declaration → Tokens → Type 0
 Follows r p text = After (name text, p) (Then (λ free. IsResultType) Whole r)
 
-signature_whole : (r : Option Named) (p : Place) (text : List ℕ) (xs : List Named) (free : ℕ) (from left : Tokens) → AreUnnamed from xs left → Follows r p text free from (ASignature (record { place = p; result = r; name = text; parameters = xs })) left
+signature_whole : (r : Option Named) (p : Position) (text : List ℕ) (xs : List Named) (free : ℕ) (from left : Tokens) → AreUnnamed from xs left → Follows r p text free from (ASignature (record { place = p; result = r; name = text; parameters = xs })) left
 signature_whole r p text xs free from left d before t e = signature t (subst (λ (l : Tokens). AreUnnamed from xs l) e d)
 
-begin_property : (r : Option Named) (p : Place) (text : List ℕ) (ts : Tokens) → Law (property_by r p text ts) ts (Follows r p text)
+begin_property : (r : Option Named) (p : Position) (text : List ℕ) (ts : Tokens) → Law (property_by r p text ts) ts (Follows r p text)
 begin_property (Some t) p text ts = done (Follows (Some t) p text) (AProperty (record { place = p; of = t; name = text })) ts (λ free left before d e. property_whole left d e)
 begin_property None p text ts =
     stops_here (Follows None p text) ts
     (fill_after (Follows None p text) (sign signs.OpenParenthesis, nowhere) (fill_after _ (sign signs.CloseParenthesis, nowhere)
     (fill_here _ (ASignature (record { place = p; result = None; name = text; parameters = [] })) (λ free left. signature_whole None p text [] free ((sign signs.OpenParenthesis, nowhere) ∷ (sign signs.CloseParenthesis, nowhere) ∷ left) left no_unnamed))))
 
-begin_declaration_after : (r : Option Named) (p : Place) (text : List ℕ) (ts : Tokens) → Law (declaration_after r p text ts) ts (Follows r p text)
+begin_declaration_after : (r : Option Named) (p : Position) (text : List ℕ) (ts : Tokens) → Law (declaration_after r p text ts) ts (Follows r p text)
 unfolding declaration_after
 begin_declaration_after r p text ts =
     either (next_is_sign signs.OpenParenthesis ts) _ _ ts _

@@ -3,17 +3,17 @@ use Rattle.std.proofs.Common.{◌≡◌, ℕ, zero, suc, ◌+◌, ◌≤◌, Lis
 use Rattle.ash_lex.specs.Tokens.{Meaning, name, number, sign, reserved, unsupported}
 use Rattle.ash_lex.specs.declared.signs.Sign.TheVariants as signs
 use Rattle.ash_lex.specs.declared.words.ReservedWord.TheVariants as words
-use Rattle.ash_tree.specs.declared.tree.places.Place.{Place}
+use Rattle.ash_tree.specs.declared.tree.places.Position.{Position}
 use Rattle.ash_tree.specs.declared.tree.types.Primitive.{Primitive}
 use Rattle.ash_tree.specs.declared.tree.operators.UnaryOp.{UnaryOp}
 use Rattle.ash_tree.specs.declared.tree.operators.BinaryOp.{BinaryOp}
 use Rattle.ash_tree.specs.declared.tree.operators.AssignOp.{AssignOp}
 use Rattle.ash_tree.specs.Tree.{HandleElement, Expr, Number, Truth, Null, This, Name, Call, Brackets, Convert, NewArray, Cast, Unary, Conditional, Assign, TypeName, Field, Method, Index, Increment, Decrement, place_of, exprs, chained, suffixed}
-use Rattle.ash_tree.specs.Tokens.{Tokens}
+use Rattle.ash_tree.specs.GrammarTokens.{Tokens}
 use Rattle.ash_tree.specs.Operators.{primitive, unary_operator, binary_operator, max_level, assign_operator}
 use Rattle.ash_tree.specs.Types.{IsElement, handle_element}
 use Rattle.ash_tree.specs.Expressions.{IsInner, inner, AreExprs, no_exprs, some_exprs, AreMoreExprs, no_more_exprs, more_exprs, IsArgs, args, IsAssign, no_assign, assign, no_branch, branches, IsBinary, operand, joined, AreLinks, no_links, more_links, IsUnary, applied, postfix, AreSuffixes, no_suffixes, more_suffixes, IsSuffix, field, method, index, increment, decrement, IsPrimary, numeral, yes, no, null, this, named, call, brackets, convert, new_array, cast}
-use Rattle.ash_parse.specs.Signs.{is_sign, same_sign}
+use Rattle.ash_parse.specs.SignTokens.{is_sign, same_sign}
 use Rattle.ash_parse.specs.Readers.{ParseResult, Unexpected, TooDeep, ◌>>=◌, next_is_sign, expect_at}
 use Rattle.ash_parse.specs.ExpressionReader.{Below, begins, limit_at, next_expr_with, more_exprs_with, exprs_with, arguments_with, bracketed_with, name_or_call_with, new_array_with, cast_with, primary_by, primary_with, is_suffix, member_with, index_with, suffix_with, suffixes_with, postfix_with, unary_by, unary_with, operator_at, is_link, link_from, link_by, links_by, chain_by, binary_with, branches_with, assign_by, assign_from, assign_with, below_at}
 use Rattle.ash_parse.specs.TypeReader.{is_array, element_at, target_at, after_sign, after_elem, after_element}
@@ -46,11 +46,11 @@ pub fill_assign : (depth : ℕ) → Filled (λ free. IsAssign free depth)
 fill_assign depth = fill_as (λ free. IsUnary free depth) (λ free. IsAssign free depth) (λ free from x left d. alone d) (fill_unary depth)
 
 -- a token that begins a declaration of variables is a primitive type or a name, and no operator
-no_vars_prim : (m : Meaning) (p q : Place) (k : Primitive) (ts : Tokens) → primitive m ≡ Some k → is_vars ((m, p) ∷ (sign signs.OpenParenthesis, q) ∷ ts) ≡ false
+no_vars_prim : (m : Meaning) (p q : Position) (k : Primitive) (ts : Tokens) → primitive m ≡ Some k → is_vars ((m, p) ∷ (sign signs.OpenParenthesis, q) ∷ ts) ≡ false
 unfolding is_vars next_is_name is_name
 no_vars_prim m p q k ts g = rw g refl
 
-no_vars_unary : (m : Meaning) (p : Place) (o : UnaryOp) (ts : Tokens) → primitive m ≡ None → unary_operator m ≡ Some o → is_vars ((m, p) ∷ ts) ≡ false
+no_vars_unary : (m : Meaning) (p : Position) (o : UnaryOp) (ts : Tokens) → primitive m ≡ None → unary_operator m ≡ Some o → is_vars ((m, p) ∷ ts) ≡ false
 unfolding is_vars is_name is_array unary_operator
 no_vars_unary (name t) p o ts g h = absurd (no_some o h)
 no_vars_unary (number n) p o ts g h = absurd (no_some o h)
@@ -60,7 +60,7 @@ no_vars_unary (reserved w) p o ts g h = absurd (no_some o h)
 no_vars_unary (unsupported w) p o ts g h = absurd (no_some o h)
 
 -- a token that begins an expression begins an operand, with a name or with a name in brackets where more is needed
-begins_by : (depth : ℕ) (m : Meaning) (p : Place) (k : Option Primitive) (u : Option UnaryOp) → primitive m ≡ k → unary_operator m ≡ u → cond (is_some k) true (is_some u) ≡ true → FilledBy (m, p) (λ free. IsUnary free depth)
+begins_by : (depth : ℕ) (m : Meaning) (p : Position) (k : Option Primitive) (u : Option UnaryOp) → primitive m ≡ k → unary_operator m ≡ u → cond (is_some k) true (is_some u) ≡ true → FilledBy (m, p) (λ free. IsUnary free depth)
 begins_by depth m p (Some k) u g h b = record {
   text = (sign signs.OpenParenthesis, nowhere) ∷ (name some_name, nowhere) ∷ (sign signs.CloseParenthesis, nowhere) ∷ [];
   tree = Convert p k (Name nowhere some_name);
@@ -75,7 +75,7 @@ begins_by depth m p None (Some o) g h b = record {
 }
 begins_by depth m p None None g h b = absurd (no_true b)
 
-begins_unary : (depth : ℕ) (m : Meaning) (p : Place) → begins m ≡ true → FilledBy (m, p) (λ free. IsUnary free depth)
+begins_unary : (depth : ℕ) (m : Meaning) (p : Position) → begins m ≡ true → FilledBy (m, p) (λ free. IsUnary free depth)
 unfolding begins is_vars next_is_name is_name is_array after_element after_elem after_sign next_is_sign is_sign same_sign primitive
 begins_unary depth (name text) p b = record {
   text = (sign signs.OpenParenthesis, nowhere) ∷ (sign signs.CloseParenthesis, nowhere) ∷ [];
@@ -108,13 +108,13 @@ begins_unary depth (reserved words.Cast) p b = record {
 }
 begins_unary depth m p b = begins_by depth m p (primitive m) (unary_operator m) refl refl b
 
-pub begins_assign : (depth : ℕ) (m : Meaning) (p : Place) → begins m ≡ true → FilledBy (m, p) (λ free. IsAssign free depth)
+pub begins_assign : (depth : ℕ) (m : Meaning) (p : Position) → begins m ≡ true → FilledBy (m, p) (λ free. IsAssign free depth)
 begins_assign depth m p b = let f = begins_unary depth m p b in record { text = f.text; tree = f.tree; is = λ free left big. alone (f.is free left big); no_vars = f.no_vars }
 
-begins_inner : (depth : ℕ) (m : Meaning) (p : Place) → begins m ≡ true → FilledBy (m, p) (λ free. IsInner free depth)
+begins_inner : (depth : ℕ) (m : Meaning) (p : Position) → begins m ≡ true → FilledBy (m, p) (λ free. IsInner free depth)
 begins_inner depth m p b = let f = begins_unary (suc depth) m p b in record { text = f.text; tree = f.tree; is = λ free left big. inner_alone big (f.is free left big); no_vars = f.no_vars }
 
-begins_part : (depth : ℕ) (m : Meaning) (p : Place) → begins m ≡ true → FilledBy (m, p) (λ free. IsPart free depth)
+begins_part : (depth : ℕ) (m : Meaning) (p : Position) → begins m ≡ true → FilledBy (m, p) (λ free. IsPart free depth)
 begins_part depth m p b = let f = begins_unary (suc depth) m p b in record { text = f.text; tree = f.tree; is = λ free left big. (λ deep. absurd (omega arith), f.is free left big); no_vars = f.no_vars }
 
 pub fill_inner : (depth : ℕ) → Filled (λ free. IsInner free depth)
@@ -123,7 +123,7 @@ fill_inner depth = let f = fill_unary (suc depth) in record { text = f.text; tre
 fill_part : (depth : ℕ) → Filled (λ free. IsPart free depth)
 fill_part depth = let f = fill_unary (suc depth) in record { text = f.text; tree = f.tree; is = λ free left big. (λ deep. absurd (omega arith), f.is free left big) }
 
-limit_by : (P : ℕ → Tokens → Expr → Tokens → Type 0) → Filled P → ((m : Meaning) (p : Place) → begins m ≡ true → FilledBy (m, p) P) → (ts : Tokens) → Law (limit_at ts) ts P
+limit_by : (P : ℕ → Tokens → Expr → Tokens → Type 0) → Filled P → ((m : Meaning) (p : Position) → begins m ≡ true → FilledBy (m, p) P) → (ts : Tokens) → Law (limit_at ts) ts P
 unfolding limit_at
 limit_by P fill go [] = stops_here P [] fill
 limit_by P fill go ((m, p) ∷ ts) = record {
@@ -133,14 +133,14 @@ limit_by P fill go ((m, p) ∷ ts) = record {
 
 -- "(" assign ")"
 pub data IsBracketed : ℕ → ℕ → Tokens → Expr → Tokens → Type 0 where
-  bracketed : {free depth : ℕ} {p q : Place} {from left : Tokens} {e : Expr} → IsInner free depth from e ((sign signs.CloseParenthesis, q) ∷ left) → IsBracketed free depth ((sign signs.OpenParenthesis, p) ∷ from) e left
+  bracketed : {free depth : ℕ} {p q : Position} {from left : Tokens} {e : Expr} → IsInner free depth from e ((sign signs.CloseParenthesis, q) ∷ left) → IsBracketed free depth ((sign signs.OpenParenthesis, p) ∷ from) e left
 
-converted : {free depth : ℕ} {m : Meaning} {p : Place} {k : Primitive} {from left : Tokens} {e : Expr} → primitive m ≡ Some k → IsBracketed free depth from e left → IsPrimary free depth ((m, p) ∷ from) (Convert p k e) left
+converted : {free depth : ℕ} {m : Meaning} {p : Position} {k : Primitive} {from left : Tokens} {e : Expr} → primitive m ≡ Some k → IsBracketed free depth from e left → IsPrimary free depth ((m, p) ∷ from) (Convert p k e) left
 converted g (bracketed i) = convert g i
 
 -- "<" NAME ">"
 pub data IsTarget : Tokens → TypeName → Tokens → Type 0 where
-  target : {o q z : Place} {text : List ℕ} {left : Tokens} → IsTarget ((sign signs.Less, o) ∷ (name text, q) ∷ (sign signs.Greater, z) ∷ left) (record { place = q; name = text }) left
+  target : {o q z : Position} {text : List ℕ} {left : Tokens} → IsTarget ((sign signs.Less, o) ∷ (name text, q) ∷ (sign signs.Greater, z) ∷ left) (record { place = q; name = text }) left
 
 begin_target : (ts : Tokens) → Law (target_at ts) ts (λ free. IsTarget)
 unfolding target_at
@@ -150,7 +150,7 @@ begin_target ts =
     (λ n s. sign_then _ signs.Greater _ s
     (λ z t. done _ (record { place = n.1; name = n.0 }) t (λ free left. target))))
 
-casted : {free depth : ℕ} {p : Place} {t : TypeName} {from after left : Tokens} {e : Expr} → IsTarget from t after → IsBracketed free depth after e left → IsPrimary free depth ((reserved words.Cast, p) ∷ from) (Cast p t e) left
+casted : {free depth : ℕ} {p : Position} {t : TypeName} {from after left : Tokens} {e : Expr} → IsTarget from t after → IsBracketed free depth after e left → IsPrimary free depth ((reserved words.Cast, p) ∷ from) (Cast p t e) left
 casted target (bracketed i) = cast i
 
 module _ (depth : ℕ) (below : Below) (whole : (ts : Tokens) → Law (below true ts) ts (λ free. IsInner free depth)) (part : (ts : Tokens) → Law (below false ts) ts (λ free. IsPart free depth)) where
@@ -182,7 +182,7 @@ module _ (depth : ℕ) (below : Below) (whole : (ts : Tokens) → Law (below tru
 
   -- what is between brackets, with the ")"
   Closed : ℕ → Tokens → Expr → Tokens → Type 0
-  Closed free from e left = (q : Place) × IsInner free depth from e ((sign signs.CloseParenthesis, q) ∷ left)
+  Closed free from e left = (q : Position) × IsInner free depth from e ((sign signs.CloseParenthesis, q) ∷ left)
 
   closed : (ts : Tokens) → Law (below true ts >>= λ e. expect_at signs.CloseParenthesis e.1 >>= λ z. Ok (e.0, z.1)) ts Closed
   unfolding Closed
@@ -197,7 +197,7 @@ module _ (depth : ℕ) (below : Below) (whole : (ts : Tokens) → Law (below tru
       sign_then _ signs.OpenParenthesis _ ts
       (λ p r. law_as Closed _ (λ free from e left d. bracketed d.1) (below true r >>= λ e. expect_at signs.CloseParenthesis e.1 >>= λ z. Ok (e.0, z.1)) r (closed r))
 
-  begin_named : (p : Place) (text : List ℕ) (ts : Tokens) → Law (name_or_call_with below p text ts) ts (After (name text, p) (λ free. IsPrimary free depth))
+  begin_named : (p : Position) (text : List ℕ) (ts : Tokens) → Law (name_or_call_with below p text ts) ts (After (name text, p) (λ free. IsPrimary free depth))
   unfolding name_or_call_with
   begin_named p text ts =
       either (next_is_sign signs.OpenParenthesis ts) _ _ ts _
@@ -205,32 +205,32 @@ module _ (depth : ℕ) (below : Below) (whole : (ts : Tokens) → Law (below tru
       (λ es r. done _ (Call p text (exprs es)) r (λ free left before d. call d)))
       (done _ (Name p text) ts (λ free left. named))
 
-  opened : (p : Place) (ts : Tokens) → (below true ts >>= λ e. expect_at signs.CloseParenthesis e.1 >>= λ z. Ok (e.0, z.1)) ≡ bracketed_with below ((sign signs.OpenParenthesis, p) ∷ ts)
+  opened : (p : Position) (ts : Tokens) → (below true ts >>= λ e. expect_at signs.CloseParenthesis e.1 >>= λ z. Ok (e.0, z.1)) ≡ bracketed_with below ((sign signs.OpenParenthesis, p) ∷ ts)
   unfolding bracketed_with
-  opened p ts = ap (λ (o : ParseResult Place). ◌>>=◌ {B = Expr} o (λ o. below true o.1 >>= λ e. expect_at signs.CloseParenthesis e.1 >>= λ z. Ok (e.0, z.1))) (sym (expect_again signs.OpenParenthesis p ts))
+  opened p ts = ap (λ (o : ParseResult Position). ◌>>=◌ {B = Expr} o (λ o. below true o.1 >>= λ e. expect_at signs.CloseParenthesis e.1 >>= λ z. Ok (e.0, z.1))) (sym (expect_again signs.OpenParenthesis p ts))
 
-  begin_brackets : (p : Place) (ts : Tokens) → Law (bracketed_with below ((sign signs.OpenParenthesis, p) ∷ ts) >>= λ e. Ok (Brackets p e.0, e.1)) ((sign signs.OpenParenthesis, p) ∷ ts) (λ free. IsPrimary free depth)
+  begin_brackets : (p : Position) (ts : Tokens) → Law (bracketed_with below ((sign signs.OpenParenthesis, p) ∷ ts) >>= λ e. Ok (Brackets p e.0, e.1)) ((sign signs.OpenParenthesis, p) ∷ ts) (λ free. IsPrimary free depth)
   unfolding Closed
   begin_brackets p ts =
       subst (λ (o : ParseResult Expr). Law (o >>= λ e. Ok (Brackets p e.0, e.1)) ((sign signs.OpenParenthesis, p) ∷ ts) (λ free. IsPrimary free depth)) (opened p ts)
       (after _ (sign signs.OpenParenthesis, p) _ ts (then Closed _ (below true ts >>= λ e. expect_at signs.CloseParenthesis e.1 >>= λ z. Ok (e.0, z.1)) _ ts (closed ts)
       (λ e r. done _ (Brackets p e) r (λ free left before d. brackets d.1))))
 
-  begin_new_array : (p : Place) (ts : Tokens) → Law (new_array_with below p ts) ts (After (reserved words.Array, p) (λ free. IsPrimary free depth))
+  begin_new_array : (p : Position) (ts : Tokens) → Law (new_array_with below p ts) ts (After (reserved words.Array, p) (λ free. IsPrimary free depth))
   unfolding new_array_with
   begin_new_array p ts =
       then (λ free. IsElement) _ (element_at ts) _ ts (begin_element ts)
       (λ of r. then (λ free. IsArgs free depth) _ (arguments_with below r) _ r (begin_args r)
       (λ es s. done _ (NewArray p of (exprs es)) s (λ free left middle a before d. new_array d a)))
 
-  begin_cast : (p : Place) (ts : Tokens) → Law (cast_with below p ts) ts (After (reserved words.Cast, p) (λ free. IsPrimary free depth))
+  begin_cast : (p : Position) (ts : Tokens) → Law (cast_with below p ts) ts (After (reserved words.Cast, p) (λ free. IsPrimary free depth))
   unfolding cast_with
   begin_cast p ts =
       then (λ free. IsTarget) _ (target_at ts) _ ts (begin_target ts)
       (λ t r. then (λ free. IsBracketed free depth) _ (bracketed_with below r) _ r (begin_bracketed r)
       (λ e s. done _ (Cast p t e) s (λ free left middle b before d. casted d b)))
 
-  primary_by_begins : (k : Option Primitive) (m : Meaning) (p : Place) (ts : Tokens) → primitive m ≡ k → Law (primary_by below k m p ts) ((m, p) ∷ ts) (λ free. IsPrimary free depth)
+  primary_by_begins : (k : Option Primitive) (m : Meaning) (p : Position) (ts : Tokens) → primitive m ≡ k → Law (primary_by below k m p ts) ((m, p) ∷ ts) (λ free. IsPrimary free depth)
   primary_by_begins (Some k) m p ts g =
       after _ (m, p) _ ts (then (λ free. IsBracketed free depth) _ (bracketed_with below ts) _ ts (begin_bracketed ts)
       (λ e r. done _ (Convert p k e) r (λ free left before d. converted g d)))
@@ -250,7 +250,7 @@ module _ (depth : ℕ) (below : Below) (whole : (ts : Tokens) → Law (below tru
   begin_primary [] = stops_here (λ free. IsPrimary free depth) [] (fill_primary depth)
   begin_primary ((m, p) ∷ ts) = primary_by_begins (primitive m) m p ts refl
 
-  begin_member : (p : Place) (ts : Tokens) → Law (member_with below ts) ts (After (sign signs.Dot, p) (λ free. IsSuffix free depth))
+  begin_member : (p : Position) (ts : Tokens) → Law (member_with below ts) ts (After (sign signs.Dot, p) (λ free. IsSuffix free depth))
   unfolding member_with
   begin_member p ts =
       name_then _ _ ts
@@ -259,7 +259,7 @@ module _ (depth : ℕ) (below : Below) (whole : (ts : Tokens) → Law (below tru
       (λ es s. done _ (Method n.1 n.0 (exprs es)) s (λ free left before d. method d)))
       (done _ (Field n.1 n.0) r (λ free left. field)))
 
-  begin_index : (p : Place) (ts : Tokens) → Law (index_with below ts) ts (After (sign signs.OpenBracket, p) (λ free. IsSuffix free depth))
+  begin_index : (p : Position) (ts : Tokens) → Law (index_with below ts) ts (After (sign signs.OpenBracket, p) (λ free. IsSuffix free depth))
   unfolding index_with
   begin_index p ts =
       then (λ free. IsInner free depth) _ (below true ts) _ ts (whole ts)
@@ -291,7 +291,7 @@ module _ (depth : ℕ) (below : Below) (whole : (ts : Tokens) → Law (below tru
       (λ e r. then (λ free. AreSuffixes free depth) _ (suffixes_with below r) _ r (begin_suffixes r)
       (λ more s. done _ (suffixed e more) s (λ free left middle ss before d. postfix d ss)))
 
-  unary_by_begins : (o : Option UnaryOp) (m : Meaning) (p : Place) (ts : Tokens) → unary_operator m ≡ o → Law (unary_by below o m p ts) ((m, p) ∷ ts) (λ free. IsUnary free depth)
+  unary_by_begins : (o : Option UnaryOp) (m : Meaning) (p : Position) (ts : Tokens) → unary_operator m ≡ o → Law (unary_by below o m p ts) ((m, p) ∷ ts) (λ free. IsUnary free depth)
   unary_by_begins None m p ts g = begin_postfix ((m, p) ∷ ts)
   unary_by_begins (Some o) m p ts g =
       after _ (m, p) _ ts (then (λ free. IsPart free depth) _ (below false ts) _ ts (part ts)
@@ -328,7 +328,7 @@ module _ (depth : ℕ) (below : Below) (whole : (ts : Tokens) → Law (below tru
   begin_binary zero ts = law_as (λ free. IsUnary free depth) _ (λ free from x left d. operand d) (unary_with below ts) ts (begin_unary ts)
   begin_binary (suc n) ts = begin_chain n (binary_with below n) (begin_binary n) ts
 
-  begin_branches : (p : Place) (c : Expr) (ts : Tokens) → Law (branches_with below c ts) ts (After (sign signs.Question, p) (Then (λ free. IsBinary free depth max_level) (λ free. IsAssign free depth) c))
+  begin_branches : (p : Position) (c : Expr) (ts : Tokens) → Law (branches_with below c ts) ts (After (sign signs.Question, p) (Then (λ free. IsBinary free depth max_level) (λ free. IsAssign free depth) c))
   unfolding branches_with
   begin_branches p c ts =
       then (λ free. IsInner free depth) _ (below true ts) _ ts (whole ts)
@@ -336,7 +336,7 @@ module _ (depth : ℕ) (below : Below) (whole : (ts : Tokens) → Law (below tru
       (λ q s. then (λ free. IsInner free depth) _ (below true s) _ s (whole s)
       (λ b t. done _ (Conditional (place_of c) c a b) t (λ free left second j first i before d. no_assign (branches d i j)))))
 
-  begin_assign_by : (o : Option AssignOp) (m : Meaning) (p : Place) (e : Expr) (ts : Tokens) → assign_operator m ≡ o → Law (assign_by below e o m p ts) ((m, p) ∷ ts) (Then (λ free. IsBinary free depth max_level) (λ free. IsAssign free depth) e)
+  begin_assign_by : (o : Option AssignOp) (m : Meaning) (p : Position) (e : Expr) (ts : Tokens) → assign_operator m ≡ o → Law (assign_by below e o m p ts) ((m, p) ∷ ts) (Then (λ free. IsBinary free depth max_level) (λ free. IsAssign free depth) e)
   begin_assign_by None m p e ts g = done _ e ((m, p) ∷ ts) (λ free left before d. no_assign (no_branch d))
   begin_assign_by (Some o) m p e ts g =
       after _ (m, p) _ ts (then (λ free. IsInner free depth) _ (below true ts) _ ts (whole ts)

@@ -5,14 +5,14 @@ use Rattle.std.proofs.lemmas.List.{append-nil}
 use Rattle.ash_lex.specs.Tokens.{Meaning, name, sign, reserved}
 use Rattle.ash_lex.specs.declared.signs.Sign.TheVariants as signs
 use Rattle.ash_lex.specs.declared.words.ReservedWord.TheVariants as words
-use Rattle.ash_tree.specs.declared.tree.places.Place.{Place}
+use Rattle.ash_tree.specs.declared.tree.places.Position.{Position}
 use Rattle.ash_tree.specs.Tree.{Parameter, AMethod, AField, AConstructor, Item, AClass, AnInterface, AFunction, AGlobal}
-use Rattle.ash_tree.specs.Tokens.{Tokens}
+use Rattle.ash_tree.specs.GrammarTokens.{Tokens}
 use Rattle.ash_tree.specs.Expressions.{max_depth}
 use Rattle.ash_tree.specs.Types.{IsType}
 use Rattle.ash_tree.specs.Statements.{IsVars, IsBlock}
 use Rattle.ash_tree.specs.Grammar.{IsResultType, void, typed, IsParameter, parameter, AreMoreParameters, no_more_parameters, more_parameters, AreParameters, no_parameters, parameters, IsFunction, function, IsMember, method, fields, constructor, AreMembers, no_members, more_members, IsClass, class, IsItem, a_class, a_function, globals, Derives, no_items, semicolon, item, AreMoreInterfaces, no_more_interfaces, more_interfaces, AreInterfaces, no_interfaces, interfaces, IsInterfaceMethod, interface_method, AreInterfaceMethods, no_interface_methods, more_interface_methods, IsInterface, interface, an_interface}
-use Rattle.ash_parse.specs.Signs.{is_sign}
+use Rattle.ash_parse.specs.SignTokens.{is_sign}
 use Rattle.ash_parse.specs.Readers.{Halt, Unexpected, TooDeep, ParseResult, ◌>>=◌, next_is_sign}
 use Rattle.ash_parse.specs.ExpressionReader.{below_at}
 use Rattle.ash_parse.specs.StatementReader.{type_at, is_vars, goes_on, nested_at}
@@ -61,7 +61,7 @@ data AreListed : Tokens → List Parameter → Tokens → Type 0 where
   none : {left : Tokens} → AreListed left [] left
   some : {from after left : Tokens} {x : Parameter} {xs : List Parameter} → IsParameter from x after → AreMoreParameters after xs left → AreListed from (x ∷ xs) left
 
-listed : {p q : Place} {from left : Tokens} {xs : List Parameter} → AreListed from xs ((sign signs.CloseParenthesis, q) ∷ left) → AreParameters ((sign signs.OpenParenthesis, p) ∷ from) xs left
+listed : {p q : Position} {from left : Tokens} {xs : List Parameter} → AreListed from xs ((sign signs.CloseParenthesis, q) ∷ left) → AreParameters ((sign signs.OpenParenthesis, p) ∷ from) xs left
 listed none = no_parameters
 listed (some x xs) = parameters x xs
 
@@ -132,7 +132,7 @@ begin_more_interfaces : (ts : Tokens) → Law (more_interfaces_at ts) ts (λ fre
 unfolding more_interfaces_at
 begin_more_interfaces ts = all_of (next_is_sign signs.Comma) next_interface_at (λ free. AreMoreInterfaces) (λ free left. no_more_interfaces) (λ s b. (begin_next_interface s).explained) (length ts) ts
 
-begin_listed_interfaces : (p : Place) (ts : Tokens) → Law (listed_interfaces_at ts) ts (After (sign signs.Colon, p) (λ free. AreInterfaces))
+begin_listed_interfaces : (p : Position) (ts : Tokens) → Law (listed_interfaces_at ts) ts (After (sign signs.Colon, p) (λ free. AreInterfaces))
 unfolding listed_interfaces_at
 begin_listed_interfaces p ts =
     name_then _ _ ts
@@ -145,7 +145,7 @@ begin_interfaces ts =
     (sign_then _ signs.Colon _ ts begin_listed_interfaces)
     (done _ [] ts (λ free left. no_interfaces))
 
-begin_class : (p : Place) (ts : Tokens) → Law (class_at ts) ts (After (reserved words.Class, p) IsClass)
+begin_class : (p : Position) (ts : Tokens) → Law (class_at ts) ts (After (reserved words.Class, p) IsClass)
 unfolding class_at
 begin_class p ts =
     name_then _ _ ts
@@ -170,7 +170,7 @@ begin_interface_methods ts =
     all_of goes_on interface_method_at (λ free. AreInterfaceMethods) (λ free left. no_interface_methods)
     (λ s b. (law_as (λ free. IsInterfaceMethod) (Grows (λ free. AreInterfaceMethods)) (λ free from x left d xs end more. more_interface_methods d more) (interface_method_at s) s (begin_interface_method s)).explained) (length ts) ts
 
-begin_interface : (p : Place) (ts : Tokens) → Law (interface_at ts) ts (After (reserved words.Interface, p) (λ free. IsInterface))
+begin_interface : (p : Position) (ts : Tokens) → Law (interface_at ts) ts (After (reserved words.Interface, p) (λ free. IsInterface))
 unfolding interface_at
 begin_interface p ts =
     name_then _ _ ts
@@ -281,7 +281,7 @@ begun ts rest e = let s = stops_module ts (Unexpected rest) e in (s.prefix, s.is
 
 -- where a token is too deep, a module goes on with it that has only this token and those after too deep, and there it
 -- begins no declaration of variables
-pub begun_deep : (ts rest : Tokens) (t : Meaning × Place) → module_at ts ≡ Err (TooDeep (t ∷ rest)) → (prefix : Tokens) × (tail : Tokens) × (items : List Item) × (ts ≡ prefix ++ t ∷ rest) × (is_vars (t ∷ tail) ≡ false) × Derives (suc (length tail)) (prefix ++ t ∷ tail) items
+pub begun_deep : (ts rest : Tokens) (t : Meaning × Position) → module_at ts ≡ Err (TooDeep (t ∷ rest)) → (prefix : Tokens) × (tail : Tokens) × (items : List Item) × (ts ≡ prefix ++ t ∷ rest) × (is_vars (t ∷ tail) ≡ false) × Derives (suc (length tail)) (prefix ++ t ∷ tail) items
 begun_deep ts rest t e =
     let s = stops_module ts (TooDeep (t ∷ rest)) e in
     let tail = s.goes_on.0 in

@@ -3,9 +3,9 @@
 use Rattle.std.proofs.Common.{◌≡◌, ℕ, zero, suc, ◌+◌, ◌≤◌, List, [], ◌∷◌, ◌++◌, length, Bool, true, false, cond, Ok, Err, refl, sym, ap, subst, ◌∙◌, append_assoc, length-append, arith}
 use Rattle.ash_lex.specs.Tokens.{Meaning, name, number, sign, reserved, unsupported}
 use Rattle.ash_lex.specs.declared.signs.Sign.{Sign}
-use Rattle.ash_tree.specs.declared.tree.places.Place.{Place}
-use Rattle.ash_tree.specs.Tokens.{Tokens}
-use Rattle.ash_parse.specs.Signs.{is_sign}
+use Rattle.ash_tree.specs.declared.tree.places.Position.{Position}
+use Rattle.ash_tree.specs.GrammarTokens.{Tokens}
+use Rattle.ash_parse.specs.SignTokens.{is_sign}
 use Rattle.ash_parse.specs.Readers.{Halt, Unexpected, TooDeep, ParseResult, ◌>>=◌, put, repeat, expect_at, name_at}
 use Rattle.ash_parse.specs.StatementReader.{is_vars}
 use Rattle.ash_parse.proofs.Readings.{sign_is}
@@ -62,7 +62,7 @@ abbrev pub Then : {A B : Type 0} → (ℕ → Tokens → A → Tokens → Type 0
 Then P Q x free from y left = (before : Tokens) → P free before x from → Q free before y left
 
 -- the phrase P after a token
-abbrev pub After : {A : Type 0} → Meaning × Place → (ℕ → Tokens → A → Tokens → Type 0) → ℕ → Tokens → A → Tokens → Type 0
+abbrev pub After : {A : Type 0} → Meaning × Position → (ℕ → Tokens → A → Tokens → Type 0) → ℕ → Tokens → A → Tokens → Type 0
 After t P free from x left = P free (t ∷ from) x left
 
 module _ {A B : Type 0} (P : ℕ → Tokens → A → Tokens → Type 0) (Q : ℕ → Tokens → B → Tokens → Type 0) where
@@ -150,18 +150,18 @@ stops_here Q ts f = record { explained = stopped_at Q ts f; filled = f }
 
 -- some tokens after this one are, with it, the phrase, where the depth isn't asked of them,
 -- and no declaration of variables
-pub record FilledBy {A : Type 0} (t : Meaning × Place) (P : ℕ → Tokens → A → Tokens → Type 0) : Type 0 where
+pub record FilledBy {A : Type 0} (t : Meaning × Position) (P : ℕ → Tokens → A → Tokens → Type 0) : Type 0 where
   pub text : Tokens
   pub tree : A
   pub is : (free : ℕ) (left : Tokens) → length (t ∷ (text ++ left)) ≤ free → P free (t ∷ (text ++ left)) tree left
   pub no_vars : (after : Tokens) → is_vars (t ∷ (text ++ after)) ≡ false
 
 -- a reading that stops at a token that is too deep
-pub too_deep_at : {A : Type 0} (Q : ℕ → Tokens → A → Tokens → Type 0) (t : Meaning × Place) (ts : Tokens) → FilledBy t Q → Stopped (t ∷ ts) (TooDeep (t ∷ ts)) Q
+pub too_deep_at : {A : Type 0} (Q : ℕ → Tokens → A → Tokens → Type 0) (t : Meaning × Position) (ts : Tokens) → FilledBy t Q → Stopped (t ∷ ts) (TooDeep (t ∷ ts)) Q
 too_deep_at Q t ts f = record { prefix = []; all = refl; tail = t ∷ f.text; goes_on = (f.text, refl, f.no_vars); tree = f.tree; is = λ left. let n : length (f.text ++ left) ≡ length f.text + length left = length-append f.text left in f.is (length (t ∷ f.text) + length left) left (omega arith) }
 
 -- one token, and what is read after it
-module _ {A : Type 0} (Q : ℕ → Tokens → A → Tokens → Type 0) (t : Meaning × Place) where
+module _ {A : Type 0} (Q : ℕ → Tokens → A → Tokens → Type 0) (t : Meaning × Position) where
   pub explain_after : (o : ParseResult A) (ts : Tokens) → Explained o ts (After t Q) → Explained o (t ∷ ts) Q
   explain_after (Ok y) ts e = record { taken = t ∷ e.taken; all = ap (λ (r : Tokens). t ∷ r) e.all; is = e.is }
   explain_after (Err h) ts e = record { prefix = t ∷ e.prefix; all = ap (λ (r : Tokens). t ∷ r) e.all; tail = e.tail; goes_on = e.goes_on; tree = e.tree; is = e.is }
@@ -173,7 +173,7 @@ module _ {A : Type 0} (Q : ℕ → Tokens → A → Tokens → Type 0) (t : Mean
   after o ts l = record { explained = explain_after o ts l.explained; filled = fill_after l.filled }
 
 -- where a made-up token is
-abbrev pub nowhere : Place
+abbrev pub nowhere : Position
 nowhere = record { at = 0; line = 1 }
 
 -- a made-up name
@@ -190,20 +190,20 @@ explain_either true x y ts Q l r = l refl
 explain_either false x y ts Q l r = r refl
 
 -- this sign, and what is read after it
-explain_sign : {A : Type 0} (Q : ℕ → Tokens → A → Tokens → Type 0) (s : Sign) (f : Place × Tokens → ParseResult A) (ts : Tokens) → Filled Q → ((p : Place) (rest : Tokens) → Explained (f (p, rest)) rest (After (sign s, p) Q)) → Explained (expect_at s ts >>= f) ts Q
+explain_sign : {A : Type 0} (Q : ℕ → Tokens → A → Tokens → Type 0) (s : Sign) (f : Position × Tokens → ParseResult A) (ts : Tokens) → Filled Q → ((p : Position) (rest : Tokens) → Explained (f (p, rest)) rest (After (sign s, p) Q)) → Explained (expect_at s ts >>= f) ts Q
 unfolding expect_at
 explain_sign Q s f [] fill go = stopped_at Q [] fill
 explain_sign {A} Q s f ((m, p) ∷ ts) fill go =
-    let M : Bool → Type 0 = λ b. is_sign s m ≡ b → Explained (◌>>=◌ {A = Place} {B = A} (cond b (Ok (p, ts)) (Err (Unexpected ((m, p) ∷ ts)))) f) ((m, p) ∷ ts) Q in
+    let M : Bool → Type 0 = λ b. is_sign s m ≡ b → Explained (◌>>=◌ {A = Position} {B = A} (cond b (Ok (p, ts)) (Err (Unexpected ((m, p) ∷ ts)))) f) ((m, p) ∷ ts) Q in
     (elim (is_sign s m) as M [ true ↦ λ e. subst (λ w. Explained (f (p, ts)) ((w, p) ∷ ts) Q) (sym (sign_is s m e)) (explain_after Q (sign s, p) (f (p, ts)) ts (go p ts)) | false ↦ λ e. stopped_at Q ((m, p) ∷ ts) fill ]) refl
 
-pub sign_then : {A : Type 0} (Q : ℕ → Tokens → A → Tokens → Type 0) (s : Sign) (f : Place × Tokens → ParseResult A) (ts : Tokens) → ((p : Place) (rest : Tokens) → Law (f (p, rest)) rest (After (sign s, p) Q)) → Law (expect_at s ts >>= f) ts Q
+pub sign_then : {A : Type 0} (Q : ℕ → Tokens → A → Tokens → Type 0) (s : Sign) (f : Position × Tokens → ParseResult A) (ts : Tokens) → ((p : Position) (rest : Tokens) → Law (f (p, rest)) rest (After (sign s, p) Q)) → Law (expect_at s ts >>= f) ts Q
 sign_then Q s f ts go =
     let fill : Filled Q = fill_after Q (sign s, nowhere) (go nowhere []).filled in
     record { explained = explain_sign Q s f ts fill (λ p rest. (go p rest).explained); filled = fill }
 
 -- a name, and what is read after it
-explain_name : {A : Type 0} (Q : ℕ → Tokens → A → Tokens → Type 0) (f : (List ℕ × Place) × Tokens → ParseResult A) (ts : Tokens) → Filled Q → ((n : List ℕ × Place) (rest : Tokens) → Explained (f (n, rest)) rest (After (name n.0, n.1) Q)) → Explained (name_at ts >>= f) ts Q
+explain_name : {A : Type 0} (Q : ℕ → Tokens → A → Tokens → Type 0) (f : (List ℕ × Position) × Tokens → ParseResult A) (ts : Tokens) → Filled Q → ((n : List ℕ × Position) (rest : Tokens) → Explained (f (n, rest)) rest (After (name n.0, n.1) Q)) → Explained (name_at ts >>= f) ts Q
 unfolding name_at
 explain_name Q f [] fill go = stopped_at Q [] fill
 explain_name Q f ((name t, p) ∷ ts) fill go = explain_after Q (name t, p) (f ((t, p), ts)) ts (go (t, p) ts)
@@ -212,14 +212,14 @@ explain_name Q f ((sign n, p) ∷ ts) fill go = stopped_at Q ((sign n, p) ∷ ts
 explain_name Q f ((reserved n, p) ∷ ts) fill go = stopped_at Q ((reserved n, p) ∷ ts) fill
 explain_name Q f ((unsupported n, p) ∷ ts) fill go = stopped_at Q ((unsupported n, p) ∷ ts) fill
 
-pub name_then : {A : Type 0} (Q : ℕ → Tokens → A → Tokens → Type 0) (f : (List ℕ × Place) × Tokens → ParseResult A) (ts : Tokens) → ((n : List ℕ × Place) (rest : Tokens) → Law (f (n, rest)) rest (After (name n.0, n.1) Q)) → Law (name_at ts >>= f) ts Q
+pub name_then : {A : Type 0} (Q : ℕ → Tokens → A → Tokens → Type 0) (f : (List ℕ × Position) × Tokens → ParseResult A) (ts : Tokens) → ((n : List ℕ × Position) (rest : Tokens) → Law (f (n, rest)) rest (After (name n.0, n.1) Q)) → Law (name_at ts >>= f) ts Q
 name_then Q f ts go =
     let fill : Filled Q = fill_after Q (name some_name, nowhere) (go (some_name, nowhere) []).filled in
     record { explained = explain_name Q f ts fill (λ p rest. (go p rest).explained); filled = fill }
 
 -- a phrase, with the sign after it
 abbrev pub Ending : {A : Type 0} → Sign → (ℕ → Tokens → A → Tokens → Type 0) → ℕ → Tokens → A → Tokens → Type 0
-Ending s P free from x left = (p : Place) × P free from x ((sign s, p) ∷ left)
+Ending s P free from x left = (p : Position) × P free from x ((sign s, p) ∷ left)
 
 pub ending : {A : Type 0} (P : ℕ → Tokens → A → Tokens → Type 0) (s : Sign) (o : ParseResult A) (ts : Tokens) → Law o ts P → Law (o >>= λ x. expect_at s x.1 >>= λ z. Ok (x.0, z.1)) ts (Ending s P)
 ending P s o ts law =

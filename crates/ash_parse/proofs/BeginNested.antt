@@ -3,9 +3,9 @@ use Rattle.std.proofs.Common.{◌≡◌, ℕ, zero, suc, ◌+◌, ◌≤◌, [],
 use Rattle.ash_lex.specs.Tokens.{Meaning, name, sign, reserved}
 use Rattle.ash_lex.specs.declared.signs.Sign.TheVariants as signs
 use Rattle.ash_lex.specs.declared.words.ReservedWord.TheVariants as words
-use Rattle.ash_tree.specs.declared.tree.places.Place.{Place}
+use Rattle.ash_tree.specs.declared.tree.places.Position.{Position}
 use Rattle.ash_tree.specs.Tree.{Name, Default, Empty, Evaluate, Block, If, While, DoWhile, For, Switch, Break, Continue, Return, Case, place_of, stmts, cases}
-use Rattle.ash_tree.specs.Tokens.{Tokens}
+use Rattle.ash_tree.specs.GrammarTokens.{Tokens}
 use Rattle.ash_tree.specs.Operators.{primitive}
 use Rattle.ash_tree.specs.Expressions.{IsInner, no_exprs, named, postfix, no_suffixes}
 use Rattle.ash_tree.specs.Statements.{no_first, no_test, no_result, IsNested, nested, no_locals, block, IsStmt, inner_block, empty, evaluate, if_only, while, do_while, for, switch, break, continue, return, no_cases}
@@ -35,10 +35,10 @@ empty_nested : {free depth : ℕ} (left : Tokens) → length ((sign signs.Semico
 empty_nested left big = nested (λ deep. absurd (omega arith)) empty
 
 -- a token that leads a statement begins one
-Begun : ℕ → Place → Meaning → Type 0
+Begun : ℕ → Position → Meaning → Type 0
 Begun depth p m = FilledBy (m, p) (λ free. IsStmt free depth)
 
-leads_stmt : (depth : ℕ) (k : StmtToken) (m : Meaning) (p : Place) → Leads k m → begins_by k (begins m) ≡ true → Begun depth p m
+leads_stmt : (depth : ℕ) (k : StmtToken) (m : Meaning) (p : Position) → Leads k m → begins_by k (begins m) ≡ true → Begun depth p m
 unfolding Begun is_vars is_name is_array primitive
 leads_stmt depth stmt_tokens.Block m p d b = subst (Begun depth p) (sym d) (record { text = (sign signs.CloseBrace, nowhere) ∷ []; tree = Block p (stmts []); is = λ free left big. inner_block (block no_locals); no_vars = λ after. refl })
 leads_stmt depth stmt_tokens.Empty m p d b = subst (Begun depth p) (sym d) (record { text = []; tree = Empty p; is = λ free left big. empty; no_vars = λ after. refl })
@@ -81,7 +81,7 @@ leads_stmt depth stmt_tokens.End m p d b = absurd (no_true b)
 leads_stmt depth stmt_tokens.Case m p d b = absurd (no_true b)
 leads_stmt depth stmt_tokens.Default m p d b = absurd (no_true b)
 
-begins_nested : (depth : ℕ) (m : Meaning) (p : Place) → begins_stmt m ≡ true → FilledBy (m, p) (λ free. IsNested free depth)
+begins_nested : (depth : ℕ) (m : Meaning) (p : Position) → begins_stmt m ≡ true → FilledBy (m, p) (λ free. IsNested free depth)
 unfolding begins_stmt Begun
 begins_nested depth m p b = let f = leads_stmt (suc depth) (stmt_token m) m p (leads_to m) b in record { text = f.text; tree = f.tree; is = λ free left big. nested (λ deep. absurd (omega arith)) (f.is free left big); no_vars = f.no_vars }
 

@@ -3,11 +3,11 @@ use Rattle.std.proofs.Common.{◌≡◌, ℕ, ◌+◌, ◌≤◌, List, [], ◌�
 use Rattle.ash_lex.specs.Tokens.{Meaning, name, number, sign, reserved, unsupported}
 use Rattle.ash_lex.specs.declared.signs.Sign.TheVariants as signs
 use Rattle.ash_lex.specs.declared.words.ReservedWord.TheVariants as words
-use Rattle.ash_tree.specs.declared.tree.places.Place.{Place}
+use Rattle.ash_tree.specs.declared.tree.places.Position.{Position}
 use Rattle.ash_tree.specs.declared.tree.statements.Label.{Label}
 use Rattle.ash_tree.specs.declared.tree.statements.Label.TheVariants as labels
 use Rattle.ash_tree.specs.Tree.{Named, Expr, Initializer, Default, Value, Arguments, Decl, Stmt, Empty, Declare, Evaluate, Block, If, IfElse, While, DoWhile, For, Switch, Break, Continue, Return, Case, labelled, place_of, place_of_type, stmts, cases}
-use Rattle.ash_tree.specs.Tokens.{Tokens}
+use Rattle.ash_tree.specs.GrammarTokens.{Tokens}
 use Rattle.ash_tree.specs.Expressions.{IsInner, AreExprs, IsArgs, IsAssign}
 use Rattle.ash_tree.specs.Types.{IsType}
 use Rattle.ash_tree.specs.Statements.{IsDecl, bare, valued, made, AreMoreDecls, no_more_decls, more_decls, IsVars, vars, IsFirst, no_first, first_vars, first_expr, IsTest, no_test, test, IsResult, no_result, value, IsLabel, case, case_minus, default, is_open, IsNested, AreLocals, no_locals, local_vars, local_stmt, IsBlock, block, IsStmt, inner_block, empty, evaluate, if_only, if_else, while, do_while, for, switch, break, continue, return, AreCases, no_cases, more_cases, AreStmts, no_stmts, more_stmts}
@@ -31,20 +31,20 @@ vars_by : {free depth : ℕ} {from first left : Tokens} {t : Named} {ds : List D
 vars_by t (decls d more) = vars t d more
 
 -- the word `while`, and what is read after it
-explain_while : {A : Type 0} (Q : ℕ → Tokens → A → Tokens → Type 0) (f : Place × Tokens → ParseResult A) (ts : Tokens) → Filled Q → ((p : Place) (rest : Tokens) → Explained (f (p, rest)) rest (After (reserved words.While, p) Q)) → Explained (while_at ts >>= f) ts Q
+explain_while : {A : Type 0} (Q : ℕ → Tokens → A → Tokens → Type 0) (f : Position × Tokens → ParseResult A) (ts : Tokens) → Filled Q → ((p : Position) (rest : Tokens) → Explained (f (p, rest)) rest (After (reserved words.While, p) Q)) → Explained (while_at ts >>= f) ts Q
 unfolding while_at
 explain_while Q f [] fill go = stopped_at Q [] fill
 explain_while {A} Q f ((m, p) ∷ ts) fill go =
-    let M : Bool → Type 0 = λ b. is_while (stmt_token m) ≡ b → Explained (◌>>=◌ {A = Place} {B = A} (cond b (Ok (p, ts)) (Err (Unexpected ((m, p) ∷ ts)))) f) ((m, p) ∷ ts) Q in
+    let M : Bool → Type 0 = λ b. is_while (stmt_token m) ≡ b → Explained (◌>>=◌ {A = Position} {B = A} (cond b (Ok (p, ts)) (Err (Unexpected ((m, p) ∷ ts)))) f) ((m, p) ∷ ts) Q in
     (elim (is_while (stmt_token m)) as M [ true ↦ λ e. subst (λ w. Explained (f (p, ts)) ((w, p) ∷ ts) Q) (sym (while_leads (stmt_token m) m (leads_to m) e)) (explain_after Q (reserved words.While, p) (f (p, ts)) ts (go p ts)) | false ↦ λ e. stopped_at Q ((m, p) ∷ ts) fill ]) refl
 
-while_then : {A : Type 0} (Q : ℕ → Tokens → A → Tokens → Type 0) (f : Place × Tokens → ParseResult A) (ts : Tokens) → ((p : Place) (rest : Tokens) → Law (f (p, rest)) rest (After (reserved words.While, p) Q)) → Law (while_at ts >>= f) ts Q
+while_then : {A : Type 0} (Q : ℕ → Tokens → A → Tokens → Type 0) (f : Position × Tokens → ParseResult A) (ts : Tokens) → ((p : Position) (rest : Tokens) → Law (f (p, rest)) rest (After (reserved words.While, p) Q)) → Law (while_at ts >>= f) ts Q
 while_then Q f ts go =
     let fill : Filled Q = fill_after Q (reserved words.While, nowhere) (go nowhere []).filled in
     record { explained = explain_while Q f ts fill (λ p rest. (go p rest).explained); filled = fill }
 
 -- a number, and what is read after it
-explain_number : {A : Type 0} (Q : ℕ → Tokens → A → Tokens → Type 0) (f : (ℕ × Place) × Tokens → ParseResult A) (ts : Tokens) → Filled Q → ((n : ℕ × Place) (rest : Tokens) → Explained (f (n, rest)) rest (After (number n.0, n.1) Q)) → Explained (number_at ts >>= f) ts Q
+explain_number : {A : Type 0} (Q : ℕ → Tokens → A → Tokens → Type 0) (f : (ℕ × Position) × Tokens → ParseResult A) (ts : Tokens) → Filled Q → ((n : ℕ × Position) (rest : Tokens) → Explained (f (n, rest)) rest (After (number n.0, n.1) Q)) → Explained (number_at ts >>= f) ts Q
 unfolding number_at
 explain_number Q f [] fill go = stopped_at Q [] fill
 explain_number Q f ((number n, p) ∷ ts) fill go = explain_after Q (number n, p) (f ((n, p), ts)) ts (go (n, p) ts)
@@ -53,16 +53,16 @@ explain_number Q f ((sign n, p) ∷ ts) fill go = stopped_at Q ((sign n, p) ∷ 
 explain_number Q f ((reserved n, p) ∷ ts) fill go = stopped_at Q ((reserved n, p) ∷ ts) fill
 explain_number Q f ((unsupported n, p) ∷ ts) fill go = stopped_at Q ((unsupported n, p) ∷ ts) fill
 
-number_then : {A : Type 0} (Q : ℕ → Tokens → A → Tokens → Type 0) (f : (ℕ × Place) × Tokens → ParseResult A) (ts : Tokens) → ((n : ℕ × Place) (rest : Tokens) → Law (f (n, rest)) rest (After (number n.0, n.1) Q)) → Law (number_at ts >>= f) ts Q
+number_then : {A : Type 0} (Q : ℕ → Tokens → A → Tokens → Type 0) (f : (ℕ × Position) × Tokens → ParseResult A) (ts : Tokens) → ((n : ℕ × Position) (rest : Tokens) → Law (f (n, rest)) rest (After (number n.0, n.1) Q)) → Law (number_at ts >>= f) ts Q
 number_then Q f ts go =
     let fill : Filled Q = fill_after Q (number 0, nowhere) (go (0, nowhere) []).filled in
     record { explained = explain_number Q f ts fill (λ p rest. (go p rest).explained); filled = fill }
 
 -- a label with its place
-abbrev Labels : ℕ → Tokens → Label × Place → Tokens → Type 0
+abbrev Labels : ℕ → Tokens → Label × Position → Tokens → Type 0
 Labels free from x left = IsLabel from x.1 x.0 left
 
-begin_case_value : (p : Place) (ts : Tokens) → Law (case_value_at ts) ts (After (reserved words.Case, p) Labels)
+begin_case_value : (p : Position) (ts : Tokens) → Law (case_value_at ts) ts (After (reserved words.Case, p) Labels)
 unfolding case_value_at
 begin_case_value p ts =
     either (next_is_sign signs.Minus ts) _ _ ts _
@@ -72,7 +72,7 @@ begin_case_value p ts =
 fill_label : Filled Labels
 fill_label = fill_after _ (reserved words.Default, nowhere) (fill_after _ (sign signs.Colon, nowhere) (fill_here _ (labels.Default, nowhere) (λ free left. default)))
 
-begin_label_by : (k : StmtToken) (m : Meaning) (p : Place) (ts : Tokens) → Leads k m → Law (label_by k m p ts) ((m, p) ∷ ts) Labels
+begin_label_by : (k : StmtToken) (m : Meaning) (p : Position) (ts : Tokens) → Leads k m → Law (label_by k m p ts) ((m, p) ∷ ts) Labels
 begin_label_by stmt_tokens.Case m p ts d = subst (λ w. Law (case_value_at ts) ((w, p) ∷ ts) Labels) (sym d) (after _ (reserved words.Case, p) _ ts (begin_case_value p ts))
 begin_label_by stmt_tokens.Default m p ts d =
     subst (λ w. Law (expect_at signs.Colon ts >>= λ c. Ok ((labels.Default, p), c.1)) ((w, p) ∷ ts) Labels) (sym d)
@@ -86,10 +86,10 @@ begin_label ((m, p) ∷ ts) = begin_label_by (stmt_token m) m p ts (leads_to m)
 
 module _ (depth : ℕ) (below : Below) (whole : (ts : Tokens) → Law (below true ts) ts (λ free. IsInner free depth)) (part : (ts : Tokens) → Law (below false ts) ts (λ free. IsPart free depth)) where
   -- a decl after its name
-  Rest : Place → List ℕ → ℕ → Tokens → Initializer → Tokens → Type 0
+  Rest : Position → List ℕ → ℕ → Tokens → Initializer → Tokens → Type 0
   Rest p t free from i left = IsDecl free depth ((name t, p) ∷ from) (record { place = p; name = t; initializer = i }) left
 
-  begin_initializer : (p : Place) (t : List ℕ) (ts : Tokens) → Law (initializer_with below ts) ts (Rest p t)
+  begin_initializer : (p : Position) (t : List ℕ) (ts : Tokens) → Law (initializer_with below ts) ts (Rest p t)
   unfolding initializer_with Rest
   begin_initializer p t ts =
       either (next_is_sign signs.Assign ts) _ _ ts _
@@ -173,19 +173,19 @@ module _ (depth : ℕ) (below : Below) (whole : (ts : Tokens) → Law (below tru
       (λ p s. done _ (Evaluate (place_of e) e) s (λ free left before d. evaluate d)))
 
 -- each of these statements, whose brackets were read with their expression
-if_by : {free depth : ℕ} {p : Place} {from after left : Tokens} {c : Expr} {s : Stmt} → IsBracketed free depth from c after → IsNested free depth after s left → IsStmt free depth ((reserved words.If, p) ∷ from) (If p c s) left
+if_by : {free depth : ℕ} {p : Position} {from after left : Tokens} {c : Expr} {s : Stmt} → IsBracketed free depth from c after → IsNested free depth after s left → IsStmt free depth ((reserved words.If, p) ∷ from) (If p c s) left
 if_by (bracketed i) n = if_only i n
 
-if_else_by : {free depth : ℕ} {p o : Place} {from after other left : Tokens} {c : Expr} {s t : Stmt} → IsBracketed free depth from c after → IsNested free depth after s ((reserved words.Else, o) ∷ other) → is_open s ≡ false → IsNested free depth other t left → IsStmt free depth ((reserved words.If, p) ∷ from) (IfElse p c s t) left
+if_else_by : {free depth : ℕ} {p o : Position} {from after other left : Tokens} {c : Expr} {s t : Stmt} → IsBracketed free depth from c after → IsNested free depth after s ((reserved words.Else, o) ∷ other) → is_open s ≡ false → IsNested free depth other t left → IsStmt free depth ((reserved words.If, p) ∷ from) (IfElse p c s t) left
 if_else_by (bracketed i) n closes m = if_else i n closes m
 
-while_by : {free depth : ℕ} {p : Place} {from after left : Tokens} {c : Expr} {s : Stmt} → IsBracketed free depth from c after → IsNested free depth after s left → IsStmt free depth ((reserved words.While, p) ∷ from) (While p c s) left
+while_by : {free depth : ℕ} {p : Position} {from after left : Tokens} {c : Expr} {s : Stmt} → IsBracketed free depth from c after → IsNested free depth after s left → IsStmt free depth ((reserved words.While, p) ∷ from) (While p c s) left
 while_by (bracketed i) n = while i n
 
-do_by : {free depth : ℕ} {p w o : Place} {from after left : Tokens} {c : Expr} {s : Stmt} → IsBracketed free depth after c ((sign signs.Semicolon, o) ∷ left) → IsNested free depth from s ((reserved words.While, w) ∷ after) → IsStmt free depth ((reserved words.Do, p) ∷ from) (DoWhile p s c) left
+do_by : {free depth : ℕ} {p w o : Position} {from after left : Tokens} {c : Expr} {s : Stmt} → IsBracketed free depth after c ((sign signs.Semicolon, o) ∷ left) → IsNested free depth from s ((reserved words.While, w) ∷ after) → IsStmt free depth ((reserved words.Do, p) ∷ from) (DoWhile p s c) left
 do_by (bracketed i) n = do_while n i
 
-switch_by : {free depth : ℕ} {p o z : Place} {from after left : Tokens} {e : Expr} {cs : List Case} → IsBracketed free depth from e ((sign signs.OpenBrace, o) ∷ after) → AreCases free depth after cs ((sign signs.CloseBrace, z) ∷ left) → IsStmt free depth ((reserved words.Switch, p) ∷ from) (Switch p e (cases cs)) left
+switch_by : {free depth : ℕ} {p o z : Position} {from after left : Tokens} {e : Expr} {cs : List Case} → IsBracketed free depth from e ((sign signs.OpenBrace, o) ∷ after) → AreCases free depth after cs ((sign signs.CloseBrace, z) ∷ left) → IsStmt free depth ((reserved words.Switch, p) ∷ from) (Switch p e (cases cs)) left
 switch_by (bracketed i) cs = switch i cs
 
 fill_stmt : (depth : ℕ) → Filled (λ free. IsStmt free depth)
@@ -214,11 +214,11 @@ module _ (depth : ℕ) (below : Below) (deeper : Nested) (whole : (ts : Tokens) 
       sign_then _ signs.OpenBrace _ ts
       (λ p r. law_as (Ending signs.CloseBrace (λ free. AreLocals free depth)) _ (λ free from ss left d. block d.1) (locals_with below deeper r >>= λ ss. expect_at signs.CloseBrace ss.1 >>= λ z. Ok (ss.0, z.1)) r (begin_inside r))
 
-  opened : (p : Place) (ts : Tokens) → (locals_with below deeper ts >>= λ ss. expect_at signs.CloseBrace ss.1 >>= λ z. Ok (ss.0, z.1)) ≡ block_with below deeper ((sign signs.OpenBrace, p) ∷ ts)
+  opened : (p : Position) (ts : Tokens) → (locals_with below deeper ts >>= λ ss. expect_at signs.CloseBrace ss.1 >>= λ z. Ok (ss.0, z.1)) ≡ block_with below deeper ((sign signs.OpenBrace, p) ∷ ts)
   unfolding block_with
-  opened p ts = ap (λ (o : ParseResult Place). ◌>>=◌ {B = List Stmt} o (λ o. locals_with below deeper o.1 >>= λ ss. expect_at signs.CloseBrace ss.1 >>= λ z. Ok (ss.0, z.1))) (sym (expect_again signs.OpenBrace p ts))
+  opened p ts = ap (λ (o : ParseResult Position). ◌>>=◌ {B = List Stmt} o (λ o. locals_with below deeper o.1 >>= λ ss. expect_at signs.CloseBrace ss.1 >>= λ z. Ok (ss.0, z.1))) (sym (expect_again signs.OpenBrace p ts))
 
-  begin_block_stmt : (p : Place) (ts : Tokens) → Law (block_with below deeper ((sign signs.OpenBrace, p) ∷ ts) >>= λ b. Ok (Block p (stmts b.0), b.1)) ((sign signs.OpenBrace, p) ∷ ts) (λ free. IsStmt free depth)
+  begin_block_stmt : (p : Position) (ts : Tokens) → Law (block_with below deeper ((sign signs.OpenBrace, p) ∷ ts) >>= λ b. Ok (Block p (stmts b.0), b.1)) ((sign signs.OpenBrace, p) ∷ ts) (λ free. IsStmt free depth)
   begin_block_stmt p ts =
       subst (λ (o : ParseResult (List Stmt)). Law (o >>= λ b. Ok (Block p (stmts b.0), b.1)) ((sign signs.OpenBrace, p) ∷ ts) (λ free. IsStmt free depth)) (opened p ts)
       (after _ (sign signs.OpenBrace, p) _ ts (then (Ending signs.CloseBrace (λ free. AreLocals free depth)) _ (locals_with below deeper ts >>= λ ss. expect_at signs.CloseBrace ss.1 >>= λ z. Ok (ss.0, z.1)) _ ts (begin_inside ts)
@@ -242,10 +242,10 @@ module _ (depth : ℕ) (below : Below) (deeper : Nested) (whole : (ts : Tokens) 
   begin_cases ts = all_of goes_on (case_with deeper) (λ free. AreCases free depth) (λ free left. no_cases) (λ s b. (begin_case s).explained) (length ts) ts
 
   -- what is after the condition of an `if`
-  Branch : Place → Expr → ℕ → Tokens → Stmt → Tokens → Type 0
+  Branch : Position → Expr → ℕ → Tokens → Stmt → Tokens → Type 0
   Branch p c free from y left = (before : Tokens) → IsBracketed free depth before c from → IsStmt free depth ((reserved words.If, p) ∷ before) y left
 
-  begin_else : (p : Place) (c : Expr) (s : Stmt) (ts : Tokens) → Closes s ts → Explained (else_with deeper p c s ts) ts (Then (λ free. IsNested free depth) (Branch p c) s)
+  begin_else : (p : Position) (c : Expr) (s : Stmt) (ts : Tokens) → Closes s ts → Explained (else_with deeper p c s ts) ts (Then (λ free. IsNested free depth) (Branch p c) s)
   unfolding else_with Branch
   begin_else p c s [] h = done_at _ (If p c s) [] (λ free left middle n before b. if_by b n)
   begin_else p c s ((m, o) ∷ ts) h =
@@ -255,25 +255,25 @@ module _ (depth : ℕ) (below : Below) (deeper : Nested) (whole : (ts : Tokens) 
       (λ t r. done _ (IfElse p c s t) r (λ free left third n middle k before b. if_else_by b k (h e) n)))).explained)
       (λ e. done_at _ (If p c s) ((m, o) ∷ ts) (λ free left middle n before b. if_by b n))
 
-  begin_branch : (p : Place) (c : Expr) (ts : Tokens) → Law (deeper ts >>= λ s. else_with deeper p c s.0 s.1) ts (Branch p c)
+  begin_branch : (p : Position) (c : Expr) (ts : Tokens) → Law (deeper ts >>= λ s. else_with deeper p c s.0 s.1) ts (Branch p c)
   unfolding Branch
   begin_branch p c ts = record {
     explained = explain_then (λ free. IsNested free depth) (Branch p c) (deeper ts) (λ s. else_with deeper p c s.0 s.1) ts (one ts).explained (λ s. fill_here _ (If p c s) (λ free left middle n before b. if_by b n)) (λ s rest e. begin_else p c s rest (closes ts s rest e));
     filled = fill_then (λ free. IsNested free depth) (Branch p c) (one ts).filled (fill_here _ (If p c (one ts).filled.tree) (λ free left middle n before b. if_by b n));
   }
 
-  begin_if : (p : Place) (ts : Tokens) → Law (if_with below deeper p ts) ts (After (reserved words.If, p) (λ free. IsStmt free depth))
+  begin_if : (p : Position) (ts : Tokens) → Law (if_with below deeper p ts) ts (After (reserved words.If, p) (λ free. IsStmt free depth))
   unfolding if_with Branch
   begin_if p ts = then (λ free. IsBracketed free depth) _ (bracketed_with below ts) _ ts (begin_bracketed depth below whole part ts) (λ c r. begin_branch p c r)
 
-  begin_while : (p : Place) (ts : Tokens) → Law (while_with below deeper p ts) ts (After (reserved words.While, p) (λ free. IsStmt free depth))
+  begin_while : (p : Position) (ts : Tokens) → Law (while_with below deeper p ts) ts (After (reserved words.While, p) (λ free. IsStmt free depth))
   unfolding while_with
   begin_while p ts =
       then (λ free. IsBracketed free depth) _ (bracketed_with below ts) _ ts (begin_bracketed depth below whole part ts)
       (λ c r. then (λ free. IsNested free depth) _ (deeper r) _ r (one r)
       (λ s t. done _ (While p c s) t (λ free left middle n before b. while_by b n)))
 
-  begin_do : (p : Place) (ts : Tokens) → Law (do_with below deeper p ts) ts (After (reserved words.Do, p) (λ free. IsStmt free depth))
+  begin_do : (p : Position) (ts : Tokens) → Law (do_with below deeper p ts) ts (After (reserved words.Do, p) (λ free. IsStmt free depth))
   unfolding do_with
   begin_do p ts =
       then (λ free. IsNested free depth) _ (deeper ts) _ ts (one ts)
@@ -282,7 +282,7 @@ module _ (depth : ℕ) (below : Below) (deeper : Nested) (whole : (ts : Tokens) 
       (λ c u. sign_then _ signs.Semicolon _ u
       (λ o v. done _ (DoWhile p s c) v (λ free left middle b before n. do_by b n)))))
 
-  begin_for : (p : Place) (ts : Tokens) → Law (for_with below deeper p ts) ts (After (reserved words.For, p) (λ free. IsStmt free depth))
+  begin_for : (p : Position) (ts : Tokens) → Law (for_with below deeper p ts) ts (After (reserved words.For, p) (λ free. IsStmt free depth))
   unfolding for_with
   begin_for p ts =
       sign_then _ signs.OpenParenthesis _ ts
@@ -293,7 +293,7 @@ module _ (depth : ℕ) (below : Below) (deeper : Nested) (whole : (ts : Tokens) 
       (λ z g. then (λ free. IsNested free depth) _ (deeper g) _ g (one g)
       (λ s t. done _ (For p f c es s) t (λ free left fourth n third xs second k first i. for i k xs n)))))))
 
-  begin_switch : (p : Place) (ts : Tokens) → Law (switch_with below deeper p ts) ts (After (reserved words.Switch, p) (λ free. IsStmt free depth))
+  begin_switch : (p : Position) (ts : Tokens) → Law (switch_with below deeper p ts) ts (After (reserved words.Switch, p) (λ free. IsStmt free depth))
   unfolding switch_with
   begin_switch p ts =
       then (λ free. IsBracketed free depth) _ (bracketed_with below ts) _ ts (begin_bracketed depth below whole part ts)
@@ -303,10 +303,10 @@ module _ (depth : ℕ) (below : Below) (deeper : Nested) (whole : (ts : Tokens) 
       (λ z v. done _ (Switch p e (cases cs)) v (λ free left middle k before b. switch_by b k)))))
 
   -- a statement by what leads it
-  Led : StmtToken → Meaning → Place → Tokens → Type 0
+  Led : StmtToken → Meaning → Position → Tokens → Type 0
   Led k m p ts = Law (stmt_by k below deeper m p ts) ((m, p) ∷ ts) (λ free. IsStmt free depth)
 
-  begin_stmt_by : (k : StmtToken) (m : Meaning) (p : Place) (ts : Tokens) → Leads k m → Led k m p ts
+  begin_stmt_by : (k : StmtToken) (m : Meaning) (p : Position) (ts : Tokens) → Leads k m → Led k m p ts
   unfolding Led
   begin_stmt_by stmt_tokens.Block m p ts d = subst (λ w. Law (block_with below deeper ((w, p) ∷ ts) >>= λ b. Ok (Block p (stmts b.0), b.1)) ((w, p) ∷ ts) (λ free. IsStmt free depth)) (sym d) (begin_block_stmt p ts)
   begin_stmt_by stmt_tokens.Empty m p ts d = subst (λ w. Law (Ok (Empty p, ts)) ((w, p) ∷ ts) (λ free. IsStmt free depth)) (sym d) (after _ (sign signs.Semicolon, p) _ ts (done _ (Empty p) ts (λ free left. empty)))

@@ -2,8 +2,8 @@
 use Rattle.std.proofs.Common.{◌≡◌, ℕ, ◌<◌, ◌≤◌, ◌+◌, ◌-◌, ◌==◌, zero, suc, Bool, List, [], ◌∷◌, true, false, Option, Some, None, is_some, if◌then◌else◌, Ok, Err, refl, sym, ap, ◌∙◌, arith}
 use Rattle.std.proofs.lemmas.Bool.Decides.{nat_tests}
 use Rattle.ash_tree.specs.declared.tree.operators.BinaryOp.{BinaryOp}
-use Rattle.ash_tree.specs.Tree.{Expr, Operation, chained}
-use Rattle.ash_tree.specs.Tokens.{Tokens}
+use Rattle.ash_tree.specs.Tree.{Expr, OperatorLink, chained}
+use Rattle.ash_tree.specs.GrammarTokens.{Tokens}
 use Rattle.ash_tree.specs.Operators.{binary_operator, level}
 use Rattle.ash_parse.specs.declared.error.ParseError.{ParseError}
 use Rattle.ash_parse.specs.declared.error.ParseError.TheVariants as errors
@@ -110,7 +110,7 @@ module _ (room : ℕ) (h : room ≤ 64) where
       skip (next - 1 - from) (level - from) (suc (level - next)) from (next - 1) x (omega arith) (omega arith) (skips from (next - 1) x.1 (λ n a b e. omega arith)) in
       rw one at (sym same ∙ so_far)
 
-  pub climbs : (level from next : ℕ) (e : Expr) (ts after : Tokens) (more : List Operation) (total : ParseResult Expr) → next ≡ next_level ts → from < next → next ≤ level → links_by (next - 1) (binary_with (below_at room) (next - 1)) ts ≡ Ok (more, after) → rises (below_at room) (level - from) from (e, ts) ≡ total → rises (below_at room) (level - next) next (chained e more, after) ≡ total
+  pub climbs : (level from next : ℕ) (e : Expr) (ts after : Tokens) (more : List OperatorLink) (total : ParseResult Expr) → next ≡ next_level ts → from < next → next ≤ level → links_by (next - 1) (binary_with (below_at room) (next - 1)) ts ≡ Ok (more, after) → rises (below_at room) (level - from) from (e, ts) ≡ total → rises (below_at room) (level - next) next (chained e more, after) ≡ total
   climbs level from next e ts after more total is l u read so_far = rw read at (climb_to level from next (e, ts) total is l u so_far)
 
   pub climb_fails : (s : ParseError) (level from next : ℕ) (e : Expr) (ts : Tokens) (total : ParseResult Expr) → next ≡ next_level ts → from < next → next ≤ level → Fails s (links_by (next - 1) (binary_with (below_at room) (next - 1)) ts) → rises (below_at room) (level - from) from (e, ts) ≡ total → Fails s total

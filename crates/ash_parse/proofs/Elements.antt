@@ -3,16 +3,16 @@ use Rattle.std.proofs.Common.{◌≡◌, ◌∷◌, Some, Ok, refl}
 use Rattle.ash_lex.specs.Tokens.{name, sign}
 use Rattle.ash_lex.specs.declared.signs.Sign.{Sign}
 use Rattle.ash_lex.specs.declared.signs.Sign.TheVariants as signs
-use Rattle.ash_tree.specs.declared.tree.places.Place.{Place}
+use Rattle.ash_tree.specs.declared.tree.places.Position.{Position}
 use Rattle.ash_tree.specs.Tree.{Element}
-use Rattle.ash_tree.specs.Tokens.{Tokens}
+use Rattle.ash_tree.specs.GrammarTokens.{Tokens}
 use Rattle.ash_tree.specs.Operators.{primitive}
 use Rattle.ash_tree.specs.Types.{IsElement, prim_element, handle_element}
 use Rattle.ash_parse.specs.TypeReader.{elem_at, element_at, after_sign, after_elem, after_element}
 use Rattle.ash_parse.proofs.Readings.{is_sign-refl, expect_again}
 
 -- the sign after what is passed
-after_again : (s : Sign) (p : Place) (ts : Tokens) → after_sign s ((sign s, p) ∷ ts) ≡ Some ts
+after_again : (s : Sign) (p : Position) (ts : Tokens) → after_sign s ((sign s, p) ∷ ts) ≡ Some ts
 unfolding after_sign
 after_again s p ts = rw (is_sign-refl s) refl
 

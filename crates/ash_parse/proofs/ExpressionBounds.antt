@@ -4,16 +4,16 @@ use Rattle.std.proofs.lemmas.Bool.Decides.{nat_tests}
 use Rattle.ash_lex.specs.Tokens.{Meaning, sign, reserved}
 use Rattle.ash_lex.specs.declared.signs.Sign.TheVariants as signs
 use Rattle.ash_lex.specs.declared.words.ReservedWord.TheVariants as words
-use Rattle.ash_tree.specs.declared.tree.places.Place.{Place}
+use Rattle.ash_tree.specs.declared.tree.places.Position.{Position}
 use Rattle.ash_tree.specs.declared.tree.types.Primitive.{Primitive}
 use Rattle.ash_tree.specs.declared.tree.operators.UnaryOp.{UnaryOp}
 use Rattle.ash_tree.specs.declared.tree.operators.BinaryOp.{BinaryOp}
 use Rattle.ash_tree.specs.declared.tree.operators.AssignOp.{AssignOp}
-use Rattle.ash_tree.specs.Tree.{Expr, Assign, Suffix, Operation}
-use Rattle.ash_tree.specs.Tokens.{Tokens}
+use Rattle.ash_tree.specs.Tree.{Expr, Assign, Suffix, OperatorLink}
+use Rattle.ash_tree.specs.GrammarTokens.{Tokens}
 use Rattle.ash_tree.specs.Operators.{primitive, unary_operator, binary_operator, level, assign_operator}
 use Rattle.ash_tree.specs.Expressions.{IsInner, inner, AreMoreExprs, no_more_exprs, more_exprs, IsAssign, no_assign, assign, IsCond, no_branch, branches, IsBinary, operand, joined, AreLinks, no_links, more_links, IsUnary, applied, postfix, AreSuffixes, no_suffixes, more_suffixes, IsSuffix, field, method, index, increment, decrement, IsPrimary, numeral, yes, no, null, this, named, call, brackets, convert, new_array, cast}
-use Rattle.ash_parse.specs.Signs.{is_sign, same_sign}
+use Rattle.ash_parse.specs.SignTokens.{is_sign, same_sign}
 use Rattle.ash_parse.specs.Readers.{next_is, next_is_sign}
 use Rattle.ash_parse.specs.ExpressionReader.{Below, begins, begins_suffix, is_suffix, operator_at, is_link, assign_from}
 use Rattle.ash_parse.proofs.Rereading.{no_some, no_true}
@@ -50,7 +50,7 @@ operator_plain (sign signs.Decrement) o h = absurd (no_some o h)
 operator_plain m o h = (refl, refl)
 
 -- an operator of the next level stops an operand
-link_stops : (n : ℕ) (m : Meaning) (p : Place) (ts : Tokens) (o : BinaryOp) → binary_operator m ≡ Some o → level o ≡ suc n → Stops n ((m, p) ∷ ts)
+link_stops : (n : ℕ) (m : Meaning) (p : Position) (ts : Tokens) (o : BinaryOp) → binary_operator m ≡ Some o → level o ≡ suc n → Stops n ((m, p) ∷ ts)
 unfolding next_is_sign is_suffix is_link operator_at
 link_stops n m p ts o h l =
     let q = operator_plain m o h in
@@ -82,7 +82,7 @@ assign_plain (sign signs.ShiftRightArithmeticAssign) o h = (refl, refl, refl, re
 assign_plain m o h = absurd (no_some o h)
 
 -- a token that is no operator, and begins no suffix or arguments, stops each operand
-pub plain_stops : (n : ℕ) (m : Meaning) (p : Place) (ts : Tokens) → is_sign signs.OpenParenthesis m ≡ false → begins_suffix m ≡ false → binary_operator m ≡ None → Stops n ((m, p) ∷ ts)
+pub plain_stops : (n : ℕ) (m : Meaning) (p : Position) (ts : Tokens) → is_sign signs.OpenParenthesis m ≡ false → begins_suffix m ≡ false → binary_operator m ≡ None → Stops n ((m, p) ∷ ts)
 unfolding next_is_sign is_suffix is_link operator_at
 plain_stops n m p ts a b h = (a, b, λ k l. rw h refl)
 
@@ -121,7 +121,7 @@ suffixes_open (more_suffixes (index a) b) s = refl
 suffixes_open (more_suffixes increment b) s = refl
 suffixes_open (more_suffixes decrement b) s = refl
 
-pub links_stop : {free depth n : ℕ} {from left : Tokens} {more : List Operation} → AreLinks free depth n from more left → Stops (suc n) left → Stops n from
+pub links_stop : {free depth n : ℕ} {from left : Tokens} {more : List OperatorLink} → AreLinks free depth n from more left → Stops (suc n) left → Stops n from
 links_stop (no_links {n = n} {left = left}) s = fewer_stop n left s
 links_stop (more_links {n = n} {m = m} {p = p} {from = from} {operator = operator} o l a b) s = link_stops n m p from operator o l
 

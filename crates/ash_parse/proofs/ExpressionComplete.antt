@@ -4,17 +4,17 @@ use Rattle.std.proofs.lemmas.Bool.Decides.{nat_tests}
 use Rattle.ash_lex.specs.Tokens.{Meaning, name, sign, reserved}
 use Rattle.ash_lex.specs.declared.signs.Sign.TheVariants as signs
 use Rattle.ash_lex.specs.declared.words.ReservedWord.TheVariants as words
-use Rattle.ash_tree.specs.declared.tree.places.Place.{Place}
+use Rattle.ash_tree.specs.declared.tree.places.Position.{Position}
 use Rattle.ash_tree.specs.declared.tree.types.Primitive.{Primitive}
 use Rattle.ash_tree.specs.declared.tree.operators.UnaryOp.{UnaryOp}
 use Rattle.ash_tree.specs.declared.tree.operators.BinaryOp.{BinaryOp}
 use Rattle.ash_tree.specs.declared.tree.operators.AssignOp.{AssignOp}
-use Rattle.ash_tree.specs.Tree.{Element, Expr, Name, Call, Brackets, Convert, NewArray, Cast, Unary, Conditional, Assign, Suffix, Field, Method, Index, Operation, place_of, exprs, chained, suffixed}
-use Rattle.ash_tree.specs.Tokens.{Tokens}
+use Rattle.ash_tree.specs.Tree.{Element, Expr, Name, Call, Brackets, Convert, NewArray, Cast, Unary, Conditional, Assign, Suffix, Field, Method, Index, OperatorLink, place_of, exprs, chained, suffixed}
+use Rattle.ash_tree.specs.GrammarTokens.{Tokens}
 use Rattle.ash_tree.specs.Operators.{primitive, unary_operator, binary_operator, level, max_level, assign_operator}
 use Rattle.ash_tree.specs.Types.{IsElement}
 use Rattle.ash_tree.specs.Expressions.{max_depth, IsInner, inner, AreExprs, no_exprs, some_exprs, AreMoreExprs, no_more_exprs, more_exprs, IsArgs, args, IsAssign, no_assign, assign, IsCond, no_branch, branches, IsBinary, operand, joined, AreLinks, no_links, more_links, IsUnary, applied, postfix, AreSuffixes, no_suffixes, more_suffixes, IsSuffix, field, method, index, increment, decrement, IsPrimary, numeral, yes, no, null, this, named, call, brackets, convert, new_array, cast}
-use Rattle.ash_parse.specs.Signs.{is_sign, same_sign}
+use Rattle.ash_parse.specs.SignTokens.{is_sign, same_sign}
 use Rattle.ash_parse.specs.Readers.{next_is, next_is_sign}
 use Rattle.ash_parse.specs.ExpressionReader.{Below, begins, next_expr_with, more_exprs_with, exprs_with, arguments_with, bracketed_with, name_or_call_with, new_array_with, cast_with, primary_with, begins_suffix, is_suffix, member_with, index_with, suffix_with, suffixes_with, postfix_with, unary_with, operator_at, is_link, link_by, links_by, chain_by, binary_with, branches_with, assign_from, assign_with, limit_at, below_at}
 use Rattle.ash_parse.specs.TypeReader.{target_at}
@@ -39,7 +39,7 @@ primary_alone below (convert {m = m} {to = to} k a) = rw ((primitive_begins m to
 primary_alone below (new_array a b) = refl
 primary_alone below (cast a) = refl
 
-target_again : (o q z : Place) (text : List ℕ) (left : Tokens) → target_at ((sign signs.Less, o) ∷ (name text, q) ∷ (sign signs.Greater, z) ∷ left) ≡ Ok (record { place = q; name = text }, left)
+target_again : (o q z : Position) (text : List ℕ) (left : Tokens) → target_at ((sign signs.Less, o) ∷ (name text, q) ∷ (sign signs.Greater, z) ∷ left) ≡ Ok (record { place = q; name = text }, left)
 unfolding target_at
 target_again o q z text left = rw (expect_again signs.Less o ((name text, q) ∷ (sign signs.Greater, z) ∷ left), name_again text q ((sign signs.Greater, z) ∷ left), expect_again signs.Greater z left) refl
 
@@ -52,19 +52,19 @@ module _ (below : Below) where
   unfolding exprs_with more_exprs_with
   exprs_some from after left e es b h r = rw (begins_no_close from b) (then_reads _ h (put_reads e (r (length after) (omega arith))))
 
-  next_expr_again : {free : ℕ} (p : Place) (from after : Tokens) (e : Expr) → Reads Expr free (below true from) (e, after) → Reads Expr free (next_expr_with below ((sign signs.Comma, p) ∷ from)) (e, after)
+  next_expr_again : {free : ℕ} (p : Position) (from after : Tokens) (e : Expr) → Reads Expr free (below true from) (e, after) → Reads Expr free (next_expr_with below ((sign signs.Comma, p) ∷ from)) (e, after)
   unfolding next_expr_with
   next_expr_again p from after e h = rw (expect_again signs.Comma p from) h
 
-  args_again : {free : ℕ} (p q : Place) (from left : Tokens) (es : List Expr) → Reads (List Expr) free (exprs_with below from) (es, (sign signs.CloseParenthesis, q) ∷ left) → Reads (List Expr) free (arguments_with below ((sign signs.OpenParenthesis, p) ∷ from)) (es, left)
+  args_again : {free : ℕ} (p q : Position) (from left : Tokens) (es : List Expr) → Reads (List Expr) free (exprs_with below from) (es, (sign signs.CloseParenthesis, q) ∷ left) → Reads (List Expr) free (arguments_with below ((sign signs.OpenParenthesis, p) ∷ from)) (es, left)
   unfolding arguments_with
   args_again p q from left es h = rw (expect_again signs.OpenParenthesis p from) (then_reads _ h (rw (expect_again signs.CloseParenthesis q left) whole))
 
-  pub bracketed_again : {free : ℕ} (p q : Place) (from left : Tokens) (e : Expr) → Reads Expr free (below true from) (e, (sign signs.CloseParenthesis, q) ∷ left) → Reads Expr free (bracketed_with below ((sign signs.OpenParenthesis, p) ∷ from)) (e, left)
+  pub bracketed_again : {free : ℕ} (p q : Position) (from left : Tokens) (e : Expr) → Reads Expr free (below true from) (e, (sign signs.CloseParenthesis, q) ∷ left) → Reads Expr free (bracketed_with below ((sign signs.OpenParenthesis, p) ∷ from)) (e, left)
   unfolding bracketed_with
   bracketed_again p q from left e h = rw (expect_again signs.OpenParenthesis p from) (then_reads _ h (rw (expect_again signs.CloseParenthesis q left) whole))
 
-  assign_again : {free : ℕ} (m : Meaning) (p : Place) (from after left : Tokens) (target value : Expr) (operator : AssignOp) → assign_operator m ≡ Some operator → Reads Expr free (binary_with below max_level from) (target, (m, p) ∷ after) → Reads Expr free (below true after) (value, left) → Reads Expr free (assign_with below from) (Assign (place_of target) target operator value, left)
+  assign_again : {free : ℕ} (m : Meaning) (p : Position) (from after left : Tokens) (target value : Expr) (operator : AssignOp) → assign_operator m ≡ Some operator → Reads Expr free (binary_with below max_level from) (target, (m, p) ∷ after) → Reads Expr free (below true after) (value, left) → Reads Expr free (assign_with below from) (Assign (place_of target) target operator value, left)
   unfolding assign_with assign_from
   assign_again m p from after left target value operator o h v = then_reads _ h (rw ((assign_plain m operator o).3, o) (then_reads _ v whole))
 
@@ -72,27 +72,27 @@ module _ (below : Below) where
   unfolding assign_with
   alone_again from left e s h = then_reads _ h (as_read (ends_assign below e left s))
 
-  branches_again : {free : ℕ} (p q : Place) (from first second left : Tokens) (c a b : Expr) → Reads Expr free (binary_with below max_level from) (c, (sign signs.Question, p) ∷ first) → Reads Expr free (below true first) (a, (sign signs.Colon, q) ∷ second) → Reads Expr free (below true second) (b, left) → Reads Expr free (assign_with below from) (Conditional (place_of c) c a b, left)
+  branches_again : {free : ℕ} (p q : Position) (from first second left : Tokens) (c a b : Expr) → Reads Expr free (binary_with below max_level from) (c, (sign signs.Question, p) ∷ first) → Reads Expr free (below true first) (a, (sign signs.Colon, q) ∷ second) → Reads Expr free (below true second) (b, left) → Reads Expr free (assign_with below from) (Conditional (place_of c) c a b, left)
   unfolding assign_with assign_from branches_with is_sign same_sign
   branches_again p q from first second left c a b h f g = then_reads _ h (then_reads _ f (rw (expect_again signs.Colon q second) (then_reads _ g whole)))
 
-  joined_again : {free : ℕ} (n : ℕ) (from after left : Tokens) (first : Expr) (more : List Operation) → Reads Expr free (binary_with below n from) (first, after) → ReadsAll free (is_link n) (link_by n (binary_with below n)) after more left → Reads Expr free (binary_with below (suc n) from) (chained first more, left)
+  joined_again : {free : ℕ} (n : ℕ) (from after left : Tokens) (first : Expr) (more : List OperatorLink) → Reads Expr free (binary_with below n from) (first, after) → ReadsAll free (is_link n) (link_by n (binary_with below n)) after more left → Reads Expr free (binary_with below (suc n) from) (chained first more, left)
   unfolding binary_with chain_by links_by
   joined_again n from after left first more h r = then_reads _ h (then_reads _ (r (length after) (omega arith)) whole)
 
-  operator_again : (n : ℕ) (m : Meaning) (p : Place) (ts : Tokens) (o : BinaryOp) → binary_operator m ≡ Some o → level o ≡ suc n → operator_at n ((m, p) ∷ ts) ≡ Some (o, ts)
+  operator_again : (n : ℕ) (m : Meaning) (p : Position) (ts : Tokens) (o : BinaryOp) → binary_operator m ≡ Some o → level o ≡ suc n → operator_at n ((m, p) ∷ ts) ≡ Some (o, ts)
   unfolding operator_at
   operator_again n m p ts o h l = let e : (level o == suc n) ≡ true = grind (arith, nat_tests) in rw (h, e) refl
 
-  link_begins : (n : ℕ) (m : Meaning) (p : Place) (ts : Tokens) (o : BinaryOp) → binary_operator m ≡ Some o → level o ≡ suc n → is_link n ((m, p) ∷ ts) ≡ true
+  link_begins : (n : ℕ) (m : Meaning) (p : Position) (ts : Tokens) (o : BinaryOp) → binary_operator m ≡ Some o → level o ≡ suc n → is_link n ((m, p) ∷ ts) ≡ true
   unfolding is_link
   link_begins n m p ts o h l = rw (operator_again n m p ts o h l) refl
 
-  link_again : {free : ℕ} (n : ℕ) (m : Meaning) (p : Place) (from after : Tokens) (o : BinaryOp) (e : Expr) → binary_operator m ≡ Some o → level o ≡ suc n → Reads Expr free (binary_with below n from) (e, after) → Reads Operation free (link_by n (binary_with below n) ((m, p) ∷ from)) (record { operator = o; operand = e }, after)
+  link_again : {free : ℕ} (n : ℕ) (m : Meaning) (p : Position) (from after : Tokens) (o : BinaryOp) (e : Expr) → binary_operator m ≡ Some o → level o ≡ suc n → Reads Expr free (binary_with below n from) (e, after) → Reads OperatorLink free (link_by n (binary_with below n) ((m, p) ∷ from)) (record { operator = o; operand = e }, after)
   unfolding link_by
   link_again n m p from after o e h l r = rw (operator_again n m p from o h l) (then_reads _ r whole)
 
-  applied_again : {free : ℕ} (m : Meaning) (p : Place) (from left : Tokens) (o : UnaryOp) (e : Expr) → unary_operator m ≡ Some o → Reads Expr free (below false from) (e, left) → Reads Expr free (unary_with below ((m, p) ∷ from)) (Unary p o e, left)
+  applied_again : {free : ℕ} (m : Meaning) (p : Position) (from left : Tokens) (o : UnaryOp) (e : Expr) → unary_operator m ≡ Some o → Reads Expr free (below false from) (e, left) → Reads Expr free (unary_with below ((m, p) ∷ from)) (Unary p o e, left)
   unfolding unary_with
   applied_again m p from left o e h r = rw h (then_reads _ r whole)
 
@@ -100,43 +100,43 @@ module _ (below : Below) where
   unfolding postfix_with suffixes_with
   postfix_again from after left e more h r = then_reads _ h (then_reads _ (r (length after) (omega arith)) whole)
 
-  field_again : (p q : Place) (text : List ℕ) (left : Tokens) → next_is_sign signs.OpenParenthesis left ≡ false → suffix_with below ((sign signs.Dot, p) ∷ (name text, q) ∷ left) ≡ Ok (Field q text, left)
+  field_again : (p q : Position) (text : List ℕ) (left : Tokens) → next_is_sign signs.OpenParenthesis left ≡ false → suffix_with below ((sign signs.Dot, p) ∷ (name text, q) ∷ left) ≡ Ok (Field q text, left)
   unfolding suffix_with member_with
   field_again p q text left s = rw (name_again text q left, s) refl
 
-  method_again : {free : ℕ} (p q o : Place) (text : List ℕ) (from left : Tokens) (es : List Expr) → Reads (List Expr) free (arguments_with below ((sign signs.OpenParenthesis, o) ∷ from)) (es, left) → Reads Suffix free (suffix_with below ((sign signs.Dot, p) ∷ (name text, q) ∷ (sign signs.OpenParenthesis, o) ∷ from)) (Method q text (exprs es), left)
+  method_again : {free : ℕ} (p q o : Position) (text : List ℕ) (from left : Tokens) (es : List Expr) → Reads (List Expr) free (arguments_with below ((sign signs.OpenParenthesis, o) ∷ from)) (es, left) → Reads Suffix free (suffix_with below ((sign signs.Dot, p) ∷ (name text, q) ∷ (sign signs.OpenParenthesis, o) ∷ from)) (Method q text (exprs es), left)
   unfolding suffix_with member_with
   method_again p q o text from left es h = rw (name_again text q ((sign signs.OpenParenthesis, o) ∷ from), next_is_sign-again signs.OpenParenthesis o from) (then_reads _ h whole)
 
-  index_again : {free : ℕ} (p q : Place) (from left : Tokens) (e : Expr) → Reads Expr free (below true from) (e, (sign signs.CloseBracket, q) ∷ left) → Reads Suffix free (suffix_with below ((sign signs.OpenBracket, p) ∷ from)) (Index e, left)
+  index_again : {free : ℕ} (p q : Position) (from left : Tokens) (e : Expr) → Reads Expr free (below true from) (e, (sign signs.CloseBracket, q) ∷ left) → Reads Suffix free (suffix_with below ((sign signs.OpenBracket, p) ∷ from)) (Index e, left)
   unfolding suffix_with index_with
   index_again p q from left e h = then_reads _ h (rw (expect_again signs.CloseBracket q left) whole)
 
-  named_again : (p : Place) (text : List ℕ) (left : Tokens) → next_is_sign signs.OpenParenthesis left ≡ false → primary_with below ((name text, p) ∷ left) ≡ Ok (Name p text, left)
+  named_again : (p : Position) (text : List ℕ) (left : Tokens) → next_is_sign signs.OpenParenthesis left ≡ false → primary_with below ((name text, p) ∷ left) ≡ Ok (Name p text, left)
   unfolding primary_with name_or_call_with primitive
   named_again p text left s = rw s refl
 
-  call_again : {free : ℕ} (p o : Place) (text : List ℕ) (from left : Tokens) (es : List Expr) → Reads (List Expr) free (arguments_with below ((sign signs.OpenParenthesis, o) ∷ from)) (es, left) → Reads Expr free (primary_with below ((name text, p) ∷ (sign signs.OpenParenthesis, o) ∷ from)) (Call p text (exprs es), left)
+  call_again : {free : ℕ} (p o : Position) (text : List ℕ) (from left : Tokens) (es : List Expr) → Reads (List Expr) free (arguments_with below ((sign signs.OpenParenthesis, o) ∷ from)) (es, left) → Reads Expr free (primary_with below ((name text, p) ∷ (sign signs.OpenParenthesis, o) ∷ from)) (Call p text (exprs es), left)
   unfolding primary_with name_or_call_with primitive
   call_again p o text from left es h = rw (next_is_sign-again signs.OpenParenthesis o from) (then_reads _ h whole)
 
-  brackets_again : {free : ℕ} (p q : Place) (from left : Tokens) (e : Expr) → Reads Expr free (below true from) (e, (sign signs.CloseParenthesis, q) ∷ left) → Reads Expr free (primary_with below ((sign signs.OpenParenthesis, p) ∷ from)) (Brackets p e, left)
+  brackets_again : {free : ℕ} (p q : Position) (from left : Tokens) (e : Expr) → Reads Expr free (below true from) (e, (sign signs.CloseParenthesis, q) ∷ left) → Reads Expr free (primary_with below ((sign signs.OpenParenthesis, p) ∷ from)) (Brackets p e, left)
   unfolding primary_with primitive
   brackets_again p q from left e h = then_reads _ (bracketed_again p q from left e h) whole
 
-  convert_again : {free : ℕ} (m : Meaning) (k : Primitive) (p q r : Place) (from left : Tokens) (e : Expr) → primitive m ≡ Some k → Reads Expr free (below true from) (e, (sign signs.CloseParenthesis, r) ∷ left) → Reads Expr free (primary_with below ((m, p) ∷ (sign signs.OpenParenthesis, q) ∷ from)) (Convert p k e, left)
+  convert_again : {free : ℕ} (m : Meaning) (k : Primitive) (p q r : Position) (from left : Tokens) (e : Expr) → primitive m ≡ Some k → Reads Expr free (below true from) (e, (sign signs.CloseParenthesis, r) ∷ left) → Reads Expr free (primary_with below ((m, p) ∷ (sign signs.OpenParenthesis, q) ∷ from)) (Convert p k e, left)
   unfolding primary_with
   convert_again m k p q r from left e o h = rw o (then_reads _ (bracketed_again q r from left e h) whole)
 
-  new_array_again : {free : ℕ} (p : Place) (of : Element) (from after left : Tokens) (es : List Expr) → IsElement from of after → Reads (List Expr) free (arguments_with below after) (es, left) → Reads Expr free (primary_with below ((reserved words.Array, p) ∷ from)) (NewArray p of (exprs es), left)
+  new_array_again : {free : ℕ} (p : Position) (of : Element) (from after left : Tokens) (es : List Expr) → IsElement from of after → Reads (List Expr) free (arguments_with below after) (es, left) → Reads Expr free (primary_with below ((reserved words.Array, p) ∷ from)) (NewArray p of (exprs es), left)
   unfolding primary_with new_array_with primitive
   new_array_again p of from after left es a h = rw (element_read a) (then_reads _ h whole)
 
-  cast_again : {free : ℕ} (p o q r s z : Place) (text : List ℕ) (from left : Tokens) (e : Expr) → Reads Expr free (below true from) (e, (sign signs.CloseParenthesis, z) ∷ left) → Reads Expr free (primary_with below ((reserved words.Cast, p) ∷ (sign signs.Less, o) ∷ (name text, q) ∷ (sign signs.Greater, r) ∷ (sign signs.OpenParenthesis, s) ∷ from)) (Cast p (record { place = q; name = text }) e, left)
+  cast_again : {free : ℕ} (p o q r s z : Position) (text : List ℕ) (from left : Tokens) (e : Expr) → Reads Expr free (below true from) (e, (sign signs.CloseParenthesis, z) ∷ left) → Reads Expr free (primary_with below ((reserved words.Cast, p) ∷ (sign signs.Less, o) ∷ (name text, q) ∷ (sign signs.Greater, r) ∷ (sign signs.OpenParenthesis, s) ∷ from)) (Cast p (record { place = q; name = text }) e, left)
   unfolding primary_with cast_with primitive
   cast_again p o q r s z text from left e h = rw (target_again o q r text ((sign signs.OpenParenthesis, s) ∷ from)) (then_reads _ (bracketed_again s z from left e h) whole)
 
-question_stops : (p : Place) (ts : Tokens) → Stops max_level ((sign signs.Question, p) ∷ ts)
+question_stops : (p : Position) (ts : Tokens) → Stops max_level ((sign signs.Question, p) ∷ ts)
 unfolding is_sign same_sign begins_suffix binary_operator
 question_stops p ts = plain_stops max_level (sign signs.Question) p ts refl refl refl
 
@@ -187,7 +187,7 @@ mutual
   binary_read (joined {n = n} {from = from} {after = after} {left = left} {first = first} {more = more} a b) room d s =
       joined_again (below_at room) n from after left first more (binary_read a room d (links_stop b s)) (links_read b room d s)
 
-  links_read : {free depth n : ℕ} {from left : Tokens} {more : List Operation} → AreLinks free depth n from more left → (room : ℕ) → depth + room ≡ max_depth → Stops (suc n) left → ReadsAll free (is_link n) (link_by n (binary_with (below_at room) n)) from more left
+  links_read : {free depth n : ℕ} {from left : Tokens} {more : List OperatorLink} → AreLinks free depth n from more left → (room : ℕ) → depth + room ≡ max_depth → Stops (suc n) left → ReadsAll free (is_link n) (link_by n (binary_with (below_at room) n)) from more left
   links_read (no_links {n = n} {left = left}) room d s = none_again _ (is_link n) (link_by n (binary_with (below_at room) n)) left (s.2 n (omega arith))
   links_read (more_links {n = n} {m = m} {p = p} {from = from} {after = after} {left = left} {operator = operator} {operand = right} {more = more} o l a b) room d s =
       let k = binary_shorter a in

@@ -1,7 +1,7 @@
 -- What is derived with so many tokens free of the limit of the depth is derived with more of them free.
 use Rattle.std.proofs.Common.{ℕ, ◌≤◌, List, arith}
-use Rattle.ash_tree.specs.Tree.{Expr, Suffix, Operation}
-use Rattle.ash_tree.specs.Tokens.{Tokens}
+use Rattle.ash_tree.specs.Tree.{Expr, Suffix, OperatorLink}
+use Rattle.ash_tree.specs.GrammarTokens.{Tokens}
 use Rattle.ash_tree.specs.Expressions.{IsInner, inner, AreExprs, no_exprs, some_exprs, AreMoreExprs, no_more_exprs, more_exprs, IsArgs, args, IsAssign, no_assign, assign, IsCond, no_branch, branches, IsBinary, operand, joined, AreLinks, no_links, more_links, IsUnary, applied, postfix, AreSuffixes, no_suffixes, more_suffixes, IsSuffix, field, method, index, increment, decrement, IsPrimary, numeral, yes, no, null, this, named, call, brackets, convert, new_array, cast}
 
 mutual
@@ -31,7 +31,7 @@ mutual
   binary_freer (operand a) more h = operand (unary_freer a more h)
   binary_freer (joined a b) more h = joined (binary_freer a more h) (links_freer b more h)
 
-  links_freer : {free depth n : ℕ} {from left : Tokens} {x : List Operation} → AreLinks free depth n from x left → (more : ℕ) → free ≤ more → AreLinks more depth n from x left
+  links_freer : {free depth n : ℕ} {from left : Tokens} {x : List OperatorLink} → AreLinks free depth n from x left → (more : ℕ) → free ≤ more → AreLinks more depth n from x left
   links_freer no_links more h = no_links
   links_freer (more_links o l a b) more h = more_links o l (binary_freer a more h) (links_freer b more h)
 

@@ -1,7 +1,7 @@
 -- The loops of an expression go on with fewer tokens.
 use Rattle.std.proofs.Common.{◌≡◌, ℕ, ◌<◌, ◌≤◌, ◌-◌, zero, suc, Bool, [], true, false, refl, arith}
 use Rattle.ash_lex.specs.declared.signs.Sign.{Sign}
-use Rattle.ash_tree.specs.Tokens.{Tokens}
+use Rattle.ash_tree.specs.GrammarTokens.{Tokens}
 use Rattle.ash_tree.specs.Expressions.{IsInner, no_more_exprs, no_links}
 use Rattle.ash_parse.specs.Readers.{next_is_sign}
 use Rattle.ash_parse.specs.ExpressionReader.{next_expr_with, is_suffix, suffix_with, is_link, link_by, operator_at, binary_with, below_at, assign_with, unary_with, limit_at}

@@ -1,7 +1,7 @@
 -- Each phrase of an expression takes a token at least.
 use Rattle.std.proofs.Common.{ℕ, ◌<◌, ◌≤◌, ◌∷◌, List, length, arith}
-use Rattle.ash_tree.specs.Tree.{Expr, Suffix, Operation}
-use Rattle.ash_tree.specs.Tokens.{Tokens}
+use Rattle.ash_tree.specs.Tree.{Expr, Suffix, OperatorLink}
+use Rattle.ash_tree.specs.GrammarTokens.{Tokens}
 use Rattle.ash_tree.specs.Expressions.{IsInner, inner, AreExprs, no_exprs, some_exprs, AreMoreExprs, no_more_exprs, more_exprs, IsArgs, args, IsAssign, no_assign, assign, IsCond, no_branch, branches, IsBinary, operand, joined, AreLinks, no_links, more_links, IsUnary, applied, postfix, AreSuffixes, no_suffixes, more_suffixes, IsSuffix, field, method, index, increment, decrement, IsPrimary, numeral, yes, no, null, this, named, call, brackets, convert, new_array, cast}
 use Rattle.ash_parse.proofs.Types.{element_shorter}
 
@@ -32,7 +32,7 @@ mutual
   binary_shorter (operand a) = unary_shorter a
   binary_shorter (joined a b) = let x = binary_shorter a in let y = links_shorter b in omega arith
 
-  pub links_shorter : {free depth n : ℕ} {from left : Tokens} {more : List Operation} → AreLinks free depth n from more left → length left ≤ length from
+  pub links_shorter : {free depth n : ℕ} {from left : Tokens} {more : List OperatorLink} → AreLinks free depth n from more left → length left ≤ length from
   links_shorter no_links = omega arith
   links_shorter (more_links o l a b) = let x = binary_shorter a in let y = links_shorter b in omega arith
 
@@ -67,5 +67,5 @@ mutual
 pub more_exprs_strict : {free depth : ℕ} {from left : Tokens} {e : Expr} {es : List Expr} → AreMoreExprs free depth from (e ∷ es) left → length left < length from
 more_exprs_strict (more_exprs a b) = let x = inner_shorter a in let y = more_exprs_shorter b in omega arith
 
-pub links_strict : {free depth n : ℕ} {from left : Tokens} {l : Operation} {more : List Operation} → AreLinks free depth n from (l ∷ more) left → length left < length from
+pub links_strict : {free depth n : ℕ} {from left : Tokens} {l : OperatorLink} {more : List OperatorLink} → AreLinks free depth n from (l ∷ more) left → length left < length from
 links_strict (more_links o l a b) = let x = binary_shorter a in let y = links_shorter b in omega arith

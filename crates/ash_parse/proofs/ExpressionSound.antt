@@ -4,16 +4,16 @@ use Rattle.std.proofs.lemmas.Bool.Decides.{nat_tests}
 use Rattle.ash_lex.specs.Tokens.{Meaning, name, number, sign, reserved}
 use Rattle.ash_lex.specs.declared.signs.Sign.TheVariants as signs
 use Rattle.ash_lex.specs.declared.words.ReservedWord.TheVariants as words
-use Rattle.ash_tree.specs.declared.tree.places.Place.{Place}
+use Rattle.ash_tree.specs.declared.tree.places.Position.{Position}
 use Rattle.ash_tree.specs.declared.tree.types.Primitive.{Primitive}
 use Rattle.ash_tree.specs.declared.tree.operators.UnaryOp.{UnaryOp}
 use Rattle.ash_tree.specs.declared.tree.operators.BinaryOp.{BinaryOp}
 use Rattle.ash_tree.specs.declared.tree.operators.AssignOp.{AssignOp}
-use Rattle.ash_tree.specs.Tree.{Expr, Number, Truth, Null, This, Name, Call, Brackets, Convert, NewArray, Cast, Unary, Conditional, Assign, Suffix, Field, Method, Index, Increment, Decrement, Operation, place_of, exprs, chained, suffixed}
-use Rattle.ash_tree.specs.Tokens.{Tokens}
+use Rattle.ash_tree.specs.Tree.{Expr, Number, Truth, Null, This, Name, Call, Brackets, Convert, NewArray, Cast, Unary, Conditional, Assign, Suffix, Field, Method, Index, Increment, Decrement, OperatorLink, place_of, exprs, chained, suffixed}
+use Rattle.ash_tree.specs.GrammarTokens.{Tokens}
 use Rattle.ash_tree.specs.Operators.{primitive, unary_operator, binary_operator, level, max_level, assign_operator}
 use Rattle.ash_tree.specs.Expressions.{Within, IsInner, inner, AreExprs, no_exprs, some_exprs, AreMoreExprs, no_more_exprs, more_exprs, IsArgs, args, IsAssign, no_assign, assign, IsCond, no_branch, branches, IsBinary, operand, joined, AreLinks, no_links, more_links, IsUnary, applied, postfix, AreSuffixes, no_suffixes, more_suffixes, IsSuffix, field, method, index, increment, decrement, IsPrimary, numeral, yes, no, null, this, named, call, brackets, convert, new_array, cast}
-use Rattle.ash_parse.specs.Signs.{is_sign}
+use Rattle.ash_parse.specs.SignTokens.{is_sign}
 use Rattle.ash_parse.specs.Readers.{ParseResult, Unexpected, TooDeep, ◌>>=◌, put, next_is, next_is_sign, expect_at, name_at}
 use Rattle.ash_parse.specs.ExpressionReader.{Below, limit_at, next_expr_with, more_exprs_with, exprs_with, arguments_with, bracketed_with, name_or_call_with, new_array_with, cast_with, primary_by, primary_with, is_suffix, member_with, index_with, suffix_with, suffixes_with, postfix_with, unary_by, unary_with, operator_by, operator_at, is_link, link_from, link_by, links_by, chain_by, binary_with, branches_with, assign_by, assign_from, assign_with, below_at}
 use Rattle.ash_parse.specs.TypeReader.{element_at, target_at}
@@ -40,7 +40,7 @@ operator_found n (Some o) ts x Q h go =
     (λ b e. subst (λ (y : BinaryOp × Tokens). Q y.0 y.1) (same_operator o ts x e) (go o refl (grind (arith, nat_tests))))
     (λ b e. absurd (no_operator x x e))
 
-tails : (x y : Meaning × Place) (xs ys : Tokens) → (x ∷ xs) ≡ (y ∷ ys) → xs ≡ ys
+tails : (x y : Meaning × Position) (xs ys : Tokens) → (x ∷ xs) ≡ (y ∷ ys) → xs ≡ ys
 tails x y xs ys h = cc
 
 module _ (free depth : ℕ) (below : Below) (whole : Finds (below true) (IsInner free depth)) (part : Finds (below false) (IsPart free depth)) where
@@ -73,7 +73,7 @@ module _ (free depth : ℕ) (below : Below) (whole : Finds (below true) (IsInner
       at_pair (IsArgs free depth ts) (e.0).0 (c.0).1 xs rest c.2
       (expect_sound signs.OpenParenthesis ts (o.0).0 (o.0).1 (λ r. IsArgs free depth r (e.0).0 (c.0).1) o.1 (args q))
 
-  pub bracketed_sound : (ts : Tokens) (x : Expr) (rest : Tokens) (Q : Tokens → Type 0) → bracketed_with below ts ≡ Ok (x, rest) → ((p q : Place) (r : Tokens) → IsInner free depth r x ((sign signs.CloseParenthesis, q) ∷ rest) → Q ((sign signs.OpenParenthesis, p) ∷ r)) → Q ts
+  pub bracketed_sound : (ts : Tokens) (x : Expr) (rest : Tokens) (Q : Tokens → Type 0) → bracketed_with below ts ≡ Ok (x, rest) → ((p q : Position) (r : Tokens) → IsInner free depth r x ((sign signs.CloseParenthesis, q) ∷ rest) → Q ((sign signs.OpenParenthesis, p) ∷ r)) → Q ts
   unfolding bracketed_with
   bracketed_sound ts x rest Q h go =
       let o = bind_ok (expect_at signs.OpenParenthesis ts) (λ opened. below true opened.1 >>= λ e. expect_at signs.CloseParenthesis e.1 >>= λ closed. Ok (e.0, closed.1)) (x, rest) h in
@@ -84,7 +84,7 @@ module _ (free depth : ℕ) (below : Below) (whole : Finds (below true) (IsInner
       expect_sound signs.OpenParenthesis ts (o.0).0 (o.0).1 Q o.1
       (go (o.0).0 (c.0).0 (o.0).1 (at_pair (λ y r. IsInner free depth (o.0).1 y ((sign signs.CloseParenthesis, (c.0).0) ∷ r)) (e.0).0 (c.0).1 x rest c.2 q))
 
-  named_sound : (p : Place) (text : List ℕ) (ts : Tokens) (x : Expr) (rest : Tokens) → name_or_call_with below p text ts ≡ Ok (x, rest) → IsPrimary free depth ((name text, p) ∷ ts) x rest
+  named_sound : (p : Position) (text : List ℕ) (ts : Tokens) (x : Expr) (rest : Tokens) → name_or_call_with below p text ts ≡ Ok (x, rest) → IsPrimary free depth ((name text, p) ∷ ts) x rest
   unfolding name_or_call_with
   named_sound p text ts x rest h =
       if_elim (next_is_sign signs.OpenParenthesis ts) (arguments_with below ts >>= λ es. Ok (Call p text (exprs es.0), es.1)) (Ok (Name p text, ts)) (Ok (x, rest)) (IsPrimary free depth ((name text, p) ∷ ts) x rest) h
@@ -92,12 +92,12 @@ module _ (free depth : ℕ) (below : Below) (whole : Finds (below true) (IsInner
       at_pair (IsPrimary free depth ((name text, p) ∷ ts)) (Call p text (exprs (a.0).0)) (a.0).1 x rest a.2 (call (args_sound ts (a.0).0 (a.0).1 a.1)))
       (λ b e. at_pair (IsPrimary free depth ((name text, p) ∷ ts)) (Name p text) ts x rest e named)
 
-  inside : (p : Place) (ts : Tokens) (x : Expr) (rest : Tokens) → bracketed_with below ((sign signs.OpenParenthesis, p) ∷ ts) ≡ Ok (x, rest) → IsPrimary free depth ((sign signs.OpenParenthesis, p) ∷ ts) (Brackets p x) rest
+  inside : (p : Position) (ts : Tokens) (x : Expr) (rest : Tokens) → bracketed_with below ((sign signs.OpenParenthesis, p) ∷ ts) ≡ Ok (x, rest) → IsPrimary free depth ((sign signs.OpenParenthesis, p) ∷ ts) (Brackets p x) rest
   inside p ts x rest h =
       bracketed_sound ((sign signs.OpenParenthesis, p) ∷ ts) x rest (λ r. ((sign signs.OpenParenthesis, p) ∷ ts ≡ r) → IsPrimary free depth ((sign signs.OpenParenthesis, p) ∷ ts) (Brackets p x) rest) h
       (λ o c r i e. brackets (subst (λ t. IsInner free depth t x ((sign signs.CloseParenthesis, c) ∷ rest)) (sym (tails (sign signs.OpenParenthesis, p) (sign signs.OpenParenthesis, o) ts r e)) i)) refl
 
-  new_array_sound : (p : Place) (ts : Tokens) (x : Expr) (rest : Tokens) → new_array_with below p ts ≡ Ok (x, rest) → IsPrimary free depth ((reserved words.Array, p) ∷ ts) x rest
+  new_array_sound : (p : Position) (ts : Tokens) (x : Expr) (rest : Tokens) → new_array_with below p ts ≡ Ok (x, rest) → IsPrimary free depth ((reserved words.Array, p) ∷ ts) x rest
   unfolding new_array_with
   new_array_sound p ts x rest h =
       let e = bind_ok (element_at ts) (λ e. arguments_with below e.1 >>= λ es. Ok (NewArray p e.0 (exprs es.0), es.1)) (x, rest) h in
@@ -105,7 +105,7 @@ module _ (free depth : ℕ) (below : Below) (whole : Finds (below true) (IsInner
       at_pair (IsPrimary free depth ((reserved words.Array, p) ∷ ts)) (NewArray p (e.0).0 (exprs (es.0).0)) (es.0).1 x rest es.2
       (new_array (element_sound ts (e.0).0 (e.0).1 e.1) (args_sound (e.0).1 (es.0).0 (es.0).1 es.1))
 
-  cast_sound : (p : Place) (ts : Tokens) (x : Expr) (rest : Tokens) → cast_with below p ts ≡ Ok (x, rest) → IsPrimary free depth ((reserved words.Cast, p) ∷ ts) x rest
+  cast_sound : (p : Position) (ts : Tokens) (x : Expr) (rest : Tokens) → cast_with below p ts ≡ Ok (x, rest) → IsPrimary free depth ((reserved words.Cast, p) ∷ ts) x rest
   unfolding cast_with
   cast_sound p ts x rest h =
       let t = bind_ok (target_at ts) (λ t. bracketed_with below t.1 >>= λ e. Ok (Cast p t.0 e.0, e.1)) (x, rest) h in
@@ -115,7 +115,7 @@ module _ (free depth : ℕ) (below : Below) (whole : Finds (below true) (IsInner
       (λ o q z text left g k. bracketed_sound left (e.0).0 (e.0).1 (λ r. ts ≡ (sign signs.Less, o) ∷ (name text, q) ∷ (sign signs.Greater, z) ∷ r → IsPrimary free depth ((reserved words.Cast, p) ∷ ts) (Cast p (record { place = q; name = text }) (e.0).0) (e.0).1) k
       (λ b c r i f. subst (λ l. IsPrimary free depth ((reserved words.Cast, p) ∷ l) (Cast p (record { place = q; name = text }) (e.0).0) (e.0).1) (sym f) (cast i)) g) e.1)
 
-  primary_by_sound : (k : Option Primitive) (m : Meaning) (p : Place) (ts : Tokens) (x : Expr) (rest : Tokens) → primitive m ≡ k → primary_by below k m p ts ≡ Ok (x, rest) → IsPrimary free depth ((m, p) ∷ ts) x rest
+  primary_by_sound : (k : Option Primitive) (m : Meaning) (p : Position) (ts : Tokens) (x : Expr) (rest : Tokens) → primitive m ≡ k → primary_by below k m p ts ≡ Ok (x, rest) → IsPrimary free depth ((m, p) ∷ ts) x rest
   primary_by_sound (Some k) m p ts x rest g h =
       let b = bind_ok (bracketed_with below ts) (λ e. Ok (Convert p k e.0, e.1)) (x, rest) h in
       at_pair (IsPrimary free depth ((m, p) ∷ ts)) (Convert p k (b.0).0) (b.0).1 x rest b.2
@@ -139,7 +139,7 @@ module _ (free depth : ℕ) (below : Below) (whole : Finds (below true) (IsInner
   primary_sound [] x rest h = absurd (no_err (Unexpected []) (x, rest) h)
   primary_sound ((m, p) ∷ ts) x rest h = primary_by_sound (primitive m) m p ts x rest refl h
 
-  member_sound : (p : Place) (ts : Tokens) (x : Suffix) (rest : Tokens) → member_with below ts ≡ Ok (x, rest) → IsSuffix free depth ((sign signs.Dot, p) ∷ ts) x rest
+  member_sound : (p : Position) (ts : Tokens) (x : Suffix) (rest : Tokens) → member_with below ts ≡ Ok (x, rest) → IsSuffix free depth ((sign signs.Dot, p) ∷ ts) x rest
   unfolding member_with
   member_sound p ts x rest h =
       let n = bind_ok (name_at ts) (λ n. cond (next_is_sign signs.OpenParenthesis n.1) (arguments_with below n.1 >>= λ es. Ok (Method (n.0).1 (n.0).0 (exprs es.0), es.1)) (Ok (Field (n.0).1 (n.0).0, n.1))) (x, rest) h in
@@ -152,7 +152,7 @@ module _ (free depth : ℕ) (below : Below) (whole : Finds (below true) (IsInner
       at_pair (IsSuffix free depth ((sign signs.Dot, p) ∷ (name t, q) ∷ r)) (Method q t (exprs (a.0).0)) (a.0).1 x rest a.2 (method (args_sound r (a.0).0 (a.0).1 a.1)))
       (λ b e. at_pair (IsSuffix free depth ((sign signs.Dot, p) ∷ (name t, q) ∷ r)) (Field q t) r x rest e field))
 
-  index_sound : (p : Place) (ts : Tokens) (x : Suffix) (rest : Tokens) → index_with below ts ≡ Ok (x, rest) → IsSuffix free depth ((sign signs.OpenBracket, p) ∷ ts) x rest
+  index_sound : (p : Position) (ts : Tokens) (x : Suffix) (rest : Tokens) → index_with below ts ≡ Ok (x, rest) → IsSuffix free depth ((sign signs.OpenBracket, p) ∷ ts) x rest
   unfolding index_with
   index_sound p ts x rest h =
       let e = bind_ok (below true ts) (λ e. expect_at signs.CloseBracket e.1 >>= λ closed. Ok (Index e.0, closed.1)) (x, rest) h in
@@ -180,7 +180,7 @@ module _ (free depth : ℕ) (below : Below) (whole : Finds (below true) (IsInner
       let m = bind_ok (suffixes_with below (e.0).1) (λ more. Ok (suffixed (e.0).0 more.0, more.1)) (x, rest) e.2 in
       at_pair (IsUnary free depth ts) (suffixed (e.0).0 (m.0).0) (m.0).1 x rest m.2 (postfix (primary_sound ts (e.0).0 (e.0).1 e.1) (suffixes_sound (e.0).1 (m.0).0 (m.0).1 m.1))
 
-  unary_by_sound : (o : Option UnaryOp) (m : Meaning) (p : Place) (ts : Tokens) (x : Expr) (rest : Tokens) → unary_operator m ≡ o → unary_by below o m p ts ≡ Ok (x, rest) → IsUnary free depth ((m, p) ∷ ts) x rest
+  unary_by_sound : (o : Option UnaryOp) (m : Meaning) (p : Position) (ts : Tokens) (x : Expr) (rest : Tokens) → unary_operator m ≡ o → unary_by below o m p ts ≡ Ok (x, rest) → IsUnary free depth ((m, p) ∷ ts) x rest
   unary_by_sound None m p ts x rest g h = postfix_sound ((m, p) ∷ ts) x rest h
   unary_by_sound (Some o) m p ts x rest g h =
       let e = bind_ok (below false ts) (λ e. Ok (Unary p o e.0, e.1)) (x, rest) h in
@@ -192,7 +192,7 @@ module _ (free depth : ℕ) (below : Below) (whole : Finds (below true) (IsInner
   unary_sound [] x rest h = absurd (no_err (Unexpected []) (x, rest) h)
   unary_sound ((m, p) ∷ ts) x rest h = unary_by_sound (unary_operator m) m p ts x rest refl h
 
-  pub link_from_sound : (n : ℕ) (read : Tokens → ParseResult Expr) → Finds read (IsBinary free depth n) → (from after left : Tokens) (x : Operation) (xs : List Operation) (o : Option (BinaryOp × Tokens)) → operator_at n from ≡ o → link_from read o from ≡ Ok (x, after) → AreLinks free depth n after xs left → AreLinks free depth n from (x ∷ xs) left
+  pub link_from_sound : (n : ℕ) (read : Tokens → ParseResult Expr) → Finds read (IsBinary free depth n) → (from after left : Tokens) (x : OperatorLink) (xs : List OperatorLink) (o : Option (BinaryOp × Tokens)) → operator_at n from ≡ o → link_from read o from ≡ Ok (x, after) → AreLinks free depth n after xs left → AreLinks free depth n from (x ∷ xs) left
   unfolding operator_at
   link_from_sound n read finds from after left x xs None g h a = absurd (no_err (Unexpected from) (x, after) h)
   link_from_sound n read finds [] after left x xs (Some o) g h a = absurd (no_operator o o g)
@@ -217,7 +217,7 @@ module _ (free depth : ℕ) (below : Below) (whole : Finds (below true) (IsInner
   binary_sound zero ts x rest h = operand (unary_sound ts x rest h)
   binary_sound (suc n) ts x rest h = chain_sound n (binary_with below n) (binary_sound n) ts x rest h
 
-  branches_sound : (p : Place) (c : Expr) (from ts : Tokens) (x : Expr) (rest : Tokens) → IsBinary free depth max_level from c ((sign signs.Question, p) ∷ ts) → branches_with below c ts ≡ Ok (x, rest) → IsCond free depth from x rest
+  branches_sound : (p : Position) (c : Expr) (from ts : Tokens) (x : Expr) (rest : Tokens) → IsBinary free depth max_level from c ((sign signs.Question, p) ∷ ts) → branches_with below c ts ≡ Ok (x, rest) → IsCond free depth from x rest
   unfolding branches_with
   branches_sound p c from ts x rest d h =
       let a = bind_ok (below true ts) (λ a. expect_at signs.Colon a.1 >>= λ colon. below true colon.1 >>= λ b. Ok (Conditional (place_of c) c a.0 b.0, b.1)) (x, rest) h in
@@ -227,7 +227,7 @@ module _ (free depth : ℕ) (below : Below) (whole : Finds (below true) (IsInner
       expect_sound signs.Colon (a.0).1 (k.0).0 (k.0).1 (λ r. IsInner free depth ts (a.0).0 r → IsInner free depth ts (a.0).0 ((sign signs.Colon, (k.0).0) ∷ (k.0).1)) k.1 (λ d. d) (whole ts (a.0).0 (a.0).1 a.1) in
       at_pair (IsCond free depth from) (Conditional (place_of c) c (a.0).0 (b.0).0) (b.0).1 x rest b.2 (branches d i (whole (k.0).1 (b.0).0 (b.0).1 b.1))
 
-  assign_by_sound : (o : Option AssignOp) (m : Meaning) (p : Place) (e : Expr) (from ts : Tokens) (x : Expr) (rest : Tokens) → assign_operator m ≡ o → IsBinary free depth max_level from e ((m, p) ∷ ts) → assign_by below e o m p ts ≡ Ok (x, rest) → IsAssign free depth from x rest
+  assign_by_sound : (o : Option AssignOp) (m : Meaning) (p : Position) (e : Expr) (from ts : Tokens) (x : Expr) (rest : Tokens) → assign_operator m ≡ o → IsBinary free depth max_level from e ((m, p) ∷ ts) → assign_by below e o m p ts ≡ Ok (x, rest) → IsAssign free depth from x rest
   assign_by_sound None m p e from ts x rest g d h = at_pair (IsAssign free depth from) e ((m, p) ∷ ts) x rest h (no_assign (no_branch d))
   assign_by_sound (Some o) m p e from ts x rest g d h =
       let v = bind_ok (below true ts) (λ v. Ok (Assign (place_of e) e o v.0, v.1)) (x, rest) h in

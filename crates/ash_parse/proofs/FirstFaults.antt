@@ -2,14 +2,14 @@
 use Rattle.std.proofs.Common.{◌≡◌, suc, inl, inr, List, [], ◌∷◌, ◌++◌, length, Ok, Err, sym, ap, ◌∙◌, refl, append_assoc}
 use Rattle.ash_lex.specs.declared.tokens.Token.{Token}
 use Rattle.ash_tree.specs.Tree.{Item, Declaration}
-use Rattle.ash_tree.specs.Tokens.{Tokens, tokens_of}
+use Rattle.ash_tree.specs.GrammarTokens.{Tokens, tokens_of}
 use Rattle.ash_parse.specs.declared.faults.ParseFault.{ParseFault}
 use Rattle.ash_parse.specs.declared.faults.ParseFault.TheVariants as faults
 use Rattle.ash_parse.specs.Readers.{Halt, Unexpected, TooDeep, ParseResult}
 use Rattle.ash_parse.specs.ItemReader.{module_at}
-use Rattle.ash_parse.specs.Faults.{IsFault, whole_declaration_at}
+use Rattle.ash_parse.specs.ParseFaults.{IsFault, whole_declaration_at}
 use Rattle.ash_parse.specs.Unique.{HasTreeOrFault, HasDeclarationOrFault}
-use Rattle.ash_parse.specs.FirstFault.{NoneLeftDeep, FirstFault, FirstDeclarationFault, ReportsFirst}
+use Rattle.ash_parse.specs.FirstFault.{NoneLeftDeep, FirstParseFault, FirstDeclarationFault, ReportsFirst}
 use Rattle.ash_parse.proofs.NoneGoesOn.{goes_too_deep, none_goes_on, none_within, no_declaration_goes_on}
 use Rattle.ash_parse.proofs.BeginItems.{begun, begun_deep, some_token_deep}
 use Rattle.ash_parse.proofs.BeginDeclarations.{begun_declaration}
@@ -40,13 +40,13 @@ none_left_deep prefix rest h less t seen e leaves deep =
     let here : module_at (less ++ t ∷ (seen ++ rest)) ≡ Err (Unexpected rest) = ap module_at (sym is) ∙ ap (λ (l : Tokens). module_at (l ++ rest)) (sym e) ∙ h in
     keeps_not_deep less seen deep.0 t (Unexpected rest) leaves here (cut_there less deep.0 t deep.1 deep.2 deep.3 (module_cut (suc (length deep.0)) (less ++ t ∷ deep.0) deep.1 deep.2))
 
-at_unexpected : (ts rest : Tokens) → module_at ts ≡ Err (Unexpected rest) → FirstFault ts (Unexpected rest)
+at_unexpected : (ts rest : Tokens) → module_at ts ≡ Err (Unexpected rest) → FirstParseFault ts (Unexpected rest)
 at_unexpected ts rest h =
     let b = begun ts rest h in
     let e : module_at (b.0 ++ rest) ≡ Err (Unexpected rest) = ap module_at (sym b.1) ∙ h in
     (b.0, b.1, b.2, none_goes_on b.0 rest e, none_left_deep b.0 rest e)
 
-at_too_deep : (ts rest : Tokens) → module_at ts ≡ Err (TooDeep rest) → FirstFault ts (TooDeep rest)
+at_too_deep : (ts rest : Tokens) → module_at ts ≡ Err (TooDeep rest) → FirstParseFault ts (TooDeep rest)
 at_too_deep ts [] h = some_token_deep ts h
 at_too_deep ts (t ∷ rest) h =
     let b = begun_deep ts rest t h in
@@ -54,16 +54,16 @@ at_too_deep ts (t ∷ rest) h =
     (b.0, b.3, (t ∷ b.1, b.2, b.5), goes_too_deep b.0 rest b.1 t b.2 b.4 e b.5, none_within b.0 rest t e)
 
 -- where reading a module stops is its first fault
-pub module_stops_first : (ts : Tokens) → StopsFirst FirstFault ts (module_at ts)
+pub module_stops_first : (ts : Tokens) → StopsFirst FirstParseFault ts (module_at ts)
 module_stops_first ts (Unexpected rest) h = at_unexpected ts rest h
 module_stops_first ts (TooDeep rest) h = at_too_deep ts rest h
 
-stops_there : (ts : Tokens) (h : Halt) → FirstFault ts h → (o : ParseResult (List Item)) → module_at ts ≡ o → o ≡ Err h
+stops_there : (ts : Tokens) (h : Halt) → FirstParseFault ts h → (o : ParseResult (List Item)) → module_at ts ≡ o → o ≡ Err h
 stops_there ts h first (Ok x) e = absurd (no_module ts h x.0 first (module_derived ts x.0 x.1 e))
 stops_there ts h first (Err k) e = ap (λ (f : Halt). Err f) (one_fault ts k h (module_stops_first ts k e) first)
 
 -- and reading stops at the first fault
-pub first_is_stop : (ts : Tokens) (h : Halt) → FirstFault ts h → module_at ts ≡ Err h
+pub first_is_stop : (ts : Tokens) (h : Halt) → FirstParseFault ts h → module_at ts ≡ Err h
 first_is_stop ts h first = stops_there ts h first (module_at ts) refl
 
 found : (ts : Tokens) (o : ParseResult (List Item)) → module_at ts ≡ o → HasTreeOrFault ts
@@ -73,8 +73,8 @@ found ts (Err h) e = inr (h, module_stops_first ts h e)
 pub tree_or_fault : (ts : Tokens) → HasTreeOrFault ts
 tree_or_fault ts = found ts (module_at ts) refl
 
-pub module_reported_first : (all : List Token) (f : ParseFault) → IsFault all f (module_at (tokens_of all)) → ReportsFirst FirstFault all f
-module_reported_first all f h = reported_first_at FirstFault all f (module_at (tokens_of all)) (module_stops_first (tokens_of all)) h
+pub module_reported_first : (all : List Token) (f : ParseFault) → IsFault all f (module_at (tokens_of all)) → ReportsFirst FirstParseFault all f
+module_reported_first all f h = reported_first_at FirstParseFault all f (module_at (tokens_of all)) (module_stops_first (tokens_of all)) h
 
 declared_unexpected : (ts rest : Tokens) → whole_declaration_at ts ≡ Err (Unexpected rest) → FirstDeclarationFault ts (Unexpected rest)
 declared_unexpected ts rest h = let b = begun_declaration ts rest h in (b.0, b.1, b.2, no_declaration_goes_on b.0 rest (ap whole_declaration_at (sym b.1) ∙ h))

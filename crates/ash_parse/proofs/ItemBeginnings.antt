@@ -3,16 +3,16 @@ use Rattle.std.proofs.Common.{◌≡◌, ℕ, List, [], ◌∷◌, true, false, 
 use Rattle.ash_lex.specs.Tokens.{Meaning, name, sign, reserved}
 use Rattle.ash_lex.specs.declared.signs.Sign.TheVariants as signs
 use Rattle.ash_lex.specs.declared.words.ReservedWord.TheVariants as words
-use Rattle.ash_tree.specs.declared.tree.places.Place.{Place}
+use Rattle.ash_tree.specs.declared.tree.places.Position.{Position}
 use Rattle.ash_tree.specs.declared.tree.types.Primitive.{Primitive}
 use Rattle.ash_tree.specs.Tree.{Named, Expr, Decl, Vars, Stmt, Parameter, Function, Member, InterfaceMethod, Item}
-use Rattle.ash_tree.specs.Tokens.{Tokens}
+use Rattle.ash_tree.specs.GrammarTokens.{Tokens}
 use Rattle.ash_tree.specs.Operators.{primitive, unary_operator}
 use Rattle.ash_tree.specs.Expressions.{AreExprs, no_exprs, some_exprs, args}
 use Rattle.ash_tree.specs.Types.{IsType, prim, object, handle, array, array_handle}
 use Rattle.ash_tree.specs.Statements.{IsDecl, bare, valued, made, IsVars, vars, IsBlock, block}
 use Rattle.ash_tree.specs.Grammar.{IsResultType, void, typed, IsParameter, parameter, AreParameters, no_parameters, parameters, IsFunction, function, IsMember, method, fields, constructor, class, IsItem, a_class, a_function, globals, IsInterfaceMethod, interface_method, interface, an_interface}
-use Rattle.ash_parse.specs.Signs.{is_sign, same_sign}
+use Rattle.ash_parse.specs.SignTokens.{is_sign, same_sign}
 use Rattle.ash_parse.specs.Readers.{next_is, next_is_sign}
 use Rattle.ash_parse.specs.ExpressionReader.{begins}
 use Rattle.ash_parse.specs.TypeReader.{is_array}
@@ -95,16 +95,16 @@ parameter_vars : {from left : Tokens} {x : Parameter} → IsParameter from x lef
 unfolding next_is_name is_name
 parameter_vars (parameter t) = type_vars t refl
 
-names_parameters : (text : List ℕ) (p : Place) {from left : Tokens} {xs : List Parameter} → AreParameters from xs left → next_is_sign signs.OpenBrace left ≡ true → names_function ((name text, p) ∷ from) ≡ true
+names_parameters : (text : List ℕ) (p : Position) {from left : Tokens} {xs : List Parameter} → AreParameters from xs left → next_is_sign signs.OpenBrace left ≡ true → names_function ((name text, p) ∷ from) ≡ true
 unfolding names_function next_is_name is_name is_array without_first next_is_sign is_sign same_sign opens_body is_vars primitive
 names_parameters text p no_parameters s = s
 names_parameters text p (parameters a b) s = rw (parameter_vars a) refl
 
-name_no_handle : (text : List ℕ) (p : Place) (ts : Tokens) → next_is_sign signs.Handle ((name text, p) ∷ ts) ≡ false
+name_no_handle : (text : List ℕ) (p : Position) (ts : Tokens) → next_is_sign signs.Handle ((name text, p) ∷ ts) ≡ false
 unfolding next_is_sign is_sign
 name_no_handle text p ts = refl
 
-name_no_open : (text : List ℕ) (p : Place) (ts : Tokens) → next_is_sign signs.OpenParenthesis ((name text, p) ∷ ts) ≡ false
+name_no_open : (text : List ℕ) (p : Position) (ts : Tokens) → next_is_sign signs.OpenParenthesis ((name text, p) ∷ ts) ≡ false
 unfolding next_is_sign is_sign
 name_no_open text p ts = refl
 
@@ -114,7 +114,7 @@ unfolding is_function is_void
 function_function (function void b c) = refl
 function_function (function {p = p} {text = text} {after = after} (typed t) b c) = rw (typed_function t (name_no_handle text p after)) (names_parameters text p b (block_opens c))
 
-close_opens_no_body : (m : Meaning) (p : Place) (ts : Tokens) → is_sign signs.CloseParenthesis m ≡ true → next_is_sign signs.OpenBrace ts ≡ false → (is_vars ((m, p) ∷ ts) ≡ false) × (opens_body ((m, p) ∷ ts) ≡ false)
+close_opens_no_body : (m : Meaning) (p : Position) (ts : Tokens) → is_sign signs.CloseParenthesis m ≡ true → next_is_sign signs.OpenBrace ts ≡ false → (is_vars ((m, p) ∷ ts) ≡ false) × (opens_body ((m, p) ∷ ts) ≡ false)
 unfolding is_sign same_sign is_vars primitive is_name is_array opens_body
 close_opens_no_body (sign signs.CloseParenthesis) p ts h s = (refl, s)
 close_opens_no_body m p ts h s = absurd (no_true h)
@@ -183,6 +183,6 @@ unfolding next_is_sign is_sign same_sign
 parameters_open no_parameters = refl
 parameters_open (parameters a b) = refl
 
-pub constructor_constructor : (text : List ℕ) (p : Place) {from left : Tokens} {xs : List Parameter} → AreParameters from xs left → is_constructor ((name text, p) ∷ from) ≡ true
+pub constructor_constructor : (text : List ℕ) (p : Position) {from left : Tokens} {xs : List Parameter} → AreParameters from xs left → is_constructor ((name text, p) ∷ from) ≡ true
 unfolding is_constructor next_is_name is_name without_first
 constructor_constructor text p a = parameters_open a

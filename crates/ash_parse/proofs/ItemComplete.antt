@@ -4,20 +4,20 @@ use Rattle.std.proofs.Common.{◌≡◌, ℕ, List, [], ◌∷◌, length, true,
 use Rattle.ash_lex.specs.Tokens.{name, sign}
 use Rattle.ash_lex.specs.declared.signs.Sign.TheVariants as signs
 use Rattle.ash_lex.specs.declared.tokens.Token.{Token}
-use Rattle.ash_tree.specs.declared.tree.places.Place.{Place}
+use Rattle.ash_tree.specs.declared.tree.places.Position.{Position}
 use Rattle.ash_tree.specs.Tree.{Named, TypeName, Vars, Stmt, Parameter, Function, Constructor, Member, Class, InterfaceMethod, Item, AFunction, AGlobal, Declaration, AProperty}
-use Rattle.ash_tree.specs.Tokens.{Tokens}
+use Rattle.ash_tree.specs.GrammarTokens.{Tokens}
 use Rattle.ash_tree.specs.Expressions.{max_depth}
 use Rattle.ash_tree.specs.Statements.{IsVars, IsBlock}
 use Rattle.ash_tree.specs.Grammar.{IsResultType, void, typed, IsParameter, parameter, AreMoreParameters, no_more_parameters, more_parameters, AreParameters, no_parameters, parameters, IsFunction, function, IsMember, method, fields, constructor, AreMembers, no_members, more_members, AreMoreInterfaces, no_more_interfaces, more_interfaces, AreInterfaces, no_interfaces, interfaces, class, IsInterfaceMethod, interface_method, AreInterfaceMethods, no_interface_methods, more_interface_methods, interface, IsItem, a_class, an_interface, a_function, globals, Derives, no_items, semicolon, item, IsUnnamed, unnamed, with_name, AreMoreUnnamed, no_more_unnamed, more_unnamed, AreUnnamed, no_unnamed, some_unnamed, Declares, signature, property}
 use Rattle.ash_parse.specs.declared.faults.ParseFault.{ParseFault}
 use Rattle.ash_parse.specs.declared.faults.ParseFault.TheVariants as faults
-use Rattle.ash_parse.specs.Signs.{is_sign, same_sign}
+use Rattle.ash_parse.specs.SignTokens.{is_sign, same_sign}
 use Rattle.ash_parse.specs.Readers.{TooDeep, ParseResult, next_is, next_is_sign}
 use Rattle.ash_parse.specs.StatementReader.{is_name, next_is_name, type_at, goes_on}
 use Rattle.ash_parse.specs.ExpressionReader.{begins}
 use Rattle.ash_parse.specs.ItemReader.{is_void, is_class, is_interface, result_type_at, parameter_at, next_parameter_at, more_parameters_at, parameter_list_at, parameters_at, body_at, function_at, globals_at, without_first, is_function, constructor_at, member_at, members_at, next_interface_at, more_interfaces_at, listed_interfaces_at, interfaces_at, class_at, interface_method_at, interface_methods_at, interface_at, item_at, strip, entry_at, is_left, entries_at, module_at, unnamed_at, next_unnamed_at, more_unnamed_at, unnamed_list_at, unnamed_parameters_at, declaration_after, declaration_at}
-use Rattle.ash_parse.specs.Faults.{IsFault, whole_declaration_at}
+use Rattle.ash_parse.specs.ParseFaults.{IsFault, whole_declaration_at}
 use Rattle.ash_parse.specs.Unique.{HasOneModule, HasOneDeclaration}
 use Rattle.ash_parse.proofs.Readings.{ok_is, expect_again, next_is_sign-again, name_again}
 use Rattle.ash_parse.proofs.ItemShorter.{parameter_shorter, member_shorter, interface_method_shorter, item_shorter, unnamed_shorter, strip_shorter, strip-done, no_more_left}
@@ -27,7 +27,7 @@ use Rattle.ash_parse.proofs.VarsComplete.{Follows, ends_follow, type_read, type_
 use Rattle.ash_parse.proofs.StatementComplete.{brace_rests, block_read}
 use Rattle.ash_parse.proofs.ItemBeginnings.{begins_no_void, function_heads, vars_heads, member_goes, interface_method_goes, item_heads, function_function, vars_no_function, function_no_constructor, vars_no_constructor, constructor_constructor}
 
-name_no_handle : (text : List ℕ) (p : Place) (ts : Tokens) → next_is_sign signs.Handle ((name text, p) ∷ ts) ≡ false
+name_no_handle : (text : List ℕ) (p : Position) (ts : Tokens) → next_is_sign signs.Handle ((name text, p) ∷ ts) ≡ false
 unfolding next_is_sign is_sign
 name_no_handle text p ts = refl
 
@@ -48,7 +48,7 @@ parameter_read (parameter {p = p} {text = text} {left = left} a) = rw (type_read
 parameter_begins : {from left : Tokens} {x : Parameter} → IsParameter from x left → next_is begins from ≡ true
 parameter_begins (parameter a) = type_begins a
 
-next_parameter_again : (p : Place) (from left : Tokens) (x : Parameter) → parameter_at from ≡ Ok (x, left) → next_parameter_at ((sign signs.Comma, p) ∷ from) ≡ Ok (x, left)
+next_parameter_again : (p : Position) (from left : Tokens) (x : Parameter) → parameter_at from ≡ Ok (x, left) → next_parameter_at ((sign signs.Comma, p) ∷ from) ≡ Ok (x, left)
 unfolding next_parameter_at
 next_parameter_again p from left x h = rw (expect_again signs.Comma p from) h
 
@@ -72,11 +72,11 @@ function_read : {free : ℕ} {from left : Tokens} {f : Function} → IsFunction 
 unfolding function_at
 function_read (function {p = p} {text = text} {after = next} a b c) = rw (result_type_read a (name_no_handle text p next), name_again text p next, parameters_read b) (then_reads _ (body_read c) whole)
 
-globals_read : {free : ℕ} {from : Tokens} {v : Vars} (p : Place) (left : Tokens) → IsVars free 0 from v ((sign signs.Semicolon, p) ∷ left) → Reads Vars free (globals_at from) (v, left)
+globals_read : {free : ℕ} {from : Tokens} {v : Vars} (p : Position) (left : Tokens) → IsVars free 0 from v ((sign signs.Semicolon, p) ∷ left) → Reads Vars free (globals_at from) (v, left)
 unfolding globals_at
 globals_read p left a = declared_read p left a max_depth (omega arith)
 
-constructor_again : {free : ℕ} (p : Place) (text : List ℕ) (from inside left : Tokens) (xs : List Parameter) (body : List Stmt) → parameters_at from ≡ Ok (xs, inside) → Reads (List Stmt) free (body_at inside) (body, left) → Reads Constructor free (constructor_at ((name text, p) ∷ from)) (record { place = p; name = text; parameters = xs; body = body }, left)
+constructor_again : {free : ℕ} (p : Position) (text : List ℕ) (from inside left : Tokens) (xs : List Parameter) (body : List Stmt) → parameters_at from ≡ Ok (xs, inside) → Reads (List Stmt) free (body_at inside) (body, left) → Reads Constructor free (constructor_at ((name text, p) ∷ from)) (record { place = p; name = text; parameters = xs; body = body }, left)
 unfolding constructor_at
 constructor_again p text from inside left xs body h i = rw (name_again text p from, h) (then_reads _ i whole)
 
@@ -91,7 +91,7 @@ members_read (no_members {left = left}) s = none_again _ goes_on member_at left 
 members_read (more_members {from = from} {after = next} {left = left} {x = x} {xs = xs} a b) s =
     one_again _ goes_on member_at from next left x xs (member_goes a) (member_read a) (member_shorter a) (members_read b s)
 
-next_interface_again : (p q : Place) (text : List ℕ) (ts : Tokens) → next_interface_at ((sign signs.Comma, p) ∷ (name text, q) ∷ ts) ≡ Ok (record { place = q; name = text }, ts)
+next_interface_again : (p q : Position) (text : List ℕ) (ts : Tokens) → next_interface_at ((sign signs.Comma, p) ∷ (name text, q) ∷ ts) ≡ Ok (record { place = q; name = text }, ts)
 unfolding next_interface_at
 next_interface_again p q text ts = rw (expect_again signs.Comma p ((name text, q) ∷ ts), name_again text q ts) refl
 
@@ -107,11 +107,11 @@ interfaces_read (interfaces {p = p} {q = q} {text = text} {after = next} a) c s 
     rw (next_is_sign-again signs.Colon p ((name text, q) ∷ next), expect_again signs.Colon p ((name text, q) ∷ next), name_again text q next, is_whole (more_interfaces_read a s (length next) (omega arith)) refl) refl
 
 -- no list of interfaces goes on with a brace
-brace_ends_list : (o : Place) (ts : Tokens) → (next_is_sign signs.Colon ((sign signs.OpenBrace, o) ∷ ts) ≡ false) × (next_is_sign signs.Comma ((sign signs.OpenBrace, o) ∷ ts) ≡ false)
+brace_ends_list : (o : Position) (ts : Tokens) → (next_is_sign signs.Colon ((sign signs.OpenBrace, o) ∷ ts) ≡ false) × (next_is_sign signs.Comma ((sign signs.OpenBrace, o) ∷ ts) ≡ false)
 unfolding next_is_sign is_sign same_sign
 brace_ends_list o ts = (refl, refl)
 
-class_again : {free : ℕ} (q o w : Place) (text : List ℕ) (head from left : Tokens) (is : List TypeName) (xs : List Member) → interfaces_at head ≡ Ok (is, (sign signs.OpenBrace, o) ∷ from) → ReadsAll free goes_on member_at from xs ((sign signs.CloseBrace, w) ∷ left) → Reads Class free (class_at ((name text, q) ∷ head)) (record { place = q; name = text; interfaces = is; members = xs }, left)
+class_again : {free : ℕ} (q o w : Position) (text : List ℕ) (head from left : Tokens) (is : List TypeName) (xs : List Member) → interfaces_at head ≡ Ok (is, (sign signs.OpenBrace, o) ∷ from) → ReadsAll free goes_on member_at from xs ((sign signs.CloseBrace, w) ∷ left) → Reads Class free (class_at ((name text, q) ∷ head)) (record { place = q; name = text; interfaces = is; members = xs }, left)
 unfolding class_at members_at
 class_again q o w text head from left is xs i r = rw (name_again text q head, i, expect_again signs.OpenBrace o from) (then_reads _ (r (length from) (omega arith)) (rw (expect_again signs.CloseBrace w left) whole))
 
@@ -124,7 +124,7 @@ interface_methods_read (no_interface_methods {left = left}) s = none_again 0 goe
 interface_methods_read (more_interface_methods {from = from} {after = next} {left = left} {x = x} {xs = xs} a b) s =
     one_again 0 goes_on interface_method_at from next left x xs (interface_method_goes a) (as_read (interface_method_read a)) (interface_method_shorter a) (interface_methods_read b s)
 
-interface_again : (q o w : Place) (text : List ℕ) (from left : Tokens) (xs : List InterfaceMethod) → ReadsAll 0 goes_on interface_method_at from xs ((sign signs.CloseBrace, w) ∷ left) → interface_at ((name text, q) ∷ (sign signs.OpenBrace, o) ∷ from) ≡ Ok (record { place = q; name = text; methods = xs }, left)
+interface_again : (q o w : Position) (text : List ℕ) (from left : Tokens) (xs : List InterfaceMethod) → ReadsAll 0 goes_on interface_method_at from xs ((sign signs.CloseBrace, w) ∷ left) → interface_at ((name text, q) ∷ (sign signs.OpenBrace, o) ∷ from) ≡ Ok (record { place = q; name = text; methods = xs }, left)
 unfolding interface_at interface_methods_at
 interface_again q o w text from left xs r = rw (name_again text q ((sign signs.OpenBrace, o) ∷ from), expect_again signs.OpenBrace o from, is_whole (r (length from) (omega arith)) refl, expect_again signs.CloseBrace w left) refl
 
@@ -138,7 +138,7 @@ unfolding item_at is_left
 globals_again [] left v l c d i h = absurd (no_true l)
 globals_again ((m, p) ∷ ts) left v l c d i h = rw (c, d, i) (then_reads _ h whole)
 
-brace_ends : (p : Place) (left : Tokens) → goes_on ((sign signs.CloseBrace, p) ∷ left) ≡ false
+brace_ends : (p : Position) (left : Tokens) → goes_on ((sign signs.CloseBrace, p) ∷ left) ≡ false
 brace_ends p left = (brace_rests p left).0
 
 item_read : {free : ℕ} {from left : Tokens} {x : Item} → IsItem free from x left → Reads Item free (item_at from) (x, left)
@@ -196,7 +196,7 @@ unnamed_again : (from left : Tokens) (t : Named) → type_at from ≡ Ok (t, lef
 unfolding unnamed_at
 unnamed_again from left t h s = rw (h, s) refl
 
-with_name_again : (p : Place) (text : List ℕ) (from left : Tokens) (t : Named) → type_at from ≡ Ok (t, (name text, p) ∷ left) → unnamed_at from ≡ Ok (t, left)
+with_name_again : (p : Position) (text : List ℕ) (from left : Tokens) (t : Named) → type_at from ≡ Ok (t, (name text, p) ∷ left) → unnamed_at from ≡ Ok (t, left)
 unfolding unnamed_at next_is_name is_name without_first
 with_name_again p text from left t h = rw h refl
 
@@ -208,7 +208,7 @@ unnamed_begins : {from left : Tokens} {x : Named} → IsUnnamed from x left → 
 unnamed_begins (unnamed a) = type_begins a
 unnamed_begins (with_name a) = type_begins a
 
-next_unnamed_again : (p : Place) (from left : Tokens) (x : Named) → unnamed_at from ≡ Ok (x, left) → next_unnamed_at ((sign signs.Comma, p) ∷ from) ≡ Ok (x, left)
+next_unnamed_again : (p : Position) (from left : Tokens) (x : Named) → unnamed_at from ≡ Ok (x, left) → next_unnamed_at ((sign signs.Comma, p) ∷ from) ≡ Ok (x, left)
 unfolding next_unnamed_at
 next_unnamed_again p from left x h = rw (expect_again signs.Comma p from) h
 
@@ -235,7 +235,7 @@ unfolding next_is_sign is_sign same_sign
 unnamed_opens no_unnamed = refl
 unnamed_opens (some_unnamed a b) = refl
 
-property_again : (p : Place) (text : List ℕ) (from : Tokens) (t : Named) → result_type_at from ≡ Ok (Some t, (name text, p) ∷ []) → declaration_at from ≡ Ok (AProperty (record { place = p; of = t; name = text }), [])
+property_again : (p : Position) (text : List ℕ) (from : Tokens) (t : Named) → result_type_at from ≡ Ok (Some t, (name text, p) ∷ []) → declaration_at from ≡ Ok (AProperty (record { place = p; of = t; name = text }), [])
 unfolding declaration_at declaration_after next_is_sign
 property_again p text from t h = rw (h, name_again text p []) refl
 

@@ -2,12 +2,12 @@
 use Rattle.std.proofs.Common.{◌≡◌, ℕ, ◌<◌, ◌≤◌, [], ◌∷◌, List, Option, Some, None, Bool, true, false, cond, Ok, refl, subst, length, arith}
 use Rattle.ash_lex.specs.Tokens.{name, sign}
 use Rattle.ash_lex.specs.declared.signs.Sign.TheVariants as signs
-use Rattle.ash_tree.specs.declared.tree.places.Place.{Place}
+use Rattle.ash_tree.specs.declared.tree.places.Position.{Position}
 use Rattle.ash_tree.specs.Tree.{Named, TypeName, Parameter, Function, Member, Class, InterfaceMethod, Interface, Item, Declaration, ASignature, AProperty}
-use Rattle.ash_tree.specs.Tokens.{Tokens}
+use Rattle.ash_tree.specs.GrammarTokens.{Tokens}
 use Rattle.ash_tree.specs.Types.{IsType}
 use Rattle.ash_tree.specs.Grammar.{IsResultType, void, typed, IsParameter, parameter, AreMoreParameters, no_more_parameters, more_parameters, AreParameters, no_parameters, parameters, IsFunction, function, IsMember, method, fields, constructor, AreMembers, no_members, more_members, IsClass, class, IsItem, a_class, a_function, globals, IsUnnamed, unnamed, with_name, AreMoreUnnamed, no_more_unnamed, more_unnamed, AreUnnamed, no_unnamed, some_unnamed, Declares, signature, property, AreMoreInterfaces, no_more_interfaces, more_interfaces, AreInterfaces, no_interfaces, interfaces, IsInterfaceMethod, interface_method, AreInterfaceMethods, no_interface_methods, more_interface_methods, IsInterface, interface, an_interface}
-use Rattle.ash_parse.specs.Signs.{is_sign}
+use Rattle.ash_parse.specs.SignTokens.{is_sign}
 use Rattle.ash_parse.specs.Readers.{Unexpected, ◌>>=◌, put, loop, next_is_sign, expect_at, name_at}
 use Rattle.ash_parse.specs.StatementReader.{is_name, next_is_name, type_at}
 use Rattle.ash_parse.specs.ItemReader.{next_parameter_at, member_at, next_interface_at, interface_method_at, item_at, entry_at, strip, without_first, is_left, unnamed_at, next_unnamed_at, more_unnamed_at, unnamed_list_at, unnamed_parameters_at, property_by, declaration_after, declaration_at, result_type_at}
@@ -133,7 +133,7 @@ without_first-shorter [] h = absurd (no_truth h)
 without_first-shorter (t ∷ ts) h = omega arith
 
 -- tokens that begin with a name
-name_is : (ts : Tokens) (Q : Tokens → Type 0) → next_is_name ts ≡ true → ((t : List ℕ) (p : Place) → Q ((name t, p) ∷ without_first ts)) → Q ts
+name_is : (ts : Tokens) (Q : Tokens → Type 0) → next_is_name ts ≡ true → ((t : List ℕ) (p : Position) → Q ((name t, p) ∷ without_first ts)) → Q ts
 unfolding next_is_name is_name without_first
 name_is [] Q h go = absurd (no_truth h)
 name_is ((name t, p) ∷ ts) Q h go = go t p
@@ -189,7 +189,7 @@ unnamed_parameters_sound ts x rest h =
 abbrev Whole : Tokens → Declaration → Tokens → Type 0
 Whole ts d left = left ≡ [] → Declares ts d
 
-property_sound : (r : Option Named) (p : Place) (t : List ℕ) (from ts : Tokens) (x : Declaration) (rest : Tokens) → IsResultType from r ((name t, p) ∷ ts) → property_by r p t ts ≡ Ok (x, rest) → Whole from x rest
+property_sound : (r : Option Named) (p : Position) (t : List ℕ) (from ts : Tokens) (x : Declaration) (rest : Tokens) → IsResultType from r ((name t, p) ∷ ts) → property_by r p t ts ≡ Ok (x, rest) → Whole from x rest
 property_sound None p t from ts x rest d h = absurd (no_err (Unexpected ts) (x, rest) h)
 property_sound (Some k) p t from ts x rest (typed d) h = at_pair (Whole from) (AProperty (record { place = p; of = k; name = t })) ts x rest h (λ e. property (subst (λ l. IsType from k ((name t, p) ∷ l)) e d))
 

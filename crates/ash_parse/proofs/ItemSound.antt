@@ -3,14 +3,14 @@ use Rattle.std.proofs.Common.{◌≡◌, ℕ, List, [], ◌∷◌, Bool, true, f
 use Rattle.ash_lex.specs.Tokens.{Meaning, name, sign, reserved}
 use Rattle.ash_lex.specs.declared.signs.Sign.TheVariants as signs
 use Rattle.ash_lex.specs.declared.words.ReservedWord.TheVariants as words
-use Rattle.ash_tree.specs.declared.tree.places.Place.{Place}
+use Rattle.ash_tree.specs.declared.tree.places.Position.{Position}
 use Rattle.ash_tree.specs.Tree.{TypeName, Vars, Parameter, Constructor, AMethod, AField, AConstructor, Class, Interface, Item, AClass, AnInterface, AFunction, AGlobal}
-use Rattle.ash_tree.specs.Tokens.{Tokens}
+use Rattle.ash_tree.specs.GrammarTokens.{Tokens}
 use Rattle.ash_tree.specs.Expressions.{max_depth}
 use Rattle.ash_tree.specs.Types.{IsType}
 use Rattle.ash_tree.specs.Statements.{IsVars, IsBlock}
 use Rattle.ash_tree.specs.Grammar.{IsResultType, void, typed, IsParameter, parameter, AreMoreParameters, no_more_parameters, more_parameters, AreParameters, no_parameters, parameters, IsFunction, function, IsMember, method, fields, constructor, AreMembers, no_members, more_members, IsClass, class, IsItem, a_class, a_function, globals, Derives, no_items, semicolon, item, AreMoreInterfaces, no_more_interfaces, more_interfaces, AreInterfaces, no_interfaces, interfaces, IsInterfaceMethod, interface_method, AreInterfaceMethods, no_interface_methods, more_interface_methods, IsInterface, interface, an_interface}
-use Rattle.ash_parse.specs.Signs.{is_sign}
+use Rattle.ash_parse.specs.SignTokens.{is_sign}
 use Rattle.ash_parse.specs.Readers.{Unexpected, ◌>>=◌, put, loop, next_is_sign, expect_at, name_at}
 use Rattle.ash_parse.specs.ExpressionReader.{below_at}
 use Rattle.ash_parse.specs.StatementReader.{type_at, goes_on, nested_at}
@@ -36,7 +36,7 @@ interface_is (reserved words.Interface) h = refl
 interface_is _ h = cc
 
 -- the name that is expected is where a phrase ends
-pub names_in : (ts : Tokens) (x : List ℕ × Place) (rest : Tokens) (Q : Tokens → Type 0) → name_at ts ≡ Ok (x, rest) → Q ts → Q ((name x.0, x.1) ∷ rest)
+pub names_in : (ts : Tokens) (x : List ℕ × Position) (rest : Tokens) (Q : Tokens → Type 0) → name_at ts ≡ Ok (x, rest) → Q ts → Q ((name x.0, x.1) ∷ rest)
 names_in ts x rest Q h = name_sound ts x rest (λ r. Q r → Q ((name x.0, x.1) ∷ rest)) h (λ d. d)
 
 pub result_type_sound : Finds result_type_at IsResultType
@@ -92,7 +92,7 @@ function_sound ts x rest h =
     at_pair (λ y l. IsFunction 0 ts y l) (record { place = ((n.0).0).1; result = (r.0).0; name = ((n.0).0).0; parameters = (xs.0).0; body = (b.0).0 }) (b.0).1 x rest b.2
     (function (names_in (r.0).1 (n.0).0 (n.0).1 (λ l. IsResultType ts (r.0).0 l) n.1 (result_type_sound ts (r.0).0 (r.0).1 r.1)) (parameters_sound (n.0).1 (xs.0).0 (xs.0).1 xs.1) (body_sound (xs.0).1 (b.0).0 (b.0).1 b.1))
 
-globals_sound : (ts : Tokens) (x : Vars) (rest : Tokens) → globals_at ts ≡ Ok (x, rest) → (p : Place) × IsVars 0 0 ts x ((sign signs.Semicolon, p) ∷ rest)
+globals_sound : (ts : Tokens) (x : Vars) (rest : Tokens) → globals_at ts ≡ Ok (x, rest) → (p : Position) × IsVars 0 0 ts x ((sign signs.Semicolon, p) ∷ rest)
 unfolding globals_at
 globals_sound ts x rest h = declared_sound 0 0 (below_at max_depth) (whole_sound max_depth 0 refl) (part_sound max_depth 0 refl) ts x rest h
 
@@ -138,7 +138,7 @@ interfaces_sound ts x rest h =
     (λ ys left r. interfaces (repeat_sound (next_is_sign signs.Comma) next_interface_at AreMoreInterfaces (λ s. no_more_interfaces) grow_interfaces (length (n.0).1) (n.0).1 ys left r)))))
     (λ b k. at_pair (AreInterfaces ts) [] ts x rest k no_interfaces)
 
-class_sound : (p : Place) (ts : Tokens) (x : Class) (rest : Tokens) → class_at ts ≡ Ok (x, rest) → IsClass 0 ((reserved words.Class, p) ∷ ts) x rest
+class_sound : (p : Position) (ts : Tokens) (x : Class) (rest : Tokens) → class_at ts ≡ Ok (x, rest) → IsClass 0 ((reserved words.Class, p) ∷ ts) x rest
 unfolding class_at members_at
 class_sound p ts x rest h =
     let n = bind_ok (name_at ts) (λ n. interfaces_at n.1 >>= λ is. expect_at signs.OpenBrace is.1 >>= λ o. loop goes_on member_at o.1 >>= λ xs. expect_at signs.CloseBrace xs.1 >>= λ z. Ok (record { place = (n.0).1; name = (n.0).0; interfaces = is.0; members = xs.0 }, z.1)) (x, rest) h in
@@ -163,7 +163,7 @@ interface_method_sound ts x rest h =
     at_pair (IsInterfaceMethod ts) (record { place = ((n.0).0).1; result = (r.0).0; name = ((n.0).0).0; parameters = (xs.0).0 }) (z.0).1 x rest z.2
     (interface_method (names_in (r.0).1 (n.0).0 (n.0).1 (λ l. IsResultType ts (r.0).0 l) n.1 (result_type_sound ts (r.0).0 (r.0).1 r.1)) (ends_in signs.Semicolon (xs.0).1 (z.0).0 (z.0).1 (λ l. AreParameters (n.0).1 (xs.0).0 l) z.1 (parameters_sound (n.0).1 (xs.0).0 (xs.0).1 xs.1)))
 
-interface_sound : (p : Place) (ts : Tokens) (x : Interface) (rest : Tokens) → interface_at ts ≡ Ok (x, rest) → IsInterface ((reserved words.Interface, p) ∷ ts) x rest
+interface_sound : (p : Position) (ts : Tokens) (x : Interface) (rest : Tokens) → interface_at ts ≡ Ok (x, rest) → IsInterface ((reserved words.Interface, p) ∷ ts) x rest
 unfolding interface_at interface_methods_at
 interface_sound p ts x rest h =
     let n = bind_ok (name_at ts) (λ n. expect_at signs.OpenBrace n.1 >>= λ o. loop goes_on interface_method_at o.1 >>= λ xs. expect_at signs.CloseBrace xs.1 >>= λ z. Ok (record { place = (n.0).1; name = (n.0).0; methods = xs.0 }, z.1)) (x, rest) h in

@@ -3,15 +3,15 @@ use Rattle.std.proofs.Common.{◌≡◌, ℕ, zero, suc, ◌≤◌, ◌==◌, �
 use Rattle.ash_lex.specs.Tokens.{Meaning, name, number, sign, reserved}
 use Rattle.ash_lex.specs.declared.signs.Sign.TheVariants as signs
 use Rattle.ash_lex.specs.declared.words.ReservedWord.TheVariants as words
-use Rattle.ash_tree.specs.declared.tree.places.Place.{Place}
+use Rattle.ash_tree.specs.declared.tree.places.Position.{Position}
 use Rattle.ash_tree.specs.declared.tree.types.Primitive.{Primitive}
 use Rattle.ash_tree.specs.declared.tree.operators.UnaryOp.{UnaryOp}
 use Rattle.ash_tree.specs.declared.tree.operators.BinaryOp.{BinaryOp}
 use Rattle.ash_tree.specs.declared.tree.operators.AssignOp.{AssignOp}
 use Rattle.ash_tree.specs.Tree.{Element, Expr, Number, Truth, Null, This, Name, Call, Brackets, Convert, NewArray, Cast, Unary, Conditional, Assign, Field, Method, Index, Increment, Decrement, place_of, exprs, chained, suffixed}
-use Rattle.ash_tree.specs.Tokens.{Tokens}
+use Rattle.ash_tree.specs.GrammarTokens.{Tokens}
 use Rattle.ash_tree.specs.Operators.{primitive, unary_operator, binary_operator, level, max_level, assign_operator}
-use Rattle.ash_parse.specs.Signs.{is_sign}
+use Rattle.ash_parse.specs.SignTokens.{is_sign}
 use Rattle.ash_parse.specs.Readers.{TooDeep, ParseResult, ◌>>=◌, next_is, next_is_sign}
 use Rattle.ash_parse.specs.ExpressionReader.{begins, limit_at, next_expr_with, more_exprs_with, exprs_with, arguments_with, bracketed_with, name_or_call_with, new_array_with, cast_with, primary_by, primary_with, begins_suffix, is_suffix, member_with, index_with, suffix_with, suffixes_with, postfix_with, unary_by, unary_with, operator_by, operator_at, is_link, link_from, link_by, links_by, chain_by, binary_with, branches_with, assign_by, assign_from, assign_with, below_at}
 use Rattle.ash_parse.specs.TypeReader.{element_at, target_at}
@@ -94,26 +94,26 @@ module _ (room : ℕ) (h : room ≤ 64) (deeper : (whole : Bool) → Lawful (bel
   unfolding bracketed_with
   bracketed_lawful = bind_lawful _ (expect_lawful signs.OpenParenthesis) λ o. bind_lawful _ (deeper true) λ e. bind_lawful _ (expect_lawful signs.CloseParenthesis) λ z. ok_lawful e
 
-  named_lawful : (p : Place) (text : List ℕ) → Lawful (name_or_call_with (below_at room) p text)
+  named_lawful : (p : Position) (text : List ℕ) → Lawful (name_or_call_with (below_at room) p text)
   unfolding name_or_call_with
   named_lawful p text = if_lawful _ (sign_steady signs.OpenParenthesis) (bind_lawful _ arguments_lawful λ es. ok_lawful (Call p text (exprs es))) (ok_lawful (Name p text))
 
-  convert_lawful : (p : Place) (k : Primitive) → Lawful (λ s. bracketed_with (below_at room) s >>= λ e. Ok (Convert p k e.0, e.1))
+  convert_lawful : (p : Position) (k : Primitive) → Lawful (λ s. bracketed_with (below_at room) s >>= λ e. Ok (Convert p k e.0, e.1))
   convert_lawful p k = bind_lawful _ bracketed_lawful λ e. ok_lawful (Convert p k e)
 
-  cast_lawful : (p : Place) → Lawful (cast_with (below_at room) p)
+  cast_lawful : (p : Position) → Lawful (cast_with (below_at room) p)
   unfolding cast_with
   cast_lawful p = bind_lawful _ target_lawful λ t. bind_lawful _ bracketed_lawful λ e. ok_lawful (Cast p t e)
 
   -- what is after an array's elements' type
-  after_element_lawful : (p : Place) (of : Element) → Lawful (λ s. arguments_with (below_at room) s >>= λ es. Ok (NewArray p of (exprs es.0), es.1))
+  after_element_lawful : (p : Position) (of : Element) → Lawful (λ s. arguments_with (below_at room) s >>= λ es. Ok (NewArray p of (exprs es.0), es.1))
   after_element_lawful p of = bind_lawful _ arguments_lawful λ es. ok_lawful (NewArray p of (exprs es))
 
-  new_array_led : (p : Place) → Led (reserved words.Array, p) (λ s. new_array_with (below_at room) p s)
+  new_array_led : (p : Position) → Led (reserved words.Array, p) (λ s. new_array_with (below_at room) p s)
   unfolding new_array_with
   new_array_led p = led_array (λ of. arguments_with (below_at room) of.1 >>= λ es. Ok (NewArray p of.0 (exprs es.0), es.1)) element_lawful (after_element_lawful p) p
 
-  primary_led : (k : Option Primitive) (m : Meaning) (p : Place) → primitive m ≡ k → Led (m, p) (λ s. primary_by (below_at room) k m p s)
+  primary_led : (k : Option Primitive) (m : Meaning) (p : Position) → primitive m ≡ k → Led (m, p) (λ s. primary_by (below_at room) k m p s)
   primary_led (Some k) m p g = led_after (word_is_no_array m k g) (convert_lawful p k)
   primary_led None (name text) p g = led_after tt (named_lawful p text)
   primary_led None (number n) p g = led_after tt (ok_lawful (Number p n))
@@ -138,7 +138,7 @@ module _ (room : ℕ) (h : room ≤ 64) (deeper : (whole : Bool) → Lawful (bel
   unfolding index_with
   index_lawful = bind_lawful _ (deeper true) λ e. bind_lawful _ (expect_lawful signs.CloseBracket) λ z. ok_lawful (Index e)
 
-  suffix_led : (m : Meaning) (p : Place) → Led (m, p) (λ s. suffix_with (below_at room) ((m, p) ∷ s))
+  suffix_led : (m : Meaning) (p : Position) → Led (m, p) (λ s. suffix_with (below_at room) ((m, p) ∷ s))
   unfolding suffix_with
   suffix_led (sign signs.Dot) p = led_after tt member_lawful
   suffix_led (sign signs.OpenBracket) p = led_after tt index_lawful
@@ -161,7 +161,7 @@ module _ (room : ℕ) (h : room ≤ 64) (deeper : (whole : Bool) → Lawful (bel
   unfolding postfix_with
   postfix_lawful = bind_lawful _ primary_lawful after_primary
 
-  unary_led : (o : Option UnaryOp) (m : Meaning) (p : Place) → unary_operator m ≡ o → Led (m, p) (λ s. unary_by (below_at room) o m p s)
+  unary_led : (o : Option UnaryOp) (m : Meaning) (p : Position) → unary_operator m ≡ o → Led (m, p) (λ s. unary_by (below_at room) o m p s)
   unary_led None m p g = led_from postfix_lawful
   unary_led (Some o) m p g = led_after (unary_no_array m o g) (bind_lawful _ (deeper false) λ e. ok_lawful (Unary p o e))
 
@@ -169,7 +169,7 @@ module _ (room : ℕ) (h : room ≤ 64) (deeper : (whole : Bool) → Lawful (bel
   unfolding unary_with
   unary_lawful = led_lawful (λ n. omega arith) (λ m p. unary_led (unary_operator m) m p refl)
 
-  link_led : (read : Tokens → ParseResult Expr) → Lawful read → (n : ℕ) (o : Option BinaryOp) (m : Meaning) (p : Place) → binary_operator m ≡ o → Led (m, p) (λ s. link_from read (operator_by n o s) ((m, p) ∷ s))
+  link_led : (read : Tokens → ParseResult Expr) → Lawful read → (n : ℕ) (o : Option BinaryOp) (m : Meaning) (p : Position) → binary_operator m ≡ o → Led (m, p) (λ s. link_from read (operator_by n o s) ((m, p) ∷ s))
   link_led read law n None m p g = led_stop
   link_led read law n (Some o) m p g = on_level (level o == suc n)
     where
@@ -201,7 +201,7 @@ module _ (room : ℕ) (h : room ≤ 64) (deeper : (whole : Bool) → Lawful (bel
   unfolding branches_with
   branches_lawful c = bind_lawful _ (deeper true) λ a. bind_lawful _ (expect_lawful signs.Colon) λ o. bind_lawful _ (deeper true) λ b. ok_lawful (Conditional (place_of c) c a b)
 
-  assign_led : (e : Expr) (o : Option AssignOp) (m : Meaning) (p : Place) → assign_operator m ≡ o → Led (m, p) (λ s. assign_by (below_at room) e o m p s)
+  assign_led : (e : Expr) (o : Option AssignOp) (m : Meaning) (p : Position) → assign_operator m ≡ o → Led (m, p) (λ s. assign_by (below_at room) e o m p s)
   assign_led e None m p g = led_from (ok_lawful e)
   assign_led e (Some o) m p g = led_after (assign_no_array m o g) (bind_lawful _ (deeper true) λ v. ok_lawful (Assign (place_of e) e o v))
 

@@ -5,13 +5,13 @@ use Rattle.ash_lex.specs.Tokens.{Meaning, name, number, sign, reserved, unsuppor
 use Rattle.ash_lex.specs.declared.signs.Sign.{Sign}
 use Rattle.ash_lex.specs.declared.signs.Sign.TheVariants as signs
 use Rattle.ash_lex.specs.declared.words.ReservedWord.TheVariants as words
-use Rattle.ash_tree.specs.declared.tree.places.Place.{Place}
+use Rattle.ash_tree.specs.declared.tree.places.Position.{Position}
 use Rattle.ash_tree.specs.declared.tree.types.Primitive.{Primitive}
 use Rattle.ash_tree.specs.Tree.{Element, Named, Prim, Object, Handle, Array, ArrayHandle, Expr, Decl, Initializer, Arguments, Vars, Parameter, Function}
-use Rattle.ash_tree.specs.Tokens.{Tokens}
+use Rattle.ash_tree.specs.GrammarTokens.{Tokens}
 use Rattle.ash_tree.specs.Operators.{primitive}
 use Rattle.ash_tree.specs.Expressions.{max_depth}
-use Rattle.ash_parse.specs.Signs.{is_sign, same_sign}
+use Rattle.ash_parse.specs.SignTokens.{is_sign, same_sign}
 use Rattle.ash_parse.specs.Readers.{Unexpected, ParseResult, ◌>>=◌, put, next_is_sign, expect_at, name_at}
 use Rattle.ash_parse.specs.ExpressionReader.{below_at, exprs_with, arguments_with, more_exprs_with}
 use Rattle.ash_parse.specs.TypeReader.{is_array, element_at, after_element}
@@ -33,7 +33,7 @@ unfolding is_void
 void_no_array (reserved words.Array) e = no_true e
 void_no_array m e = tt
 
-result_led : (m : Meaning) (p : Place) → Led (m, p) (λ s. result_type_at ((m, p) ∷ s))
+result_led : (m : Meaning) (p : Position) → Led (m, p) (λ s. result_type_at ((m, p) ∷ s))
 unfolding result_type_at
 result_led m p = led_if (is_void m) (λ e. led_after (void_no_array m e) (ok_lawful None)) (led_from {read = λ s. type_at s >>= λ t. Ok (Some t.0, t.1)} (bind_lawful _ type_lawful λ t. ok_lawful (Some t)))
 
@@ -120,7 +120,7 @@ globals_lawful = declared_lawful max_depth within
 opens_function : Tokens → Bool
 opens_function s = cond (next_is_sign signs.OpenParenthesis s) (cond (is_vars (without_first s)) true (opens_body (without_first s))) false
 
-opens_sign : (m : Meaning) (p : Place) (s : Tokens) → opens_function ((m, p) ∷ s) ≡ true → m ≡ sign signs.OpenParenthesis
+opens_sign : (m : Meaning) (p : Position) (s : Tokens) → opens_function ((m, p) ∷ s) ≡ true → m ≡ sign signs.OpenParenthesis
 unfolding opens_function next_is_sign
 opens_sign m p s h = by_sign (is_sign signs.OpenParenthesis m) refl h
   where
@@ -128,12 +128,12 @@ opens_sign m p s h = by_sign (is_sign signs.OpenParenthesis m) refl h
     by_sign true e h = sign_is signs.OpenParenthesis m e
     by_sign false e h = absurd (no_true h)
 
-brace_steady : (a t : Meaning × Place) (more other prefix : Tokens) → opens_body (a ∷ prefix ++ t ∷ more) ≡ opens_body (a ∷ prefix ++ t ∷ other)
+brace_steady : (a t : Meaning × Position) (more other prefix : Tokens) → opens_body (a ∷ prefix ++ t ∷ more) ≡ opens_body (a ∷ prefix ++ t ∷ other)
 unfolding opens_body
 brace_steady (m, p) t more other prefix = rw (sign_steady signs.OpenBrace t more other prefix) refl
 
 -- after the "(" where tokens that are the same up to `t` differ in what decides for a function, `t` is taken
-body_opened : (t : Meaning × Place) (more other prefix : Tokens) → (opens_body (prefix ++ t ∷ more) ≡ opens_body (prefix ++ t ∷ other) → ⊥) → Opened (length more) (prefix ++ t ∷ more)
+body_opened : (t : Meaning × Position) (more other prefix : Tokens) → (opens_body (prefix ++ t ∷ more) ≡ opens_body (prefix ++ t ∷ other) → ⊥) → Opened (length more) (prefix ++ t ∷ more)
 unfolding opens_body Opened
 body_opened (m, p) more other [] differs = inr (by_sign (is_sign signs.CloseParenthesis m) differs, omega arith)
   where
@@ -148,7 +148,7 @@ passed_opened n _ (name_passed text p s l) = inl (name_passed text p s l)
 passed_opened n _ (word_passed m p k s e l) = inl (word_passed m p k s e l)
 passed_opened n _ (array_passed p s l) = inl (array_passed p s l)
 
-parameters_opened : (t : Meaning × Place) (more other prefix : Tokens) → (cond (is_vars (prefix ++ t ∷ more)) true (opens_body (prefix ++ t ∷ more)) ≡ cond (is_vars (prefix ++ t ∷ other)) true (opens_body (prefix ++ t ∷ other)) → ⊥) → Opened (length more) (prefix ++ t ∷ more)
+parameters_opened : (t : Meaning × Position) (more other prefix : Tokens) → (cond (is_vars (prefix ++ t ∷ more)) true (opens_body (prefix ++ t ∷ more)) ≡ cond (is_vars (prefix ++ t ∷ other)) true (opens_body (prefix ++ t ∷ other)) → ⊥) → Opened (length more) (prefix ++ t ∷ more)
 parameters_opened t more other prefix differs = by_vars (is_vars s) (is_vars r) refl refl differs
   where
     s : Tokens
@@ -164,12 +164,12 @@ parameters_opened t more other prefix differs = by_vars (is_vars s) (is_vars r) 
     by_vars false false e k d = body_opened t more other prefix d
 
 -- a reader that reads parameters or arguments after a "("
-module _ {A : Type 0} (read inside : Tokens → ParseResult A) (opened : (p : Place) (s : Tokens) → read ((sign signs.OpenParenthesis, p) ∷ s) ≡ inside s) (law : Lawful inside) (takes : Takes Opened inside) where
-  takes_open : (m : Meaning) (p : Place) (n : ℕ) (s : Tokens) → m ≡ sign signs.OpenParenthesis → Past n (inside s) → Past n (read ((m, p) ∷ s))
+module _ {A : Type 0} (read inside : Tokens → ParseResult A) (opened : (p : Position) (s : Tokens) → read ((sign signs.OpenParenthesis, p) ∷ s) ≡ inside s) (law : Lawful inside) (takes : Takes Opened inside) where
+  takes_open : (m : Meaning) (p : Position) (n : ℕ) (s : Tokens) → m ≡ sign signs.OpenParenthesis → Past n (inside s) → Past n (read ((m, p) ∷ s))
   takes_open m p n s e l = subst (λ w. Past n (read ((w, p) ∷ s))) (sym e) (subst (λ x. Past n x) (sym (opened p s)) l)
 
   -- what decides for a function is taken
-  takes_deciding : (t : Meaning × Place) (more other seen prefix : Tokens) → opens_function (prefix ++ t ∷ seen) ≡ true → (opens_function (prefix ++ t ∷ more) ≡ opens_function (prefix ++ t ∷ other) → ⊥) → Past (length more) (read (prefix ++ t ∷ more))
+  takes_deciding : (t : Meaning × Position) (more other seen prefix : Tokens) → opens_function (prefix ++ t ∷ seen) ≡ true → (opens_function (prefix ++ t ∷ more) ≡ opens_function (prefix ++ t ∷ other) → ⊥) → Past (length more) (read (prefix ++ t ∷ more))
   unfolding opens_function next_is_sign without_first
   takes_deciding (m, p) more other seen [] h differs = takes_open m p (length more) more (opens_sign m p seen h) (law.stays (length more) more (omega arith))
   takes_deciding t more other seen ((m, p) ∷ prefix) h differs =
@@ -177,19 +177,19 @@ module _ {A : Type 0} (read inside : Tokens → ParseResult A) (opened : (p : Pl
       (takes.taken (length more) (prefix ++ t ∷ more) (parameters_opened t more other prefix (λ e. differs (ap (λ v. cond (is_sign signs.OpenParenthesis m) v false) e))))
 
 -- a function's parameters and its body, after its name
-abbrev function_by : Option Named → List ℕ × Place → ParseResult (List Parameter) → ParseResult Function
+abbrev function_by : Option Named → List ℕ × Position → ParseResult (List Parameter) → ParseResult Function
 function_by r n o = o >>= λ xs. body_at xs.1 >>= λ b. Ok (record { place = n.1; result = r; name = n.0; parameters = xs.0; body = b.0 }, b.1)
 
-after_parameters : (r : Option Named) (n : List ℕ × Place) (xs : List Parameter) → Lawful {A = Function} (λ s. body_at s >>= λ b. Ok (record { place = n.1; result = r; name = n.0; parameters = xs; body = b.0 }, b.1))
+after_parameters : (r : Option Named) (n : List ℕ × Position) (xs : List Parameter) → Lawful {A = Function} (λ s. body_at s >>= λ b. Ok (record { place = n.1; result = r; name = n.0; parameters = xs; body = b.0 }, b.1))
 after_parameters r n xs = bind_lawful _ body_lawful λ b. ok_lawful (record { place = n.1; result = r; name = n.0; parameters = xs; body = b })
 
 -- the variables, after the name of the first of them
-abbrev globals_by : Named → List ℕ × Place → ParseResult Initializer → ParseResult Vars
+abbrev globals_by : Named → List ℕ × Position → ParseResult Initializer → ParseResult Vars
 globals_by t n o =
     (((o >>= λ i. Ok (record { place = n.1; name = n.0; initializer = i.0 }, i.1)) >>= λ d. put d.0 (more_decls_with (below_at max_depth) d.1)) >>= λ ds. Ok (record { of = t; decls = ds.0 }, ds.1))
     >>= λ v. expect_at signs.Semicolon v.1 >>= λ z. Ok (v.0, z.1)
 
-module _ (t : Named) (n : List ℕ × Place) where
+module _ (t : Named) (n : List ℕ × Position) where
   first_decl : (i : Initializer) → Lawful {A = Decl} (λ s. Ok (record { place = n.1; name = n.0; initializer = i }, s))
   first_decl i = ok_lawful (record { place = n.1; name = n.0; initializer = i })
 
@@ -221,22 +221,22 @@ some_exprs_takes : Takes Passed some_exprs
 some_exprs_takes = bind_takes (λ e. put e.0 (more_exprs_with (below_at max_depth) e.1)) (room_takes 63 (omega arith)) more_of
 
 module _ {B : Type 0} (of_function : Function → B) (of_globals : Vars → B) where
-  abbrev on : Option Named → List ℕ × Place → ParseResult (List Parameter) → ParseResult B
+  abbrev on : Option Named → List ℕ × Position → ParseResult (List Parameter) → ParseResult B
   on r n o = function_by r n o >>= λ f. Ok (of_function f.0, f.1)
 
-  abbrev off : Named → List ℕ × Place → ParseResult Initializer → ParseResult B
+  abbrev off : Named → List ℕ × Position → ParseResult Initializer → ParseResult B
   off t n o = globals_by t n o >>= λ v. Ok (of_globals v.0, v.1)
 
-  on_lawful : (r : Option Named) (n : List ℕ × Place) {read : Tokens → ParseResult (List Parameter)} → Lawful read → Lawful (λ s. on r n (read s))
+  on_lawful : (r : Option Named) (n : List ℕ × Position) {read : Tokens → ParseResult (List Parameter)} → Lawful read → Lawful (λ s. on r n (read s))
   on_lawful r n law = bind_lawful _ (bind_lawful _ law (after_parameters r n)) λ f. ok_lawful (of_function f)
 
-  on_takes : (r : Option Named) (n : List ℕ × Place) {P : ℕ → Tokens → Type 0} {read : Tokens → ParseResult (List Parameter)} → Takes P read → Takes P (λ s. on r n (read s))
+  on_takes : (r : Option Named) (n : List ℕ × Position) {P : ℕ → Tokens → Type 0} {read : Tokens → ParseResult (List Parameter)} → Takes P read → Takes P (λ s. on r n (read s))
   on_takes r n takes = bind_takes _ (bind_takes _ takes (after_parameters r n)) λ f. ok_lawful (of_function f)
 
-  off_lawful : (t : Named) (n : List ℕ × Place) {read : Tokens → ParseResult Initializer} → Lawful read → Lawful (λ s. off t n (read s))
+  off_lawful : (t : Named) (n : List ℕ × Position) {read : Tokens → ParseResult Initializer} → Lawful read → Lawful (λ s. off t n (read s))
   off_lawful t n law = bind_lawful _ (globals_by_lawful t n law) λ v. ok_lawful (of_globals v)
 
-  off_takes : (t : Named) (n : List ℕ × Place) {P : ℕ → Tokens → Type 0} {read : Tokens → ParseResult Initializer} → Takes P read → Takes P (λ s. off t n (read s))
+  off_takes : (t : Named) (n : List ℕ × Position) {P : ℕ → Tokens → Type 0} {read : Tokens → ParseResult Initializer} → Takes P read → Takes P (λ s. off t n (read s))
   off_takes t n takes = bind_takes _ (globals_by_takes t n takes) λ v. ok_lawful (of_globals v)
 
   abbrev made : Tokens → ParseResult Initializer
@@ -248,22 +248,22 @@ module _ {B : Type 0} (of_function : Function → B) (of_globals : Vars → B) w
   made_takes : Takes Opened made
   made_takes = bind_takes {read = closed some_exprs} (λ es. Ok (Arguments es.0, es.1)) (closed_takes some_exprs_takes) (λ es. ok_lawful (Arguments es))
 
-  on_opened : (r : Option Named) (n : List ℕ × Place) (p : Place) (s : Tokens) → on r n (parameters_at ((sign signs.OpenParenthesis, p) ∷ s)) ≡ on r n (closed some_parameters s)
+  on_opened : (r : Option Named) (n : List ℕ × Position) (p : Position) (s : Tokens) → on r n (parameters_at ((sign signs.OpenParenthesis, p) ∷ s)) ≡ on r n (closed some_parameters s)
   unfolding parameters_at parameter_list_at some_parameters expect_at is_sign same_sign
   on_opened r n p s = refl
 
-  off_opened : (t : Named) (n : List ℕ × Place) (p : Place) (s : Tokens) → off t n (initializer_with (below_at max_depth) ((sign signs.OpenParenthesis, p) ∷ s)) ≡ off t n (made s)
+  off_opened : (t : Named) (n : List ℕ × Position) (p : Position) (s : Tokens) → off t n (initializer_with (below_at max_depth) ((sign signs.OpenParenthesis, p) ∷ s)) ≡ off t n (made s)
   unfolding initializer_with arguments_with exprs_with next_is_sign expect_at is_sign same_sign
   off_opened t n p s = refl
 
-  function_decided : (t : Named) (n : List ℕ × Place) (a : Meaning × Place) (more other seen prefix : Tokens) → opens_function (prefix ++ a ∷ seen) ≡ true → (opens_function (prefix ++ a ∷ more) ≡ opens_function (prefix ++ a ∷ other) → ⊥) → Past (length more) (on (Some t) n (parameters_at (prefix ++ a ∷ more)))
+  function_decided : (t : Named) (n : List ℕ × Position) (a : Meaning × Position) (more other seen prefix : Tokens) → opens_function (prefix ++ a ∷ seen) ≡ true → (opens_function (prefix ++ a ∷ more) ≡ opens_function (prefix ++ a ∷ other) → ⊥) → Past (length more) (on (Some t) n (parameters_at (prefix ++ a ∷ more)))
   function_decided t n = takes_deciding (λ s. on (Some t) n (parameters_at s)) (λ s. on (Some t) n (closed some_parameters s)) (on_opened (Some t) n) (on_lawful (Some t) n {read = closed some_parameters} (closed_lawful some_parameters_lawful)) (on_takes (Some t) n {read = closed some_parameters} (closed_takes some_parameters_takes))
 
-  globals_decided : (t : Named) (n : List ℕ × Place) (a : Meaning × Place) (more other seen prefix : Tokens) → opens_function (prefix ++ a ∷ seen) ≡ true → (opens_function (prefix ++ a ∷ more) ≡ opens_function (prefix ++ a ∷ other) → ⊥) → Past (length more) (off t n (initializer_with (below_at max_depth) (prefix ++ a ∷ more)))
+  globals_decided : (t : Named) (n : List ℕ × Position) (a : Meaning × Position) (more other seen prefix : Tokens) → opens_function (prefix ++ a ∷ seen) ≡ true → (opens_function (prefix ++ a ∷ more) ≡ opens_function (prefix ++ a ∷ other) → ⊥) → Past (length more) (off t n (initializer_with (below_at max_depth) (prefix ++ a ∷ more)))
   globals_decided t n = takes_deciding (λ s. off t n (initializer_with (below_at max_depth) s)) (λ s. off t n (made s)) (off_opened t n) (off_lawful t n {read = made} made_lawful) (off_takes t n {read = made} made_takes)
 
   -- what opens a body decides for a function
-  decided_crosses : (t : Named) (n : List ℕ × Place) → Crosses opens_function (λ s. on (Some t) n (parameters_at s)) (λ s. off t n (initializer_with (below_at max_depth) s))
+  decided_crosses : (t : Named) (n : List ℕ × Position) → Crosses opens_function (λ s. on (Some t) n (parameters_at s)) (λ s. off t n (initializer_with (below_at max_depth) s))
   decided_crosses t n a more other prefix = (
     λ h k. past (function_decided t n a more other more prefix h (differs_on (opens_function (prefix ++ a ∷ more)) (opens_function (prefix ++ a ∷ other)) h k)) (globals_decided t n a other more more prefix h (λ e. differs_on (opens_function (prefix ++ a ∷ more)) (opens_function (prefix ++ a ∷ other)) h k (sym e))),
     λ h k. past (globals_decided t n a more other other prefix k (differs_off (opens_function (prefix ++ a ∷ more)) (opens_function (prefix ++ a ∷ other)) h k)) (function_decided t n a other more other prefix k (λ e. differs_off (opens_function (prefix ++ a ∷ more)) (opens_function (prefix ++ a ∷ other)) h k (sym e))),
@@ -273,7 +273,7 @@ module _ {B : Type 0} (of_function : Function → B) (of_globals : Vars → B) w
   abbrev named : Named → Tokens → ParseResult B
   named t s = name_at s >>= λ n. cond (opens_function n.1) (on (Some t) n.0 (parameters_at n.1)) (off t n.0 (initializer_with (below_at max_depth) n.1))
 
-  after_name : (t : Named) (n : List ℕ × Place) → Lawful (λ s. cond (opens_function s) (on (Some t) n (parameters_at s)) (off t n (initializer_with (below_at max_depth) s)))
+  after_name : (t : Named) (n : List ℕ × Position) → Lawful (λ s. cond (opens_function s) (on (Some t) n (parameters_at s)) (off t n (initializer_with (below_at max_depth) s)))
   after_name t n = choice_lawful opens_function (decided_crosses t n) (on_lawful (Some t) n {read = parameters_at} parameters_lawful) (off_lawful t n {read = initializer_with (below_at max_depth)} (initializer_lawful max_depth within))
 
   named_lawful : (t : Named) → Lawful (named t)
@@ -308,7 +308,7 @@ module _ {B : Type 0} (of_function : Function → B) (of_globals : Vars → B) w
   by_next t ((reserved n, p) ∷ s) = refl
   by_next t ((unsupported n, p) ∷ s) = refl
 
-  by_handle : (v : Bool) (plain handle : Named) (q : Place) (m : Meaning) (s : Tokens) →
+  by_handle : (v : Bool) (plain handle : Named) (q : Position) (m : Meaning) (s : Tokens) →
       cond (cond v (names_function s) (names_function ((m, q) ∷ s))) (on_type (cond v (cond v (Ok (q, s)) (Err (Unexpected ((m, q) ∷ s))) >>= λ h. Ok (handle, h.1)) (Ok (plain, (m, q) ∷ s)))) (off_type (cond v (cond v (Ok (q, s)) (Err (Unexpected ((m, q) ∷ s))) >>= λ h. Ok (handle, h.1)) (Ok (plain, (m, q) ∷ s))))
       ≡ (cond v (cond v (Ok (q, s)) (Err (Unexpected ((m, q) ∷ s))) >>= λ h. Ok (handle, h.1)) (Ok (plain, (m, q) ∷ s)) >>= λ t. named t.0 t.1)
   by_handle true plain handle q m s = by_names handle s
@@ -320,21 +320,21 @@ module _ {B : Type 0} (of_function : Function → B) (of_globals : Vars → B) w
   by_handles plain handle [] = by_names plain []
   by_handles plain handle ((m, q) ∷ s) = by_handle (is_sign signs.Handle m) plain handle q m s
 
-  abbrev array_by : Place → ParseResult Element → ParseResult Named
+  abbrev array_by : Position → ParseResult Element → ParseResult Named
   array_by p o = o >>= λ e. handle_by (Array p e.0) (ArrayHandle p e.0) e.1
 
-  by_element : (p : Place) (o : ParseResult Element) → cond (array_names_function (left_of o)) (on_type (array_by p o)) (off_type (array_by p o)) ≡ (array_by p o >>= λ t. named t.0 t.1)
+  by_element : (p : Position) (o : ParseResult Element) → cond (array_names_function (left_of o)) (on_type (array_by p o)) (off_type (array_by p o)) ≡ (array_by p o >>= λ t. named t.0 t.1)
   by_element p (Ok e) = by_handles (Array p e.0) (ArrayHandle p e.0) e.1
   by_element p (Err h) = refl
 
-  by_array : (p : Place) (s : Tokens) → cond (array_names_function (after_element s)) (on_type (array_by p (element_at s))) (off_type (array_by p (element_at s))) ≡ (array_by p (element_at s) >>= λ t. named t.0 t.1)
+  by_array : (p : Position) (s : Tokens) → cond (array_names_function (after_element s)) (on_type (array_by p (element_at s))) (off_type (array_by p (element_at s))) ≡ (array_by p (element_at s) >>= λ t. named t.0 t.1)
   by_array p s = subst (λ v. cond (array_names_function v) (on_type (array_by p (element_at s))) (off_type (array_by p (element_at s))) ≡ (array_by p (element_at s) >>= λ t. named t.0 t.1)) (sym (passed_is_read s)) (by_element p (element_at s))
 
   by_plain : (t : Named) (s : Tokens) → cond (handle_names_function s) (on_type (Ok (t, s))) (off_type (Ok (t, s))) ≡ named t s
   unfolding handle_names_function
   by_plain t s = by_next t s
 
-  by_kind : (k : Option Primitive) (m : Meaning) (p : Place) (s : Tokens) → primitive m ≡ k → cond (cond (is_array m) (array_names_function (after_element s)) (handle_names_function s)) (on_type (type_by k m p s)) (off_type (type_by k m p s)) ≡ (type_by k m p s >>= λ t. named t.0 t.1)
+  by_kind : (k : Option Primitive) (m : Meaning) (p : Position) (s : Tokens) → primitive m ≡ k → cond (cond (is_array m) (array_names_function (after_element s)) (handle_names_function s)) (on_type (type_by k m p s)) (off_type (type_by k m p s)) ≡ (type_by k m p s >>= λ t. named t.0 t.1)
   unfolding is_array
   by_kind (Some k) m p s g = rw (word_no_array m k g) (by_plain (Prim p k) s)
   by_kind None (name text) p s g = by_handles (Object p text) (Handle p text) s
@@ -355,7 +355,7 @@ module _ {B : Type 0} (of_function : Function → B) (of_globals : Vars → B) w
   either_by [] = Err (Unexpected [])
   either_by ((m, p) ∷ s) = cond (is_void m) (of_void s) (type_at ((m, p) ∷ s) >>= λ t. named t.0 t.1)
 
-  by_void : (v : Bool) (m : Meaning) (p : Place) (s : Tokens) →
+  by_void : (v : Bool) (m : Meaning) (p : Position) (s : Tokens) →
       cond (cond v true (cond (is_array m) (array_names_function (after_element s)) (handle_names_function s)))
       ((cond v (Ok (None, s)) (type_by (primitive m) m p s >>= λ t. Ok (Some t.0, t.1)) >>= λ r. name_at r.1 >>= λ n. function_by r.0 n.0 (parameters_at n.1)) >>= λ f. Ok (of_function f.0, f.1))
       (off_type (type_by (primitive m) m p s))
@@ -378,6 +378,6 @@ module _ {B : Type 0} (of_function : Function → B) (of_globals : Vars → B) w
   unfolding either_by
   either_lawful = alike same_either (led_lawful {read = either_by} (λ n. omega arith) (λ m p. led_if (is_void m) (λ e. led_after (void_no_array m e) void_lawful) (led_from {read = λ s. type_at s >>= λ t. named t.0 t.1} typed_lawful)))
 
-  pub either_takes : (text : List ℕ) (p : Place) (n : ℕ) (s : Tokens) → length s ≤ n → Past n (either ((name text, p) ∷ s))
+  pub either_takes : (text : List ℕ) (p : Position) (n : ℕ) (s : Tokens) → length s ≤ n → Past n (either ((name text, p) ∷ s))
   unfolding either_by is_void
   either_takes text p n s l = subst (λ x. Past n x) (sym (same_either ((name text, p) ∷ s))) ((bind_takes {read = type_at} (λ t. named t.0 t.1) type_takes named_lawful).taken n ((name text, p) ∷ s) (name_passed text p s l))

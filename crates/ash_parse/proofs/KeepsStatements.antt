@@ -4,15 +4,15 @@ use Rattle.std.proofs.Common.{◌≡◌, ℕ, zero, suc, ◌≤◌, ◌⊎◌, i
 use Rattle.ash_lex.specs.Tokens.{Meaning, name, number, sign, reserved, unsupported}
 use Rattle.ash_lex.specs.declared.signs.Sign.TheVariants as signs
 use Rattle.ash_lex.specs.declared.words.ReservedWord.TheVariants as words
-use Rattle.ash_tree.specs.declared.tree.places.Place.{Place}
+use Rattle.ash_tree.specs.declared.tree.places.Position.{Position}
 use Rattle.ash_tree.specs.declared.tree.types.Primitive.{Primitive}
 use Rattle.ash_tree.specs.declared.tree.statements.Label.TheVariants as labels
 use Rattle.ash_tree.specs.Tree.{Element, Named, Prim, Object, Handle, Array, ArrayHandle, Expr, Default, Value, Arguments, Vars, Stmt, Empty, Declare, Evaluate, Block, If, IfElse, While, DoWhile, For, Switch, Break, Continue, Return, labelled, place_of, place_of_type, stmts, cases}
-use Rattle.ash_tree.specs.Tokens.{Tokens}
+use Rattle.ash_tree.specs.GrammarTokens.{Tokens}
 use Rattle.ash_tree.specs.Operators.{primitive}
 use Rattle.ash_parse.specs.declared.stmt_tokens.StmtToken.{StmtToken}
 use Rattle.ash_parse.specs.declared.stmt_tokens.StmtToken.TheVariants as stmt_tokens
-use Rattle.ash_parse.specs.Signs.{is_sign}
+use Rattle.ash_parse.specs.SignTokens.{is_sign}
 use Rattle.ash_parse.specs.Readers.{Unexpected, TooDeep, ParseResult, ◌>>=◌, next_is, next_is_sign, expect_at}
 use Rattle.ash_parse.specs.ExpressionReader.{begins, bracketed_with, below_at}
 use Rattle.ash_parse.specs.TypeReader.{is_array, element_at, after_element}
@@ -34,10 +34,10 @@ case_goes_on_steady = next_steady (λ m. not (ends_case (stmt_token m)))
 handle_by_lawful : (plain handle : Named) → Lawful (handle_by plain handle)
 handle_by_lawful plain handle = if_lawful _ (sign_steady signs.Handle) (bind_lawful _ (expect_lawful signs.Handle) λ o. ok_lawful handle) (ok_lawful plain)
 
-handle_lawful : (p : Place) (t : List ℕ) → Lawful (λ s. cond (next_is_sign signs.Handle s) (expect_at signs.Handle s >>= λ h. Ok (Handle p t, h.1)) (Ok (Object p t, s)))
+handle_lawful : (p : Position) (t : List ℕ) → Lawful (λ s. cond (next_is_sign signs.Handle s) (expect_at signs.Handle s >>= λ h. Ok (Handle p t, h.1)) (Ok (Object p t, s)))
 handle_lawful p t = handle_by_lawful (Object p t) (Handle p t)
 
-type_led : (k : Option Primitive) (m : Meaning) (p : Place) → primitive m ≡ k → Led (m, p) (λ s. type_by k m p s)
+type_led : (k : Option Primitive) (m : Meaning) (p : Position) → primitive m ≡ k → Led (m, p) (λ s. type_by k m p s)
 type_led (Some k) m p g = led_after (word_is_no_array m k g) (ok_lawful (Prim p k))
 type_led None (name t) p g = led_after tt (handle_lawful p t)
 type_led None (reserved words.Array) p g = led_array (λ e. handle_by (Array p e.0) (ArrayHandle p e.0) e.1) element_lawful (λ e. handle_by_lawful (Array p e) (ArrayHandle p e)) p
@@ -80,8 +80,8 @@ only_name true h = refl
 only_name false h = h
 
 -- what reads after a type takes the name there
-module _ {B : Type 0} (f : Named × Tokens → ParseResult B) (law : (t : Named) → Lawful (λ s. f (t, s))) (takes : (t : Named) (text : List ℕ) (p : Place) → Takes (First (name text, p)) (λ s. f (t, s))) where
-  name_fewer : (t : Named) (n : Meaning) (q : Place) (s : Tokens) → is_name n ≡ true → Fewer (suc (length s)) (f (t, (n, q) ∷ s))
+module _ {B : Type 0} (f : Named × Tokens → ParseResult B) (law : (t : Named) → Lawful (λ s. f (t, s))) (takes : (t : Named) (text : List ℕ) (p : Position) → Takes (First (name text, p)) (λ s. f (t, s))) where
+  name_fewer : (t : Named) (n : Meaning) (q : Position) (s : Tokens) → is_name n ≡ true → Fewer (suc (length s)) (f (t, (n, q) ∷ s))
   name_fewer t n q s h =
       past_fewer (length s) (suc (length s)) (f (t, (n, q) ∷ s)) (omega arith)
       (name_is n (λ w. Past (length s) (f (t, (w, q) ∷ s))) h (λ text. (takes t text q).taken (length s) ((name text, q) ∷ s) (first s (omega arith))))
@@ -91,7 +91,7 @@ module _ {B : Type 0} (f : Named × Tokens → ParseResult B) (law : (t : Named)
   named_fewer t [] h = absurd (no_true h)
   named_fewer t ((n, q) ∷ s) h = name_fewer t n q s h
 
-  sign_fewer : (v : Bool) (plain handled : Named) (n : Meaning) (q : Place) (s : Tokens) → cond (is_name n) true v ≡ true → Fewer (suc (length s)) (cond v (cond v (Ok (q, s)) (Err (Unexpected ((n, q) ∷ s))) >>= λ h. Ok (handled, h.1)) (Ok (plain, (n, q) ∷ s)) >>= f)
+  sign_fewer : (v : Bool) (plain handled : Named) (n : Meaning) (q : Position) (s : Tokens) → cond (is_name n) true v ≡ true → Fewer (suc (length s)) (cond v (cond v (Ok (q, s)) (Err (Unexpected ((n, q) ∷ s))) >>= λ h. Ok (handled, h.1)) (Ok (plain, (n, q) ∷ s)) >>= f)
   sign_fewer true plain handled n q s h = past_fewer (length s) (suc (length s)) (f (handled, s)) (omega arith) ((law handled).stays (length s) s (omega arith))
   sign_fewer false plain handled n q s h = name_fewer plain n q s (only_name (is_name n) h)
 
@@ -100,15 +100,15 @@ module _ {B : Type 0} (f : Named × Tokens → ParseResult B) (law : (t : Named)
   handle_fewer plain handled [] h = absurd (no_true h)
   handle_fewer plain handled ((n, q) ∷ s) h = sign_fewer (is_sign signs.Handle n) plain handled n q s h
 
-  element_fewer : (p : Place) (o : ParseResult Element) → array_names_vars (left_of o) ≡ true → Fewer (length (or_none (left_of o))) ((o >>= λ e. handle_by (Array p e.0) (ArrayHandle p e.0) e.1) >>= f)
+  element_fewer : (p : Position) (o : ParseResult Element) → array_names_vars (left_of o) ≡ true → Fewer (length (or_none (left_of o))) ((o >>= λ e. handle_by (Array p e.0) (ArrayHandle p e.0) e.1) >>= f)
   element_fewer p (Ok e) h = handle_fewer (Array p e.0) (ArrayHandle p e.0) e.1 h
   element_fewer p (Err e) h = absurd (no_true h)
 
-  array_fewer : (p : Place) (s : Tokens) → array_names_vars (after_element s) ≡ true → Fewer (length (or_none (after_element s))) ((element_at s >>= λ e. handle_by (Array p e.0) (ArrayHandle p e.0) e.1) >>= f)
+  array_fewer : (p : Position) (s : Tokens) → array_names_vars (after_element s) ≡ true → Fewer (length (or_none (after_element s))) ((element_at s >>= λ e. handle_by (Array p e.0) (ArrayHandle p e.0) e.1) >>= f)
   array_fewer p s =
       subst (λ (b : Option Tokens). array_names_vars b ≡ true → Fewer (length (or_none b)) ((element_at s >>= λ e. handle_by (Array p e.0) (ArrayHandle p e.0) e.1) >>= f)) (sym (passed_is_read s)) (element_fewer p (element_at s))
 
-  type_fewer : (k : Option Primitive) (m : Meaning) (p : Place) (s : Tokens) → primitive m ≡ k → cond (is_some k) (next_is_name s) (cond (is_name m) (names_vars s) (cond (is_array m) (array_names_vars (after_element s)) false)) ≡ true → Fewer (length (after_open ((m, p) ∷ s))) (type_by k m p s >>= f)
+  type_fewer : (k : Option Primitive) (m : Meaning) (p : Position) (s : Tokens) → primitive m ≡ k → cond (is_some k) (next_is_name s) (cond (is_name m) (names_vars s) (cond (is_array m) (array_names_vars (after_element s)) false)) ≡ true → Fewer (length (after_open ((m, p) ∷ s))) (type_by k m p s >>= f)
   unfolding is_name is_array after_open
   type_fewer (Some k) m p s g h = rw (word_no_array m k g) (named_fewer (Prim p k) s h)
   type_fewer None (name text) p s g h = handle_fewer (Object p text) (Handle p text) s h
@@ -178,7 +178,7 @@ module _ (room : ℕ) (h : room ≤ 64) where
   declare_lawful : Lawful (λ s. vars_statement_with (below_at room) s >>= λ v. Ok (Declare (place_of_type (v.0).of) v.0, v.1))
   declare_lawful = bind_lawful _ declared_lawful λ v. ok_lawful (Declare (place_of_type v.of) v)
 
-  decls_takes : (text : List ℕ) (p : Place) → Takes (First (name text, p)) (decls_with (below_at room))
+  decls_takes : (text : List ℕ) (p : Position) → Takes (First (name text, p)) (decls_with (below_at room))
   unfolding decls_with decl_with
   decls_takes text p = bind_takes _ (bind_takes _ (name_takes text p) (λ n. bind_lawful _ initializer_lawful λ i. ok_lawful (record { place = n.1; name = n.0; initializer = i }))) (λ d. put_lawful d more_decls_lawful)
 
@@ -287,7 +287,7 @@ while_at_lawful : Lawful while_at
 unfolding while_at
 while_at_lawful = led_lawful (λ n. omega arith) (λ m p. led_if (is_while (stmt_token m)) (λ e. led_after (while_no_array m e) (ok_lawful p)) led_stop)
 
-number_led : (m : Meaning) (p : Place) → Led (m, p) (λ s. number_at ((m, p) ∷ s))
+number_led : (m : Meaning) (p : Position) → Led (m, p) (λ s. number_at ((m, p) ∷ s))
 unfolding number_at
 number_led (number n) p = led_after tt (ok_lawful (n, p))
 number_led m p = led_stop
@@ -302,7 +302,7 @@ case_value_lawful =
     if_lawful _ (sign_steady signs.Minus) (bind_lawful _ (expect_lawful signs.Minus) λ o. bind_lawful _ number_lawful λ n. bind_lawful _ (expect_lawful signs.Colon) λ c. ok_lawful (labels.CaseMinus n.0, o))
     (bind_lawful _ number_lawful λ n. bind_lawful _ (expect_lawful signs.Colon) λ c. ok_lawful (labels.Case n.0, n.1))
 
-label_led : (k : StmtToken) (m : Meaning) (p : Place) → stmt_token m ≡ k → Led (m, p) (λ s. label_by k m p s)
+label_led : (k : StmtToken) (m : Meaning) (p : Position) → stmt_token m ≡ k → Led (m, p) (λ s. label_by k m p s)
 label_led stmt_tokens.Case m p g = led_after (leads_no_array stmt_tokens.Case m g refl) case_value_lawful
 label_led stmt_tokens.Default m p g = led_after (leads_no_array stmt_tokens.Default m g refl) (bind_lawful _ (expect_lawful signs.Colon) λ c. ok_lawful (labels.Default, p))
 label_led k m p g = led_stop
@@ -315,23 +315,23 @@ module _ (room : ℕ) (h : room ≤ 64) (nested : Lawful (nested_at room)) where
   bracket_lawful : Lawful (bracketed_with (below_at room))
   bracket_lawful = bracketed_lawful room h (below_lawful room h)
 
-  else_lawful : (p : Place) (c : Expr) (s : Stmt) → Lawful (else_with (nested_at room) p c s)
+  else_lawful : (p : Position) (c : Expr) (s : Stmt) → Lawful (else_with (nested_at room) p c s)
   unfolding else_with
   else_lawful p c s = led_lawful (λ n. omega arith) (λ m o. led_if (is_else (stmt_token m)) (λ e. led_after (else_no_array m e) (bind_lawful _ nested λ t. ok_lawful (IfElse p c s t))) (led_from (ok_lawful (If p c s))))
 
-  if_stmt_lawful : (p : Place) → Lawful (if_with (below_at room) (nested_at room) p)
+  if_stmt_lawful : (p : Position) → Lawful (if_with (below_at room) (nested_at room) p)
   unfolding if_with
   if_stmt_lawful p = bind_lawful _ bracket_lawful λ c. bind_lawful _ nested λ s. else_lawful p c s
 
-  while_lawful : (p : Place) → Lawful (while_with (below_at room) (nested_at room) p)
+  while_lawful : (p : Position) → Lawful (while_with (below_at room) (nested_at room) p)
   unfolding while_with
   while_lawful p = bind_lawful _ bracket_lawful λ c. bind_lawful _ nested λ s. ok_lawful (While p c s)
 
-  do_lawful : (p : Place) → Lawful (do_with (below_at room) (nested_at room) p)
+  do_lawful : (p : Position) → Lawful (do_with (below_at room) (nested_at room) p)
   unfolding do_with
   do_lawful p = bind_lawful _ nested λ s. bind_lawful _ while_at_lawful λ w. bind_lawful _ bracket_lawful λ c. bind_lawful _ (expect_lawful signs.Semicolon) λ o. ok_lawful (DoWhile p s c)
 
-  for_lawful : (p : Place) → Lawful (for_with (below_at room) (nested_at room) p)
+  for_lawful : (p : Position) → Lawful (for_with (below_at room) (nested_at room) p)
   unfolding for_with
   for_lawful p =
       bind_lawful _ (expect_lawful signs.OpenParenthesis) λ o. bind_lawful _ (first_lawful room h) λ f. bind_lawful _ (test_lawful room h) λ c.
@@ -349,7 +349,7 @@ module _ (room : ℕ) (h : room ≤ 64) (nested : Lawful (nested_at room)) where
   unfolding cases_with
   cases_lawful = loop_lawful goes_on (case_with (nested_at room)) (case_shrinks room h) goes_on_steady case_lawful
 
-  switch_lawful : (p : Place) → Lawful (switch_with (below_at room) (nested_at room) p)
+  switch_lawful : (p : Position) → Lawful (switch_with (below_at room) (nested_at room) p)
   unfolding switch_with
   switch_lawful p = bind_lawful _ bracket_lawful λ e. bind_lawful _ (expect_lawful signs.OpenBrace) λ o. bind_lawful _ cases_lawful λ cs. bind_lawful _ (expect_lawful signs.CloseBrace) λ z. ok_lawful (Switch p e (cases cs))
 
@@ -365,7 +365,7 @@ module _ (room : ℕ) (h : room ≤ 64) (nested : Lawful (nested_at room)) where
   unfolding block_with
   block_lawful = bind_lawful _ (expect_lawful signs.OpenBrace) λ o. bind_lawful _ locals_lawful λ ss. bind_lawful _ (expect_lawful signs.CloseBrace) λ z. ok_lawful ss
 
-  stmt_led : (k : StmtToken) (m : Meaning) (p : Place) → stmt_token m ≡ k → Led (m, p) (λ s. stmt_by k (below_at room) (nested_at room) m p s)
+  stmt_led : (k : StmtToken) (m : Meaning) (p : Position) → stmt_token m ≡ k → Led (m, p) (λ s. stmt_by k (below_at room) (nested_at room) m p s)
   stmt_led stmt_tokens.Block m p g = led_from {read = λ s. block_with (below_at room) (nested_at room) s >>= λ b. Ok (Block p (stmts b.0), b.1)} (bind_lawful _ block_lawful λ b. ok_lawful (Block p (stmts b)))
   stmt_led stmt_tokens.Empty m p g = led_after (leads_no_array stmt_tokens.Empty m g refl) (ok_lawful (Empty p))
   stmt_led stmt_tokens.If m p g = led_after (leads_no_array stmt_tokens.If m g refl) (if_stmt_lawful p)

@@ -1,7 +1,7 @@
 -- Reading again and again, as a loop does.
 use Rattle.std.proofs.Common.{◌≡◌, ℕ, zero, suc, ◌≤◌, ◌<◌, List, [], ◌∷◌, ◌++◌, length, Bool, true, false, cond, Ok, Err, refl, sym, ap, ◌∙◌, append_assoc, arith, map}
 use Rattle.std.proofs.lemmas.List.{append-nil, map-append}
-use Rattle.ash_tree.specs.Tokens.{Tokens, tokens_of}
+use Rattle.ash_tree.specs.GrammarTokens.{Tokens, tokens_of}
 use Rattle.ash_parse.specs.declared.error.ParseError.{ParseError}
 use Rattle.ash_parse.specs.declared.error.ParseError.TheVariants as errors
 use Rattle.ash_parse.specs.Readers.{Halt, ParseResult, ◌>>=◌, Fails, put, repeat, loop, Unexpected, TooDeep}

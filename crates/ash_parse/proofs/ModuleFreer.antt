@@ -2,7 +2,7 @@
 -- and modules.
 use Rattle.std.proofs.Common.{ℕ, ◌≤◌, List, Option, arith}
 use Rattle.ash_tree.specs.Tree.{Expr, Decl, Vars, Stmt, Case, Function, Member, Class, Item}
-use Rattle.ash_tree.specs.Tokens.{Tokens}
+use Rattle.ash_tree.specs.GrammarTokens.{Tokens}
 use Rattle.ash_tree.specs.Statements.{IsDecl, bare, valued, made, AreMoreDecls, no_more_decls, more_decls, IsVars, vars, IsFirst, no_first, first_vars, first_expr, IsTest, no_test, test, IsResult, no_result, value, IsNested, nested, AreLocals, no_locals, local_vars, local_stmt, IsBlock, block, IsStmt, inner_block, empty, evaluate, if_only, if_else, while, do_while, for, switch, break, continue, return, AreCases, no_cases, more_cases, AreStmts, no_stmts, more_stmts}
 use Rattle.ash_tree.specs.Grammar.{IsFunction, function, IsMember, method, fields, constructor, AreMembers, no_members, more_members, IsClass, class, IsItem, a_class, an_interface, a_function, globals, Derives, no_items, semicolon, item}
 use Rattle.ash_parse.proofs.ExpressionFreer.{inner_freer, exprs_freer, args_freer, assign_freer}

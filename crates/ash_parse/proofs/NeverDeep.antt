@@ -4,17 +4,17 @@ use Rattle.ash_lex.specs.Tokens.{Meaning, name, number, sign, reserved, unsuppor
 use Rattle.ash_lex.specs.declared.signs.Sign.{Sign}
 use Rattle.ash_lex.specs.declared.signs.Sign.TheVariants as signs
 use Rattle.ash_lex.specs.declared.words.ReservedWord.TheVariants as words
-use Rattle.ash_tree.specs.declared.tree.places.Place.{Place}
+use Rattle.ash_tree.specs.declared.tree.places.Position.{Position}
 use Rattle.ash_tree.specs.declared.tree.types.Primitive.{Primitive}
 use Rattle.ash_tree.specs.Tree.{Named, Object, Handle, Array, ArrayHandle}
-use Rattle.ash_tree.specs.Tokens.{Tokens}
+use Rattle.ash_tree.specs.GrammarTokens.{Tokens}
 use Rattle.ash_tree.specs.Operators.{primitive}
-use Rattle.ash_parse.specs.Signs.{is_sign}
+use Rattle.ash_parse.specs.SignTokens.{is_sign}
 use Rattle.ash_parse.specs.Readers.{Unexpected, TooDeep, ParseResult, ◌>>=◌, put, repeat, next_is_sign, expect_at, name_at}
 use Rattle.ash_parse.specs.TypeReader.{elem_by, elem_at, element_at}
 use Rattle.ash_parse.specs.StatementReader.{handle_by, type_by, type_at}
 use Rattle.ash_parse.specs.ItemReader.{is_void, result_type_at, unnamed_at, next_unnamed_at, more_unnamed_at, unnamed_list_at, unnamed_parameters_at, property_by, declaration_after, declaration_at, is_left}
-use Rattle.ash_parse.specs.Faults.{whole_declaration_at}
+use Rattle.ash_parse.specs.ParseFaults.{whole_declaration_at}
 
 -- reading is not cut at the depth
 abbrev pub IsUncut : {A : Type 0} → ParseResult A → Type 0
@@ -55,7 +55,7 @@ name_uncut ((sign s, p) ∷ ts) = tt
 name_uncut ((reserved w, p) ∷ ts) = tt
 name_uncut ((unsupported w, p) ∷ ts) = tt
 
-elem_by_uncut : (k : Option Primitive) (m : Meaning) (p : Place) (ts : Tokens) → IsUncut (elem_by k m p ts)
+elem_by_uncut : (k : Option Primitive) (m : Meaning) (p : Position) (ts : Tokens) → IsUncut (elem_by k m p ts)
 elem_by_uncut (Some k) m p ts = tt
 elem_by_uncut None (name text) p ts = then_uncut _ (expect_at signs.Handle ts) (expect_uncut signs.Handle ts) (λ x r. tt)
 elem_by_uncut None (number n) p ts = tt
@@ -75,7 +75,7 @@ element_uncut ts = then_uncut _ (expect_at signs.Less ts) (expect_uncut signs.Le
 handle_uncut : (plain handle : Named) (ts : Tokens) → IsUncut (handle_by plain handle ts)
 handle_uncut plain handle ts = cond_uncut (next_is_sign signs.Handle ts) _ _ (then_uncut _ (expect_at signs.Handle ts) (expect_uncut signs.Handle ts) (λ x r. tt)) tt
 
-type_by_uncut : (k : Option Primitive) (m : Meaning) (p : Place) (ts : Tokens) → IsUncut (type_by k m p ts)
+type_by_uncut : (k : Option Primitive) (m : Meaning) (p : Position) (ts : Tokens) → IsUncut (type_by k m p ts)
 type_by_uncut (Some k) m p ts = tt
 type_by_uncut None (name text) p ts = handle_uncut (Object p text) (Handle p text) ts
 type_by_uncut None (number n) p ts = tt
@@ -110,11 +110,11 @@ unnamed_parameters_uncut : (ts : Tokens) → IsUncut (unnamed_parameters_at ts)
 unfolding unnamed_parameters_at
 unnamed_parameters_uncut ts = then_uncut _ (expect_at signs.OpenParenthesis ts) (expect_uncut signs.OpenParenthesis ts) (λ o r. then_uncut _ (unnamed_list_at r) (unnamed_list_uncut r) (λ xs s. then_uncut _ (expect_at signs.CloseParenthesis s) (expect_uncut signs.CloseParenthesis s) (λ z u. tt)))
 
-property_uncut : (r : Option Named) (p : Place) (text : List ℕ) (ts : Tokens) → IsUncut (property_by r p text ts)
+property_uncut : (r : Option Named) (p : Position) (text : List ℕ) (ts : Tokens) → IsUncut (property_by r p text ts)
 property_uncut (Some t) p text ts = tt
 property_uncut None p text ts = tt
 
-after_uncut : (r : Option Named) (p : Place) (text : List ℕ) (ts : Tokens) → IsUncut (declaration_after r p text ts)
+after_uncut : (r : Option Named) (p : Position) (text : List ℕ) (ts : Tokens) → IsUncut (declaration_after r p text ts)
 unfolding declaration_after
 after_uncut r p text ts = cond_uncut (next_is_sign signs.OpenParenthesis ts) _ _ (then_uncut _ (unnamed_parameters_at ts) (unnamed_parameters_uncut ts) (λ xs s. tt)) (property_uncut r p text ts)
 

@@ -2,14 +2,14 @@
 use Rattle.std.proofs.Common.{false, ◌≡◌, ℕ, suc, ◌+◌, ◌≤◌, List, [], ◌∷◌, ◌++◌, length, Ok, Err, refl, sym, ap, subst, ◌∙◌, length-append, arith}
 use Rattle.std.proofs.lemmas.List.{append-nil}
 use Rattle.ash_lex.specs.Tokens.{Meaning}
-use Rattle.ash_tree.specs.declared.tree.places.Place.{Place}
+use Rattle.ash_tree.specs.declared.tree.places.Position.{Position}
 use Rattle.ash_tree.specs.Tree.{Item, Declaration}
-use Rattle.ash_tree.specs.Tokens.{Tokens}
+use Rattle.ash_tree.specs.GrammarTokens.{Tokens}
 use Rattle.ash_tree.specs.Grammar.{Derives, Declares}
 use Rattle.ash_parse.specs.Readers.{Halt, Unexpected, TooDeep, ParseResult}
 use Rattle.ash_parse.specs.StatementReader.{is_vars}
 use Rattle.ash_parse.specs.ItemReader.{module_at}
-use Rattle.ash_parse.specs.Faults.{whole_declaration_at}
+use Rattle.ash_parse.specs.ParseFaults.{whole_declaration_at}
 use Rattle.ash_parse.specs.FirstFault.{NoneGoesOn, GoesTooDeep, NoneKeeps, NoneWithin, NoDeclarationGoesOn}
 use Rattle.ash_parse.proofs.Rereading.{Reads, whole, cut}
 use Rattle.ash_parse.proofs.ItemComplete.{module_reads, whole_read}
@@ -43,7 +43,7 @@ pub none_goes_on : (prefix rest : Tokens) → module_at (prefix ++ rest) ≡ Err
 none_goes_on prefix [] h = λ free items d. reads_expected [] (module_reads free prefix items d) (ap module_at (sym (append-nil prefix)) ∙ h)
 none_goes_on prefix (t ∷ rest) h = λ free tail items d. reads_expected (t ∷ tail) (module_reads free (prefix ++ t ∷ tail) items d) (keeps_unexpected prefix rest tail t h)
 
-none_keeps : (prefix seen after : Tokens) (t : Meaning × Place) → ((u : Meaning × Place) (more other : Tokens) → after ≡ u ∷ more → is_vars (t ∷ (seen ++ u ∷ more)) ≡ is_vars (t ∷ (seen ++ u ∷ other))) → module_at (prefix ++ t ∷ (seen ++ after)) ≡ Err (TooDeep (t ∷ (seen ++ after))) → NoneKeeps prefix t seen after
+none_keeps : (prefix seen after : Tokens) (t : Meaning × Position) → ((u : Meaning × Position) (more other : Tokens) → after ≡ u ∷ more → is_vars (t ∷ (seen ++ u ∷ more)) ≡ is_vars (t ∷ (seen ++ u ∷ other))) → module_at (prefix ++ t ∷ (seen ++ after)) ≡ Err (TooDeep (t ∷ (seen ++ after))) → NoneKeeps prefix t seen after
 none_keeps prefix seen [] t decides h =
     let k : module_at (prefix ++ t ∷ seen) ≡ Err (TooDeep (t ∷ seen)) = subst (λ (l : Tokens). module_at (prefix ++ t ∷ l) ≡ Err (TooDeep (t ∷ l))) (append-nil seen) h in
     λ items d. not_shallower (length seen) (prefix ++ t ∷ seen) (t ∷ seen) items k (omega arith) d
@@ -51,13 +51,13 @@ none_keeps prefix seen (u ∷ more) t decides h = λ tail items d.
     let n : length (seen ++ u ∷ tail) ≡ length seen + length (u ∷ tail) = length-append seen (u ∷ tail) in
     not_shallower (length seen + suc (length tail)) (prefix ++ t ∷ (seen ++ u ∷ tail)) (t ∷ (seen ++ u ∷ tail)) items (keeps_too_deep prefix seen more tail t u (decides u more tail refl) h) (omega arith) d
 
-pub none_within : (prefix rest : Tokens) (t : Meaning × Place) → module_at (prefix ++ t ∷ rest) ≡ Err (TooDeep (t ∷ rest)) → NoneWithin prefix t rest
+pub none_within : (prefix rest : Tokens) (t : Meaning × Position) → module_at (prefix ++ t ∷ rest) ≡ Err (TooDeep (t ∷ rest)) → NoneWithin prefix t rest
 none_within prefix rest t h =
     let o = opening t rest in
     (o.seen, o.after, o.all, o.leaves, none_keeps prefix o.seen o.after t o.decides (subst (λ (l : Tokens). module_at (prefix ++ t ∷ l) ≡ Err (TooDeep (t ∷ l))) o.all h))
 
 -- a module that has only `t` and what is after it free has `t` too deep
-pub goes_too_deep : (prefix rest tail : Tokens) (t : Meaning × Place) (items : List Item) → is_vars (t ∷ tail) ≡ false → module_at (prefix ++ t ∷ rest) ≡ Err (TooDeep (t ∷ rest)) → Derives (suc (length tail)) (prefix ++ t ∷ tail) items → GoesTooDeep prefix t
+pub goes_too_deep : (prefix rest tail : Tokens) (t : Meaning × Position) (items : List Item) → is_vars (t ∷ tail) ≡ false → module_at (prefix ++ t ∷ rest) ≡ Err (TooDeep (t ∷ rest)) → Derives (suc (length tail)) (prefix ++ t ∷ tail) items → GoesTooDeep prefix t
 goes_too_deep prefix rest tail t items v h d = (tail, items, d, none_within prefix tail t (keeps_deep prefix rest tail t v h))
 
 -- what is a declaration is read

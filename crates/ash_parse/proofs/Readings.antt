@@ -2,9 +2,9 @@
 use Rattle.std.proofs.Common.{◌≡◌, ℕ, zero, suc, List, [], ◌∷◌, Bool, true, false, cond, Ok, Err, refl, sym, ap, subst}
 use Rattle.ash_lex.specs.Tokens.{Meaning, name, number, sign, reserved, unsupported}
 use Rattle.ash_lex.specs.declared.signs.Sign.{Sign}
-use Rattle.ash_tree.specs.declared.tree.places.Place.{Place}
-use Rattle.ash_tree.specs.Tokens.{Tokens}
-use Rattle.ash_parse.specs.Signs.{is_sign}
+use Rattle.ash_tree.specs.declared.tree.places.Position.{Position}
+use Rattle.ash_tree.specs.GrammarTokens.{Tokens}
+use Rattle.ash_parse.specs.SignTokens.{is_sign}
 use Rattle.ash_parse.specs.Readers.{Halt, Unexpected, ParseResult, ◌>>=◌, put, repeat, next_is_sign, expect_at, name_at}
 use Rattle.ash_parse.proofs.Signs.{same_sign_is, same_sign_refl}
 
@@ -59,7 +59,7 @@ unfolding is_sign
 is_sign-refl s = same_sign_refl s
 
 -- a sign that is read is the first token
-pub expect_sound : (s : Sign) (ts : Tokens) (p : Place) (rest : Tokens) (Q : Tokens → Type 0) → expect_at s ts ≡ Ok (p, rest) → Q ((sign s, p) ∷ rest) → Q ts
+pub expect_sound : (s : Sign) (ts : Tokens) (p : Position) (rest : Tokens) (Q : Tokens → Type 0) → expect_at s ts ≡ Ok (p, rest) → Q ((sign s, p) ∷ rest) → Q ts
 unfolding expect_at
 expect_sound s [] p rest Q h q = absurd (no_err (Unexpected []) (p, rest) h)
 expect_sound s ((m, o) ∷ ts) p rest Q h q =
@@ -67,24 +67,24 @@ expect_sound s ((m, o) ∷ ts) p rest Q h q =
     (λ b e. at_pair (λ x r. Q ((m, x) ∷ r)) p rest o ts (sym e) (subst (λ w. Q ((w, p) ∷ rest)) (sym (sign_is s m b)) q))
     (λ b e. absurd (no_err (Unexpected ((m, o) ∷ ts)) (p, rest) e))
 
-pub expect_again : (s : Sign) (p : Place) (ts : Tokens) → expect_at s ((sign s, p) ∷ ts) ≡ Ok (p, ts)
+pub expect_again : (s : Sign) (p : Position) (ts : Tokens) → expect_at s ((sign s, p) ∷ ts) ≡ Ok (p, ts)
 unfolding expect_at
 expect_again s p ts = rw (is_sign-refl s) refl
 
-pub next_is_sign-again : (s : Sign) (p : Place) (ts : Tokens) → next_is_sign s ((sign s, p) ∷ ts) ≡ true
+pub next_is_sign-again : (s : Sign) (p : Position) (ts : Tokens) → next_is_sign s ((sign s, p) ∷ ts) ≡ true
 unfolding next_is_sign
 next_is_sign-again s p ts = is_sign-refl s
 
 -- a name that is read is the first token
-pub name_sound : (ts : Tokens) (x : List ℕ × Place) (rest : Tokens) (Q : Tokens → Type 0) → name_at ts ≡ Ok (x, rest) → Q ((name x.0, x.1) ∷ rest) → Q ts
+pub name_sound : (ts : Tokens) (x : List ℕ × Position) (rest : Tokens) (Q : Tokens → Type 0) → name_at ts ≡ Ok (x, rest) → Q ((name x.0, x.1) ∷ rest) → Q ts
 unfolding name_at
 name_sound [] x rest Q h q = absurd (no_err (Unexpected []) (x, rest) h)
-name_sound ((name t, p) ∷ ts) x rest Q h q = at_pair (λ (y : List ℕ × Place) r. Q ((name y.0, y.1) ∷ r)) x rest (t, p) ts (sym h) q
+name_sound ((name t, p) ∷ ts) x rest Q h q = at_pair (λ (y : List ℕ × Position) r. Q ((name y.0, y.1) ∷ r)) x rest (t, p) ts (sym h) q
 name_sound ((number n, p) ∷ ts) x rest Q h q = absurd (no_err (Unexpected ((number n, p) ∷ ts)) (x, rest) h)
 name_sound ((sign n, p) ∷ ts) x rest Q h q = absurd (no_err (Unexpected ((sign n, p) ∷ ts)) (x, rest) h)
 name_sound ((reserved n, p) ∷ ts) x rest Q h q = absurd (no_err (Unexpected ((reserved n, p) ∷ ts)) (x, rest) h)
 name_sound ((unsupported n, p) ∷ ts) x rest Q h q = absurd (no_err (Unexpected ((unsupported n, p) ∷ ts)) (x, rest) h)
 
-pub name_again : (t : List ℕ) (p : Place) (ts : Tokens) → name_at ((name t, p) ∷ ts) ≡ Ok ((t, p), ts)
+pub name_again : (t : List ℕ) (p : Position) (ts : Tokens) → name_at ((name t, p) ∷ ts) ≡ Ok ((t, p), ts)
 unfolding name_at
 name_again t p ts = refl

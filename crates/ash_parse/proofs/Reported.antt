@@ -3,16 +3,16 @@ use Rattle.std.proofs.Common.{◌≡◌, List, [], ◌∷◌, Option, Some, Err,
 use Rattle.std.specs.List.{slice_get}
 use Rattle.ash_lex.specs.Tokens.{meaning_of}
 use Rattle.ash_lex.specs.declared.tokens.Token.{Token}
-use Rattle.ash_tree.specs.Tokens.{tokens_of}
+use Rattle.ash_tree.specs.GrammarTokens.{tokens_of}
 use Rattle.ash_parse.specs.declared.error.ParseError.{ParseError}
 use Rattle.ash_parse.specs.declared.error.ParseError.TheVariants as errors
 use Rattle.ash_parse.specs.declared.faults.ParseFault.{ParseFault}
 use Rattle.ash_parse.specs.declared.faults.ParseFault.TheVariants as faults
 use Rattle.ash_parse.specs.Readers.{Halt, Unexpected, TooDeep, ParseResult, Fails}
 use Rattle.ash_parse.specs.declared.faults.UnsupportedPart.{UnsupportedPart}
-use Rattle.ash_parse.specs.Faults.{Reports, IsReported, IsFault, part_of, fault_at, fault_before, end_of}
+use Rattle.ash_parse.specs.ParseFaults.{IsHaltFault, IsReported, IsFault, part_of, fault_at, fault_before, end_of}
 
-reports_fault : (A : Type 0) (all : List Token) (f : ParseFault) (e : Halt) → Reports all f e → IsFault {A = A} all f (Err e)
+reports_fault : (A : Type 0) (all : List Token) (f : ParseFault) (e : Halt) → IsHaltFault all f e → IsFault {A = A} all f (Err e)
 reports_fault A all (faults.Unexpected at) e h = h
 reports_fault A all (faults.Unsupported word at) e h = h
 reports_fault A all (faults.TooDeep at) e h = h

@@ -1,8 +1,8 @@
 -- How readings go together to one that reads a whole phrase, or is cut where a token is too deep.
 use Rattle.std.proofs.Common.{◌≡◌, ℕ, zero, suc, ◌<◌, ◌≤◌, List, [], ◌∷◌, length, Bool, true, false, Option, Some, None, Ok, Err, ◌⊎◌, inl, inr, refl, sym, subst, arith}
 use Rattle.ash_lex.specs.Tokens.{Meaning}
-use Rattle.ash_tree.specs.declared.tree.places.Place.{Place}
-use Rattle.ash_tree.specs.Tokens.{Tokens}
+use Rattle.ash_tree.specs.declared.tree.places.Position.{Position}
+use Rattle.ash_tree.specs.GrammarTokens.{Tokens}
 use Rattle.ash_parse.specs.Readers.{TooDeep, ParseResult, ◌>>=◌, put, repeat}
 
 pub no_some : {A : Type 0} (x : A) → ◌≡◌ {A = Option A} None (Some x) → ⊥
@@ -14,7 +14,7 @@ no_true h = cc
 -- this is what reading gives, or reading is cut at the depth, at one of the last `free` tokens
 pub data Reads (A : Type 0) : ℕ → ParseResult A → A × Tokens → Type 0 where
   whole : {free : ℕ} {x : A × Tokens} → Reads A free (Ok x) x
-  cut : {free : ℕ} {t : Meaning × Place} {more : Tokens} {x : A × Tokens} → length more < free → Reads A free (Err (TooDeep (t ∷ more))) x
+  cut : {free : ℕ} {t : Meaning × Position} {more : Tokens} {x : A × Tokens} → length more < free → Reads A free (Err (TooDeep (t ∷ more))) x
 
 pub as_read : {A : Type 0} {free : ℕ} {read : ParseResult A} {x : A × Tokens} → read ≡ Ok x → Reads A free read x
 as_read {A} {free} {read} {x} e = subst (λ r. Reads A free r x) (sym e) whole

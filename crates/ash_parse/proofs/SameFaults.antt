@@ -1,8 +1,8 @@
 -- Where two answers agree, and one of them is a fault, the other is the same fault.
 use Rattle.std.proofs.Common.{◌≡◌, ℕ, ◌<◌, ◌≤◌, inl, [], ◌∷◌, ◌++◌, length, true, false, Ok, Err, refl, ap, subst, length-append, arith}
 use Rattle.ash_lex.specs.Tokens.{Meaning}
-use Rattle.ash_tree.specs.declared.tree.places.Place.{Place}
-use Rattle.ash_tree.specs.Tokens.{Tokens}
+use Rattle.ash_tree.specs.declared.tree.places.Position.{Position}
+use Rattle.ash_tree.specs.GrammarTokens.{Tokens}
 use Rattle.ash_parse.specs.Readers.{Halt, Unexpected, TooDeep, ParseResult, ◌>>=◌}
 use Rattle.ash_parse.specs.StatementReader.{is_vars}
 use Rattle.ash_parse.specs.FirstFault.{LeavesOpen}
@@ -24,13 +24,13 @@ same_unexpected s r h = cc
 same_deep : {A : Type 0} (s r : Tokens) → ◌≡◌ {A = ParseResult A} (Err (TooDeep s)) (Err (TooDeep r)) → s ≡ r
 same_deep s r h = cc
 
-tails_same : (a b : Meaning × Place) (s r : Tokens) → ◌≡◌ {A = Tokens} (a ∷ s) (b ∷ r) → s ≡ r
+tails_same : (a b : Meaning × Position) (s r : Tokens) → ◌≡◌ {A = Tokens} (a ∷ s) (b ∷ r) → s ≡ r
 tails_same a b s r h = cc
 
-heads_same : (a b : Meaning × Place) (s r : Tokens) → ◌≡◌ {A = Tokens} (a ∷ s) (b ∷ r) → a ≡ b
+heads_same : (a b : Meaning × Position) (s r : Tokens) → ◌≡◌ {A = Tokens} (a ∷ s) (b ∷ r) → a ≡ b
 heads_same a b s r h = cc
 
-longer : (t : Meaning × Place) (prefix more : Tokens) → length more < length (prefix ++ t ∷ more)
+longer : (t : Meaning × Position) (prefix more : Tokens) → length more < length (prefix ++ t ∷ more)
 longer t [] more = omega arith
 longer t (a ∷ prefix) more = let e : length more < length (prefix ++ t ∷ more) = longer t prefix more in omega arith
 
@@ -44,7 +44,7 @@ same_prefix (a ∷ f) (b ∷ g) r h = both (heads_same a b (f ++ r) (g ++ r) h) 
     both : a ≡ b → f ≡ g → ◌≡◌ {A = Tokens} (a ∷ f) (b ∷ g)
     both h k = cc
 
-pub stops_alike : {A : Type 0} {one two : ParseResult A} (t : Meaning × Place) (more other : Tokens) → Agree t more other one two → one ≡ Err (Unexpected (t ∷ more)) → two ≡ Err (Unexpected (t ∷ other))
+pub stops_alike : {A : Type 0} {one two : ParseResult A} (t : Meaning × Position) (more other : Tokens) → Agree t more other one two → one ≡ Err (Unexpected (t ∷ more)) → two ≡ Err (Unexpected (t ∷ other))
 stops_alike t more other (reads x prefix) h = absurd (ok_no_err (x, prefix ++ t ∷ more) (Unexpected (t ∷ more)) h)
 stops_alike t more other (stops prefix) h = ap (λ (f : Tokens). Err (Unexpected (f ++ t ∷ other))) (same_prefix prefix [] (t ∷ more) (same_unexpected (prefix ++ t ∷ more) (t ∷ more) h))
 stops_alike t more other (deep prefix) h = absurd (deep_no_unexpected (prefix ++ t ∷ more) (t ∷ more) h)
@@ -56,7 +56,7 @@ stops_alike {one} t more other (chosen n l b) h =
 stops_alike t more other (opens prefix h k) e = absurd (deep_no_unexpected (prefix ++ t ∷ more) (t ∷ more) e)
 
 -- where a token is too deep, after which `u` comes after what leaves open what it begins
-pub deep_alike : {A : Type 0} {one two : ParseResult A} (seen : Tokens) (t : Meaning × Place) (more other : Tokens) → Agree t more other one two → (is_vars (seen ++ t ∷ more) ≡ false → is_vars (seen ++ t ∷ other) ≡ true → ⊥) → one ≡ Err (TooDeep (seen ++ t ∷ more)) → two ≡ Err (TooDeep (seen ++ t ∷ other))
+pub deep_alike : {A : Type 0} {one two : ParseResult A} (seen : Tokens) (t : Meaning × Position) (more other : Tokens) → Agree t more other one two → (is_vars (seen ++ t ∷ more) ≡ false → is_vars (seen ++ t ∷ other) ≡ true → ⊥) → one ≡ Err (TooDeep (seen ++ t ∷ more)) → two ≡ Err (TooDeep (seen ++ t ∷ other))
 deep_alike seen t more other (reads x prefix) same h = absurd (ok_no_err (x, prefix ++ t ∷ more) (TooDeep (seen ++ t ∷ more)) h)
 deep_alike seen t more other (stops prefix) same h = absurd (unexpected_no_deep (prefix ++ t ∷ more) (seen ++ t ∷ more) h)
 deep_alike seen t more other (deep prefix) same h = ap (λ (f : Tokens). Err (TooDeep (f ++ t ∷ other))) (same_prefix prefix seen (t ∷ more) (same_deep (prefix ++ t ∷ more) (seen ++ t ∷ more) h))
@@ -89,7 +89,7 @@ fewer_left n (Err (Unexpected rest)) h = h
 fewer_left n (Err (TooDeep rest)) h = h
 
 -- where reading stops in the first at what follows what leaves open what `t` begins, `t` is not too deep in the second
-pub not_deep_beyond : {A : Type 0} {one two : ParseResult A} (t : Meaning × Place) (more other seen : Tokens) (halt : Halt) → LeavesOpen t seen → more ≡ seen ++ left_at halt → Agree t more other one two → one ≡ Err halt → two ≡ Err (TooDeep (t ∷ other)) → ⊥
+pub not_deep_beyond : {A : Type 0} {one two : ParseResult A} (t : Meaning × Position) (more other seen : Tokens) (halt : Halt) → LeavesOpen t seen → more ≡ seen ++ left_at halt → Agree t more other one two → one ≡ Err halt → two ≡ Err (TooDeep (t ∷ other)) → ⊥
 unfolding left_in
 not_deep_beyond {A} t more other seen halt leaves is (reads x prefix) h k = ok_no_err (x, prefix ++ t ∷ more) halt h
 not_deep_beyond {A} t more other seen halt leaves is (stops prefix) h k =
@@ -118,7 +118,7 @@ not_deep_beyond {A} t more other seen halt leaves is (opens prefix v w) h k =
     absurd (omega arith)
 
 -- reading is not cut inside an array's `"<" elem ">"`
-pub not_cut_inside : {A : Type 0} {o : ParseResult A} (t : Meaning × Place) (more rest : Tokens) → length rest ≤ length more → Clear t more (length rest) o → o ≡ Err (TooDeep rest) → ⊥
+pub not_cut_inside : {A : Type 0} {o : ParseResult A} (t : Meaning × Position) (more rest : Tokens) → length rest ≤ length more → Clear t more (length rest) o → o ≡ Err (TooDeep rest) → ⊥
 not_cut_inside t more rest l (ends_before x prefix) h = ok_no_err (x, prefix ++ t ∷ more) (TooDeep rest) h
 not_cut_inside {A} t more rest l (cut_before prefix) h =
     let e : length (prefix ++ t ∷ more) ≡ length rest = ap length (same_deep {A = A} (prefix ++ t ∷ more) rest h) in

@@ -3,7 +3,7 @@ use Rattle.std.proofs.Common.{◌≡◌, List, [], ◌∷◌, get_or, Bool, true
 use Rattle.std.proofs.lemmas.Bool.Decides.{nat_tests}
 use Rattle.ash_lex.specs.declared.signs.Sign.{Sign}
 use Rattle.ash_lex.specs.declared.signs.Sign.TheVariants.{OpenParenthesis, CloseParenthesis, OpenBrace, CloseBrace, OpenBracket, CloseBracket, Semicolon, Comma, Colon, Question, Dot, Handle, BitNot, LogicalNot, NotIs, Assign, Equal, NotEqual, Less, LessOrEqual, Greater, GreaterOrEqual, Plus, Increment, PlusAssign, Minus, Decrement, MinusAssign, Star, StarAssign, Slash, SlashAssign, Percent, PercentAssign, BitAnd, LogicalAnd, BitAndAssign, BitOr, LogicalOr, BitOrAssign, BitXor, LogicalXor, BitXorAssign, ShiftLeft, ShiftLeftAssign, ShiftRight, ShiftRightAssign, ShiftRightArithmetic, ShiftRightArithmeticAssign, Power, Scope}
-use Rattle.ash_parse.specs.Signs.{count, same_sign}
+use Rattle.ash_parse.specs.SignTokens.{count, same_sign}
 
 abbrev all : List Sign
 all = OpenParenthesis ∷ CloseParenthesis ∷ OpenBrace ∷ CloseBrace ∷ OpenBracket ∷ CloseBracket ∷ Semicolon ∷ Comma ∷ Colon ∷ Question ∷ Dot ∷ Handle ∷ BitNot ∷ LogicalNot ∷ NotIs ∷ Assign ∷ Equal ∷ NotEqual ∷ Less ∷ LessOrEqual ∷ Greater ∷ GreaterOrEqual ∷ Plus ∷ Increment ∷ PlusAssign ∷ Minus ∷ Decrement ∷ MinusAssign ∷ Star ∷ StarAssign ∷ Slash ∷ SlashAssign ∷ Percent ∷ PercentAssign ∷ BitAnd ∷ LogicalAnd ∷ BitAndAssign ∷ BitOr ∷ LogicalOr ∷ BitOrAssign ∷ BitXor ∷ LogicalXor ∷ BitXorAssign ∷ ShiftLeft ∷ ShiftLeftAssign ∷ ShiftRight ∷ ShiftRightAssign ∷ ShiftRightArithmetic ∷ ShiftRightArithmeticAssign ∷ Power ∷ Scope ∷ []

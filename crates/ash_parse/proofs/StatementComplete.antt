@@ -3,16 +3,16 @@ use Rattle.std.proofs.Common.{◌≡◌, ℕ, zero, suc, ◌+◌, ◌<◌, ◌�
 use Rattle.ash_lex.specs.Tokens.{Meaning, number, sign, reserved}
 use Rattle.ash_lex.specs.declared.signs.Sign.TheVariants as signs
 use Rattle.ash_lex.specs.declared.words.ReservedWord.TheVariants as words
-use Rattle.ash_tree.specs.declared.tree.places.Place.{Place}
+use Rattle.ash_tree.specs.declared.tree.places.Position.{Position}
 use Rattle.ash_tree.specs.declared.tree.statements.Label.{Label}
 use Rattle.ash_tree.specs.Tree.{Expr, Vars, Stmt, Empty, Declare, Evaluate, Block, If, IfElse, While, DoWhile, For, Switch, Break, Continue, Return, Case, labelled, place_of, place_of_type, stmts, cases}
-use Rattle.ash_tree.specs.Tokens.{Tokens}
+use Rattle.ash_tree.specs.GrammarTokens.{Tokens}
 use Rattle.ash_tree.specs.Operators.{primitive, unary_operator}
 use Rattle.ash_tree.specs.Expressions.{max_depth}
 use Rattle.ash_tree.specs.Statements.{IsFirst, no_first, first_vars, first_expr, IsTest, no_test, test, IsResult, no_result, value, IsLabel, case, case_minus, default, IsNested, nested, AreLocals, no_locals, local_vars, local_stmt, IsBlock, block, IsStmt, inner_block, empty, evaluate, if_only, if_else, while, do_while, for, switch, break, continue, return, AreCases, no_cases, more_cases, AreStmts, no_stmts, more_stmts}
 use Rattle.ash_parse.specs.declared.stmt_tokens.StmtToken.{StmtToken}
 use Rattle.ash_parse.specs.declared.stmt_tokens.StmtToken.TheVariants as stmt_tokens
-use Rattle.ash_parse.specs.Signs.{is_sign, same_sign}
+use Rattle.ash_parse.specs.SignTokens.{is_sign, same_sign}
 use Rattle.ash_parse.specs.Readers.{next_is, next_is_sign}
 use Rattle.ash_parse.specs.ExpressionReader.{Below, begins, exprs_with, assign_with, below_at}
 use Rattle.ash_parse.specs.TypeReader.{is_array}
@@ -160,7 +160,7 @@ stmts_no_else : {free depth : ℕ} {from left : Tokens} {ss : List Stmt} → Are
 stmts_no_else no_stmts s = s
 stmts_no_else (more_stmts {from = from} a b) s = (goes_further from (nested_begins a)).2
 
-label_begins : {from left : Tokens} {p : Place} {l : Label} → IsLabel from p l left → (goes_on from ≡ true) × (case_goes_on from ≡ false) × NoElse from
+label_begins : {from left : Tokens} {p : Position} {l : Label} → IsLabel from p l left → (goes_on from ≡ true) × (case_goes_on from ≡ false) × NoElse from
 unfolding goes_on case_goes_on stmt_token
 label_begins case = (refl, refl, refl)
 label_begins case_minus = (refl, refl, refl)
@@ -174,27 +174,27 @@ cases_rest : {free depth : ℕ} {from left : Tokens} {cs : List Case} → AreCas
 cases_rest no_cases s = s
 cases_rest (more_cases l a b) s = let q = label_begins l in (q.1, q.2)
 
-label_read : {from left : Tokens} {p : Place} {l : Label} → IsLabel from p l left → label_at from ≡ Ok ((l, p), left)
+label_read : {from left : Tokens} {p : Position} {l : Label} → IsLabel from p l left → label_at from ≡ Ok ((l, p), left)
 unfolding label_at stmt_token case_value_at number_at next_is_sign is_sign same_sign
 label_read (case {r = r} {left = left}) = rw (expect_again signs.Colon r left) refl
 label_read (case_minus {o = o} {q = q} {r = r} {n = n} {left = left}) = rw (expect_again signs.Minus o ((number n, q) ∷ (sign signs.Colon, r) ∷ left), expect_again signs.Colon r left) refl
 label_read (default {r = r} {left = left}) = rw (expect_again signs.Colon r left) refl
 
-label_shorter : {from left : Tokens} {p : Place} {l : Label} → IsLabel from p l left → length left < length from
+label_shorter : {from left : Tokens} {p : Position} {l : Label} → IsLabel from p l left → length left < length from
 label_shorter case = omega arith
 label_shorter case_minus = omega arith
 label_shorter default = omega arith
 
-semicolon_ends : (p : Place) (left : Tokens) → Ends ((sign signs.Semicolon, p) ∷ left)
+semicolon_ends : (p : Position) (left : Tokens) → Ends ((sign signs.Semicolon, p) ∷ left)
 unfolding ends_expr
 semicolon_ends p left = refl
 
-close_ends : (p : Place) (left : Tokens) → Ends ((sign signs.CloseParenthesis, p) ∷ left)
+close_ends : (p : Position) (left : Tokens) → Ends ((sign signs.CloseParenthesis, p) ∷ left)
 unfolding ends_expr
 close_ends p left = refl
 
 module _ (below : Below) where
-  no_first_again : (p : Place) (left : Tokens) → first_with below ((sign signs.Semicolon, p) ∷ left) ≡ Ok (Empty p, left)
+  no_first_again : (p : Position) (left : Tokens) → first_with below ((sign signs.Semicolon, p) ∷ left) ≡ Ok (Empty p, left)
   unfolding first_with
   no_first_again p left = rw (next_is_sign-again signs.Semicolon p left, expect_again signs.Semicolon p left) refl
 
@@ -202,27 +202,27 @@ module _ (below : Below) where
   unfolding first_with
   first_vars_again from left v b i h = rw (starts_no_semicolon from b, i) (then_reads _ h whole)
 
-  first_expr_again : {free : ℕ} (p : Place) (from left : Tokens) (e : Expr) → next_is begins from ≡ true → is_vars from ≡ false → Reads Expr free (below true from) (e, (sign signs.Semicolon, p) ∷ left) → Reads Stmt free (first_with below from) (Evaluate (place_of e) e, left)
+  first_expr_again : {free : ℕ} (p : Position) (from left : Tokens) (e : Expr) → next_is begins from ≡ true → is_vars from ≡ false → Reads Expr free (below true from) (e, (sign signs.Semicolon, p) ∷ left) → Reads Stmt free (first_with below from) (Evaluate (place_of e) e, left)
   unfolding first_with
   first_expr_again p from left e b i h = rw (begins_no_semicolon from b, i) (then_reads _ h (rw (expect_again signs.Semicolon p left) whole))
 
-  no_test_again : (p : Place) (left : Tokens) → test_with below ((sign signs.Semicolon, p) ∷ left) ≡ Ok (None, left)
+  no_test_again : (p : Position) (left : Tokens) → test_with below ((sign signs.Semicolon, p) ∷ left) ≡ Ok (None, left)
   unfolding test_with
   no_test_again p left = rw (next_is_sign-again signs.Semicolon p left, expect_again signs.Semicolon p left) refl
 
-  test_again : {free : ℕ} (p : Place) (from left : Tokens) (e : Expr) → next_is begins from ≡ true → Reads Expr free (below true from) (e, (sign signs.Semicolon, p) ∷ left) → Reads (Option Expr) free (test_with below from) (Some e, left)
+  test_again : {free : ℕ} (p : Position) (from left : Tokens) (e : Expr) → next_is begins from ≡ true → Reads Expr free (below true from) (e, (sign signs.Semicolon, p) ∷ left) → Reads (Option Expr) free (test_with below from) (Some e, left)
   unfolding test_with
   test_again p from left e b h = rw (begins_no_semicolon from b) (then_reads _ h (rw (expect_again signs.Semicolon p left) whole))
 
-  no_result_again : (p : Place) (left : Tokens) → return_value_with below ((sign signs.Semicolon, p) ∷ left) ≡ Ok (None, left)
+  no_result_again : (p : Position) (left : Tokens) → return_value_with below ((sign signs.Semicolon, p) ∷ left) ≡ Ok (None, left)
   unfolding return_value_with
   no_result_again p left = rw (next_is_sign-again signs.Semicolon p left, expect_again signs.Semicolon p left) refl
 
-  result_again : {free : ℕ} (p : Place) (from left : Tokens) (e : Expr) → next_is begins from ≡ true → Reads Expr free (assign_with below from) (e, (sign signs.Semicolon, p) ∷ left) → Reads (Option Expr) free (return_value_with below from) (Some e, left)
+  result_again : {free : ℕ} (p : Position) (from left : Tokens) (e : Expr) → next_is begins from ≡ true → Reads Expr free (assign_with below from) (e, (sign signs.Semicolon, p) ∷ left) → Reads (Option Expr) free (return_value_with below from) (Some e, left)
   unfolding return_value_with
   result_again p from left e b h = rw (begins_no_semicolon from b) (then_reads _ h (rw (expect_again signs.Semicolon p left) whole))
 
-  evaluate_again : {free : ℕ} (p : Place) (from left : Tokens) (e : Expr) → Reads Expr free (assign_with below from) (e, (sign signs.Semicolon, p) ∷ left) → Reads Stmt free (evaluate_with below from) (Evaluate (place_of e) e, left)
+  evaluate_again : {free : ℕ} (p : Position) (from left : Tokens) (e : Expr) → Reads Expr free (assign_with below from) (e, (sign signs.Semicolon, p) ∷ left) → Reads Stmt free (evaluate_with below from) (Evaluate (place_of e) e, left)
   unfolding evaluate_with
   evaluate_again p from left e h = then_reads _ h (rw (expect_again signs.Semicolon p left) whole)
 
@@ -254,11 +254,11 @@ module _ (below : Below) (deeper : Nested) where
   unfolding local_with
   local_stmt_again from left s i h = rw i h
 
-  block_again : {free : ℕ} (p q : Place) (from left : Tokens) (ss : List Stmt) → ReadsAll free goes_on (local_with below deeper) from ss ((sign signs.CloseBrace, q) ∷ left) → Reads (List Stmt) free (block_with below deeper ((sign signs.OpenBrace, p) ∷ from)) (ss, left)
+  block_again : {free : ℕ} (p q : Position) (from left : Tokens) (ss : List Stmt) → ReadsAll free goes_on (local_with below deeper) from ss ((sign signs.CloseBrace, q) ∷ left) → Reads (List Stmt) free (block_with below deeper ((sign signs.OpenBrace, p) ∷ from)) (ss, left)
   unfolding block_with locals_with
   block_again p q from left ss r = rw (expect_again signs.OpenBrace p from) (then_reads _ (r (length from) (omega arith)) (rw (expect_again signs.CloseBrace q left) whole))
 
-  inner_block_again : {free : ℕ} (p : Place) (from left : Tokens) (ss : List Stmt) → Reads (List Stmt) free (block_with below deeper ((sign signs.OpenBrace, p) ∷ from)) (ss, left) → Reads Stmt free (stmt_with below deeper ((sign signs.OpenBrace, p) ∷ from)) (Block p (stmts ss), left)
+  inner_block_again : {free : ℕ} (p : Position) (from left : Tokens) (ss : List Stmt) → Reads (List Stmt) free (block_with below deeper ((sign signs.OpenBrace, p) ∷ from)) (ss, left) → Reads Stmt free (stmt_with below deeper ((sign signs.OpenBrace, p) ∷ from)) (Block p (stmts ss), left)
   unfolding stmt_with stmt_token
   inner_block_again p from left ss h = then_reads _ h whole
 
@@ -267,56 +267,56 @@ module _ (below : Below) (deeper : Nested) where
   alone_again [] h = absurd (no_true h)
   alone_again ((m, p) ∷ ts) h = rw ((begins_leads m h).0) refl
 
-  no_else_again : (p : Place) (c : Expr) (s : Stmt) (left : Tokens) → NoElse left → else_with deeper p c s left ≡ Ok (If p c s, left)
+  no_else_again : (p : Position) (c : Expr) (s : Stmt) (left : Tokens) → NoElse left → else_with deeper p c s left ≡ Ok (If p c s, left)
   unfolding else_with
   no_else_again p c s [] h = refl
   no_else_again p c s ((m, o) ∷ ts) h = rw h refl
 
-  if_again : {free : ℕ} (p q r : Place) (from after left : Tokens) (c : Expr) (s : Stmt) → Reads Expr free (below true from) (c, (sign signs.CloseParenthesis, r) ∷ after) → Reads Stmt free (deeper after) (s, left) → NoElse left → Reads Stmt free (stmt_with below deeper ((reserved words.If, p) ∷ (sign signs.OpenParenthesis, q) ∷ from)) (If p c s, left)
+  if_again : {free : ℕ} (p q r : Position) (from after left : Tokens) (c : Expr) (s : Stmt) → Reads Expr free (below true from) (c, (sign signs.CloseParenthesis, r) ∷ after) → Reads Stmt free (deeper after) (s, left) → NoElse left → Reads Stmt free (stmt_with below deeper ((reserved words.If, p) ∷ (sign signs.OpenParenthesis, q) ∷ from)) (If p c s, left)
   unfolding stmt_with stmt_token if_with
   if_again p q r from after left c s h i n = then_reads _ (bracketed_again below q r from after c h) (then_reads _ i (as_read (no_else_again p c s left n)))
 
-  if_else_again : {free : ℕ} (p q r o : Place) (from after other left : Tokens) (c : Expr) (s t : Stmt) → Reads Expr free (below true from) (c, (sign signs.CloseParenthesis, r) ∷ after) → Reads Stmt free (deeper after) (s, (reserved words.Else, o) ∷ other) → Reads Stmt free (deeper other) (t, left) → Reads Stmt free (stmt_with below deeper ((reserved words.If, p) ∷ (sign signs.OpenParenthesis, q) ∷ from)) (IfElse p c s t, left)
+  if_else_again : {free : ℕ} (p q r o : Position) (from after other left : Tokens) (c : Expr) (s t : Stmt) → Reads Expr free (below true from) (c, (sign signs.CloseParenthesis, r) ∷ after) → Reads Stmt free (deeper after) (s, (reserved words.Else, o) ∷ other) → Reads Stmt free (deeper other) (t, left) → Reads Stmt free (stmt_with below deeper ((reserved words.If, p) ∷ (sign signs.OpenParenthesis, q) ∷ from)) (IfElse p c s t, left)
   unfolding stmt_with stmt_token if_with else_with
   if_else_again p q r o from after other left c s t h i j = then_reads _ (bracketed_again below q r from after c h) (then_reads _ i (then_reads _ j whole))
 
-  while_again : {free : ℕ} (p q r : Place) (from after left : Tokens) (c : Expr) (s : Stmt) → Reads Expr free (below true from) (c, (sign signs.CloseParenthesis, r) ∷ after) → Reads Stmt free (deeper after) (s, left) → Reads Stmt free (stmt_with below deeper ((reserved words.While, p) ∷ (sign signs.OpenParenthesis, q) ∷ from)) (While p c s, left)
+  while_again : {free : ℕ} (p q r : Position) (from after left : Tokens) (c : Expr) (s : Stmt) → Reads Expr free (below true from) (c, (sign signs.CloseParenthesis, r) ∷ after) → Reads Stmt free (deeper after) (s, left) → Reads Stmt free (stmt_with below deeper ((reserved words.While, p) ∷ (sign signs.OpenParenthesis, q) ∷ from)) (While p c s, left)
   unfolding stmt_with stmt_token while_with
   while_again p q r from after left c s h i = then_reads _ (bracketed_again below q r from after c h) (then_reads _ i whole)
 
-  do_again : {free : ℕ} (p q r o w : Place) (from after left : Tokens) (c : Expr) (s : Stmt) → Reads Stmt free (deeper from) (s, (reserved words.While, w) ∷ (sign signs.OpenParenthesis, q) ∷ after) → Reads Expr free (below true after) (c, (sign signs.CloseParenthesis, r) ∷ (sign signs.Semicolon, o) ∷ left) → Reads Stmt free (stmt_with below deeper ((reserved words.Do, p) ∷ from)) (DoWhile p s c, left)
+  do_again : {free : ℕ} (p q r o w : Position) (from after left : Tokens) (c : Expr) (s : Stmt) → Reads Stmt free (deeper from) (s, (reserved words.While, w) ∷ (sign signs.OpenParenthesis, q) ∷ after) → Reads Expr free (below true after) (c, (sign signs.CloseParenthesis, r) ∷ (sign signs.Semicolon, o) ∷ left) → Reads Stmt free (stmt_with below deeper ((reserved words.Do, p) ∷ from)) (DoWhile p s c, left)
   unfolding stmt_with stmt_token do_with while_at
   do_again p q r o w from after left c s i h = then_reads _ i (then_reads _ (bracketed_again below q r after ((sign signs.Semicolon, o) ∷ left) c h) (rw (expect_again signs.Semicolon o left) whole))
 
-  for_again : {free : ℕ} (p q r : Place) (from second third after left : Tokens) (f s : Stmt) (c : Option Expr) (es : List Expr) → Reads Stmt free (first_with below from) (f, second) → Reads (Option Expr) free (test_with below second) (c, third) → Reads (List Expr) free (exprs_with below third) (es, (sign signs.CloseParenthesis, r) ∷ after) → Reads Stmt free (deeper after) (s, left) → Reads Stmt free (stmt_with below deeper ((reserved words.For, p) ∷ (sign signs.OpenParenthesis, q) ∷ from)) (For p f c es s, left)
+  for_again : {free : ℕ} (p q r : Position) (from second third after left : Tokens) (f s : Stmt) (c : Option Expr) (es : List Expr) → Reads Stmt free (first_with below from) (f, second) → Reads (Option Expr) free (test_with below second) (c, third) → Reads (List Expr) free (exprs_with below third) (es, (sign signs.CloseParenthesis, r) ∷ after) → Reads Stmt free (deeper after) (s, left) → Reads Stmt free (stmt_with below deeper ((reserved words.For, p) ∷ (sign signs.OpenParenthesis, q) ∷ from)) (For p f c es s, left)
   unfolding stmt_with stmt_token for_with
   for_again p q r from second third after left f s c es h i j k = rw (expect_again signs.OpenParenthesis q from) (then_reads _ h (then_reads _ i (then_reads _ j (rw (expect_again signs.CloseParenthesis r after) (then_reads _ k whole)))))
 
-  case_again : {free : ℕ} (from first after : Tokens) (p : Place) (l : Label) (ss : List Stmt) → label_at from ≡ Ok ((l, p), first) → ReadsAll free case_goes_on deeper first ss after → Reads Case free (case_with deeper from) (labelled p l (stmts ss), after)
+  case_again : {free : ℕ} (from first after : Tokens) (p : Position) (l : Label) (ss : List Stmt) → label_at from ≡ Ok ((l, p), first) → ReadsAll free case_goes_on deeper first ss after → Reads Case free (case_with deeper from) (labelled p l (stmts ss), after)
   unfolding case_with stmts_with
   case_again from first after p l ss h r = rw h (then_reads _ (r (length first) (omega arith)) whole)
 
-  switch_again : {free : ℕ} (p q r o w : Place) (from after left : Tokens) (e : Expr) (cs : List Case) → Reads Expr free (below true from) (e, (sign signs.CloseParenthesis, r) ∷ (sign signs.OpenBrace, o) ∷ after) → ReadsAll free goes_on (case_with deeper) after cs ((sign signs.CloseBrace, w) ∷ left) → Reads Stmt free (stmt_with below deeper ((reserved words.Switch, p) ∷ (sign signs.OpenParenthesis, q) ∷ from)) (Switch p e (cases cs), left)
+  switch_again : {free : ℕ} (p q r o w : Position) (from after left : Tokens) (e : Expr) (cs : List Case) → Reads Expr free (below true from) (e, (sign signs.CloseParenthesis, r) ∷ (sign signs.OpenBrace, o) ∷ after) → ReadsAll free goes_on (case_with deeper) after cs ((sign signs.CloseBrace, w) ∷ left) → Reads Stmt free (stmt_with below deeper ((reserved words.Switch, p) ∷ (sign signs.OpenParenthesis, q) ∷ from)) (Switch p e (cases cs), left)
   unfolding stmt_with stmt_token switch_with cases_with
   switch_again p q r o w from after left e cs h c = then_reads _ (bracketed_again below q r from ((sign signs.OpenBrace, o) ∷ after) e h) (rw (expect_again signs.OpenBrace o after) (then_reads _ (c (length after) (omega arith)) (rw (expect_again signs.CloseBrace w left) whole)))
 
-  break_again : (p q : Place) (left : Tokens) → stmt_with below deeper ((reserved words.Break, p) ∷ (sign signs.Semicolon, q) ∷ left) ≡ Ok (Break p, left)
+  break_again : (p q : Position) (left : Tokens) → stmt_with below deeper ((reserved words.Break, p) ∷ (sign signs.Semicolon, q) ∷ left) ≡ Ok (Break p, left)
   unfolding stmt_with stmt_token
   break_again p q left = rw (expect_again signs.Semicolon q left) refl
 
-  continue_again : (p q : Place) (left : Tokens) → stmt_with below deeper ((reserved words.Continue, p) ∷ (sign signs.Semicolon, q) ∷ left) ≡ Ok (Continue p, left)
+  continue_again : (p q : Position) (left : Tokens) → stmt_with below deeper ((reserved words.Continue, p) ∷ (sign signs.Semicolon, q) ∷ left) ≡ Ok (Continue p, left)
   unfolding stmt_with stmt_token
   continue_again p q left = rw (expect_again signs.Semicolon q left) refl
 
-  return_again : {free : ℕ} (p : Place) (from left : Tokens) (c : Option Expr) → Reads (Option Expr) free (return_value_with below from) (c, left) → Reads Stmt free (stmt_with below deeper ((reserved words.Return, p) ∷ from)) (Return p c, left)
+  return_again : {free : ℕ} (p : Position) (from left : Tokens) (c : Option Expr) → Reads (Option Expr) free (return_value_with below from) (c, left) → Reads Stmt free (stmt_with below deeper ((reserved words.Return, p) ∷ from)) (Return p c, left)
   unfolding stmt_with stmt_token
   return_again p from left c h = then_reads _ h whole
 
-pub brace_rests : (p : Place) (left : Tokens) → (goes_on ((sign signs.CloseBrace, p) ∷ left) ≡ false) × (case_goes_on ((sign signs.CloseBrace, p) ∷ left) ≡ false) × NoElse ((sign signs.CloseBrace, p) ∷ left)
+pub brace_rests : (p : Position) (left : Tokens) → (goes_on ((sign signs.CloseBrace, p) ∷ left) ≡ false) × (case_goes_on ((sign signs.CloseBrace, p) ∷ left) ≡ false) × NoElse ((sign signs.CloseBrace, p) ∷ left)
 unfolding goes_on case_goes_on stmt_token
 brace_rests p left = (refl, refl, refl)
 
-while_no_else : (p : Place) (left : Tokens) → NoElse ((reserved words.While, p) ∷ left)
+while_no_else : (p : Position) (left : Tokens) → NoElse ((reserved words.While, p) ∷ left)
 unfolding stmt_token
 while_no_else p left = refl
 

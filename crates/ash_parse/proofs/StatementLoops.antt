@@ -1,6 +1,6 @@
 -- The loops of declarations and statements go on with fewer tokens.
 use Rattle.std.proofs.Common.{◌≡◌, ℕ, zero, suc, ◌<◌, ◌≤◌, ◌-◌, [], false, refl, arith}
-use Rattle.ash_tree.specs.Tokens.{Tokens}
+use Rattle.ash_tree.specs.GrammarTokens.{Tokens}
 use Rattle.ash_tree.specs.Statements.{IsNested, no_more_decls, no_locals, no_cases}
 use Rattle.ash_parse.specs.ExpressionReader.{below_at}
 use Rattle.ash_parse.specs.StatementReader.{next_decl_with, goes_on, case_goes_on, local_with, case_with, stmt_with, stmt_limit_at, nested_at}

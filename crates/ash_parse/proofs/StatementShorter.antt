@@ -1,9 +1,9 @@
 -- Each declaration and each statement takes a token at least.
 use Rattle.std.proofs.Common.{ℕ, ◌<◌, ◌≤◌, ◌∷◌, List, Option, length, arith}
 use Rattle.ash_tree.specs.Tree.{Expr, Decl, Vars, Stmt, Case}
-use Rattle.ash_tree.specs.declared.tree.places.Place.{Place}
+use Rattle.ash_tree.specs.declared.tree.places.Position.{Position}
 use Rattle.ash_tree.specs.declared.tree.statements.Label.{Label}
-use Rattle.ash_tree.specs.Tokens.{Tokens}
+use Rattle.ash_tree.specs.GrammarTokens.{Tokens}
 use Rattle.ash_tree.specs.Statements.{IsDecl, bare, valued, made, AreMoreDecls, no_more_decls, more_decls, IsVars, vars, IsFirst, no_first, first_vars, first_expr, IsTest, no_test, test, IsResult, no_result, value, IsLabel, case, case_minus, default, IsNested, nested, AreLocals, no_locals, local_vars, local_stmt, IsBlock, block, IsStmt, inner_block, empty, evaluate, if_only, if_else, while, do_while, for, switch, break, continue, return, AreCases, no_cases, more_cases, AreStmts, no_stmts, more_stmts}
 use Rattle.ash_parse.proofs.ExpressionShorter.{inner_shorter, exprs_shorter, args_shorter, assign_shorter}
 use Rattle.ash_parse.proofs.Types.{type_shorter}
@@ -36,7 +36,7 @@ result_shorter : {free depth : ℕ} {from left : Tokens} {c : Option Expr} → I
 result_shorter no_result = omega arith
 result_shorter (value e) = let x = assign_shorter e in omega arith
 
-label_shorter : {from left : Tokens} {p : Place} {l : Label} → IsLabel from p l left → length left < length from
+label_shorter : {from left : Tokens} {p : Position} {l : Label} → IsLabel from p l left → length left < length from
 label_shorter case = omega arith
 label_shorter case_minus = omega arith
 label_shorter default = omega arith

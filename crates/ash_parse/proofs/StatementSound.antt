@@ -3,11 +3,11 @@ use Rattle.std.proofs.Common.{◌≡◌, ℕ, zero, suc, ◌+◌, List, [], ◌�
 use Rattle.ash_lex.specs.Tokens.{Meaning, name, number, sign, reserved, unsupported}
 use Rattle.ash_lex.specs.declared.signs.Sign.TheVariants as signs
 use Rattle.ash_lex.specs.declared.words.ReservedWord.TheVariants as words
-use Rattle.ash_tree.specs.declared.tree.places.Place.{Place}
+use Rattle.ash_tree.specs.declared.tree.places.Position.{Position}
 use Rattle.ash_tree.specs.declared.tree.statements.Label.{Label}
 use Rattle.ash_tree.specs.declared.tree.statements.Label.TheVariants as labels
 use Rattle.ash_tree.specs.Tree.{Prim, Expr, Initializer, Default, Value, Arguments, Decl, Vars, Stmt, Empty, Declare, Evaluate, Block, If, IfElse, While, DoWhile, For, Switch, Break, Continue, Return, Case, labelled, place_of, place_of_type, stmts, cases}
-use Rattle.ash_tree.specs.Tokens.{Tokens}
+use Rattle.ash_tree.specs.GrammarTokens.{Tokens}
 use Rattle.ash_tree.specs.Expressions.{IsInner, AreExprs, IsAssign}
 use Rattle.ash_tree.specs.Statements.{IsDecl, bare, valued, made, AreMoreDecls, no_more_decls, more_decls, IsVars, vars, IsFirst, no_first, first_vars, first_expr, IsTest, no_test, test, IsResult, no_result, value, IsLabel, case, case_minus, default, is_open, IsNested, nested, AreLocals, no_locals, local_vars, local_stmt, IsBlock, block, IsStmt, inner_block, empty, evaluate, if_only, if_else, while, do_while, for, switch, break, continue, return, AreCases, no_cases, more_cases, AreStmts, no_stmts, more_stmts}
 use Rattle.ash_parse.specs.declared.stmt_tokens.StmtToken.{StmtToken}
@@ -25,10 +25,10 @@ Closes s left = next_is (λ m. is_else (stmt_token m)) left ≡ true → is_open
 
 module _ (free depth : ℕ) (below : Below) (whole : Finds (below true) (IsInner free depth)) (part : Finds (below false) (IsPart free depth)) where
   -- a decl after its name
-  Rest : Place → List ℕ → Tokens → Initializer → Tokens → Type 0
+  Rest : Position → List ℕ → Tokens → Initializer → Tokens → Type 0
   Rest p t ts i left = IsDecl free depth ((name t, p) ∷ ts) (record { place = p; name = t; initializer = i }) left
 
-  initializer_sound : (p : Place) (t : List ℕ) → Finds (initializer_with below) (Rest p t)
+  initializer_sound : (p : Position) (t : List ℕ) → Finds (initializer_with below) (Rest p t)
   unfolding initializer_with Rest
   initializer_sound p t ts x rest h =
       if_elim (next_is_sign signs.Assign ts) (expect_at signs.Assign ts >>= λ a. assign_with below a.1 >>= λ e. Ok (Value e.0, e.1)) (cond (next_is_sign signs.OpenParenthesis ts) (arguments_with below ts >>= λ es. Ok (Arguments es.0, es.1)) (Ok (Default, ts))) (Ok (x, rest)) (Rest p t ts x rest) h
@@ -69,12 +69,12 @@ module _ (free depth : ℕ) (below : Below) (whole : Finds (below true) (IsInner
       (put_ok (d.0).0 (more_decls_with below (d.0).1) (ds.0).0 (ds.0).1 (λ ys r. IsVars free depth ts (record { of = (t.0).0; decls = ys }) r) d.2
       (λ ys left m. vars (type_sound ts (t.0).0 (t.0).1 t.1) (decl_sound (t.0).1 (d.0).0 (d.0).1 d.1) (more_decls_sound (d.0).1 ys left m)))
 
-  pub declared_sound : (ts : Tokens) (x : Vars) (rest : Tokens) → vars_statement_with below ts ≡ Ok (x, rest) → (p : Place) × IsVars free depth ts x ((sign signs.Semicolon, p) ∷ rest)
+  pub declared_sound : (ts : Tokens) (x : Vars) (rest : Tokens) → vars_statement_with below ts ≡ Ok (x, rest) → (p : Position) × IsVars free depth ts x ((sign signs.Semicolon, p) ∷ rest)
   unfolding vars_statement_with
   declared_sound ts x rest h =
       let v = bind_ok (vars_with below ts) (λ v. expect_at signs.Semicolon v.1 >>= λ s. Ok (v.0, s.1)) (x, rest) h in
       let s = bind_ok (expect_at signs.Semicolon (v.0).1) (λ s. Ok ((v.0).0, s.1)) (x, rest) v.2 in
-      at_pair (λ y r. (p : Place) × IsVars free depth ts y ((sign signs.Semicolon, p) ∷ r)) (v.0).0 (s.0).1 x rest s.2
+      at_pair (λ y r. (p : Position) × IsVars free depth ts y ((sign signs.Semicolon, p) ∷ r)) (v.0).0 (s.0).1 x rest s.2
       ((s.0).0, ends_in signs.Semicolon (v.0).1 (s.0).0 (s.0).1 (λ r. IsVars free depth ts (v.0).0 r) s.1 (vars_sound ts (v.0).0 (v.0).1 v.1))
 
   pub first_sound : Finds (first_with below) (IsFirst free depth)
@@ -187,7 +187,7 @@ else_leads stmt_tokens.Continue m d h = cc
 else_leads stmt_tokens.Return m d h = cc
 else_leads stmt_tokens.Other m d h = cc
 
-while_sound : (ts : Tokens) (p : Place) (rest : Tokens) (Q : Tokens → Type 0) → while_at ts ≡ Ok (p, rest) → Q ts → Q ((reserved words.While, p) ∷ rest)
+while_sound : (ts : Tokens) (p : Position) (rest : Tokens) (Q : Tokens → Type 0) → while_at ts ≡ Ok (p, rest) → Q ts → Q ((reserved words.While, p) ∷ rest)
 unfolding while_at
 while_sound [] p rest Q h q = absurd (no_err (Unexpected []) (p, rest) h)
 while_sound ((m, o) ∷ ts) p rest Q h q =
@@ -195,37 +195,37 @@ while_sound ((m, o) ∷ ts) p rest Q h q =
     (λ b e. at_pair (λ x r. Q ((reserved words.While, x) ∷ r)) o ts p rest e (subst (λ w. Q ((w, o) ∷ ts)) (while_leads (stmt_token m) m (leads_to m) b) q))
     (λ b e. absurd (no_err (Unexpected ((m, o) ∷ ts)) (p, rest) e))
 
-number_sound : (ts : Tokens) (x : ℕ × Place) (rest : Tokens) (Q : Tokens → Type 0) → number_at ts ≡ Ok (x, rest) → Q ((number x.0, x.1) ∷ rest) → Q ts
+number_sound : (ts : Tokens) (x : ℕ × Position) (rest : Tokens) (Q : Tokens → Type 0) → number_at ts ≡ Ok (x, rest) → Q ((number x.0, x.1) ∷ rest) → Q ts
 unfolding number_at
 number_sound [] x rest Q h go = absurd (no_err (Unexpected []) (x, rest) h)
-number_sound ((number k, p) ∷ ts) x rest Q h go = at_pair (λ (y : ℕ × Place) r. Q ((number y.0, y.1) ∷ r)) x rest (k, p) ts (sym h) go
+number_sound ((number k, p) ∷ ts) x rest Q h go = at_pair (λ (y : ℕ × Position) r. Q ((number y.0, y.1) ∷ r)) x rest (k, p) ts (sym h) go
 number_sound ((name k, p) ∷ ts) x rest Q h go = absurd (no_err (Unexpected ((name k, p) ∷ ts)) (x, rest) h)
 number_sound ((sign k, p) ∷ ts) x rest Q h go = absurd (no_err (Unexpected ((sign k, p) ∷ ts)) (x, rest) h)
 number_sound ((reserved k, p) ∷ ts) x rest Q h go = absurd (no_err (Unexpected ((reserved k, p) ∷ ts)) (x, rest) h)
 number_sound ((unsupported k, p) ∷ ts) x rest Q h go = absurd (no_err (Unexpected ((unsupported k, p) ∷ ts)) (x, rest) h)
 
-case_value_sound : (p : Place) (ts : Tokens) (l : Label × Place) (rest : Tokens) → case_value_at ts ≡ Ok (l, rest) → IsLabel ((reserved words.Case, p) ∷ ts) l.1 l.0 rest
+case_value_sound : (p : Position) (ts : Tokens) (l : Label × Position) (rest : Tokens) → case_value_at ts ≡ Ok (l, rest) → IsLabel ((reserved words.Case, p) ∷ ts) l.1 l.0 rest
 unfolding case_value_at
 case_value_sound p ts l rest h =
     if_elim (next_is_sign signs.Minus ts) (expect_at signs.Minus ts >>= λ o. number_at o.1 >>= λ n. expect_at signs.Colon n.1 >>= λ c. Ok ((labels.CaseMinus (n.0).0, o.0), c.1)) (number_at ts >>= λ n. expect_at signs.Colon n.1 >>= λ c. Ok ((labels.Case (n.0).0, (n.0).1), c.1)) (Ok (l, rest)) (IsLabel ((reserved words.Case, p) ∷ ts) l.1 l.0 rest) h
     (λ b k. let o = bind_ok (expect_at signs.Minus ts) (λ o. number_at o.1 >>= λ n. expect_at signs.Colon n.1 >>= λ c. Ok ((labels.CaseMinus (n.0).0, o.0), c.1)) (l, rest) k in
     let n = bind_ok (number_at (o.0).1) (λ n. expect_at signs.Colon n.1 >>= λ c. Ok ((labels.CaseMinus (n.0).0, (o.0).0), c.1)) (l, rest) o.2 in
     let c = bind_ok (expect_at signs.Colon (n.0).1) (λ c. Ok ((labels.CaseMinus ((n.0).0).0, (o.0).0), c.1)) (l, rest) n.2 in
-    at_pair (λ (x : Label × Place) r. IsLabel ((reserved words.Case, p) ∷ ts) x.1 x.0 r) (labels.CaseMinus ((n.0).0).0, (o.0).0) (c.0).1 l rest c.2
+    at_pair (λ (x : Label × Position) r. IsLabel ((reserved words.Case, p) ∷ ts) x.1 x.0 r) (labels.CaseMinus ((n.0).0).0, (o.0).0) (c.0).1 l rest c.2
     (expect_sound signs.Minus ts (o.0).0 (o.0).1 (λ r. IsLabel ((reserved words.Case, p) ∷ r) (o.0).0 (labels.CaseMinus ((n.0).0).0) (c.0).1) o.1
     (number_sound (o.0).1 (n.0).0 (n.0).1 (λ r. IsLabel ((reserved words.Case, p) ∷ (sign signs.Minus, (o.0).0) ∷ r) (o.0).0 (labels.CaseMinus ((n.0).0).0) (c.0).1) n.1
     (expect_sound signs.Colon (n.0).1 (c.0).0 (c.0).1 (λ r. IsLabel ((reserved words.Case, p) ∷ (sign signs.Minus, (o.0).0) ∷ (number ((n.0).0).0, ((n.0).0).1) ∷ r) (o.0).0 (labels.CaseMinus ((n.0).0).0) (c.0).1) c.1 case_minus))))
     (λ b k. let n = bind_ok (number_at ts) (λ n. expect_at signs.Colon n.1 >>= λ c. Ok ((labels.Case (n.0).0, (n.0).1), c.1)) (l, rest) k in
     let c = bind_ok (expect_at signs.Colon (n.0).1) (λ c. Ok ((labels.Case ((n.0).0).0, ((n.0).0).1), c.1)) (l, rest) n.2 in
-    at_pair (λ (x : Label × Place) r. IsLabel ((reserved words.Case, p) ∷ ts) x.1 x.0 r) (labels.Case ((n.0).0).0, ((n.0).0).1) (c.0).1 l rest c.2
+    at_pair (λ (x : Label × Position) r. IsLabel ((reserved words.Case, p) ∷ ts) x.1 x.0 r) (labels.Case ((n.0).0).0, ((n.0).0).1) (c.0).1 l rest c.2
     (number_sound ts (n.0).0 (n.0).1 (λ r. IsLabel ((reserved words.Case, p) ∷ r) ((n.0).0).1 (labels.Case ((n.0).0).0) (c.0).1) n.1
     (expect_sound signs.Colon (n.0).1 (c.0).0 (c.0).1 (λ r. IsLabel ((reserved words.Case, p) ∷ (number ((n.0).0).0, ((n.0).0).1) ∷ r) ((n.0).0).1 (labels.Case ((n.0).0).0) (c.0).1) c.1 case)))
 
 -- a label with its place
-abbrev Labelled : Tokens → Label × Place → Tokens → Type 0
+abbrev Labelled : Tokens → Label × Position → Tokens → Type 0
 Labelled ts x rest = IsLabel ts x.1 x.0 rest
 
-label_by_sound : (k : StmtToken) (m : Meaning) (p : Place) (ts : Tokens) (x : Label × Place) (rest : Tokens) → Leads k m → label_by k m p ts ≡ Ok (x, rest) → Labelled ((m, p) ∷ ts) x rest
+label_by_sound : (k : StmtToken) (m : Meaning) (p : Position) (ts : Tokens) (x : Label × Position) (rest : Tokens) → Leads k m → label_by k m p ts ≡ Ok (x, rest) → Labelled ((m, p) ∷ ts) x rest
 label_by_sound stmt_tokens.Case m p ts x rest d h = subst (λ w. IsLabel ((w, p) ∷ ts) x.1 x.0 rest) (sym d) (case_value_sound p ts x rest h)
 label_by_sound stmt_tokens.Default m p ts x rest d h =
     let c = bind_ok (expect_at signs.Colon ts) (λ c. Ok ((labels.Default, p), c.1)) (x, rest) h in
@@ -284,7 +284,7 @@ module _ (free depth : ℕ) (below : Below) (deeper : Nested) (whole : Finds (be
   S : Tokens → Stmt → Tokens → Type 0
   S ts x left = IsStmt free depth ts x left × Closes x left
 
-  else_sound : (p o q : Place) (r after : Tokens) (c : Expr) (s : Stmt) (ts : Tokens) (x : Stmt) (rest : Tokens) → IsInner free depth r c ((sign signs.CloseParenthesis, q) ∷ after) → IsNested free depth after s ts → Closes s ts → else_with deeper p c s ts ≡ Ok (x, rest) → S ((reserved words.If, p) ∷ (sign signs.OpenParenthesis, o) ∷ r) x rest
+  else_sound : (p o q : Position) (r after : Tokens) (c : Expr) (s : Stmt) (ts : Tokens) (x : Stmt) (rest : Tokens) → IsInner free depth r c ((sign signs.CloseParenthesis, q) ∷ after) → IsNested free depth after s ts → Closes s ts → else_with deeper p c s ts ≡ Ok (x, rest) → S ((reserved words.If, p) ∷ (sign signs.OpenParenthesis, o) ∷ r) x rest
   unfolding else_with S
   else_sound p o q r after c s [] x rest i n d h = at_pair (λ y l. IsStmt free depth ((reserved words.If, p) ∷ (sign signs.OpenParenthesis, o) ∷ r) y l × Closes y l) (If p c s) [] x rest h (if_only i n, λ e. sym e)
   else_sound p o q r after c s ((m, a) ∷ ts) x rest i n d h =
@@ -295,7 +295,7 @@ module _ (free depth : ℕ) (below : Below) (deeper : Nested) (whole : Finds (be
       (if_else i (subst (λ w. IsNested free depth after s ((w, a) ∷ ts)) (else_leads (stmt_token m) m (leads_to m) b) n) (d b) u.0, u.1))
       (λ b k. at_pair (λ y l. IsStmt free depth ((reserved words.If, p) ∷ (sign signs.OpenParenthesis, o) ∷ r) y l × Closes y l) (If p c s) ((m, a) ∷ ts) x rest k (if_only i n, λ e. sym e ∙ b))
 
-  if_sound : (p : Place) (ts : Tokens) (x : Stmt) (rest : Tokens) → if_with below deeper p ts ≡ Ok (x, rest) → S ((reserved words.If, p) ∷ ts) x rest
+  if_sound : (p : Position) (ts : Tokens) (x : Stmt) (rest : Tokens) → if_with below deeper p ts ≡ Ok (x, rest) → S ((reserved words.If, p) ∷ ts) x rest
   unfolding if_with
   if_sound p ts x rest h =
       let c = bind_ok (bracketed_with below ts) (λ c. deeper c.1 >>= λ s. else_with deeper p c.0 s.0 s.1) (x, rest) h in
@@ -304,7 +304,7 @@ module _ (free depth : ℕ) (below : Below) (deeper : Nested) (whole : Finds (be
       bracketed_sound free depth below whole part ts (c.0).0 (c.0).1 (λ t. S ((reserved words.If, p) ∷ t) x rest) c.1
       (λ o q r i. else_sound p o q r (c.0).1 (c.0).0 (s.0).0 (s.0).1 x rest i u.0 u.1 s.2)
 
-  while_loop_sound : (p : Place) (ts : Tokens) (x : Stmt) (rest : Tokens) → while_with below deeper p ts ≡ Ok (x, rest) → S ((reserved words.While, p) ∷ ts) x rest
+  while_loop_sound : (p : Position) (ts : Tokens) (x : Stmt) (rest : Tokens) → while_with below deeper p ts ≡ Ok (x, rest) → S ((reserved words.While, p) ∷ ts) x rest
   unfolding while_with S
   while_loop_sound p ts x rest h =
       let c = bind_ok (bracketed_with below ts) (λ c. deeper c.1 >>= λ s. Ok (While p c.0 s.0, s.1)) (x, rest) h in
@@ -313,7 +313,7 @@ module _ (free depth : ℕ) (below : Below) (deeper : Nested) (whole : Finds (be
       at_pair (λ y l. IsStmt free depth ((reserved words.While, p) ∷ ts) y l × Closes y l) (While p (c.0).0 (s.0).0) (s.0).1 x rest s.2
       (bracketed_sound free depth below whole part ts (c.0).0 (c.0).1 (λ t. IsStmt free depth ((reserved words.While, p) ∷ t) (While p (c.0).0 (s.0).0) (s.0).1) c.1 (λ o q r i. while i u.0), u.1)
 
-  do_sound : (p : Place) (ts : Tokens) (x : Stmt) (rest : Tokens) → do_with below deeper p ts ≡ Ok (x, rest) → S ((reserved words.Do, p) ∷ ts) x rest
+  do_sound : (p : Position) (ts : Tokens) (x : Stmt) (rest : Tokens) → do_with below deeper p ts ≡ Ok (x, rest) → S ((reserved words.Do, p) ∷ ts) x rest
   unfolding do_with S
   do_sound p ts x rest h =
       let s = bind_ok (deeper ts) (λ s. while_at s.1 >>= λ w. bracketed_with below w.1 >>= λ c. expect_at signs.Semicolon c.1 >>= λ o. Ok (DoWhile p s.0 c.0, o.1)) (x, rest) h in
@@ -328,7 +328,7 @@ module _ (free depth : ℕ) (below : Below) (deeper : Nested) (whole : Finds (be
         λ e. refl,
       )
 
-  for_sound : (p : Place) (ts : Tokens) (x : Stmt) (rest : Tokens) → for_with below deeper p ts ≡ Ok (x, rest) → S ((reserved words.For, p) ∷ ts) x rest
+  for_sound : (p : Position) (ts : Tokens) (x : Stmt) (rest : Tokens) → for_with below deeper p ts ≡ Ok (x, rest) → S ((reserved words.For, p) ∷ ts) x rest
   unfolding for_with S
   for_sound p ts x rest h =
       let o = bind_ok (expect_at signs.OpenParenthesis ts) (λ o. first_with below o.1 >>= λ f. test_with below f.1 >>= λ c. exprs_with below c.1 >>= λ es. expect_at signs.CloseParenthesis es.1 >>= λ z. deeper z.1 >>= λ s. Ok (For p f.0 c.0 es.0 s.0, s.1)) (x, rest) h in
@@ -345,7 +345,7 @@ module _ (free depth : ℕ) (below : Below) (deeper : Nested) (whole : Finds (be
         u.1,
       )
 
-  switch_sound : (p : Place) (ts : Tokens) (x : Stmt) (rest : Tokens) → switch_with below deeper p ts ≡ Ok (x, rest) → S ((reserved words.Switch, p) ∷ ts) x rest
+  switch_sound : (p : Position) (ts : Tokens) (x : Stmt) (rest : Tokens) → switch_with below deeper p ts ≡ Ok (x, rest) → S ((reserved words.Switch, p) ∷ ts) x rest
   unfolding switch_with S
   switch_sound p ts x rest h =
       let e = bind_ok (bracketed_with below ts) (λ e. expect_at signs.OpenBrace e.1 >>= λ o. cases_with deeper o.1 >>= λ cs. expect_at signs.CloseBrace cs.1 >>= λ z. Ok (Switch p e.0 (cases cs.0), z.1)) (x, rest) h in
@@ -359,7 +359,7 @@ module _ (free depth : ℕ) (below : Below) (deeper : Nested) (whole : Finds (be
         λ w. refl,
       )
 
-  stmt_by_sound : (k : StmtToken) (m : Meaning) (p : Place) (ts : Tokens) (x : Stmt) (rest : Tokens) → Leads k m → stmt_by k below deeper m p ts ≡ Ok (x, rest) → S ((m, p) ∷ ts) x rest
+  stmt_by_sound : (k : StmtToken) (m : Meaning) (p : Position) (ts : Tokens) (x : Stmt) (rest : Tokens) → Leads k m → stmt_by k below deeper m p ts ≡ Ok (x, rest) → S ((m, p) ∷ ts) x rest
   unfolding S
   stmt_by_sound stmt_tokens.Block m p ts x rest d h =
       let b = bind_ok (block_with below deeper ((m, p) ∷ ts)) (λ b. Ok (Block p (stmts b.0), b.1)) (x, rest) h in

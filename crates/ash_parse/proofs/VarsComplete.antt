@@ -4,17 +4,17 @@ use Rattle.std.proofs.Common.{◌≡◌, ℕ, ◌+◌, List, [], ◌∷◌, leng
 use Rattle.ash_lex.specs.Tokens.{Meaning, name, sign, reserved}
 use Rattle.ash_lex.specs.declared.signs.Sign.TheVariants as signs
 use Rattle.ash_lex.specs.declared.words.ReservedWord.TheVariants as words
-use Rattle.ash_tree.specs.declared.tree.places.Place.{Place}
+use Rattle.ash_tree.specs.declared.tree.places.Position.{Position}
 use Rattle.ash_tree.specs.declared.tree.operators.UnaryOp.{UnaryOp}
 use Rattle.ash_tree.specs.declared.tree.operators.BinaryOp.{BinaryOp}
 use Rattle.ash_tree.specs.declared.tree.operators.AssignOp.{AssignOp}
-use Rattle.ash_tree.specs.Tree.{Named, Prim, Expr, Suffix, Operation, Default, Value, Arguments, Decl, Vars}
-use Rattle.ash_tree.specs.Tokens.{Tokens}
+use Rattle.ash_tree.specs.Tree.{Named, Prim, Expr, Suffix, OperatorLink, Default, Value, Arguments, Decl, Vars}
+use Rattle.ash_tree.specs.GrammarTokens.{Tokens}
 use Rattle.ash_tree.specs.Operators.{primitive, unary_operator, binary_operator, assign_operator}
 use Rattle.ash_tree.specs.Expressions.{max_depth, IsInner, inner, args, IsAssign, no_assign, assign, IsCond, no_branch, branches, IsBinary, operand, joined, AreLinks, no_links, more_links, IsUnary, applied, postfix, AreSuffixes, no_suffixes, more_suffixes, field, method, index, increment, decrement, IsPrimary, numeral, yes, no, null, this, named, call, brackets, convert, new_array, cast}
 use Rattle.ash_tree.specs.Types.{IsType, prim, object, handle, array, array_handle}
 use Rattle.ash_tree.specs.Statements.{IsDecl, bare, valued, made, AreMoreDecls, no_more_decls, more_decls, IsVars, vars}
-use Rattle.ash_parse.specs.Signs.{is_sign, same_sign}
+use Rattle.ash_parse.specs.SignTokens.{is_sign, same_sign}
 use Rattle.ash_parse.specs.Readers.{next_is, next_is_sign}
 use Rattle.ash_parse.specs.ExpressionReader.{Below, begins, arguments_with, assign_with, below_at}
 use Rattle.ash_parse.specs.TypeReader.{is_array}
@@ -62,7 +62,7 @@ suffixes_follow (more_suffixes (index a) b) s = (refl, refl)
 suffixes_follow (more_suffixes increment b) s = (refl, refl)
 suffixes_follow (more_suffixes decrement b) s = (refl, refl)
 
-links_follow : {free depth n : ℕ} {from left : Tokens} {more : List Operation} → AreLinks free depth n from more left → Follows left → Follows from
+links_follow : {free depth n : ℕ} {from left : Tokens} {more : List OperatorLink} → AreLinks free depth n from more left → Follows left → Follows from
 unfolding next_is_name next_is_sign
 links_follow no_links s = s
 links_follow (more_links {m = m} {operator = operator} o l a b) s = operator_follows m operator o
@@ -192,19 +192,19 @@ decls_next (no_more_decls {left = left}) s = (done_next left s).0
 decls_next (more_decls a b) s = refl
 
 module _ (below : Below) where
-  bare_again : (p : Place) (text : List ℕ) (left : Tokens) → Next left → decl_with below ((name text, p) ∷ left) ≡ Ok (record { place = p; name = text; initializer = Default }, left)
+  bare_again : (p : Position) (text : List ℕ) (left : Tokens) → Next left → decl_with below ((name text, p) ∷ left) ≡ Ok (record { place = p; name = text; initializer = Default }, left)
   unfolding decl_with initializer_with
   bare_again p text left s = let q = next_ends left s in rw (name_again text p left, q.1, q.2) refl
 
-  valued_again : {free : ℕ} (p q : Place) (text : List ℕ) (from left : Tokens) (e : Expr) → Reads Expr free (assign_with below from) (e, left) → Reads Decl free (decl_with below ((name text, p) ∷ (sign signs.Assign, q) ∷ from)) (record { place = p; name = text; initializer = Value e }, left)
+  valued_again : {free : ℕ} (p q : Position) (text : List ℕ) (from left : Tokens) (e : Expr) → Reads Expr free (assign_with below from) (e, left) → Reads Decl free (decl_with below ((name text, p) ∷ (sign signs.Assign, q) ∷ from)) (record { place = p; name = text; initializer = Value e }, left)
   unfolding decl_with initializer_with
   valued_again p q text from left e h = rw (name_again text p ((sign signs.Assign, q) ∷ from), next_is_sign-again signs.Assign q from, expect_again signs.Assign q from) (then_reads _ (then_reads _ h whole) whole)
 
-  made_again : {free : ℕ} (p o : Place) (text : List ℕ) (from left : Tokens) (es : List Expr) → Reads (List Expr) free (arguments_with below ((sign signs.OpenParenthesis, o) ∷ from)) (es, left) → Reads Decl free (decl_with below ((name text, p) ∷ (sign signs.OpenParenthesis, o) ∷ from)) (record { place = p; name = text; initializer = Arguments es }, left)
+  made_again : {free : ℕ} (p o : Position) (text : List ℕ) (from left : Tokens) (es : List Expr) → Reads (List Expr) free (arguments_with below ((sign signs.OpenParenthesis, o) ∷ from)) (es, left) → Reads Decl free (decl_with below ((name text, p) ∷ (sign signs.OpenParenthesis, o) ∷ from)) (record { place = p; name = text; initializer = Arguments es }, left)
   unfolding decl_with initializer_with next_is_sign is_sign same_sign
   made_again p o text from left es h = rw (name_again text p ((sign signs.OpenParenthesis, o) ∷ from)) (then_reads _ (then_reads _ h whole) whole)
 
-  next_decl_again : {free : ℕ} (p : Place) (from after : Tokens) (d : Decl) → Reads Decl free (decl_with below from) (d, after) → Reads Decl free (next_decl_with below ((sign signs.Comma, p) ∷ from)) (d, after)
+  next_decl_again : {free : ℕ} (p : Position) (from after : Tokens) (d : Decl) → Reads Decl free (decl_with below from) (d, after) → Reads Decl free (next_decl_with below ((sign signs.Comma, p) ∷ from)) (d, after)
   unfolding next_decl_with
   next_decl_again p from after d h = rw (expect_again signs.Comma p from) h
 
@@ -212,7 +212,7 @@ module _ (below : Below) where
   unfolding vars_with decls_with more_decls_with
   vars_again from first after left t d ds h i r = rw h (then_reads _ (then_reads _ i (put_reads d (r (length after) (omega arith)))) whole)
 
-  declared_again : {free : ℕ} (p : Place) (from left : Tokens) (v : Vars) → Reads Vars free (vars_with below from) (v, (sign signs.Semicolon, p) ∷ left) → Reads Vars free (vars_statement_with below from) (v, left)
+  declared_again : {free : ℕ} (p : Position) (from left : Tokens) (v : Vars) → Reads Vars free (vars_with below from) (v, (sign signs.Semicolon, p) ∷ left) → Reads Vars free (vars_statement_with below from) (v, left)
   unfolding vars_statement_with
   declared_again p from left v h = then_reads _ h (rw (expect_again signs.Semicolon p left) whole)
 
@@ -232,5 +232,5 @@ vars_read (vars {from = from} {first = first} {after = after} {left = left} {t =
     vars_again (below_at room) from first after left t x xs (type_read a (decl_begins b).1) (decl_read b room d (decls_next c s)) (more_decls_read c room d s)
 
 -- variables with their ";"
-pub declared_read : {free depth : ℕ} {from : Tokens} {v : Vars} (p : Place) (left : Tokens) → IsVars free depth from v ((sign signs.Semicolon, p) ∷ left) → (room : ℕ) → depth + room ≡ max_depth → Reads Vars free (vars_statement_with (below_at room) from) (v, left)
+pub declared_read : {free depth : ℕ} {from : Tokens} {v : Vars} (p : Position) (left : Tokens) → IsVars free depth from v ((sign signs.Semicolon, p) ∷ left) → (room : ℕ) → depth + room ≡ max_depth → Reads Vars free (vars_statement_with (below_at room) from) (v, left)
 declared_read {from = from} {v = v} p left a room d = declared_again (below_at room) p from left v (vars_read a room d (next_is_sign-again signs.Semicolon p left))

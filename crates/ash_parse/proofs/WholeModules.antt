@@ -1,11 +1,11 @@
 -- A module that is read is all of its tokens, and a declaration too.
 use Rattle.std.proofs.Common.{◌≡◌, ℕ, zero, suc, ◌≤◌, ◌<◌, List, [], ◌∷◌, length, Bool, true, false, cond, Ok, Err, refl, subst, arith}
 use Rattle.ash_tree.specs.Tree.{Item, Declaration}
-use Rattle.ash_tree.specs.Tokens.{Tokens}
+use Rattle.ash_tree.specs.GrammarTokens.{Tokens}
 use Rattle.ash_tree.specs.Grammar.{Derives, Declares}
 use Rattle.ash_parse.specs.Readers.{Unexpected, ParseResult, ◌>>=◌, put, repeat}
 use Rattle.ash_parse.specs.ItemReader.{entry_at, is_left, strip, entries_at, module_at, declaration_at}
-use Rattle.ash_parse.specs.Faults.{whole_declaration_at}
+use Rattle.ash_parse.specs.ParseFaults.{whole_declaration_at}
 use Rattle.ash_parse.proofs.Readings.{no_err, ok_is, bind_ok, at_pair, put_ok}
 use Rattle.ash_parse.proofs.ItemShorter.{entry_shrinks, left_is_none, declaration_sound}
 use Rattle.ash_parse.proofs.ItemSound.{module_sound}

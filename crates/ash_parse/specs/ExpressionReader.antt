@@ -5,17 +5,17 @@ use Rattle.std.specs.Prelude.{Err, if◌then◌else◌}
 use Rattle.ash_lex.specs.Tokens.{Meaning, name, number, sign, reserved}
 use Rattle.ash_lex.specs.declared.signs.Sign.TheVariants as signs
 use Rattle.ash_lex.specs.declared.words.ReservedWord.TheVariants as words
-use Rattle.ash_tree.specs.declared.tree.places.Place.{Place}
+use Rattle.ash_tree.specs.declared.tree.places.Position.{Position}
 use Rattle.ash_tree.specs.declared.tree.types.Primitive.{Primitive}
 use Rattle.ash_tree.specs.declared.tree.operators.UnaryOp.{UnaryOp}
 use Rattle.ash_tree.specs.declared.tree.operators.BinaryOp.{BinaryOp}
 use Rattle.ash_tree.specs.declared.tree.operators.AssignOp.{AssignOp}
 use Rattle.ash_tree.specs.Tree.{Expr, Number, Truth, Null, This, Name, Call, Brackets, Convert, NewArray, Cast, Unary}
-use Rattle.ash_tree.specs.Tree.{Conditional, Assign, Suffix, Field, Method, Index, Increment, Decrement, Operation}
+use Rattle.ash_tree.specs.Tree.{Conditional, Assign, Suffix, Field, Method, Index, Increment, Decrement, OperatorLink}
 use Rattle.ash_tree.specs.Tree.{place_of, exprs, chained, suffixed}
-use Rattle.ash_tree.specs.Tokens.{Tokens}
+use Rattle.ash_tree.specs.GrammarTokens.{Tokens}
 use Rattle.ash_tree.specs.Operators.{primitive, unary_operator, binary_operator, level, max_level, assign_operator}
-use Rattle.ash_parse.specs.Signs.{is_sign}
+use Rattle.ash_parse.specs.SignTokens.{is_sign}
 use Rattle.ash_parse.specs.Readers.{ParseResult, Unexpected, TooDeep, ◌>>=◌, put, loop, next_is, next_is_sign}
 use Rattle.ash_parse.specs.Readers.{expect_at, name_at}
 use Rattle.ash_parse.specs.TypeReader.{element_at, target_at}
@@ -71,27 +71,27 @@ bracketed_with below ts = do
   Ok (e.0, closed.1)
 
 -- NAME [args], after the name
-unfoldable pub name_or_call_with : Below → Place → List ℕ → Tokens → ParseResult Expr
+unfoldable pub name_or_call_with : Below → Position → List ℕ → Tokens → ParseResult Expr
 name_or_call_with below p text ts =
     if next_is_sign signs.OpenParenthesis ts
     then (arguments_with below ts >>= λ es. Ok (Call p text (exprs es.0), es.1))
     else Ok (Name p text, ts)
 
 -- "<" elem ">" args, after the word `array`
-unfoldable pub new_array_with : Below → Place → Tokens → ParseResult Expr
+unfoldable pub new_array_with : Below → Position → Tokens → ParseResult Expr
 new_array_with below p ts = do
   of ← element_at ts
   es ← arguments_with below of.1
   Ok (NewArray p of.0 (exprs es.0), es.1)
 
 -- "<" NAME ">" "(" assign ")", after the word `cast`
-unfoldable pub cast_with : Below → Place → Tokens → ParseResult Expr
+unfoldable pub cast_with : Below → Position → Tokens → ParseResult Expr
 cast_with below p ts = do
   t ← target_at ts
   e ← bracketed_with below t.1
   Ok (Cast p t.0 e.0, e.1)
 
-abbrev pub primary_by : Below → Option Primitive → Meaning → Place → Tokens → ParseResult Expr
+abbrev pub primary_by : Below → Option Primitive → Meaning → Position → Tokens → ParseResult Expr
 primary_by below (Some k) m p ts = bracketed_with below ts >>= λ e. Ok (Convert p k e.0, e.1)
 primary_by below None (name text) p ts = name_or_call_with below p text ts
 primary_by below None (number n) p ts = Ok (Number p n, ts)
@@ -150,7 +150,7 @@ postfix_with below ts = do
   more ← suffixes_with below e.1
   Ok (suffixed e.0 more.0, more.1)
 
-abbrev pub unary_by : Below → Option UnaryOp → Meaning → Place → Tokens → ParseResult Expr
+abbrev pub unary_by : Below → Option UnaryOp → Meaning → Position → Tokens → ParseResult Expr
 unary_by below None m p ts = postfix_with below ((m, p) ∷ ts)
 unary_by below (Some operator) m p ts = below false ts >>= λ e. Ok (Unary p operator e.0, e.1)
 
@@ -179,15 +179,15 @@ next_level ((m, p) ∷ ts) = level_by (binary_operator m)
 unfoldable pub is_link : ℕ → Tokens → Bool
 is_link n ts = is_some (operator_at n ts)
 
-abbrev pub link_from : (Tokens → ParseResult Expr) → Option (BinaryOp × Tokens) → Tokens → ParseResult Operation
+abbrev pub link_from : (Tokens → ParseResult Expr) → Option (BinaryOp × Tokens) → Tokens → ParseResult OperatorLink
 link_from operand None ts = Err (Unexpected ts)
 link_from operand (Some o) ts = operand o.1 >>= λ e. Ok (record { operator = o.0; operand = e.0 }, e.1)
 
 -- an operator of this level with its right operand
-unfoldable pub link_by : ℕ → (Tokens → ParseResult Expr) → Tokens → ParseResult Operation
+unfoldable pub link_by : ℕ → (Tokens → ParseResult Expr) → Tokens → ParseResult OperatorLink
 link_by n operand ts = link_from operand (operator_at n ts) ts
 
-unfoldable pub links_by : ℕ → (Tokens → ParseResult Expr) → Tokens → ParseResult (List Operation)
+unfoldable pub links_by : ℕ → (Tokens → ParseResult Expr) → Tokens → ParseResult (List OperatorLink)
 links_by n operand ts = loop (is_link n) (link_by n operand) ts
 
 unfoldable pub chain_by : ℕ → (Tokens → ParseResult Expr) → Tokens → ParseResult Expr
@@ -202,7 +202,7 @@ binary_with below zero ts = unary_with below ts
 binary_with below (suc n) ts = chain_by n (binary_with below n) ts
 
 -- ":" assign, after the first branch
-unfoldable pub other_branch_with : Below → Place → Expr → Expr → Tokens → ParseResult Expr
+unfoldable pub other_branch_with : Below → Position → Expr → Expr → Tokens → ParseResult Expr
 other_branch_with below p c a ts = do
   colon ← expect_at signs.Colon ts
   b ← below true colon.1
@@ -216,7 +216,7 @@ branches_with below c ts = do
   b ← below true colon.1
   Ok (Conditional (place_of c) c a.0 b.0, b.1)
 
-abbrev pub assign_by : Below → Expr → Option AssignOp → Meaning → Place → Tokens → ParseResult Expr
+abbrev pub assign_by : Below → Expr → Option AssignOp → Meaning → Position → Tokens → ParseResult Expr
 assign_by below e None m p ts = Ok (e, (m, p) ∷ ts)
 assign_by below e (Some operator) m p ts = below true ts >>= λ v. Ok (Assign (place_of e) e operator v.0, v.1)
 

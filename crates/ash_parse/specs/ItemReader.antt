@@ -3,13 +3,13 @@ use Rattle.std.specs.Prelude.{ℕ, List, [], ◌∷◌, Bool, true, false, Optio
 use Rattle.ash_lex.specs.Tokens.{Meaning, reserved}
 use Rattle.ash_lex.specs.declared.signs.Sign.TheVariants as signs
 use Rattle.ash_lex.specs.declared.words.ReservedWord.TheVariants as words
-use Rattle.ash_tree.specs.declared.tree.places.Place.{Place}
+use Rattle.ash_tree.specs.declared.tree.places.Position.{Position}
 use Rattle.ash_tree.specs.Tree.{Named, TypeName, Vars, Stmt, Parameter, Function, Constructor, Member, AMethod}
 use Rattle.ash_tree.specs.Tree.{AField, AConstructor, Class, InterfaceMethod, Interface, Item, AClass, AnInterface}
 use Rattle.ash_tree.specs.Tree.{AFunction, AGlobal, Declaration, ASignature, AProperty}
-use Rattle.ash_tree.specs.Tokens.{Tokens}
+use Rattle.ash_tree.specs.GrammarTokens.{Tokens}
 use Rattle.ash_tree.specs.Expressions.{max_depth}
-use Rattle.ash_parse.specs.Signs.{is_sign}
+use Rattle.ash_parse.specs.SignTokens.{is_sign}
 use Rattle.ash_parse.specs.Readers.{ParseResult, Unexpected, ◌>>=◌, put, loop, next_is_sign, expect_at, name_at}
 use Rattle.ash_parse.specs.TypeReader.{is_array, after_element}
 use Rattle.ash_parse.specs.ExpressionReader.{below_at}
@@ -236,12 +236,12 @@ unnamed_parameters_at ts = do
   Ok (xs.0, z.1)
 
 -- what is registered is a property, if it has a type
-abbrev pub property_by : Option Named → Place → List ℕ → Tokens → ParseResult Declaration
+abbrev pub property_by : Option Named → Position → List ℕ → Tokens → ParseResult Declaration
 property_by (Some t) p text ts = Ok (AProperty (record { place = p; of = t; name = text }), ts)
 property_by None p text ts = Err (Unexpected ts)
 
 -- what is after the name of a declaration
-unfoldable pub declaration_after : Option Named → Place → List ℕ → Tokens → ParseResult Declaration
+unfoldable pub declaration_after : Option Named → Position → List ℕ → Tokens → ParseResult Declaration
 declaration_after r p text ts =
     if next_is_sign signs.OpenParenthesis ts then (unnamed_parameters_at ts
     >>= λ xs. Ok (ASignature (record { place = p; result = r; name = text; parameters = xs.0 }), xs.1))

@@ -1,9 +1,9 @@
-pub mod Signs
+pub mod SignTokens
 pub mod Readers
 pub mod TypeReader
 pub mod ExpressionReader
 pub mod StatementReader
 pub mod ItemReader
-pub mod Faults
+pub mod ParseFaults
 pub mod Unique
 pub mod FirstFault

@@ -5,11 +5,11 @@ use Rattle.std.specs.Borrow.{Bor}
 use Rattle.ash_lex.specs.Tokens.{Meaning, name}
 use Rattle.ash_lex.specs.declared.signs.Sign.{Sign}
 use Rattle.ash_lex.specs.declared.tokens.Token.{Token}
-use Rattle.ash_tree.specs.declared.tree.places.Place.{Place}
-use Rattle.ash_tree.specs.Tokens.{Tokens, tokens_of}
+use Rattle.ash_tree.specs.declared.tree.places.Position.{Position}
+use Rattle.ash_tree.specs.GrammarTokens.{Tokens, tokens_of}
 use Rattle.ash_parse.specs.declared.error.ParseError.{ParseError}
 use Rattle.ash_parse.specs.declared.error.ParseError.TheVariants as errors
-use Rattle.ash_parse.specs.Signs.{is_sign}
+use Rattle.ash_parse.specs.SignTokens.{is_sign}
 
 -- why reading stops, and the tokens from there on: the first of them fits nowhere, or is too deep
 pub data Halt : Type 0 where
@@ -58,12 +58,12 @@ unfoldable pub next_is_sign : Sign → Tokens → Bool
 next_is_sign s ts = next_is (is_sign s) ts
 
 -- this sign
-unfoldable pub expect_at : Sign → Tokens → ParseResult Place
+unfoldable pub expect_at : Sign → Tokens → ParseResult Position
 expect_at s [] = Err (Unexpected [])
 expect_at s ((m, p) ∷ ts) = if is_sign s m then Ok (p, ts) else Err (Unexpected ((m, p) ∷ ts))
 
 -- a name
-unfoldable pub name_at : Tokens → ParseResult (List ℕ × Place)
+unfoldable pub name_at : Tokens → ParseResult (List ℕ × Position)
 name_at [] = Err (Unexpected [])
 name_at ((name text, p) ∷ ts) = Ok ((text, p), ts)
 name_at ((m, p) ∷ ts) = Err (Unexpected ((m, p) ∷ ts))

@@ -5,7 +5,7 @@ use Rattle.std.specs.Prelude.{Err, if◌then◌else◌}
 use Rattle.ash_lex.specs.Tokens.{Meaning, name, number, sign, reserved}
 use Rattle.ash_lex.specs.declared.signs.Sign.TheVariants as signs
 use Rattle.ash_lex.specs.declared.words.ReservedWord.TheVariants as words
-use Rattle.ash_tree.specs.declared.tree.places.Place.{Place}
+use Rattle.ash_tree.specs.declared.tree.places.Position.{Position}
 use Rattle.ash_tree.specs.declared.tree.types.Primitive.{Primitive}
 use Rattle.ash_tree.specs.declared.tree.statements.Label.{Label}
 use Rattle.ash_tree.specs.declared.tree.statements.Label.TheVariants as labels
@@ -13,7 +13,7 @@ use Rattle.ash_tree.specs.Tree.{Named, Prim, Object, Handle, Array, ArrayHandle,
 use Rattle.ash_tree.specs.Tree.{Arguments, Decl, Vars, Stmt, Empty, Declare, Evaluate, Block, If, IfElse, While}
 use Rattle.ash_tree.specs.Tree.{DoWhile, For, Switch, Break, Continue, Return, Case, labelled, place_of}
 use Rattle.ash_tree.specs.Tree.{place_of_type, stmts, cases}
-use Rattle.ash_tree.specs.Tokens.{Tokens}
+use Rattle.ash_tree.specs.GrammarTokens.{Tokens}
 use Rattle.ash_tree.specs.Operators.{primitive}
 use Rattle.ash_parse.specs.declared.stmt_tokens.StmtToken.{StmtToken}
 use Rattle.ash_parse.specs.declared.stmt_tokens.StmtToken.TheVariants as stmt_tokens
@@ -35,7 +35,7 @@ abbrev pub handle_by : Named → Named → Tokens → ParseResult Named
 handle_by plain handle ts =
     if next_is_sign signs.Handle ts then (expect_at signs.Handle ts >>= λ h. Ok (handle, h.1)) else Ok (plain, ts)
 
-abbrev pub type_by : Option Primitive → Meaning → Place → Tokens → ParseResult Named
+abbrev pub type_by : Option Primitive → Meaning → Position → Tokens → ParseResult Named
 type_by (Some k) m p ts = Ok (Prim p k, ts)
 type_by None (name t) p ts = handle_by (Object p t) (Handle p t) ts
 type_by None (reserved words.Array) p ts = element_at ts >>= λ e. handle_by (Array p e.0) (ArrayHandle p e.0) e.1
@@ -184,18 +184,18 @@ is_else stmt_tokens.Else = true
 is_else _ = false
 
 -- after the first branch of an `if`
-unfoldable pub else_with : Nested → Place → Expr → Stmt → Tokens → ParseResult Stmt
+unfoldable pub else_with : Nested → Position → Expr → Stmt → Tokens → ParseResult Stmt
 else_with nested p c s [] = Ok (If p c s, [])
 else_with nested p c s ((m, o) ∷ ts) =
     if is_else (stmt_token m) then (nested ts >>= λ t. Ok (IfElse p c s t.0, t.1)) else Ok (If p c s, (m, o) ∷ ts)
 
-unfoldable pub if_with : Below → Nested → Place → Tokens → ParseResult Stmt
+unfoldable pub if_with : Below → Nested → Position → Tokens → ParseResult Stmt
 if_with below nested p ts = do
   c ← bracketed_with below ts
   s ← nested c.1
   else_with nested p c.0 s.0 s.1
 
-unfoldable pub while_with : Below → Nested → Place → Tokens → ParseResult Stmt
+unfoldable pub while_with : Below → Nested → Position → Tokens → ParseResult Stmt
 while_with below nested p ts = do
   c ← bracketed_with below ts
   s ← nested c.1
@@ -206,19 +206,19 @@ is_while stmt_tokens.While = true
 is_while _ = false
 
 -- the word `while`
-unfoldable pub while_at : Tokens → ParseResult Place
+unfoldable pub while_at : Tokens → ParseResult Position
 while_at [] = Err (Unexpected [])
 while_at ((m, p) ∷ ts) = if is_while (stmt_token m) then Ok (p, ts) else Err (Unexpected ((m, p) ∷ ts))
 
 -- "while" "(" assign ")" ";" after the body of a `do`
-unfoldable pub do_end_with : Below → Place → Stmt → Tokens → ParseResult Stmt
+unfoldable pub do_end_with : Below → Position → Stmt → Tokens → ParseResult Stmt
 do_end_with below p s ts = do
   w ← while_at ts
   c ← bracketed_with below w.1
   o ← expect_at signs.Semicolon c.1
   Ok (DoWhile p s c.0, o.1)
 
-unfoldable pub do_with : Below → Nested → Place → Tokens → ParseResult Stmt
+unfoldable pub do_with : Below → Nested → Position → Tokens → ParseResult Stmt
 do_with below nested p ts = do
   s ← nested ts
   w ← while_at s.1
@@ -226,7 +226,7 @@ do_with below nested p ts = do
   o ← expect_at signs.Semicolon c.1
   Ok (DoWhile p s.0 c.0, o.1)
 
-unfoldable pub for_with : Below → Nested → Place → Tokens → ParseResult Stmt
+unfoldable pub for_with : Below → Nested → Position → Tokens → ParseResult Stmt
 for_with below nested p ts = do
   o ← expect_at signs.OpenParenthesis ts
   f ← first_with below o.1
@@ -236,24 +236,24 @@ for_with below nested p ts = do
   s ← nested z.1
   Ok (For p f.0 c.0 es.0 s.0, s.1)
 
-unfoldable pub number_at : Tokens → ParseResult (ℕ × Place)
+unfoldable pub number_at : Tokens → ParseResult (ℕ × Position)
 number_at [] = Err (Unexpected [])
 number_at ((number n, p) ∷ ts) = Ok ((n, p), ts)
 number_at ((m, p) ∷ ts) = Err (Unexpected ((m, p) ∷ ts))
 
 -- ["-"] NUMBER ":"
-unfoldable pub case_value_at : Tokens → ParseResult (Label × Place)
+unfoldable pub case_value_at : Tokens → ParseResult (Label × Position)
 case_value_at ts =
     if next_is_sign signs.Minus ts then (expect_at signs.Minus ts >>= λ o. number_at o.1
     >>= λ n. expect_at signs.Colon n.1 >>= λ c. Ok ((labels.CaseMinus (n.0).0, o.0), c.1))
     else (number_at ts >>= λ n. expect_at signs.Colon n.1 >>= λ c. Ok ((labels.Case (n.0).0, (n.0).1), c.1))
 
-abbrev pub label_by : StmtToken → Meaning → Place → Tokens → ParseResult (Label × Place)
+abbrev pub label_by : StmtToken → Meaning → Position → Tokens → ParseResult (Label × Position)
 label_by stmt_tokens.Case m p ts = case_value_at ts
 label_by stmt_tokens.Default m p ts = expect_at signs.Colon ts >>= λ c. Ok ((labels.Default, p), c.1)
 label_by _ m p ts = Err (Unexpected ((m, p) ∷ ts))
 
-unfoldable pub label_at : Tokens → ParseResult (Label × Place)
+unfoldable pub label_at : Tokens → ParseResult (Label × Position)
 label_at [] = Err (Unexpected [])
 label_at ((m, p) ∷ ts) = label_by (stmt_token m) m p ts
 
@@ -270,10 +270,10 @@ unfoldable pub cases_with : Nested → Tokens → ParseResult (List Case)
 cases_with nested ts = loop goes_on (case_with nested) ts
 
 -- after the cases of a `switch`
-unfoldable pub switch_end_with : Place → Expr → List Case → Tokens → ParseResult Stmt
+unfoldable pub switch_end_with : Position → Expr → List Case → Tokens → ParseResult Stmt
 switch_end_with p e cs ts = expect_at signs.CloseBrace ts >>= λ z. Ok (Switch p e (cases cs), z.1)
 
-unfoldable pub switch_with : Below → Nested → Place → Tokens → ParseResult Stmt
+unfoldable pub switch_with : Below → Nested → Position → Tokens → ParseResult Stmt
 switch_with below nested p ts = do
   e ← bracketed_with below ts
   o ← expect_at signs.OpenBrace e.1
@@ -297,7 +297,7 @@ block_with below nested ts = do
   z ← expect_at signs.CloseBrace ss.1
   Ok (ss.0, z.1)
 
-abbrev pub stmt_by : StmtToken → Below → Nested → Meaning → Place → Tokens → ParseResult Stmt
+abbrev pub stmt_by : StmtToken → Below → Nested → Meaning → Position → Tokens → ParseResult Stmt
 stmt_by stmt_tokens.Block below nested m p ts =
     block_with below nested ((m, p) ∷ ts) >>= λ b. Ok (Block p (stmts b.0), b.1)
 stmt_by stmt_tokens.Empty below nested m p ts = Ok (Empty p, ts)

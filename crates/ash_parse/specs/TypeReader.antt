@@ -4,19 +4,19 @@ use Rattle.ash_lex.specs.Tokens.{Meaning, name, reserved}
 use Rattle.ash_lex.specs.declared.signs.Sign.{Sign}
 use Rattle.ash_lex.specs.declared.signs.Sign.TheVariants as signs
 use Rattle.ash_lex.specs.declared.words.ReservedWord.TheVariants as words
-use Rattle.ash_tree.specs.declared.tree.places.Place.{Place}
+use Rattle.ash_tree.specs.declared.tree.places.Position.{Position}
 use Rattle.ash_tree.specs.declared.tree.types.Primitive.{Primitive}
 use Rattle.ash_tree.specs.Tree.{Element, PrimElement, HandleElement, TypeName}
-use Rattle.ash_tree.specs.Tokens.{Tokens}
+use Rattle.ash_tree.specs.GrammarTokens.{Tokens}
 use Rattle.ash_tree.specs.Operators.{primitive}
-use Rattle.ash_parse.specs.Signs.{is_sign}
+use Rattle.ash_parse.specs.SignTokens.{is_sign}
 use Rattle.ash_parse.specs.Readers.{ParseResult, Unexpected, ◌>>=◌, expect_at, name_at}
 
 unfoldable pub is_array : Meaning → Bool
 is_array (reserved words.Array) = true
 is_array _ = false
 
-abbrev pub elem_by : Option Primitive → Meaning → Place → Tokens → ParseResult Element
+abbrev pub elem_by : Option Primitive → Meaning → Position → Tokens → ParseResult Element
 elem_by (Some k) m p ts = Ok (PrimElement p k, ts)
 elem_by None (name text) p ts = expect_at signs.Handle ts >>= λ h. Ok (HandleElement p text, h.1)
 elem_by None m p ts = Err (Unexpected ((m, p) ∷ ts))

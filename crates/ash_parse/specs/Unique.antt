@@ -1,10 +1,10 @@
 -- Tokens have one tree, or one first fault.
 use Rattle.std.specs.Prelude.{◌≡◌, ◌⊎◌, List}
 use Rattle.ash_tree.specs.Tree.{Item, Declaration}
-use Rattle.ash_tree.specs.Tokens.{Tokens}
+use Rattle.ash_tree.specs.GrammarTokens.{Tokens}
 use Rattle.ash_tree.specs.Grammar.{Derives, Declares}
 use Rattle.ash_parse.specs.Readers.{Halt}
-use Rattle.ash_parse.specs.FirstFault.{FirstFault, FirstDeclarationFault}
+use Rattle.ash_parse.specs.FirstFault.{FirstParseFault, FirstDeclarationFault}
 
 -- two lists of items that these tokens derive are one
 abbrev pub HasOneModule : Tokens → Type 0
@@ -16,15 +16,15 @@ HasOneDeclaration ts = (first second : Declaration) → Declares ts first → De
 
 -- two first faults of these tokens are one
 abbrev pub HasOneFault : Tokens → Type 0
-HasOneFault ts = (first second : Halt) → FirstFault ts first → FirstFault ts second → first ≡ second
+HasOneFault ts = (first second : Halt) → FirstParseFault ts first → FirstParseFault ts second → first ≡ second
 
 -- these tokens derive a module within the depth, or have a first fault
 abbrev pub HasTreeOrFault : Tokens → Type 0
-HasTreeOrFault ts = ((items : List Item) × Derives 0 ts items) ⊎ ((halt : Halt) × FirstFault ts halt)
+HasTreeOrFault ts = ((items : List Item) × Derives 0 ts items) ⊎ ((halt : Halt) × FirstParseFault ts halt)
 
 -- and not both
 abbrev pub HasNotBoth : Tokens → Type 0
-HasNotBoth ts = (items : List Item) (halt : Halt) → Derives 0 ts items → FirstFault ts halt → ⊥
+HasNotBoth ts = (items : List Item) (halt : Halt) → Derives 0 ts items → FirstParseFault ts halt → ⊥
 
 -- two first faults of these tokens, as a declaration, are one
 abbrev pub HasOneDeclarationFault : Tokens → Type 0

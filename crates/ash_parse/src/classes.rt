@@ -3,8 +3,8 @@
 //! Each function reads the phrase that is written above it.
 
 ghost use Rattle.std.specs.Prelude.{◌≡◌, map};
-ghost use Rattle.ash_tree.specs.Tokens.{tokens_of};
-ghost use Rattle.ash_tree.specs.Views.{constructor_of, member_of, type_name_of, class_of};
+ghost use Rattle.ash_tree.specs.GrammarTokens.{tokens_of};
+ghost use Rattle.ash_tree.specs.TreeViews.{constructor_of, member_of, type_name_of, class_of};
 ghost use Rattle.ash_parse.specs.Readers.{ParsesAs, put};
 ghost use Rattle.ash_parse.specs.ItemReader as reader;
 

@@ -2,21 +2,21 @@
 
 ghost use Rattle.std.specs.Prelude.{◌≡◌, ◌↔◌, IsTrue, string_bytes};
 ghost use Rattle.ash_lex.specs.Tokens.{meaning_of};
-ghost use Rattle.ash_tree.specs.Tokens.{tokens_of, place_of_token};
-ghost use Rattle.ash_parse.specs.Signs as signs;
+ghost use Rattle.ash_tree.specs.GrammarTokens.{tokens_of, place_of_token};
+ghost use Rattle.ash_parse.specs.SignTokens as signs;
 ghost use Rattle.ash_parse.specs.Readers as reading;
 ghost use Rattle.ash_parse.specs.ItemReader as item_reader;
 
 use crate::error::{ParseError, ParseResult};
 use ash_lex::{Sign, Token, TokenKind};
-use ash_tree::Place;
+use ash_tree::Position;
 use std::alloc::Global;
 
 /// Where a token begins: its offset in bytes, and its line.
-pub fn place(token: &Token) -> Place
+pub fn place(token: &Token) -> Position
     ensures { result ≡ place_of_token token.now }
 {
-    Place {
+    Position {
         at: token.from,
         line: token.line,
     }
@@ -35,7 +35,7 @@ fn same(a: Sign, b: Sign) -> bool
 }
 
 /// Whether a token is this sign.
-#[tactic(auto, unfolding(crate::specs::Signs::is_sign))]
+#[tactic(auto, unfolding(crate::specs::SignTokens::is_sign))]
 pub fn is_sign(sign: Sign, token: &Token) -> bool
     ensures { result ≡ signs.is_sign sign (meaning_of token.now.kind) }
 {
@@ -58,7 +58,7 @@ pub fn next_is_sign(sign: Sign, tokens: &[Token]) -> bool
 
 /// This sign, and what is after it.
 #[tactic(auto, unfolding(crate::specs::Readers::expect_at))]
-pub fn expect(sign: Sign, tokens: &[Token]) -> ParseResult<'_, Place>
+pub fn expect(sign: Sign, tokens: &[Token]) -> ParseResult<'_, Position>
     ensures { reading.ParsesAs (λ x. x) result (reading.expect_at sign (tokens_of tokens.now)) }
 {
     let Some((next, rest)) = tokens.split_first() else {
@@ -73,7 +73,7 @@ pub fn expect(sign: Sign, tokens: &[Token]) -> ParseResult<'_, Place>
 
 /// A name with its place, and what is after it.
 #[tactic(auto, unfolding(crate::specs::Readers::name_at))]
-pub fn name(alloc: Global, tokens: &[Token]) -> ParseResult<'_, (String, Place)>
+pub fn name(alloc: Global, tokens: &[Token]) -> ParseResult<'_, (String, Position)>
     ensures { reading.ParsesAs (λ x. (string_bytes x.0, x.1)) result
         (reading.name_at (tokens_of tokens.now)) }
 {

@@ -5,8 +5,8 @@
 ghost use Rattle.std.specs.Prelude.{◌≡◌, option_map};
 ghost use Rattle.ash_lex.specs.Tokens.{meaning_of};
 ghost use Rattle.ash_tree.specs.Tree.{Object, Handle, Array, ArrayHandle};
-ghost use Rattle.ash_tree.specs.Tokens.{tokens_of};
-ghost use Rattle.ash_tree.specs.Views.{element_of, type_of, type_name_of};
+ghost use Rattle.ash_tree.specs.GrammarTokens.{tokens_of};
+ghost use Rattle.ash_tree.specs.TreeViews.{element_of, type_of, type_name_of};
 ghost use Rattle.ash_parse.specs.Readers.{ParsesAs};
 ghost use Rattle.ash_parse.specs.TypeReader as types;
 ghost use Rattle.ash_parse.specs.StatementReader as reader;
@@ -15,7 +15,7 @@ use crate::cursor::{expect, is_sign, name, next_is_sign, place};
 use crate::error::{ParseError, ParseResult};
 use crate::operators::primitive;
 use ash_lex::{ReservedWord, Sign, Token, TokenKind};
-use ash_tree::{Element, ElementKind, Place, Type, TypeKind, TypeName};
+use ash_tree::{Element, ElementKind, Position, Type, TypeKind, TypeName};
 use std::alloc::Global;
 
 /// Whether a token is the word `array`.
@@ -160,7 +160,7 @@ pub fn is_vars(tokens: &[Token]) -> bool
 }
 
 /// `["@"]` after an array's type
-fn array_type<'a>(place: Place, element: Element, tokens: &'a [Token]) -> ParseResult<'a, Type>
+fn array_type<'a>(place: Position, element: Element, tokens: &'a [Token]) -> ParseResult<'a, Type>
     ensures { ParsesAs type_of result
         (reader.handle_by (Array place (element_of element))
         (ArrayHandle place (element_of element)) (tokens_of tokens.now)) }
@@ -200,7 +200,7 @@ pub fn type_name(alloc: Global, tokens: &[Token]) -> ParseResult<'_, Type>
 /// `["@"]` after the name of an object type
 fn object_type<'a>(
     alloc: Global,
-    place: Place,
+    place: Position,
     text: &str,
     tokens: &'a [Token],
 ) -> ParseResult<'a, Type>

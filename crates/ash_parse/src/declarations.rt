@@ -3,8 +3,8 @@
 //! Each function reads the phrase that is written above it.
 
 ghost use Rattle.std.specs.Prelude.{map, string_bytes, option_map};
-ghost use Rattle.ash_tree.specs.Tokens.{tokens_of};
-ghost use Rattle.ash_tree.specs.Views.{type_of, declaration_of};
+ghost use Rattle.ash_tree.specs.GrammarTokens.{tokens_of};
+ghost use Rattle.ash_tree.specs.TreeViews.{type_of, declaration_of};
 ghost use Rattle.ash_parse.specs.Readers.{ParsesAs, put};
 ghost use Rattle.ash_parse.specs.ItemReader as reader;
 
@@ -13,7 +13,7 @@ use crate::data_types::{next_is_name, type_name};
 use crate::error::{ParseError, ParseResult};
 use crate::functions::result_type;
 use ash_lex::{Sign, Token};
-use ash_tree::{Declaration, Place, Property, Signature, Type};
+use ash_tree::{Declaration, Position, Property, Signature, Type};
 use std::alloc::Global;
 
 /// `type [NAME]`
@@ -83,7 +83,7 @@ fn unnamed_parameters(alloc: Global, tokens: &[Token]) -> ParseResult<'_, Vec<Ty
 fn declaration_after<'a>(
     alloc: Global,
     of: Option<Type>,
-    place: Place,
+    place: Position,
     name: String,
     tokens: &'a [Token],
 ) -> ParseResult<'a, Declaration>

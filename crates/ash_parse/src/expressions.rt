@@ -4,8 +4,8 @@
 //! still begin, one in the other.
 
 ghost use Rattle.std.specs.Prelude.{◌<◌, ◌≤◌, map, true, false};
-ghost use Rattle.ash_tree.specs.Tokens.{tokens_of};
-ghost use Rattle.ash_tree.specs.Views.{expr_of, suffix_of, operation_of};
+ghost use Rattle.ash_tree.specs.GrammarTokens.{tokens_of};
+ghost use Rattle.ash_tree.specs.TreeViews.{expr_of, suffix_of, operation_of};
 ghost use Rattle.ash_parse.specs.Readers.{ParsesAs, Fails, put};
 ghost use Rattle.ash_parse.specs.ExpressionReader as reader;
 

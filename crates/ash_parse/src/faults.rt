@@ -1,7 +1,7 @@
 //! Why tokens have no tree.
 
 ghost use Rattle.std.specs.Prelude.{◌≡◌};
-ghost use Rattle.ash_parse.specs.Faults.{code_of, part_text};
+ghost use Rattle.ash_parse.specs.ParseFaults.{code_of, part_text};
 
 use ash_lex::UnsupportedWord;
 use std::fmt;

@@ -4,8 +4,8 @@
 //! still begin, one in the other.
 
 ghost use Rattle.std.specs.Prelude.{◌≤◌, option_map};
-ghost use Rattle.ash_tree.specs.Tokens.{tokens_of};
-ghost use Rattle.ash_tree.specs.Views.{expr_of, stmt_of};
+ghost use Rattle.ash_tree.specs.GrammarTokens.{tokens_of};
+ghost use Rattle.ash_tree.specs.TreeViews.{expr_of, stmt_of};
 ghost use Rattle.ash_parse.specs.Readers.{ParsesAs};
 ghost use Rattle.ash_parse.specs.ExpressionReader as exprs;
 ghost use Rattle.ash_parse.specs.StatementReader as reader;

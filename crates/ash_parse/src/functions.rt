@@ -4,8 +4,8 @@
 
 ghost use Rattle.std.specs.Prelude.{◌≡◌, map, option_map};
 ghost use Rattle.ash_lex.specs.Tokens.{meaning_of};
-ghost use Rattle.ash_tree.specs.Tokens.{tokens_of};
-ghost use Rattle.ash_tree.specs.Views.{type_of, stmt_of, parameter_of, function_of};
+ghost use Rattle.ash_tree.specs.GrammarTokens.{tokens_of};
+ghost use Rattle.ash_tree.specs.TreeViews.{type_of, stmt_of, parameter_of, function_of};
 ghost use Rattle.ash_parse.specs.Readers.{ParsesAs, put};
 ghost use Rattle.ash_parse.specs.ItemReader as reader;
 

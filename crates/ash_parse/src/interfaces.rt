@@ -3,8 +3,8 @@
 //! Each function reads the phrase that is written above it.
 
 ghost use Rattle.std.specs.Prelude.{map};
-ghost use Rattle.ash_tree.specs.Tokens.{tokens_of};
-ghost use Rattle.ash_tree.specs.Views.{interface_method_of, interface_of};
+ghost use Rattle.ash_tree.specs.GrammarTokens.{tokens_of};
+ghost use Rattle.ash_tree.specs.TreeViews.{interface_method_of, interface_of};
 ghost use Rattle.ash_parse.specs.Readers.{ParsesAs};
 ghost use Rattle.ash_parse.specs.ItemReader as reader;
 

@@ -2,7 +2,7 @@
 //!
 //! Each function reads the phrase that is written above it.
 
-ghost use Rattle.ash_tree.specs.Tokens.{tokens_of};
+ghost use Rattle.ash_tree.specs.GrammarTokens.{tokens_of};
 ghost use Rattle.ash_parse.specs.Readers.{ParsesAs};
 ghost use Rattle.ash_parse.specs.StatementReader as reader;
 
@@ -10,11 +10,11 @@ use crate::cursor::{expect, next_is_sign, place};
 use crate::error::{ParseError, ParseResult};
 use crate::stmt_tokens::{StmtToken, stmt_token};
 use ash_lex::{Sign, Token, TokenKind};
-use ash_tree::{Label, Place};
+use ash_tree::{Label, Position};
 
 /// A number with its place.
 #[tactic(auto, unfolding(crate::specs::StatementReader::number_at))]
-fn number(tokens: &[Token]) -> ParseResult<'_, (u64, Place)>
+fn number(tokens: &[Token]) -> ParseResult<'_, (u64, Position)>
     ensures { ParsesAs (λ x. (x.0, x.1)) result (reader.number_at (tokens_of tokens.now)) }
 {
     let Some((next, rest)) = tokens.split_first() else {
@@ -28,7 +28,7 @@ fn number(tokens: &[Token]) -> ParseResult<'_, (u64, Place)>
 
 /// `["-"] NUMBER ":"`, at its first token
 #[tactic(auto, unfolding(crate::specs::StatementReader::case_value_at))]
-fn case_value(tokens: &[Token]) -> ParseResult<'_, (Label, Place)>
+fn case_value(tokens: &[Token]) -> ParseResult<'_, (Label, Position)>
     ensures { ParsesAs (λ x. (x.0, x.1)) result (reader.case_value_at (tokens_of tokens.now)) }
 {
     if next_is_sign(Sign::Minus, tokens) {
@@ -44,7 +44,7 @@ fn case_value(tokens: &[Token]) -> ParseResult<'_, (Label, Place)>
 
 /// `("case" ["-"] NUMBER | "default") ":"`, at the constant or at the word `default`
 #[tactic(auto, unfolding(crate::specs::StatementReader::label_at))]
-pub fn label(tokens: &[Token]) -> ParseResult<'_, (Label, Place)>
+pub fn label(tokens: &[Token]) -> ParseResult<'_, (Label, Position)>
     ensures { ParsesAs (λ x. (x.0, x.1)) result (reader.label_at (tokens_of tokens.now)) }
 {
     let Some((next, rest)) = tokens.split_first() else {

@@ -2,7 +2,7 @@
 
 ghost use Rattle.std.specs.Prelude.{◌≡◌, ◌<◌, option_map};
 ghost use Rattle.ash_lex.specs.Tokens.{meaning_of};
-ghost use Rattle.ash_tree.specs.Tokens.{tokens_of};
+ghost use Rattle.ash_tree.specs.GrammarTokens.{tokens_of};
 ghost use Rattle.ash_tree.specs.Operators as spec;
 ghost use Rattle.ash_parse.specs.ExpressionReader as reader;
 

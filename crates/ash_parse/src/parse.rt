@@ -2,18 +2,18 @@
 
 ghost use Rattle.std.specs.Prelude.{◌≡◌, List, [], IfOk, IfErr, MatchResult};
 ghost use Rattle.ash_lex.specs.Tokens.{meaning_of};
-ghost use Rattle.ash_tree.specs.Tokens.{tokens_of};
+ghost use Rattle.ash_tree.specs.GrammarTokens.{tokens_of};
 ghost use Rattle.ash_tree.specs.Tree.{Item, Declaration as DeclarationTree};
-ghost use Rattle.ash_tree.specs.Views.{module_of, declaration_of};
+ghost use Rattle.ash_tree.specs.TreeViews.{module_of, declaration_of};
 ghost use Rattle.ash_tree.specs.Grammar.{Derives, Declares};
 ghost use Rattle.ash_parse.specs.Readers.{Unexpected, ParsesAs};
 ghost use Rattle.ash_parse.specs.declared.faults.ParseFault.TheVariants.{NoMemory};
-ghost use Rattle.ash_parse.specs.FirstFault.{FirstFault, FirstDeclarationFault, ReportsFirst};
+ghost use Rattle.ash_parse.specs.FirstFault.{FirstParseFault, FirstDeclarationFault, ReportsFirst};
 ghost use Rattle.ash_parse.specs.Unique.{HasOneModule, HasOneFault, HasTreeOrFault, HasNotBoth};
 ghost use Rattle.ash_parse.specs.Unique.{HasOneDeclaration, HasOneDeclarationFault};
 ghost use Rattle.ash_parse.specs.Unique.{HasDeclarationOrFault, HasNotBothDeclared};
-ghost use Rattle.ash_parse.specs.Faults.{Reports, part_of, end_of, start, IsReported};
-ghost use Rattle.ash_parse.specs.Faults.{whole_declaration_at};
+ghost use Rattle.ash_parse.specs.ParseFaults.{IsHaltFault, part_of, end_of, start, IsReported};
+ghost use Rattle.ash_parse.specs.ParseFaults.{whole_declaration_at};
 
 use crate::declarations::declaration;
 use crate::error::{ParseError, ParseResult};
@@ -24,7 +24,7 @@ use ash_tree::{Declaration, Module};
 use std::alloc::Global;
 
 /// The part that a token belongs to which the profile does not have.
-#[tactic(auto, unfolding(crate::specs::Faults::part_of))]
+#[tactic(auto, unfolding(crate::specs::ParseFaults::part_of))]
 fn part_of(kind: &TokenKind) -> Option<UnsupportedPart>
     ensures { result ≡ part_of (meaning_of kind.now) }
 {
@@ -71,7 +71,7 @@ fn fault(tokens: &[Token], error: ParseError) -> ParseFault
 
 /// What is reported of the first of these tokens, which no phrase goes on with.
 fn unexpected(tokens: &[Token], rest: &[Token]) -> ParseFault
-    ensures { Reports tokens.now result (Unexpected (tokens_of rest.now)) }
+    ensures { IsHaltFault tokens.now result (Unexpected (tokens_of rest.now)) }
 {
     let Some(next) = rest.first() else {
         return ParseFault::Unexpected { at: end(tokens) };
@@ -101,7 +101,7 @@ pub fn parse_module(alloc: Global, tokens: &[Token]) -> Result<Module, ParseFaul
         → MatchResult result (λ tree. module_of tree ≡ derived) (λ fault. fault ≡ NoMemory) }
     // A fault is the first by the grammar: the tokens before it begin a module,
     // and nothing that goes on with it is one.
-    ensures first { IfErr result (λ fault. ReportsFirst FirstFault tokens.now fault) }
+    ensures first { IfErr result (λ fault. ReportsFirst FirstParseFault tokens.now fault) }
 {
     match items(alloc, tokens) {
         Ok((items, _)) => Ok(Module { items }),
@@ -114,7 +114,7 @@ pub fn parse_module(alloc: Global, tokens: &[Token]) -> Result<Module, ParseFaul
 /// # Errors
 ///
 /// As for [`parse_module`].
-#[tactic(auto, using(crate::proofs::ItemShorter::declaration_sound, crate::proofs::Reported::reported_is_fault, crate::proofs::ItemComplete::declarations_are_one, crate::proofs::ItemComplete::declaration_memory, crate::proofs::FirstFaults::declaration_reported_first), unfolding(crate::specs::Faults::whole_declaration_at))]
+#[tactic(auto, using(crate::proofs::ItemShorter::declaration_sound, crate::proofs::Reported::reported_is_fault, crate::proofs::ItemComplete::declarations_are_one, crate::proofs::ItemComplete::declaration_memory, crate::proofs::FirstFaults::declaration_reported_first), unfolding(crate::specs::ParseFaults::whole_declaration_at))]
 pub fn parse_declaration(alloc: Global, tokens: &[Token]) -> Result<Declaration, ParseFault>
     // What is answered is a tree that the tokens derive, all of them.
     ensures derived { IfOk result (λ tree. Declares (tokens_of tokens.now) (declaration_of tree)) }
@@ -132,7 +132,7 @@ pub fn parse_declaration(alloc: Global, tokens: &[Token]) -> Result<Declaration,
 }
 
 /// A declaration with nothing after it.
-#[tactic(auto, using(crate::proofs::ItemShorter::left_is_none), unfolding(crate::specs::Faults::whole_declaration_at))]
+#[tactic(auto, using(crate::proofs::ItemShorter::left_is_none), unfolding(crate::specs::ParseFaults::whole_declaration_at))]
 fn whole_declaration(alloc: Global, tokens: &[Token]) -> ParseResult<'_, Declaration>
     ensures read { ParsesAs declaration_of result (whole_declaration_at (tokens_of tokens.now)) }
     ensures all { IfOk result (λ x. tokens_of x.1.now ≡ []) }

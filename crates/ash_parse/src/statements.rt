@@ -4,9 +4,9 @@
 //! still begin, one in the other.
 
 ghost use Rattle.std.specs.Prelude.{◌≡◌, ◌≤◌, map, option_map, IfOk};
-ghost use Rattle.ash_tree.specs.Tokens.{tokens_of};
+ghost use Rattle.ash_tree.specs.GrammarTokens.{tokens_of};
 ghost use Rattle.ash_tree.specs.Tree.{If, IfElse};
-ghost use Rattle.ash_tree.specs.Views.{expr_of, stmt_at, stmt_of, case_of};
+ghost use Rattle.ash_tree.specs.TreeViews.{expr_of, stmt_at, stmt_of, case_of};
 ghost use Rattle.ash_parse.specs.Readers.{ParsesAs};
 ghost use Rattle.ash_parse.specs.ExpressionReader as exprs;
 ghost use Rattle.ash_parse.specs.StatementReader as reader;
@@ -19,7 +19,7 @@ use crate::labels::label;
 use crate::stmt_tokens::{StmtToken, case_goes_on, goes_on, limit, stmt_token};
 use crate::variables::vars_statement;
 use ash_lex::{Sign, Token};
-use ash_tree::{Case, Expr, Place, Stmt, StmtKind, nodes};
+use ash_tree::{Case, Expr, Position, Stmt, StmtKind, nodes};
 use loops::{do_statement, for_statement, while_statement};
 use std::alloc::{AllocError, Global};
 
@@ -123,7 +123,7 @@ fn statement(alloc: Global, room: u32, tokens: &[Token]) -> ParseResult<'_, Stmt
     }
 }
 
-fn simple(place: Place, kind: StmtKind) -> Stmt
+fn simple(place: Position, kind: StmtKind) -> Stmt
     ensures { stmt_of result ≡ stmt_at place kind }
 {
     Stmt { place, kind }
@@ -131,7 +131,7 @@ fn simple(place: Place, kind: StmtKind) -> Stmt
 
 /// The condition of an `if` with its branch, and where the `if` is.
 struct IfHead {
-    place: Place,
+    place: Position,
     condition: Expr,
     then: Box<Stmt>,
 }
@@ -142,7 +142,7 @@ struct IfHead {
 fn if_statement<'a>(
     alloc: Global,
     room: u32,
-    place: Place,
+    place: Position,
     tokens: &'a [Token],
 ) -> ParseResult<'a, Stmt>
     requires { room ≤ MAX_DEPTH }
@@ -161,7 +161,7 @@ fn if_statement<'a>(
 }
 
 /// An `if` that ends with its branch.
-fn if_only(place: Place, condition: Expr, then: Box<Stmt>) -> Stmt
+fn if_only(place: Position, condition: Expr, then: Box<Stmt>) -> Stmt
     ensures { stmt_of result ≡ If place (expr_of condition) (stmt_of then.value) }
 {
     Stmt {
@@ -171,7 +171,7 @@ fn if_only(place: Place, condition: Expr, then: Box<Stmt>) -> Stmt
 }
 
 /// An `if` with both its branches.
-fn if_else(place: Place, condition: Expr, then: Box<Stmt>, otherwise: Box<Stmt>) -> Stmt
+fn if_else(place: Position, condition: Expr, then: Box<Stmt>, otherwise: Box<Stmt>) -> Stmt
     ensures { stmt_of result ≡ IfElse place (expr_of condition) (stmt_of then.value)
         (stmt_of otherwise.value) }
 {
@@ -220,7 +220,7 @@ fn else_branch<'a>(
 fn switch_statement<'a>(
     alloc: Global,
     room: u32,
-    place: Place,
+    place: Position,
     tokens: &'a [Token],
 ) -> ParseResult<'a, Stmt>
     requires { room ≤ MAX_DEPTH }
@@ -237,7 +237,7 @@ fn switch_statement<'a>(
 /// `"}"`, after the cases of a `switch`
 #[tactic(auto, unfolding(crate::specs::StatementReader::switch_end_with))]
 fn switch_end(
-    place: Place,
+    place: Position,
     value: Expr,
     cases: Vec<Case>,
     tokens: &[Token],

@@ -2,7 +2,7 @@
 
 ghost use Rattle.std.specs.Prelude.{◌≡◌};
 ghost use Rattle.ash_lex.specs.Tokens.{meaning_of};
-ghost use Rattle.ash_tree.specs.Tokens.{tokens_of};
+ghost use Rattle.ash_tree.specs.GrammarTokens.{tokens_of};
 ghost use Rattle.ash_parse.specs.Readers.{ParsesAs, Fails};
 ghost use Rattle.ash_parse.specs.StatementReader as reader;
 
@@ -10,7 +10,7 @@ use crate::cursor::place;
 use crate::error::{ParseError, ParseResult};
 use crate::operators::begins_expression;
 use ash_lex::{ReservedWord, Sign, Token, TokenKind};
-use ash_tree::Place;
+use ash_tree::Position;
 
 /// What a token is to a statement.
 #[derive(Clone, Copy)]
@@ -114,7 +114,7 @@ pub fn limit(tokens: &[Token]) -> ParseError<'_>
 
 /// The word `while`.
 #[tactic(auto, unfolding(crate::specs::StatementReader::while_at))]
-pub fn expect_while(tokens: &[Token]) -> ParseResult<'_, Place>
+pub fn expect_while(tokens: &[Token]) -> ParseResult<'_, Position>
     ensures { ParsesAs (λ x. x) result (reader.while_at (tokens_of tokens.now)) }
 {
     let Some((next, rest)) = tokens.split_first() else {

@@ -12,7 +12,7 @@ use Rattle.ash_phrases.specs.Releases.{sweep}
 use Rattle.ash_phrases.specs.Frames.{back_in}
 use Rattle.ash_phrases.specs.HostSteps.{state_of, with_state}
 use Rattle.ash_phrases.specs.Traces.{WorldTransition, WritesGlobal, WritesWords, Makes, Draws, TakesAnswer, Notes, Transition, TakesTick, InFrame, Enters, Leaves, InWorld, Releases, Trace, Here, Then}
-use Rattle.ash_phrases.specs.Laws.{TakesInOrder}
+use Rattle.ash_phrases.specs.MeaningLaws.{TakesInOrder}
 
 -- none is taken
 same : (a b : World) → b.answers ≡ a.answers → TakesInOrder a b

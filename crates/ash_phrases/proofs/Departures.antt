@@ -4,14 +4,14 @@ use Rattle.std.specs.Option.{option_map_or}
 use Rattle.ash_host.specs.declared.word.Word.{Word}
 use Rattle.ash_host.specs.declared.event.Target.{Target}
 use Rattle.ash_host.specs.declared.event.Target.TheVariants as targets
-use Rattle.ash_host.specs.Objects.{Plain, Objects, object_at, with_at, Lives, AreNumbered}
+use Rattle.ash_host.specs.Objects.{Plain, LiveObjects, object_at, with_at, Lives, AreNumbered}
 use Rattle.ash_host.proofs.Order.{object_at-with_at}
 use Rattle.ash_phrases.specs.Activity.{World, Frame, Activity}
 use Rattle.ash_phrases.specs.Frames.{back_in}
 use Rattle.ash_phrases.specs.ObjectSteps.{change_at}
 use Rattle.ash_phrases.specs.HostSteps.{with_state}
 use Rattle.ash_phrases.specs.Traces.{WorldTransition, WritesGlobal, WritesWords, Makes, Draws, TakesAnswer, Notes, Transition, TakesTick, InFrame, Enters, Leaves, InWorld, Releases, after_release, Trace, Here, Then}
-use Rattle.ash_phrases.specs.Laws.{WentAtRelease, GoAtReleases}
+use Rattle.ash_phrases.specs.MeaningLaws.{WentAtRelease, GoAtReleases}
 use Rattle.ash_phrases.proofs.Released.{swept_by}
 use Rattle.ash_phrases.proofs.Numbers.{along}
 
@@ -19,14 +19,14 @@ abbrev P : Type 0
 P = Plain (List ℕ)
 
 -- what is put somewhere takes nothing away
-put_keeps : (number n : ℕ) (object : P) (objects : Objects (List ℕ)) → Lives objects n → Lives (with_at number object objects) n
+put_keeps : (number n : ℕ) (object : P) (objects : LiveObjects (List ℕ)) → Lives objects n → Lives (with_at number object objects) n
 put_keeps number n object objects lives = subst (λ (o : Option P). IsSome o) (sym (object_at-with_at number object n objects)) (go (nat_eq n number))
   where
     go : (b : Bool) → IsSome (cond b (Some object) (object_at n objects))
     go true = refl
     go false = lives
 
-change_keeps : (number n : ℕ) (how : P → P) (objects : Objects (List ℕ)) → Lives objects n → Lives (change_at number how objects) n
+change_keeps : (number n : ℕ) (how : P → P) (objects : LiveObjects (List ℕ)) → Lives objects n → Lives (change_at number how objects) n
 change_keeps number n how objects lives = go (object_at number objects)
   where
     go : (o : Option P) → Lives (option_map_or (λ object. with_at number (how object) objects) o objects) n

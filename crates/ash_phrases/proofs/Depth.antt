@@ -3,7 +3,7 @@ use Rattle.std.proofs.Common.{◌≤◌, ◌<◌, ℕ, zero, suc, arith}
 use Rattle.ash_phrases.specs.Runs.{Run}
 use Rattle.ash_phrases.specs.Classes.{Program, Entry}
 use Rattle.ash_phrases.specs.Functions.{body}
-use Rattle.ash_phrases.specs.Laws.{DepthIsNoPart, entered, initialized, OfPhrases, IsTraced, PhrasesAreTraces, GoesOnWithMore, MoreTicksGoOn}
+use Rattle.ash_phrases.specs.MeaningLaws.{DepthIsNoPart, entered, initialized, OfPhrases, IsTraced, PhrasesAreTraces, GoesOnWithMore, MoreTicksGoOn}
 use Rattle.ash_phrases.proofs.Walks.{Walk, at_most, same_of, ticked}
 use Rattle.ash_phrases.proofs.PhraseWalks.{walk_expression, walk_location, walk_arguments, walk_statement, walk_entry, walk_module}
 

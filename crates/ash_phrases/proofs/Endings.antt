@@ -7,7 +7,7 @@ use Rattle.ash_phrases.specs.Activity.{World, Activity}
 use Rattle.ash_phrases.specs.Runs.{Raising, OutOfTicks, Progress, Done, Ended, NoStep, Run, give, ◌>>◌}
 use Rattle.ash_phrases.specs.Classes.{Program, FreeFunction, Entry, entry_of}
 use Rattle.ash_phrases.specs.Ends.{Outcome, outcome_of, call_entry, load_module}
-use Rattle.ash_phrases.specs.Laws.{ComesBy, GoesOn, entered, initialized, EffectsStay, first_of_call, first_of_load, RunsStay, IsNotAborted, BudgetSuffices, with_more, IsReleased, IsAborted, IsOnTheWay}
+use Rattle.ash_phrases.specs.MeaningLaws.{ComesBy, ExtendsWithMoreTicks, entered, initialized, EffectsStay, first_of_call, first_of_load, RunsStay, IsNotAborted, BudgetSuffices, with_more, IsReleased, IsAborted, IsOnTheWay}
 use Rattle.ash_phrases.proofs.Traces.{ticks_fall}
 use Rattle.ash_phrases.proofs.Walks.{Walk, at_most, followed, given}
 use Rattle.ash_phrases.proofs.Released.{swept_by}
@@ -53,7 +53,7 @@ module _ (p : Program) (budget : ℕ) (world : World) (numbered : AreNumbered wo
 not_aborted : {this outcome : Outcome} → Some this ≡ Some outcome → IsNotAborted outcome.end → IsNotAborted this.end
 not_aborted {this} {outcome} e h = subst (λ (o : Outcome). IsNotAborted o.end) (ap (λ (o : Option Outcome). unwrap_or o outcome) (sym e)) h
 
-goes_the_same : (more : ℕ) (p q : Progress (Option Word)) (outcome : Outcome) → GoesOn more p q → outcome_of p ≡ Some outcome → IsNotAborted outcome.end → outcome_of q ≡ Some outcome
+goes_the_same : (more : ℕ) (p q : Progress (Option Word)) (outcome : Outcome) → ExtendsWithMoreTicks more p q → outcome_of p ≡ Some outcome → IsNotAborted outcome.end → outcome_of q ≡ Some outcome
 goes_the_same more (Done value b) q outcome g e h = ap outcome_of g ∙ e
 goes_the_same more (Ended (Raising x) b) q outcome g e h = ap outcome_of g ∙ e
 goes_the_same more (Ended OutOfTicks b) q outcome g e h = absurd (not_aborted e h)
@@ -62,7 +62,7 @@ goes_the_same more NoStep q outcome g e h = absurd (cc)
 aborted_alone : {this outcome : Outcome} → Some this ≡ Some outcome → IsAborted outcome.end → IsAborted this.end
 aborted_alone {this} {outcome} e h = subst (λ (o : Outcome). IsAborted o.end) (ap (λ (o : Option Outcome). unwrap_or o outcome) (sym e)) h
 
-on_the_way : (more : ℕ) (first : Activity) → AreNumbered (first.world).last (first.world).objects → (p q : Progress (Option Word)) (outcome later : Outcome) → ComesBy first p → GoesOn more p q → outcome_of p ≡ Some outcome → IsAborted outcome.end → outcome_of q ≡ Some later → IsOnTheWay more outcome later
+on_the_way : (more : ℕ) (first : Activity) → AreNumbered (first.world).last (first.world).objects → (p q : Progress (Option Word)) (outcome later : Outcome) → ComesBy first p → ExtendsWithMoreTicks more p q → outcome_of p ≡ Some outcome → IsAborted outcome.end → outcome_of q ≡ Some later → IsOnTheWay more outcome later
 on_the_way more first numbered (Done value b) q outcome later t g e h f = absurd (aborted_alone e h)
 on_the_way more first numbered (Ended (Raising x) b) q outcome later t g e h f = absurd (aborted_alone e h)
 on_the_way more first numbered (Ended OutOfTicks b) q outcome later t g e h f =

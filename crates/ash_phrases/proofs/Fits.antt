@@ -7,7 +7,7 @@ use Rattle.ash_host.specs.declared.event.Target.{Target}
 use Rattle.ash_host.specs.declared.event.Target.TheVariants as targets
 use Rattle.ash_host.specs.declared.host_object.HostObject.{Ghosts}
 use Rattle.ash_host.specs.Calls.{HostCall}
-use Rattle.ash_host.specs.Objects.{Plain, Script, Array, Host, Objects, object_at, with_at, is_host, AreNumbered}
+use Rattle.ash_host.specs.Objects.{Plain, Script, Array, Host, LiveObjects, object_at, with_at, is_host, AreNumbered}
 use Rattle.ash_host.specs.Records.{HostRecord, next_record}
 use Rattle.ash_host.proofs.Order.{object_at-with_at}
 use Rattle.ash_host.proofs.RecordLaws.{next_record_says}
@@ -18,7 +18,7 @@ use Rattle.ash_phrases.specs.ObjectSteps.{change_at, with_words}
 use Rattle.ash_phrases.specs.HostSteps.{with_state_in, with_state, state_of}
 use Rattle.ash_phrases.specs.Traces.{WorldTransition, WritesGlobal, WritesWords, Makes, Draws, TakesAnswer, Notes, Transition, TakesTick, InFrame, Enters, Leaves, InWorld, Releases, after_release, Trace, Here, Then}
 use Rattle.ash_phrases.specs.Answers.{Answerers, AreValid, StateFits, ObjectFits, HostsFit}
-use Rattle.ash_phrases.specs.Laws.{IsReleased}
+use Rattle.ash_phrases.specs.MeaningLaws.{IsReleased}
 use Rattle.ash_phrases.proofs.Released.{swept_by}
 use Rattle.ash_phrases.proofs.Numbers.{was_there, along}
 
@@ -46,17 +46,17 @@ module _ {X : Type 0} (Holds : X → Type 0) where
 
 -- objects
 
-abbrev Fit : Objects (List ℕ) → Type 0
+abbrev Fit : LiveObjects (List ℕ) → Type 0
 Fit objects = (n : ℕ) (object : P) → object_at n objects ≡ Some object → ObjectFits object
 
-put_fits : (number : ℕ) (new : P) (objects : Objects (List ℕ)) → ObjectFits new → Fit objects → Fit (with_at number new objects)
+put_fits : (number : ℕ) (new : P) (objects : LiveObjects (List ℕ)) → ObjectFits new → Fit objects → Fit (with_at number new objects)
 put_fits number new objects h all n object e = go (nat_eq n number) (sym (object_at-with_at number new n objects) ∙ e)
   where
     go : (b : Bool) → cond b (Some new) (object_at n objects) ≡ Some object → ObjectFits object
     go true f = let same : new ≡ object = cc in subst ObjectFits same h
     go false f = all n object f
 
-change_fits : (number : ℕ) (how : P → P) (objects : Objects (List ℕ)) → ((object : P) → ObjectFits object → ObjectFits (how object)) → Fit objects → Fit (change_at number how objects)
+change_fits : (number : ℕ) (how : P → P) (objects : LiveObjects (List ℕ)) → ((object : P) → ObjectFits object → ObjectFits (how object)) → Fit objects → Fit (change_at number how objects)
 change_fits number how objects h all = go (object_at number objects) refl
   where
     go : (o : Option P) → object_at number objects ≡ o → Fit (option_map_or (λ object. with_at number (how object) objects) o objects)

@@ -4,7 +4,7 @@ use Rattle.std.proofs.lemmas.List.Sums.{sum_by-cons, sum_by-append}
 use Rattle.std.specs.Option.{option_map_or}
 use Rattle.ash_host.specs.declared.event.Event.{Event}
 use Rattle.ash_host.specs.Objects.{Plain, Script, Array, Host, object_at, AreNumbered}
-use Rattle.ash_phrases.specs.Numbers.{is_draw_of, is_drop_of, draws_of, drops_of, Numbering, one_if_host, hosts_at, Life, Lives}
+use Rattle.ash_phrases.specs.Numbers.{is_draw_of, is_drop_of, draws_of, drops_of, Numbering, one_if_host, hosts_at, NumberLife, NumberLives}
 
 -- a prefix of joined lists ends in the first of them, or in the second
 pub split : {A : Type 0} (xs ys before after : List A) → xs ++ ys ≡ before ++ after → ((rest : List A) × (xs ≡ before ++ rest)) ⊎ ((more : List A) × (before ≡ xs ++ more) × (ys ≡ more ++ after))
@@ -66,7 +66,7 @@ hosts_given n a numbered = go (object_at n a.objects) refl
 -- lives
 
 -- A life is decided by its counts, where no more is dropped than was there.
-pub life_of : (n : ℕ) (a b : Numbering) (events : List Event) → draws_of n events ≤ 1 → (0 < draws_of n events → (a.last < n) × (n ≤ b.last)) → drops_of n events ≤ hosts_at n a → hosts_at n b + drops_of n events ≡ hosts_at n a + draws_of n events → Life n a events b
+pub life_of : (n : ℕ) (a b : Numbering) (events : List Event) → draws_of n events ≤ 1 → (0 < draws_of n events → (a.last < n) × (n ≤ b.last)) → drops_of n events ≤ hosts_at n a → hosts_at n b + drops_of n events ≡ hosts_at n a + draws_of n events → NumberLife n a events b
 life_of n a b events drawn anew dropped balance = record {
   drawn_once = drawn;
   drawn_anew = anew;
@@ -76,10 +76,10 @@ life_of n a b events drawn anew dropped balance = record {
 }
 
 -- nothing of the number happens
-pub same_life : (n : ℕ) (a b : Numbering) (events : List Event) → draws_of n events ≡ 0 → drops_of n events ≡ 0 → hosts_at n b ≡ hosts_at n a → Life n a events b
+pub same_life : (n : ℕ) (a b : Numbering) (events : List Event) → draws_of n events ≡ 0 → drops_of n events ≡ 0 → hosts_at n b ≡ hosts_at n a → NumberLife n a events b
 same_life n a b events drawn dropped same = life_of n a b events (omega (arith, drawn)) (λ less. absurd (omega (arith, drawn, less))) (omega (arith, dropped)) (omega (arith, drawn, dropped, same))
 
-module _ (n : ℕ) {a b c : Numbering} {xs ys : List Event} (numbered : AreNumbered a.last a.objects) (rises : a.last ≤ b.last) (more : b.last ≤ c.last) (one : Life n a xs b) (two : Life n b ys c) where
+module _ (n : ℕ) {a b c : Numbering} {xs ys : List Event} (numbered : AreNumbered a.last a.objects) (rises : a.last ≤ b.last) (more : b.last ≤ c.last) (one : NumberLife n a xs b) (two : NumberLife n b ys c) where
   once : (i j : ℕ) → draws_of n xs ≡ i → draws_of n ys ≡ j → i + j ≤ 1
   once zero j e f = omega (arith, two.drawn_once, f)
   once (suc i) zero e f = omega (arith, one.drawn_once, e)
@@ -128,7 +128,7 @@ module _ (n : ℕ) {a b c : Numbering} {xs ys : List Event} (numbered : AreNumbe
           let draws : draws_of n before ≡ draws_of n (xs ++ later) = ap (draws_of n) f in
           omega (arith, drops, draws, drops-append n xs later, draws-append n xs later, one.balance, two.dropped_after later after g)
 
-  joined_life : Life n a (xs ++ ys) c
+  joined_life : NumberLife n a (xs ++ ys) c
   joined_life = record {
     drawn_once = drawn_once;
     drawn_anew = drawn_anew;
@@ -137,7 +137,7 @@ module _ (n : ℕ) {a b c : Numbering} {xs ys : List Event} (numbered : AreNumbe
     balance = balanced;
   }
 
-pub joined_lives : {a b c : Numbering} {xs ys : List Event} → AreNumbered a.last a.objects → Lives a xs b → Lives b ys c → Lives a (xs ++ ys) c
+pub joined_lives : {a b c : Numbering} {xs ys : List Event} → AreNumbered a.last a.objects → NumberLives a xs b → NumberLives b ys c → NumberLives a (xs ++ ys) c
 joined_lives {a} {b} {c} numbered one two = record {
   numbered = two.numbered;
   rises = omega (arith, one.rises, two.rises);
@@ -145,7 +145,7 @@ joined_lives {a} {b} {c} numbered one two = record {
 }
 
 -- the same numbers, and nothing happens
-pub same_lives : (a b : Numbering) (events : List Event) → AreNumbered b.last b.objects → a.last ≤ b.last → ((n : ℕ) → draws_of n events ≡ 0) → ((n : ℕ) → drops_of n events ≡ 0) → ((n : ℕ) → hosts_at n b ≡ hosts_at n a) → Lives a events b
+pub same_lives : (a b : Numbering) (events : List Event) → AreNumbered b.last b.objects → a.last ≤ b.last → ((n : ℕ) → draws_of n events ≡ 0) → ((n : ℕ) → drops_of n events ≡ 0) → ((n : ℕ) → hosts_at n b ≡ hosts_at n a) → NumberLives a events b
 same_lives a b events numbered rises drawn dropped same = record {
   numbered = numbered;
   rises = rises;

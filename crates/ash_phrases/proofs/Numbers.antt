@@ -10,7 +10,7 @@ use Rattle.ash_host.specs.declared.event.Event.{Event}
 use Rattle.ash_host.specs.declared.event.Event.TheVariants.{Drew, Called, Dropped}
 use Rattle.ash_host.specs.declared.event.Target.{Target}
 use Rattle.ash_host.specs.declared.event.Target.TheVariants as targets
-use Rattle.ash_host.specs.Objects.{Plain, Script, Array, Host, Objects, object_at, with_at, is_host, IsInOrder, AreNumbered}
+use Rattle.ash_host.specs.Objects.{Plain, Script, Array, Host, LiveObjects, object_at, with_at, is_host, IsInOrder, AreNumbered}
 use Rattle.ash_host.specs.Reach.{ReachableIn, Swept, hosts_gone, is_reachable}
 use Rattle.ash_host.proofs.Order.{object_at-with_at, in_order-with_at, none_after, in_order_after}
 use Rattle.ash_host.proofs.ReachLaws.{is_reachable_says, is_reachable_yes}
@@ -22,23 +22,23 @@ use Rattle.ash_phrases.specs.ObjectSteps.{change_at, with_object, with_words, wi
 use Rattle.ash_phrases.specs.HostSteps.{with_state_in, with_state, after_answer}
 use Rattle.ash_phrases.specs.Locations.{with_global}
 use Rattle.ash_phrases.specs.Traces.{WorldTransition, WritesGlobal, WritesWords, Makes, Draws, TakesAnswer, Notes, Transition, TakesTick, InFrame, Enters, Leaves, InWorld, Releases, after_release, Trace, Here, Then}
-use Rattle.ash_phrases.specs.Numbers.{draws_of, drops_of, Numbering, numbering_of, one_if_host, hosts_at, Life, Lives}
-use Rattle.ash_phrases.specs.Laws.{IsReleased, NumbersLiveOnce}
+use Rattle.ash_phrases.specs.Numbers.{draws_of, drops_of, Numbering, numbering_of, one_if_host, hosts_at, NumberLife, NumberLives}
+use Rattle.ash_phrases.specs.MeaningLaws.{IsReleased, NumbersLiveOnce}
 use Rattle.ash_phrases.proofs.Released.{swept_by}
 use Rattle.ash_phrases.proofs.Lives.{hosts_given, draws-cons, drops-cons, life_of, same_life, joined_lives, same_lives}
 
 abbrev P : Type 0
 P = Plain (List ℕ)
 
-abbrev at : ℕ → Objects (List ℕ) → ℕ
+abbrev at : ℕ → LiveObjects (List ℕ) → ℕ
 at n objects = option_map_or one_if_host (object_at n objects) 0
 
-lives_at : (n : ℕ) (objects : Objects (List ℕ)) {object : P} → object_at n objects ≡ Some object → IsSome (object_at n objects)
+lives_at : (n : ℕ) (objects : LiveObjects (List ℕ)) {object : P} → object_at n objects ≡ Some object → IsSome (object_at n objects)
 lives_at n objects e = subst (λ (o : Option P). IsSome o) (sym e) refl
 
 -- an object that is changed
 
-module _ (number : ℕ) (how : P → P) (objects : Objects (List ℕ)) where
+module _ (number : ℕ) (how : P → P) (objects : LiveObjects (List ℕ)) where
   put_numbered : (last : ℕ) (object : P) → object_at number objects ≡ Some object → AreNumbered last objects → AreNumbered last (with_at number (how object) objects)
   put_numbered last object there numbered = record {
     in_order = in_order-with_at number (how object) objects numbered.in_order;
@@ -86,7 +86,7 @@ state_same state (Host kind old) = refl
 
 -- an object that is made
 
-new_hosts : (last : ℕ) (object : P) (objects : Objects (List ℕ)) (n : ℕ) → at n (with_at (last + 1) object objects) ≡ cond (nat_eq n (last + 1)) (one_if_host object) (at n objects)
+new_hosts : (last : ℕ) (object : P) (objects : LiveObjects (List ℕ)) (n : ℕ) → at n (with_at (last + 1) object objects) ≡ cond (nat_eq n (last + 1)) (one_if_host object) (at n objects)
 new_hosts last object objects n = ap (λ (o : Option P). option_map_or one_if_host o 0) (object_at-with_at (last + 1) object n objects) ∙ go (nat_eq n (last + 1))
   where
     go : (b : Bool) → option_map_or one_if_host (cond b (Some object) (object_at n objects)) 0 ≡ cond b (one_if_host object) (at n objects)
@@ -105,19 +105,19 @@ none_next a numbered = go (hosts_at (a.last + 1) a) refl
 abbrev Onward : World → World → Type 0
 Onward = NumbersLiveOnce
 
-same_events : (a b : World) → b.events ≡ a.events → Lives (numbering_of a) [] (numbering_of b) → Onward a b
+same_events : (a b : World) → b.events ≡ a.events → NumberLives (numbering_of a) [] (numbering_of b) → Onward a b
 same_events a b e lives = record { more = []; events = e ∙ sym (append-nil a.events); lives = lives }
 
 of_same : (a : World) {b c : World} → c ≡ b → Onward a b → Onward a c
 of_same a e h = subst (λ (w : World). Onward a w) (sym e) h
 
-still : (a : World) → AreNumbered a.last a.objects → Lives (numbering_of a) [] (numbering_of a)
+still : (a : World) → AreNumbered a.last a.objects → NumberLives (numbering_of a) [] (numbering_of a)
 still a numbered = same_lives (numbering_of a) (numbering_of a) [] numbered (omega arith) (λ n. refl) (λ n. refl) (λ n. refl)
 
-changes : (a : World) (number : ℕ) (how : P → P) → ((object : P) → is_host (how object) ≡ is_host object) → AreNumbered a.last a.objects → Lives (numbering_of a) [] (numbering_of (with_object number how a))
+changes : (a : World) (number : ℕ) (how : P → P) → ((object : P) → is_host (how object) ≡ is_host object) → AreNumbered a.last a.objects → NumberLives (numbering_of a) [] (numbering_of (with_object number how a))
 changes a number how same numbered = same_lives (numbering_of a) (numbering_of (with_object number how a)) [] (change_numbered number how a.objects a.last numbered) (omega arith) (λ n. refl) (λ n. refl) (change_hosts number how a.objects same)
 
-makes : (a : World) (object : P) → is_host object ≡ false → AreNumbered a.last a.objects → Lives (numbering_of a) [] (numbering_of (with_new object a))
+makes : (a : World) (object : P) → is_host object ≡ false → AreNumbered a.last a.objects → NumberLives (numbering_of a) [] (numbering_of (with_new object a))
 makes a object none numbered = same_lives (numbering_of a) (numbering_of (with_new object a)) [] (put_next a.last object a.objects numbered) (omega arith) (λ n. refl) (λ n. refl) (λ n. new_hosts a.last object a.objects n ∙ go n (nat_eq n (a.last + 1)) refl)
   where
     go : (n : ℕ) (b : Bool) → nat_eq n (a.last + 1) ≡ b → cond b (one_if_host object) (at n a.objects) ≡ at n a.objects
@@ -128,7 +128,7 @@ makes a object none numbered = same_lives (numbering_of a) (numbering_of (with_n
         ∙ ap (λ (k : ℕ). at k a.objects) (sym here)
     go n false is = refl
 
-draws : (a : World) (kind : ℕ) (state : List ℕ) → AreNumbered a.last a.objects → Lives (numbering_of a) (Drew (a.last + 1) ∷ []) (numbering_of (with_new (Host kind state) a))
+draws : (a : World) (kind : ℕ) (state : List ℕ) → AreNumbered a.last a.objects → NumberLives (numbering_of a) (Drew (a.last + 1) ∷ []) (numbering_of (with_new (Host kind state) a))
 draws a kind state numbered = record {
   numbered = put_next a.last (Host kind state) a.objects numbered;
   rises = omega arith;
@@ -138,7 +138,7 @@ draws a kind state numbered = record {
     b : Numbering
     b = numbering_of (with_new (Host kind state) a)
 
-    go : (n : ℕ) (t : Bool) → nat_eq n (a.last + 1) ≡ t → Life n (numbering_of a) (Drew (a.last + 1) ∷ []) (numbering_of (with_new (Host kind state) a))
+    go : (n : ℕ) (t : Bool) → nat_eq n (a.last + 1) ≡ t → NumberLife n (numbering_of a) (Drew (a.last + 1) ∷ []) (numbering_of (with_new (Host kind state) a))
     go n true is =
         let here : n ≡ a.last + 1 = eqb-true n (a.last + 1) is in
         let level : nat_eq (a.last + 1) n ≡ true = eq-eqb (a.last + 1) n (sym here) in
@@ -152,7 +152,7 @@ draws a kind state numbered = record {
         (ap (λ (t : Bool). 0 + cond {A = ℕ} t 1 0) apart) refl
         (new_hosts a.last (Host kind state) a.objects n ∙ ap (λ (t : Bool). cond {A = ℕ} t 1 (at n a.objects)) is)
 
-answered : (a : World) (target : Target) (state : List ℕ) → AreNumbered a.last a.objects → Lives (numbering_of a) [] (numbering_of (with_state target state a))
+answered : (a : World) (target : Target) (state : List ℕ) → AreNumbered a.last a.objects → NumberLives (numbering_of a) [] (numbering_of (with_state target state a))
 answered a (targets.Object number) state numbered = changes a number (with_state_in state) (state_same state) numbered
 answered a (targets.Service index) state numbered = still a numbered
 
@@ -177,13 +177,13 @@ world_onward a b (Notes target id e) numbered =
 -- release points
 
 -- how many host objects of a number go
-abbrev gone : ℕ → Objects (List ℕ) → Option P → ℕ
+abbrev gone : ℕ → LiveObjects (List ℕ) → Option P → ℕ
 gone n new old = option_map_or (λ object. cond (is_host object && is_none (object_at n new)) 1 0) old 0
 
-abbrev goes : Objects (List ℕ) → ℕ × P → Bool
+abbrev goes : LiveObjects (List ℕ) → ℕ × P → Bool
 goes new e = is_host e.1 && is_none (object_at e.0 new)
 
-gone_drops : (n : ℕ) (new objects : Objects (List ℕ)) → IsInOrder objects → drops_of n (map Dropped (keys_of (filter (goes new) objects))) ≡ gone n new (object_at n objects)
+gone_drops : (n : ℕ) (new objects : LiveObjects (List ℕ)) → IsInOrder objects → drops_of n (map Dropped (keys_of (filter (goes new) objects))) ≡ gone n new (object_at n objects)
 gone_drops n new [] o = refl
 gone_drops n new (e ∷ l) o =
     here (nat_eq n e.0) refl (gone_drops n new l (in_order_after e l o))
@@ -217,7 +217,7 @@ gone_drops n new (e ∷ l) o =
         never true = refl
         never false = refl
 
-module _ (held : List ℕ) (old new : Objects (List ℕ)) {dropped : List ℕ} (s : Swept (Contains held) old new dropped) where
+module _ (held : List ℕ) (old new : LiveObjects (List ℕ)) {dropped : List ℕ} (s : Swept (Contains held) old new dropped) where
   -- what is there after a sweep was there before
   pub was_there : (n : ℕ) (object : P) → object_at n new ≡ Some object → object_at n old ≡ Some object
   was_there n object e = go (is_reachable held old n) refl
@@ -269,7 +269,7 @@ released_onward frames a b r numbered = record {
     none_drawn n [] = refl
     none_drawn n (k ∷ ns) = let rest = none_drawn n ns in omega (arith, draws-cons n (Dropped k) (map Dropped ns), rest)
 
-    life : (n : ℕ) → Life n (numbering_of a) (map Dropped (hosts_gone a.objects b.objects)) (numbering_of b)
+    life : (n : ℕ) → NumberLife n (numbering_of a) (map Dropped (hosts_gone a.objects b.objects)) (numbering_of b)
     life n =
         let drawn : draws_of n (map Dropped (hosts_gone a.objects b.objects)) ≡ 0 = none_drawn n (hosts_gone a.objects b.objects) in
         let dropped : drops_of n (map Dropped (hosts_gone a.objects b.objects)) ≡ gone n b.objects (object_at n a.objects) = gone_drops n b.objects a.objects numbered.in_order in

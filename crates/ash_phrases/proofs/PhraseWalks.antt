@@ -11,21 +11,21 @@ use Rattle.ash_typed.specs.declared.tree.operations.Lazy.{Lazy}
 use Rattle.ash_typed.specs.declared.tree.operations.Lazy.TheVariants as lazies
 use Rattle.ash_typed.specs.declared.tree.operations.Method.{Method}
 use Rattle.ash_typed.specs.declared.tree.operations.Method.TheVariants as methods
-use Rattle.ash_typed.specs.declared.tree.operations.Target.{Target}
-use Rattle.ash_typed.specs.declared.tree.operations.Target.TheVariants as targets
+use Rattle.ash_typed.specs.declared.tree.operations.CallTarget.{CallTarget}
+use Rattle.ash_typed.specs.declared.tree.operations.CallTarget.TheVariants as targets
 use Rattle.ash_typed.specs.declared.tree.statements.Test.{Test}
 use Rattle.ash_typed.specs.declared.tree.statements.Test.TheVariants as tests
-use Rattle.ash_typed.specs.Tree.{Expr, Number, Truth, Null, This, Read, Invoke, Convert, Cast, Alter, Operate, Lazily, Conditional, Assign, Update, Count, Call, Place, Stored, Held, Indexed, Exprs, no_expr, expr}
+use Rattle.ash_typed.specs.TypedTree.{Expr, Number, Truth, Null, This, Read, Invoke, Convert, Cast, Alter, Operate, Lazily, Conditional, Assign, Update, Count, Call, Place, Stored, Held, Indexed, Exprs, no_expr, expr}
 use Rattle.ash_typed.specs.StatementTree.{Initialization, Stmt, Empty, Declare, Evaluate, Block, If, Branch, no_branch, branch, Head, no_head, declared_head, evaluated_head, Repeat, For, Loop, repeated, Switch, Break, Continue, Return, Stmts, no_stmt, stmt, Case, labelled, Cases, no_case, next_case}
 use Rattle.ash_typed.specs.Modules.{Variables}
 use Rattle.ash_phrases.specs.Runs.{Run, ◌>>=◌}
 use Rattle.ash_phrases.specs.Frames.{in_frame_of}
-use Rattle.ash_phrases.specs.Classes.{Program, class_of, implemented, element_of, Callee, Construction, Method as ClassMethod, FreeFunction, Entry, entry_of}
-use Rattle.ash_phrases.specs.Calls.{Calls, value_or_null, blank, call, construct, call_through, invoke, call_target}
-use Rattle.ash_phrases.specs.Operators.{is_true, zero_of, converted_to, altered}
+use Rattle.ash_phrases.specs.Classes.{Program, class_of, implemented, element_of, ModuleCallee, Construction, Method as ClassMethod, FreeFunction, Entry, entry_of}
+use Rattle.ash_phrases.specs.CallMeaning.{Calls, value_or_null, blank, call, construct, call_through, invoke, call_target}
+use Rattle.ash_phrases.specs.OperatorMeaning.{is_true, zero_of, converted_to, altered}
 use Rattle.ash_phrases.specs.Locations.{Global, Part, location_of_member}
-use Rattle.ash_phrases.specs.Expressions.{expression, location, arguments, lazily}
-use Rattle.ash_phrases.specs.Statements.{Flow, On, Broke, Continued, Returned, go_on, end_block, in_block, after_break, declare_all, evaluate, evaluate_all, condition, condition_or_true, begin, return_value, Turn, after_body, turn, turns, repeat, Labelled, from_label, is_constant, or_else, fall_through, switch, statement, otherwise, loop, statements, case_run, cases}
+use Rattle.ash_phrases.specs.ExpressionMeaning.{expression, location, arguments, lazily}
+use Rattle.ash_phrases.specs.StatementMeaning.{Flow, On, Broke, Continued, Returned, go_on, end_block, in_block, after_break, declare_all, evaluate, evaluate_all, condition, condition_or_true, begin, return_value, Turn, after_body, turn, turns, repeat, Labelled, from_label, is_constant, or_else, fall_through, switch, statement, otherwise, loop, statements, case_run, cases}
 use Rattle.ash_phrases.specs.Functions.{initialize_globals, initialize_module, write_field, initialize_fields, value_of, run_entry}
 use Rattle.ash_phrases.specs.Releases.{full}
 use Rattle.ash_phrases.proofs.Walks.{Walk, fewer, bound, followed, given, looked, chosen_by, found_there, ticked, a_tick}
@@ -130,7 +130,7 @@ module _ {n : ℕ} (p : Program) (one other : Entry → Run (Option Word)) (bodi
   walk_frame : (name : List ℕ) (line : ℕ) (of : Word) (args : List Word) {r s : Run Word} → ((m : ℕ) → m < n → Walk m r s) → Walk n (in_frame_of name line of args r) (in_frame_of name line of args s)
   walk_frame name line of args h = bound (followed (to_enter name line of args) (ticked line h)) to_leave
 
-  pub walk_call : (callee : Callee) (of : Word) (args : List Word) → Walk n (call c callee of args) (call c' callee of args)
+  pub walk_call : (callee : ModuleCallee) (of : Word) (args : List Word) → Walk n (call c callee of args) (call c' callee of args)
   walk_call callee of args = bound (found_there (entry_of p.tree callee)) (λ e. followed to_demand_frame (walk_frame e.name e.line of args (λ m less. bound (bodies e m less) (λ value. given (value_or_null value)))))
 
   pub walk_construct : (class : ℕ) (args : List Word) → Walk n (construct c class args) (construct c' class args)
@@ -147,7 +147,7 @@ module _ {n : ℕ} (p : Program) (one other : Entry → Run (Option Word)) (bodi
   walk_invoke (methods.Host id result) number args = to_invoke_host (hosts.Object number) id result args
   walk_invoke (methods.Array method) number args = to_invoke_array method number args
 
-  walk_target : (target : Target) (args : List Word) → Walk n (call_target c target args) (call_target c' target args)
+  walk_target : (target : CallTarget) (args : List Word) → Walk n (call_target c target args) (call_target c' target args)
   walk_target (targets.Function function result) args = walk_call (FreeFunction function) words.Null args
   walk_target (targets.Service service id result) args = to_invoke_host (hosts.Service service) id result args
   walk_target (targets.Class class) args = walk_construct class args

@@ -4,7 +4,7 @@ use Rattle.ash_host.specs.Objects.{IsInOrder}
 use Rattle.ash_host.proofs.ReachLaws.{sweep_is_exact}
 use Rattle.ash_phrases.specs.Activity.{World, Frame, Activity}
 use Rattle.ash_phrases.specs.Releases.{roots, sweep, release}
-use Rattle.ash_phrases.specs.Laws.{IsReleased, ReleasesTheUnreachable}
+use Rattle.ash_phrases.specs.MeaningLaws.{IsReleased, ReleasesTheUnreachable}
 
 pub swept_by : (frames : List Frame) (world : World) → IsInOrder world.objects → IsReleased frames world (sweep frames world)
 unfolding sweep

@@ -6,7 +6,7 @@ use Rattle.ash_host.specs.declared.answer.HostAnswer.{HostAnswer}
 use Rattle.ash_host.specs.declared.answer.HostAnswer.TheVariants as answers
 use Rattle.ash_host.specs.declared.event.Target.{Target}
 use Rattle.ash_host.specs.Calls.{HostCall, Start, Invoke, Get, Set}
-use Rattle.ash_host.specs.Objects.{Plain, Array, Host, Element, object_at, handles, is_host}
+use Rattle.ash_host.specs.Objects.{Plain, Array, Host, Elements, object_at, handles, is_host}
 use Rattle.ash_host.specs.Records.{HostRecord}
 use Rattle.ash_integers.specs.declared.arithmetic.DivisionFault.{DivisionFault}
 use Rattle.ash_integers.specs.declared.arithmetic.DivisionFault.TheVariants as faults
@@ -30,14 +30,14 @@ use Rattle.ash_phrases.specs.Releases.{hold_all, give_held, release, let_go, end
 use Rattle.ash_phrases.specs.Frames.{max_frames, demand_frame, frame_of, enter, back_in, leave}
 use Rattle.ash_phrases.specs.ObjectSteps.{object_of, with_object, words_at, with_words, put_words, max_number, demand_number, with_new, make}
 use Rattle.ash_phrases.specs.HostSteps.{with_event, note, next_answer, after_answer, call_host, accept, invoke_host, get_property, set_property, place_of_kind, without_box, box_in, box_of_kind, draw, construct_host, is_of}
-use Rattle.ash_phrases.specs.Operators.{calculated_by, converted_to, counted, given_by, give_or_raise, calculate, operate}
+use Rattle.ash_phrases.specs.OperatorMeaning.{calculated_by, converted_to, counted, given_by, give_or_raise, calculate, operate}
 use Rattle.ash_phrases.specs.Locations.{Location, Local, Global, Part, Property, with_local, with_global, read, overwrite, write}
 use Rattle.ash_phrases.specs.ArraySteps.{zero_element, natural_of, count_in, zero_in, resized, index_in, construct_array, zero_at, resize, insert_last, remove_last, length_of, invoke_array}
 use Rattle.ash_phrases.specs.Classes.{Program}
-use Rattle.ash_phrases.specs.Calls.{cast}
-use Rattle.ash_phrases.specs.Expressions.{store, update, count_at, element_at}
+use Rattle.ash_phrases.specs.CallMeaning.{cast}
+use Rattle.ash_phrases.specs.ExpressionMeaning.{store, update, count_at, element_at}
 use Rattle.ash_phrases.specs.Traces.{InFrame, Enters, Leaves, InWorld, Releases, WritesGlobal, WritesWords, Makes, Draws, TakesAnswer, Notes, drawn, Trace, Here}
-use Rattle.ash_phrases.specs.Laws.{ComesBy, with_more, GoesOn}
+use Rattle.ash_phrases.specs.MeaningLaws.{ComesBy, with_more, ExtendsWithMoreTicks}
 use Rattle.ash_phrases.proofs.Traces.{one}
 use Rattle.ash_phrases.proofs.Walks.{Walk, bound, followed, given, looked, changed, raised, nowhere, chosen_by, demanded, found_there}
 
@@ -56,7 +56,7 @@ answer_comes : (target : Target) (call : HostCall) (a : Activity) (next : Option
 answer_comes target call a None e = tt
 answer_comes target call a (Some (next, left)) e = one (InWorld (after_answer target next left a.world) (TakesAnswer target call next left e refl) refl)
 
-answer_goes_on : (target : Target) (more : ℕ) (a : Activity) (next : Option (HostRecord × List HostRecord)) → GoesOn more (onward (found next a) (with_answer target)) (onward (found next (with_more more a)) (with_answer target))
+answer_goes_on : (target : Target) (more : ℕ) (a : Activity) (next : Option (HostRecord × List HostRecord)) → ExtendsWithMoreTicks more (onward (found next a) (with_answer target)) (onward (found next (with_more more a)) (with_answer target))
 answer_goes_on target more a None = refl
 answer_goes_on target more a (Some (next, left)) = refl
 
@@ -108,7 +108,7 @@ draw_comes kind a (Ended (Raising x) b) t = subst (λ (c : Activity). Trace a c)
 draw_comes kind a (Ended OutOfTicks b) t = absurd t
 draw_comes kind a NoStep t = tt
 
-draw_goes_on : (kind more : ℕ) (a : Activity) (p q : Progress (ℕ × FreeBox)) → TakesBox kind a p → GoesOn more p q → GoesOn more (onward (onward p make_of) note_draw) (onward (onward q make_of) note_draw)
+draw_goes_on : (kind more : ℕ) (a : Activity) (p q : Progress (ℕ × FreeBox)) → TakesBox kind a p → ExtendsWithMoreTicks more p q → ExtendsWithMoreTicks more (onward (onward p make_of) note_draw) (onward (onward q make_of) note_draw)
 draw_goes_on kind more a (Done box b) q t e = ap (λ (x : Progress (ℕ × FreeBox)). onward (onward x make_of) note_draw) e
 draw_goes_on kind more a (Ended (Raising x) b) q t e = ap (λ (x : Progress (ℕ × FreeBox)). onward (onward x make_of) note_draw) e
 draw_goes_on kind more a (Ended OutOfTicks b) q t e = absurd t
@@ -266,7 +266,7 @@ module _ {n : ℕ} where
   pub to_element_at : (array index : Word) → Walk n (element_at array index) (element_at array index)
   to_element_at array index = bound (to_object_of array) (λ number. bound (to_index_in number index) (λ place. given (Part number place)))
 
-  pub to_construct_array : (of : Element (List ℕ)) (args : List Word) → Walk n (construct_array of args) (construct_array of args)
+  pub to_construct_array : (of : Elements (List ℕ)) (args : List Word) → Walk n (construct_array of args) (construct_array of args)
   to_construct_array of args = bound (followed (followed to_demand_number (demanded (nat_le (count_in args) max_elements) ArrayLimit)) (to_make (Array of (replicate (count_in args) (zero_element of))) refl)) (λ number. to_give_held (words.Object number))
 
   to_zero_at : (number : ℕ) → Walk n (zero_at number) (zero_at number)

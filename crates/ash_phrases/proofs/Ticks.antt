@@ -7,10 +7,10 @@ use Rattle.ash_phrases.specs.Activity.{Activity, in_frame}
 use Rattle.ash_phrases.specs.Runs.{Progress, Done, Ended, NoStep, Run, give, onward, ◌>>=◌, ◌>>◌, found}
 use Rattle.ash_phrases.specs.Frames.{at_line, spend, demand_frame, frame_of, leave, in_frame_of}
 use Rattle.ash_phrases.specs.ObjectSteps.{demand_number, make}
-use Rattle.ash_phrases.specs.Classes.{Program, Callee, Construction, Entry, entry_of}
-use Rattle.ash_phrases.specs.Calls.{value_or_null, blank, call, construct}
+use Rattle.ash_phrases.specs.Classes.{Program, ModuleCallee, Construction, Entry, entry_of}
+use Rattle.ash_phrases.specs.CallMeaning.{value_or_null, blank, call, construct}
 use Rattle.ash_phrases.specs.Functions.{body, calls_within}
-use Rattle.ash_phrases.specs.Laws.{LeavesAtMost, TakesTicks, GainsNone, TicksFall}
+use Rattle.ash_phrases.specs.MeaningLaws.{LeavesAtMost, TakesTicks, GainsNone, TicksFall}
 use Rattle.ash_phrases.proofs.Traces.{at_most_more, leaves}
 use Rattle.ash_phrases.proofs.Walks.{Walk, at_most, bound, followed, given, found_there}
 use Rattle.ash_phrases.proofs.StepWalks.{to_demand_frame, to_demand_number, to_make, to_leave}
@@ -64,7 +64,7 @@ module _ (p : Program) (d : ℕ) where
   body_of_call : Entry → Run Word
   body_of_call e = body p d e >>= (λ value. give (value_or_null value))
 
-  call_takes : (callee : Callee) (this : Word) (args : List Word) (a : Activity) → a.ticks ≤ d → TakesTicks a.ticks (call (calls_within p d) callee this args a)
+  call_takes : (callee : ModuleCallee) (this : Word) (args : List Word) (a : Activity) → a.ticks ≤ d → TakesTicks a.ticks (call (calls_within p d) callee this args a)
   unfolding body_of_call
   call_takes callee this args a le =
       takes_later (λ (e : Entry). demand_frame >> in_frame_of e.name e.line this args (body_of_call e)) a.ticks (found (entry_of p.tree callee) a) (left_by (found_there {n = d} (entry_of p.tree callee)) a le)

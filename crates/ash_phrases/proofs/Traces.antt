@@ -5,7 +5,7 @@ use Rattle.ash_phrases.specs.Activity.{Frame, Activity}
 use Rattle.ash_phrases.specs.Runs.{Raising, OutOfTicks, Progress, Done, Ended, NoStep}
 use Rattle.ash_phrases.specs.Frames.{back_in}
 use Rattle.ash_phrases.specs.Traces.{Transition, TakesTick, InFrame, Enters, Leaves, InWorld, Releases, Trace, Here, Then}
-use Rattle.ash_phrases.specs.Laws.{LeavesAtMost, ComesBy}
+use Rattle.ash_phrases.specs.MeaningLaws.{LeavesAtMost, ComesBy}
 
 pub joined : {a b c : Activity} → Trace a b → Trace b c → Trace a c
 joined t Here = t

@@ -6,13 +6,13 @@ use Rattle.ash_phrases.specs.Activity.{Activity, in_frame}
 use Rattle.ash_phrases.specs.Runs.{Raising, OutOfTicks, Progress, Done, Ended, NoStep, Run, give, onward, ◌>>=◌, ◌>>◌, look, change, raise, demand, no_step, found}
 use Rattle.ash_phrases.specs.Frames.{at_line, spend, tick}
 use Rattle.ash_phrases.specs.Traces.{Transition, TakesTick, InFrame, Trace, Here}
-use Rattle.ash_phrases.specs.Laws.{AreSame, ComesBy, with_more, GoesOn}
+use Rattle.ash_phrases.specs.MeaningLaws.{AreSame, ComesBy, with_more, ExtendsWithMoreTicks}
 use Rattle.ash_phrases.proofs.Traces.{one, at_most_more, ticks_fall, comes_after, leaves}
 
 pub record Walk {A : Type 0} (n : ℕ) (r s : Run A) : Type 0 where
   pub same : (a : Activity) → a.ticks ≤ n → r a ≡ s a
   pub comes : (a : Activity) → a.ticks ≤ n → ComesBy a (r a)
-  pub goes_on : (more : ℕ) (a : Activity) → a.ticks + more ≤ n → GoesOn more (r a) (r (with_more more a))
+  pub goes_on : (more : ℕ) (a : Activity) → a.ticks + more ≤ n → ExtendsWithMoreTicks more (r a) (r (with_more more a))
 
 pub at_most : (t : ℕ) → t ≤ t
 at_most t = omega arith
@@ -52,8 +52,8 @@ same_on f g a le h (Ended (Raising x) b) t = refl
 same_on f g a le h (Ended OutOfTicks b) t = refl
 same_on f g a le h NoStep t = refl
 
-more_on : {A B : Type 0} {n : ℕ} (f g : A → Run B) (more : ℕ) (a : Activity) → a.ticks + more ≤ n → ((v : A) → Walk n (f v) (g v)) → (p q : Progress A) → ComesBy a p → GoesOn more p q → GoesOn more (onward p f) (onward q f)
-more_on {A = A} f g more a le h (Done v b) q t e = subst (λ (x : Progress A). GoesOn more (f v b) (onward x f)) (sym e) ((h v).goes_on more b (fewer_more more (ticks_fall t) le))
+more_on : {A B : Type 0} {n : ℕ} (f g : A → Run B) (more : ℕ) (a : Activity) → a.ticks + more ≤ n → ((v : A) → Walk n (f v) (g v)) → (p q : Progress A) → ComesBy a p → ExtendsWithMoreTicks more p q → ExtendsWithMoreTicks more (onward p f) (onward q f)
+more_on {A = A} f g more a le h (Done v b) q t e = subst (λ (x : Progress A). ExtendsWithMoreTicks more (f v b) (onward x f)) (sym e) ((h v).goes_on more b (fewer_more more (ticks_fall t) le))
 more_on {A = A} f g more a le h (Ended (Raising x) b) q t e = ap (λ (y : Progress A). onward y f) e
 more_on f g more a le h (Ended OutOfTicks b) q t e = comes_on f (with_more more b) (fewer_more more (ticks_fall t.0) le) (λ v c l. (h v).comes c l) q e
 more_on {A = A} f g more a le h NoStep q t e = ap (λ (y : Progress A). onward y f) e
@@ -112,7 +112,7 @@ alone_comes : (t : ℕ) (b : Activity) → b.ticks ≡ t → ComesBy b (spend t 
 alone_comes zero b e = (Here, e)
 alone_comes (suc t) b e = takes b e
 
-alone_goes_on : (more t : ℕ) (b : Activity) → b.ticks ≡ t → GoesOn more (spend t b) (spend (t + more) (with_more more b))
+alone_goes_on : (more t : ℕ) (b : Activity) → b.ticks ≡ t → ExtendsWithMoreTicks more (spend t b) (spend (t + more) (with_more more b))
 alone_goes_on more zero b e = alone_comes (0 + more) (with_more more b) (ap (λ (k : ℕ). k + more) e)
 alone_goes_on more (suc t) b e = ap (λ (k : ℕ). spend k (with_more more b)) (sym (one_more t more))
 
@@ -140,11 +140,11 @@ module _ {n : ℕ} where
         let left : Activity = record b { ticks = t } in
         comes_after (r left) (takes b e) ((h t le).comes left (at_most t))
 
-    then_goes_on : (more t : ℕ) (b : Activity) → b.ticks ≡ t → t + more ≤ n → GoesOn more (onward (spend t b) (λ _. r)) (onward (spend (t + more) (with_more more b)) (λ _. r))
+    then_goes_on : (more t : ℕ) (b : Activity) → b.ticks ≡ t → t + more ≤ n → ExtendsWithMoreTicks more (onward (spend t b) (λ _. r)) (onward (spend (t + more) (with_more more b)) (λ _. r))
     then_goes_on more zero b e le = then_comes (0 + more) (with_more more b) (ap (λ (k : ℕ). k + more) e) le
     then_goes_on more (suc t) b e le =
         let left : Activity = record b { ticks = t } in
-        subst (λ (k : ℕ). GoesOn more (r left) (onward (spend k (with_more more b)) (λ _. r))) (one_more t more)
+        subst (λ (k : ℕ). ExtendsWithMoreTicks more (r left) (onward (spend k (with_more more b)) (λ _. r))) (one_more t more)
         ((h (t + more) (omega arith)).goes_on more left (at_most (t + more)))
 
   pub ticked : {A : Type 0} {r s : Run A} (line : ℕ) → ((m : ℕ) → m < n → Walk m r s) → Walk n (tick line >> r) (tick line >> s)

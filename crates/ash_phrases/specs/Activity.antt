@@ -2,7 +2,7 @@
 use Rattle.std.specs.Prelude.{ℕ, List}
 use Rattle.ash_host.specs.declared.word.Word.{Word}
 use Rattle.ash_host.specs.declared.event.Event.{Event}
-use Rattle.ash_host.specs.Objects.{Objects}
+use Rattle.ash_host.specs.Objects.{LiveObjects}
 use Rattle.ash_host.specs.Records.{HostRecord}
 
 -- a free box, by its kind and its state
@@ -16,7 +16,7 @@ pub record FreeBox : Type 0 where
 pub record World : Type 0 where
   pub globals : List Word
   pub outside : List ℕ
-  pub objects : Objects (List ℕ)
+  pub objects : LiveObjects (List ℕ)
   pub last : ℕ
   pub services : List (List ℕ)
   pub pool : List FreeBox

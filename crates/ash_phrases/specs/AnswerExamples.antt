@@ -10,7 +10,7 @@ use Rattle.ash_host.specs.Records.{HostRecord}
 use Rattle.ash_integers.specs.declared.int_type.IntType.TheVariants as ints
 use Rattle.ash_typed.specs.declared.tree.operations.Calculator.TheVariants as calculators
 use Rattle.ash_typed.specs.declared.tree.operations.Calculation.{Calculation}
-use Rattle.ash_typed.specs.Tree.{Read, Assign, Update, Place}
+use Rattle.ash_typed.specs.TypedTree.{Read, Assign, Update, Place}
 use Rattle.ash_phrases.specs.Activity.{FreeBox, World}
 use Rattle.ash_phrases.specs.Classes.{Program}
 use Rattle.ash_phrases.specs.ExampleParts.{empty_world, int, number, local, returning, evaluate, counter, add}

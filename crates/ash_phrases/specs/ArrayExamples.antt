@@ -11,9 +11,9 @@ use Rattle.ash_typed.specs.declared.types.VarType.TheVariants as vars
 use Rattle.ash_typed.specs.declared.tree.operations.Method.TheVariants as methods
 use Rattle.ash_typed.specs.declared.tree.operations.ArrayMethod.{ArrayMethod}
 use Rattle.ash_typed.specs.declared.tree.operations.ArrayMethod.TheVariants as arrays
-use Rattle.ash_typed.specs.declared.tree.operations.Target.TheVariants as targets
+use Rattle.ash_typed.specs.declared.tree.operations.CallTarget.TheVariants as targets
 use Rattle.ash_typed.specs.declared.tree.operations.Calculator.TheVariants as calculators
-use Rattle.ash_typed.specs.Tree.{Number, Expr, Read, Invoke, Convert, Call, Indexed, exprs}
+use Rattle.ash_typed.specs.TypedTree.{Number, Expr, Read, Invoke, Convert, Call, Indexed, exprs}
 use Rattle.ash_typed.specs.StatementTree.{Stmt, Declare}
 use Rattle.ash_typed.specs.Modules.{Function}
 use Rattle.ash_phrases.specs.Activity.{World}

@@ -4,7 +4,7 @@ use Rattle.std.specs.Prelude.{length, take, drop, replicate, unsigned_abs}
 use Rattle.std.specs.Option.{option_map_or}
 use Rattle.ash_host.specs.declared.word.Word.{Word}
 use Rattle.ash_host.specs.declared.word.Word.TheVariants as words
-use Rattle.ash_host.specs.Objects.{Plain, Array, Element, Bools, Ints, Uints, Int64s}
+use Rattle.ash_host.specs.Objects.{Plain, Array, Elements, Bools, Ints, Uints, Int64s}
 use Rattle.ash_host.specs.Objects.{Uint64s, Handles, Hosts, object_at}
 use Rattle.ash_host.specs.Limits.{max_elements}
 use Rattle.ash_integers.specs.Integers.{number_of}
@@ -16,10 +16,10 @@ use Rattle.ash_phrases.specs.declared.exception.Exception.TheVariants.{IndexOutO
 use Rattle.ash_phrases.specs.Runs.{Run, give, ◌>>=◌, ◌>>◌, look, demand, no_step}
 use Rattle.ash_phrases.specs.Releases.{hold_all, give_held}
 use Rattle.ash_phrases.specs.ObjectSteps.{words_at, put_words, demand_number, make}
-use Rattle.ash_phrases.specs.Operators.{zero_of}
+use Rattle.ash_phrases.specs.OperatorMeaning.{zero_of}
 
 -- what an element is before anything is written to it
-abbrev pub zero_element : Element (List ℕ) → Word
+abbrev pub zero_element : Elements (List ℕ) → Word
 zero_element Bools = zero_of vars.Bool
 zero_element Ints = zero_of (vars.Integer ints.Int)
 zero_element Uints = zero_of (vars.Integer ints.Uint)
@@ -46,7 +46,7 @@ count_in [] = 0
 count_in (count ∷ rest) = natural_of count
 
 -- Constructs an array, which takes no frame and no tick.
-abbrev pub construct_array : Element (List ℕ) → List Word → Run Word
+abbrev pub construct_array : Elements (List ℕ) → List Word → Run Word
 construct_array of args =
     demand_number >> demand (nat_le (count_in args) max_elements) ArrayLimit
     >> make (Array of (replicate (count_in args) (zero_element of)))

@@ -5,7 +5,7 @@ use Rattle.std.specs.Prelude.{length, find, position, count_by, slice_get, Optio
 use Rattle.std.specs.List.{range_with_len}
 use Rattle.std.specs.Option.{option_map_or, option_and_then}
 use Rattle.std.specs.Str.{bytes_eq}
-use Rattle.ash_host.specs.Objects.{Plain, Script, Element, Bools, Ints, Uints, Int64s, Uint64s, Handles, Hosts}
+use Rattle.ash_host.specs.Objects.{Plain, Script, Elements, Bools, Ints, Uints, Int64s, Uint64s, Handles, Hosts}
 use Rattle.ash_integers.specs.declared.int_type.IntType.TheVariants as ints
 use Rattle.ash_typed.specs.declared.types.Element as typed_element
 use Rattle.ash_typed.specs.declared.types.Element.TheVariants as elements
@@ -61,7 +61,7 @@ abbrev pub is_object_of : Program → ObjectType → Plain (List ℕ) → Bool
 is_object_of p of object = option_map_or (is_class_of p.tree of) (class_of p object) false
 
 -- what the elements of an array are of, as the array says it
-abbrev pub element_of : Program → typed_element.Element → Element (List ℕ)
+abbrev pub element_of : Program → typed_element.Element → Elements (List ℕ)
 element_of p elements.Bool = Bools
 element_of p (elements.Integer ints.Int) = Ints
 element_of p (elements.Integer ints.Uint) = Uints
@@ -74,10 +74,10 @@ element_of p (elements.Host kind) = Hosts kind
 -- what is entered
 
 -- what a script calls of its own module: a function, a method of a class, or the construction of an object of a class
-pub data Callee : Type 0 where
-  FreeFunction : (place : ℕ) → Callee
-  Method : (class place : ℕ) → Callee
-  Construction : (class : ℕ) → Callee
+pub data ModuleCallee : Type 0 where
+  FreeFunction : (place : ℕ) → ModuleCallee
+  Method : (class place : ℕ) → ModuleCallee
+  Construction : (class : ℕ) → ModuleCallee
 
 -- What the frame of a call does: its name, the line of its entry, the fields that it initializes, and the body.
 pub record Entry : Type 0 where
@@ -106,7 +106,7 @@ entry_of_construction c =
       body = option_map_or (λ (f : Function). f.body) c.constructor no_stmt;
     }
 
-abbrev pub entry_of : Module → Callee → Option Entry
+abbrev pub entry_of : Module → ModuleCallee → Option Entry
 entry_of m (FreeFunction place) = option_map entry_of_function (slice_get m.functions place)
 entry_of m (Method class place) =
     option_and_then (λ (c : Class). option_map (entry_of_method c) (slice_get c.methods place))

@@ -2,14 +2,14 @@
 use Rattle.std.specs.Prelude.{ℕ, List, [], ◌∷◌, codes, Some, None}
 use Rattle.ash_tree.specs.declared.tree.statements.Label.TheVariants as labels
 use Rattle.ash_integers.specs.declared.int_type.IntType.TheVariants as ints
-use Rattle.ash_typed.specs.declared.tree.operations.Target.TheVariants as targets
+use Rattle.ash_typed.specs.declared.tree.operations.CallTarget.TheVariants as targets
 use Rattle.ash_typed.specs.declared.tree.operations.Calculator.TheVariants as calculators
 use Rattle.ash_typed.specs.declared.tree.operations.Comparator.TheVariants as comparators
 use Rattle.ash_typed.specs.declared.tree.operations.Operands.TheVariants as operands
 use Rattle.ash_typed.specs.declared.tree.operations.Operation.TheVariants as operations
 use Rattle.ash_typed.specs.declared.tree.operations.IncrementOp.TheVariants as steps
 use Rattle.ash_typed.specs.declared.tree.statements.Test.TheVariants as tests
-use Rattle.ash_typed.specs.Tree.{Expr, Read, Operate, Update, Count, Call, Place, exprs}
+use Rattle.ash_typed.specs.TypedTree.{Expr, Read, Operate, Update, Count, Call, Place, exprs}
 use Rattle.ash_typed.specs.StatementTree.{Initialization, Stmt, Empty, Declare, Evaluate, Block, declared_head, no_head}
 use Rattle.ash_typed.specs.StatementTree.{Repeat, For, repeated, Switch, Break, Continue, stmts, Case, cases, labelled}
 use Rattle.ash_typed.specs.Modules.{Function, Class}

@@ -13,7 +13,7 @@ use Rattle.ash_phrases.specs.Activity.{World, Frame, Activity}
 use Rattle.ash_phrases.specs.Runs.{Interrupt, Raising, OutOfTicks, Progress, Done, Ended, NoStep, give, ◌>>◌}
 use Rattle.ash_phrases.specs.Frames.{frame_of, tick}
 use Rattle.ash_phrases.specs.Releases.{sweep}
-use Rattle.ash_phrases.specs.Operators.{zero_of}
+use Rattle.ash_phrases.specs.OperatorMeaning.{zero_of}
 use Rattle.ash_phrases.specs.Classes.{Program, FreeFunction, Entry, entry_of}
 use Rattle.ash_phrases.specs.Functions.{initialize_module, body, calls_within}
 

@@ -8,19 +8,19 @@ use Rattle.ash_host.specs.declared.event.Event.{Event}
 use Rattle.ash_host.specs.declared.event.Target.TheVariants as host_targets
 use Rattle.ash_host.specs.Calls as calls
 use Rattle.ash_host.specs.Ints.{int_bytes}
-use Rattle.ash_host.specs.Objects.{Objects}
+use Rattle.ash_host.specs.Objects.{LiveObjects}
 use Rattle.ash_host.specs.Records.{HostRecord}
 use Rattle.ash_integers.specs.declared.int_type.IntType.TheVariants as ints
 use Rattle.ash_typed.specs.declared.types.ObjectType.TheVariants as objects
 use Rattle.ash_typed.specs.declared.types.VarType.{VarType}
 use Rattle.ash_typed.specs.declared.types.VarType.TheVariants as vars
 use Rattle.ash_typed.specs.declared.tree.operations.Variable.TheVariants as variables
-use Rattle.ash_typed.specs.declared.tree.operations.Member.TheVariants as members
+use Rattle.ash_typed.specs.declared.tree.operations.ObjectMember.TheVariants as members
 use Rattle.ash_typed.specs.declared.tree.operations.Method.TheVariants as methods
-use Rattle.ash_typed.specs.declared.tree.operations.Target.TheVariants as targets
+use Rattle.ash_typed.specs.declared.tree.operations.CallTarget.TheVariants as targets
 use Rattle.ash_typed.specs.declared.tree.operations.Calculator.{Calculator}
 use Rattle.ash_typed.specs.declared.tree.operations.Operation.TheVariants as operations
-use Rattle.ash_typed.specs.Tree.{Expr, Number, Invoke, Operate, Call, Place, Stored, Held, exprs}
+use Rattle.ash_typed.specs.TypedTree.{Expr, Number, Invoke, Operate, Call, Place, Stored, Held, exprs}
 use Rattle.ash_typed.specs.StatementTree.{Initialization, Stmt, Evaluate, Return, stmts}
 use Rattle.ash_typed.specs.Modules.{Variables, Function, Class, Module}
 use Rattle.ash_phrases.specs.Activity.{World}
@@ -126,7 +126,7 @@ HasServices outcome states = option_map (λ (o : Outcome). (o.world).services) o
 abbrev pub HasGlobals : Option Outcome → List Word → Type 0
 HasGlobals outcome globals = option_map (λ (o : Outcome). (o.world).globals) outcome ≡ Some globals
 
-abbrev pub HasObjects : Option Outcome → Objects (List ℕ) → Type 0
+abbrev pub HasObjects : Option Outcome → LiveObjects (List ℕ) → Type 0
 HasObjects outcome objects = option_map (λ (o : Outcome). (o.world).objects) outcome ≡ Some objects
 
 -- the last number that was given to an object

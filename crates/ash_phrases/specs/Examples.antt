@@ -4,8 +4,8 @@ use Rattle.ash_tree.specs.declared.tree.statements.Label.TheVariants as labels
 use Rattle.ash_integers.specs.declared.int_type.IntType.TheVariants as ints
 use Rattle.ash_typed.specs.declared.types.VarType.{VarType}
 use Rattle.ash_typed.specs.declared.types.VarType.TheVariants as vars
-use Rattle.ash_typed.specs.declared.tree.operations.Member.TheVariants as members
-use Rattle.ash_typed.specs.declared.tree.operations.Target.TheVariants as targets
+use Rattle.ash_typed.specs.declared.tree.operations.ObjectMember.TheVariants as members
+use Rattle.ash_typed.specs.declared.tree.operations.CallTarget.TheVariants as targets
 use Rattle.ash_typed.specs.declared.tree.operations.Calculator.TheVariants as calculators
 use Rattle.ash_typed.specs.declared.tree.operations.Comparator.{Comparator}
 use Rattle.ash_typed.specs.declared.tree.operations.Comparator.TheVariants as comparators
@@ -14,8 +14,8 @@ use Rattle.ash_typed.specs.declared.tree.operations.Operation.TheVariants as ope
 use Rattle.ash_typed.specs.declared.tree.operations.Lazy.TheVariants as lazies
 use Rattle.ash_typed.specs.declared.tree.operations.IncrementOp.TheVariants as steps
 use Rattle.ash_typed.specs.declared.tree.statements.Test.TheVariants as tests
-use Rattle.ash_typed.specs.Tree.{Expr, Truth, Read, Operate, Lazily, Conditional}
-use Rattle.ash_typed.specs.Tree.{Assign, Update, Count, Call, Place, Held, exprs}
+use Rattle.ash_typed.specs.TypedTree.{Expr, Truth, Read, Operate, Lazily, Conditional}
+use Rattle.ash_typed.specs.TypedTree.{Assign, Update, Count, Call, Place, Held, exprs}
 use Rattle.ash_typed.specs.StatementTree.{Return, Stmt, Declare, Block, If, no_branch, declared_head, Repeat, For}
 use Rattle.ash_typed.specs.StatementTree.{repeated, Switch, Break, Continue, stmts, Case, cases, labelled}
 use Rattle.ash_typed.specs.Modules.{Function, Class}

@@ -3,11 +3,11 @@ use Rattle.std.specs.Prelude.{List, [], ◌∷◌, codes, Some, None}
 use Rattle.ash_integers.specs.declared.int_type.IntType.TheVariants as ints
 use Rattle.ash_typed.specs.declared.tree.operations.Calculator.TheVariants as calculators
 use Rattle.ash_typed.specs.declared.tree.operations.Comparator.TheVariants as comparators
-use Rattle.ash_typed.specs.declared.tree.operations.Member.TheVariants as members
-use Rattle.ash_typed.specs.declared.tree.operations.Target.TheVariants as targets
+use Rattle.ash_typed.specs.declared.tree.operations.ObjectMember.TheVariants as members
+use Rattle.ash_typed.specs.declared.tree.operations.CallTarget.TheVariants as targets
 use Rattle.ash_typed.specs.declared.tree.statements.Test.{Test}
 use Rattle.ash_typed.specs.declared.tree.statements.Test.TheVariants as tests
-use Rattle.ash_typed.specs.Tree.{Expr, This, Assign, Call, Held, exprs}
+use Rattle.ash_typed.specs.TypedTree.{Expr, This, Assign, Call, Held, exprs}
 use Rattle.ash_typed.specs.StatementTree.{Stmt, Empty, Declare, Block, If, no_branch, no_head, declared_head, Loop}
 use Rattle.ash_typed.specs.StatementTree.{Evaluate, Repeat, For, repeated, Switch, stmts, cases}
 use Rattle.ash_typed.specs.Modules.{Function, Class}

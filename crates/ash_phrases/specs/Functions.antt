@@ -11,9 +11,9 @@ use Rattle.ash_phrases.specs.Releases.{full}
 use Rattle.ash_phrases.specs.ObjectSteps.{object_of}
 use Rattle.ash_phrases.specs.Locations.{Global, Part, this, write}
 use Rattle.ash_phrases.specs.Classes.{Program, Entry}
-use Rattle.ash_phrases.specs.Calls.{Calls}
-use Rattle.ash_phrases.specs.Expressions.{expression}
-use Rattle.ash_phrases.specs.Statements.{Flow, Returned, statements}
+use Rattle.ash_phrases.specs.CallMeaning.{Calls}
+use Rattle.ash_phrases.specs.ExpressionMeaning.{expression}
+use Rattle.ash_phrases.specs.StatementMeaning.{Flow, Returned, statements}
 
 -- initializers, from a place on; what has none stays as it is
 

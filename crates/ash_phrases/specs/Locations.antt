@@ -5,8 +5,8 @@ use Rattle.ash_host.specs.declared.word.Word.TheVariants.{Null}
 use Rattle.ash_typed.specs.declared.types.VarType.{VarType}
 use Rattle.ash_typed.specs.declared.tree.operations.Variable.{Variable}
 use Rattle.ash_typed.specs.declared.tree.operations.Variable.TheVariants as variables
-use Rattle.ash_typed.specs.declared.tree.operations.Member.{Member}
-use Rattle.ash_typed.specs.declared.tree.operations.Member.TheVariants as members
+use Rattle.ash_typed.specs.declared.tree.operations.ObjectMember.{ObjectMember}
+use Rattle.ash_typed.specs.declared.tree.operations.ObjectMember.TheVariants as members
 use Rattle.ash_phrases.specs.Activity.{World, Frame, in_frame, in_world}
 use Rattle.ash_phrases.specs.Runs.{Run, ◌>>=◌, ◌>>◌, look, change}
 use Rattle.ash_phrases.specs.Releases.{hold}
@@ -26,7 +26,7 @@ location_of_variable (variables.Local slot of) = Local slot
 location_of_variable (variables.Global place of) = Global place
 
 -- where an object has a member
-abbrev pub location_of_member : Member → ℕ → Location
+abbrev pub location_of_member : ObjectMember → ℕ → Location
 location_of_member (members.Field class place of) number = Part number place
 location_of_member (members.Property id of) number = Property number id of
 

@@ -3,7 +3,7 @@ use Rattle.std.specs.Prelude.{◌≡◌, ◌≤◌, ◌<◌, ◌+◌, ◌++◌, 
 use Rattle.std.specs.Option.{option_map_or}
 use Rattle.ash_host.specs.declared.event.Event.{Event}
 use Rattle.ash_host.specs.declared.event.Event.TheVariants.{Drew, Dropped}
-use Rattle.ash_host.specs.Objects.{Plain, Objects, object_at, is_host, AreNumbered}
+use Rattle.ash_host.specs.Objects.{Plain, LiveObjects, object_at, is_host, AreNumbered}
 use Rattle.ash_phrases.specs.Activity.{World}
 
 -- whether an event says that the object of this number was drawn, or dropped
@@ -27,7 +27,7 @@ drops_of number events = count_by (is_drop_of number) events
 -- the objects by their numbers, and the last number that was given
 pub record Numbering : Type 0 where
   pub last : ℕ
-  pub objects : Objects (List ℕ)
+  pub objects : LiveObjects (List ℕ)
 
 abbrev pub numbering_of : World → Numbering
 numbering_of world = record { last = world.last; objects = world.objects }
@@ -43,7 +43,7 @@ hosts_at number numbering = option_map_or one_if_host (object_at number numberin
 -- before. It is dropped at most once, and only while a host object has it: at every moment it was dropped no more often
 -- than it was there or drawn before. And a host object has it at the end exactly where one had it before or was drawn,
 -- and none was dropped.
-pub record Life (number : ℕ) (old : Numbering) (events : List Event) (new : Numbering) : Type 0 where
+pub record NumberLife (number : ℕ) (old : Numbering) (events : List Event) (new : Numbering) : Type 0 where
   pub drawn_once : draws_of number events ≤ 1
   pub drawn_anew : 0 < draws_of number events → (old.last < number) × (number ≤ new.last)
   pub dropped_once : drops_of number events ≤ 1
@@ -52,7 +52,7 @@ pub record Life (number : ℕ) (old : Numbering) (events : List Event) (new : Nu
   pub balance : hosts_at number new + drops_of number events ≡ hosts_at number old + draws_of number events
 
 -- The numbers that were given stay given, and each number has its life.
-pub record Lives (old : Numbering) (events : List Event) (new : Numbering) : Type 0 where
+pub record NumberLives (old : Numbering) (events : List Event) (new : Numbering) : Type 0 where
   pub numbered : AreNumbered new.last new.objects
   pub rises : old.last ≤ new.last
-  pub lives : (number : ℕ) → Life number old events new
+  pub lives : (number : ℕ) → NumberLife number old events new

@@ -11,18 +11,18 @@ use Rattle.ash_typed.specs.declared.types.Element.TheVariants as elements
 use Rattle.ash_typed.specs.declared.types.ObjectType.TheVariants as objects
 use Rattle.ash_typed.specs.declared.types.VarType.{VarType}
 use Rattle.ash_typed.specs.declared.types.VarType.TheVariants as vars
-use Rattle.ash_typed.specs.declared.tree.operations.Member.TheVariants as members
+use Rattle.ash_typed.specs.declared.tree.operations.ObjectMember.TheVariants as members
 use Rattle.ash_typed.specs.declared.tree.operations.Method.TheVariants as methods
 use Rattle.ash_typed.specs.declared.tree.operations.ArrayMethod.{ArrayMethod}
 use Rattle.ash_typed.specs.declared.tree.operations.ArrayMethod.TheVariants as arrays
-use Rattle.ash_typed.specs.declared.tree.operations.Target.TheVariants as targets
+use Rattle.ash_typed.specs.declared.tree.operations.CallTarget.TheVariants as targets
 use Rattle.ash_typed.specs.declared.tree.operations.Calculator.TheVariants as calculators
 use Rattle.ash_typed.specs.declared.tree.operations.Comparator.TheVariants as comparators
 use Rattle.ash_typed.specs.declared.tree.operations.Operands.TheVariants as operands
 use Rattle.ash_typed.specs.declared.tree.operations.Operation.TheVariants as operations
 use Rattle.ash_typed.specs.declared.tree.statements.Test.TheVariants as tests
-use Rattle.ash_typed.specs.Tree.{Number, Expr, Null, This, Read, Invoke, Convert, Cast}
-use Rattle.ash_typed.specs.Tree.{Operate, Assign, Call, Place, Held, Indexed, exprs}
+use Rattle.ash_typed.specs.TypedTree.{Number, Expr, Null, This, Read, Invoke, Convert, Cast}
+use Rattle.ash_typed.specs.TypedTree.{Operate, Assign, Call, Place, Held, Indexed, exprs}
 use Rattle.ash_typed.specs.StatementTree.{Initialization, Stmt, Declare, Block, declared_head}
 use Rattle.ash_typed.specs.StatementTree.{For, repeated, Break, stmts}
 use Rattle.ash_typed.specs.Modules.{Variables, Function, Interface, Class}

@@ -3,7 +3,7 @@ use Rattle.std.specs.Prelude.{ℕ, ◌+◌, ◌-◌, ◌^◌, nat_lt, List, [], 
 use Rattle.std.specs.Option.{option_map_or}
 use Rattle.ash_host.specs.declared.word.Word.{Word}
 use Rattle.ash_host.specs.declared.word.Word.TheVariants as words
-use Rattle.ash_host.specs.Objects.{Plain, Script, Array, Host, Objects, object_at, with_at, fields_of}
+use Rattle.ash_host.specs.Objects.{Plain, Script, Array, Host, LiveObjects, object_at, with_at, fields_of}
 use Rattle.ash_host.specs.Limits.{max_objects}
 use Rattle.ash_phrases.specs.declared.exception.Exception.TheVariants.{NullPointerAccess, ObjectLimit, NumbersSpent}
 use Rattle.ash_phrases.specs.Activity.{World, in_world}
@@ -17,7 +17,7 @@ object_of (words.Object number) = give number
 object_of _ = raise NullPointerAccess
 
 -- the objects with one of them changed
-abbrev pub change_at : ℕ → (Plain (List ℕ) → Plain (List ℕ)) → Objects (List ℕ) → Objects (List ℕ)
+abbrev pub change_at : ℕ → (Plain (List ℕ) → Plain (List ℕ)) → LiveObjects (List ℕ) → LiveObjects (List ℕ)
 change_at number how objects =
     option_map_or (λ object. with_at number (how object) objects) (object_at number objects) objects
 

@@ -4,9 +4,9 @@ use Rattle.ash_integers.specs.declared.int_type.IntType.TheVariants as ints
 use Rattle.ash_typed.specs.declared.types.ObjectType.TheVariants as objects
 use Rattle.ash_typed.specs.declared.types.VarType.{VarType}
 use Rattle.ash_typed.specs.declared.types.VarType.TheVariants as vars
-use Rattle.ash_typed.specs.declared.tree.operations.Member.TheVariants as members
+use Rattle.ash_typed.specs.declared.tree.operations.ObjectMember.TheVariants as members
 use Rattle.ash_typed.specs.declared.tree.operations.Method.TheVariants as methods
-use Rattle.ash_typed.specs.declared.tree.operations.Target.TheVariants as targets
+use Rattle.ash_typed.specs.declared.tree.operations.CallTarget.TheVariants as targets
 use Rattle.ash_typed.specs.declared.tree.operations.Calculation.{Calculation}
 use Rattle.ash_typed.specs.declared.tree.operations.Calculator.TheVariants as calculators
 use Rattle.ash_typed.specs.declared.tree.operations.Comparator.TheVariants as comparators
@@ -14,8 +14,9 @@ use Rattle.ash_typed.specs.declared.tree.operations.Operands.TheVariants as oper
 use Rattle.ash_typed.specs.declared.tree.operations.Operation.TheVariants as operations
 use Rattle.ash_typed.specs.declared.tree.operations.Lazy.{Lazy}
 use Rattle.ash_typed.specs.declared.tree.operations.IncrementOp.TheVariants as steps
-use Rattle.ash_typed.specs.Tree.{Expr, Truth, Null, Read, Invoke, Cast, Operate, Lazily, Assign, Update, Count, Call}
-use Rattle.ash_typed.specs.Tree.{Place, Held, exprs}
+use Rattle.ash_typed.specs.TypedTree.{Expr, Truth, Null, Read, Invoke, Cast, Operate, Lazily, Assign, Update, Count}
+use Rattle.ash_typed.specs.TypedTree.{Call}
+use Rattle.ash_typed.specs.TypedTree.{Place, Held, exprs}
 use Rattle.ash_typed.specs.StatementTree.{Stmt, Declare}
 use Rattle.ash_typed.specs.Modules.{Variables, Function, Signature, Implementation, Interface, Class}
 use Rattle.ash_phrases.specs.Classes.{Program}

@@ -10,9 +10,9 @@ use Rattle.ash_typed.specs.declared.tree.operations.Comparator.TheVariants as co
 use Rattle.ash_typed.specs.declared.tree.operations.Operands.TheVariants as operands
 use Rattle.ash_typed.specs.declared.tree.operations.Operation.TheVariants as operations
 use Rattle.ash_typed.specs.declared.tree.operations.IncrementOp.TheVariants as steps
-use Rattle.ash_typed.specs.declared.tree.operations.Target.TheVariants as targets
+use Rattle.ash_typed.specs.declared.tree.operations.CallTarget.TheVariants as targets
 use Rattle.ash_typed.specs.declared.tree.statements.Test.TheVariants as tests
-use Rattle.ash_typed.specs.Tree.{Expr, Read, Operate, Assign, Count, Call, Place, exprs}
+use Rattle.ash_typed.specs.TypedTree.{Expr, Read, Operate, Assign, Count, Call, Place, exprs}
 use Rattle.ash_typed.specs.StatementTree.{Stmt, Empty, Declare, Block, Repeat, declared_head, evaluated_head, For}
 use Rattle.ash_typed.specs.StatementTree.{Loop, repeated, Switch, Break, stmts, Case, cases, labelled}
 use Rattle.ash_typed.specs.Modules.{Function, Class}

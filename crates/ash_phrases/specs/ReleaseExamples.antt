@@ -10,13 +10,13 @@ use Rattle.ash_tree.specs.declared.tree.statements.Label.TheVariants as labels
 use Rattle.ash_integers.specs.declared.int_type.IntType.TheVariants as ints
 use Rattle.ash_typed.specs.declared.tree.operations.Calculator.TheVariants as calculators
 use Rattle.ash_typed.specs.declared.tree.operations.Comparator.TheVariants as comparators
-use Rattle.ash_typed.specs.declared.tree.operations.Member.TheVariants as members
+use Rattle.ash_typed.specs.declared.tree.operations.ObjectMember.TheVariants as members
 use Rattle.ash_typed.specs.declared.tree.operations.Operands.TheVariants as operands
 use Rattle.ash_typed.specs.declared.tree.operations.Operation.TheVariants as operations
 use Rattle.ash_typed.specs.declared.tree.operations.IncrementOp.TheVariants as steps
-use Rattle.ash_typed.specs.declared.tree.operations.Target.TheVariants as targets
+use Rattle.ash_typed.specs.declared.tree.operations.CallTarget.TheVariants as targets
 use Rattle.ash_typed.specs.declared.tree.statements.Test.TheVariants as tests
-use Rattle.ash_typed.specs.Tree.{Invoke, Expr, Null, This, Read, Operate, Assign, Count, Call, Place, Held, exprs}
+use Rattle.ash_typed.specs.TypedTree.{Invoke, Expr, Null, This, Read, Operate, Assign, Count, Call, Place, Held, exprs}
 use Rattle.ash_typed.specs.StatementTree.{Stmt, Declare, Block, If, no_branch, declared_head, For}
 use Rattle.ash_typed.specs.StatementTree.{repeated, Switch, Continue, stmts, cases, labelled}
 use Rattle.ash_typed.specs.Modules.{Function, Class}

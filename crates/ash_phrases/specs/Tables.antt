@@ -16,16 +16,16 @@ use Rattle.ash_typed.specs.declared.tree.operations.Operands.TheVariants as oper
 use Rattle.ash_typed.specs.declared.tree.operations.Operation.TheVariants as operations
 use Rattle.ash_typed.specs.declared.tree.operations.Change.TheVariants as changes
 use Rattle.ash_typed.specs.declared.tree.operations.IncrementOp.TheVariants as steps
-use Rattle.ash_typed.specs.declared.tree.operations.Member.TheVariants as members
+use Rattle.ash_typed.specs.declared.tree.operations.ObjectMember.TheVariants as members
 use Rattle.ash_typed.specs.declared.tree.operations.Method.TheVariants as methods
-use Rattle.ash_typed.specs.declared.tree.operations.Target.TheVariants as targets
+use Rattle.ash_typed.specs.declared.tree.operations.CallTarget.TheVariants as targets
 use Rattle.ash_typed.specs.declared.tree.statements.Test.TheVariants as tests
-use Rattle.ash_typed.specs.Tree.{Expr, This, Read, Invoke, Operate, Assign, Count, Call, Place, Held, exprs}
+use Rattle.ash_typed.specs.TypedTree.{Expr, This, Read, Invoke, Operate, Assign, Count, Call, Place, Held, exprs}
 use Rattle.ash_typed.specs.StatementTree.{Stmt, Empty, Declare, Evaluate, Block, If, no_branch, branch, declared_head}
 use Rattle.ash_typed.specs.StatementTree.{Loop, Repeat, For, repeated, Switch, Break, Continue, Return, stmts, cases}
 use Rattle.ash_typed.specs.StatementTree.{labelled}
 use Rattle.ash_typed.specs.Modules.{Function, Class}
-use Rattle.ash_phrases.specs.Operators.{word_at, converted_to, calculated_by, holds, altered, counted}
+use Rattle.ash_phrases.specs.OperatorMeaning.{word_at, converted_to, calculated_by, holds, altered, counted}
 use Rattle.ash_phrases.specs.Classes.{Program}
 use Rattle.ash_phrases.specs.Ends.{End, Aborted, call_function}
 use Rattle.ash_phrases.specs.ExampleParts.{empty_world, int, handle_of_class, number, local, variable, program}

@@ -4,12 +4,12 @@ ghost use Rattle.ash_host.specs.Objects.{IsInOrder, AreNumbered};
 ghost use Rattle.ash_phrases.specs.Activity.{World, Activity};
 ghost use Rattle.ash_phrases.specs.Classes.{Program};
 ghost use Rattle.ash_phrases.specs.Traces.{Trace};
-ghost use Rattle.ash_phrases.specs.Laws.{DepthIsNoPart, ReleasesTheUnreachable};
-ghost use Rattle.ash_phrases.specs.Laws.{PhrasesAreTraces, TicksFall};
+ghost use Rattle.ash_phrases.specs.MeaningLaws.{DepthIsNoPart, ReleasesTheUnreachable};
+ghost use Rattle.ash_phrases.specs.MeaningLaws.{PhrasesAreTraces, TicksFall};
 ghost use Rattle.ash_phrases.specs.Answers.{Answerers, HostsFit};
-ghost use Rattle.ash_phrases.specs.Laws.{NumbersLiveOnce, GoAtReleases, RunsStay};
-ghost use Rattle.ash_phrases.specs.Laws.{MoreTicksGoOn, BudgetSuffices};
-ghost use Rattle.ash_phrases.specs.Laws.{TakesInOrder};
+ghost use Rattle.ash_phrases.specs.MeaningLaws.{NumbersLiveOnce, GoAtReleases, RunsStay};
+ghost use Rattle.ash_phrases.specs.MeaningLaws.{MoreTicksGoOn, BudgetSuffices};
+ghost use Rattle.ash_phrases.specs.MeaningLaws.{TakesInOrder};
 
 use ash_host::HostObject;
 

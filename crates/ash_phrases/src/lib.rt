@@ -1,16 +1,16 @@
 //! The whole meaning of scripts: what each phrase of a typed tree does.
 //!
-//! A phrase is a run, from an activity (the world, the ticks left, and the frames) to how far it comes: to its
-//! value, to an exception or a refused tick, or to no step, where hosts gave no answer to the call that it makes.
-//! Runs are put together from named steps, and no phrase speaks of the fields of the activity. The definitions are
-//! in `specs/`, in reading order: `Activity` (what runs), `Runs` (how phrases are put together), `Releases` (what
-//! is held, and release points), `Frames` (ticks, frames), `ObjectSteps`, `HostSteps`, `ArraySteps`, `Operators`,
-//! `Locations` (what is read and written), `Classes` (what names mean), `Calls`, `Expressions`, `Statements`,
-//! `Functions`, `Ends`; then what laws speak of: `Traces` (what phrases do, one transition at a time), `Numbers`
-//! (what events say of the number of a host object), `Answers` (what may be relied on of hosts), `Laws`; and
-//! `Examples` with those beside it. The crate uses typed trees, on objects as plain data and on the integers
-//! of scripts, and knows no parser and no rule of typing; of trees it names the labels of a `switch`, in an
-//! example. A call and a turn of a loop each take a tick, so that the definitions go by how many are left.
+//! A phrase is a run, from an activity (the world, the ticks left, and the frames) to how far it comes: to its value,
+//! to an exception or a refused tick, or to no step, where hosts gave no answer to the call that it makes. Runs are put
+//! together from named steps, and no phrase speaks of the fields of the activity. The definitions are in `specs/`, in
+//! reading order: `Activity` (what runs), `Runs` (how phrases are put together), `Releases` (what is held, and release
+//! points), `Frames` (ticks, frames), `ObjectSteps`, `HostSteps`, `ArraySteps`, `OperatorMeaning`, `Locations` (what is
+//! read and written), `Classes` (what names mean), `CallMeaning`, `ExpressionMeaning`, `StatementMeaning`, `Functions`,
+//! `Ends`; then what laws speak of: `Traces` (what phrases do, one transition at a time), `Numbers` (what events say of
+//! the number of a host object), `Answers` (what may be relied on of hosts), `MeaningLaws`; and `Examples` with those
+//! beside it. The crate uses typed trees, objects as plain data and the integers of scripts, and knows no parser and no
+//! rule of typing; of trees it names the labels of a `switch`, in an example. A call and a turn of a loop each take a
+//! tick, so that the definitions go by how many are left.
 //!
 //! In reading order: `exception` (what a script can raise), `laws` (of the meaning), `examples` (phrases whose
 //! meaning is computed), `outcomes` (of small modules, with what they leave), `tables` (of integers and of ticks).

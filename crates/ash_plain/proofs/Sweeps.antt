@@ -12,7 +12,7 @@ use Rattle.std.proofs.lemmas.List.Folds.{list_any-append}
 use Rattle.std.proofs.lemmas.Map.Keys.{IsDistinct-push}
 use Rattle.std.proofs.lemmas.Map.Steps.{length-le_from_keys}
 use Rattle.ash_host.specs.declared.word.Word.{Word}
-use Rattle.ash_host.specs.Objects.{Plain, Objects, object_at, numbers, Lives, references, handles, fields_of, is_host}
+use Rattle.ash_host.specs.Objects.{Plain, LiveObjects, object_at, numbers, Lives, references, handles, fields_of, is_host}
 use Rattle.ash_host.specs.Reach.{Root, Field, ReachableIn, is_among, is_reachable, after_sweep, drops_of_sweep}
 use Rattle.ash_host.proofs.Membership.{or_cases, or_first, or_second, is_among_yes, is_among_says, is_among-numbers, refers_lives}
 use Rattle.ash_host.proofs.ReachLaws.{is_reachable_says, is_reachable_yes, object_at-after_sweep}
@@ -28,7 +28,7 @@ handles_of_words (Some x) = refl
 
 -- numbers that are found
 
-pub record Grown (objects : Objects (List ℕ)) (more old new : List ℕ) : Type 0 where
+pub record Grown (objects : LiveObjects (List ℕ)) (more old new : List ℕ) : Type 0 where
   pub rest : List ℕ
   pub grows : new ≡ old ++ rest
   pub has : (n : ℕ) → is_among more n ≡ true → Lives objects n → is_among new n ≡ true
@@ -68,7 +68,7 @@ place_of (x ∷ xs) n h =
       | inr later ↦ let p = place_of xs n later in (suc p.0, omega (arith, p.1), p.2)
     ]
 
-module _ (objects : Objects (List ℕ)) where
+module _ (objects : LiveObjects (List ℕ)) where
   grown_none : (more old : List ℕ) → ((n : ℕ) → is_among more n ≡ true → Lives objects n → is_among old n ≡ true) → Grown objects more old old
   grown_none more old had = record {
     rest = [];
@@ -213,7 +213,7 @@ same_filter {A} p q (e ∷ l) same =
     ap (λ (b : Bool). cond b (e ∷ filter p l) (filter p l)) (same e (or_first (nat_eq e.0 e.0) (is_among (numbers l) e.0) (eq-eqb e.0 e.0 refl)))
     ∙ ap (λ (m : List (ℕ × A)). cond (q e) (e ∷ m) m) (same_filter p q l (λ x h. same x (or_second (nat_eq x.0 e.0) (is_among (numbers l) x.0) h)))
 
-module _ (objects : Objects (List ℕ)) (held found : List ℕ) (reached : (n : ℕ) → Lives objects n → is_among found n ≡ is_reachable held objects n) where
+module _ (objects : LiveObjects (List ℕ)) (held found : List ℕ) (reached : (n : ℕ) → Lives objects n → is_among found n ≡ is_reachable held objects n) where
   lives_there : (n : ℕ) → is_among (numbers objects) n ≡ true → Lives objects n
   lives_there n h = sym (is_among-numbers n objects) ∙ h
 

@@ -1,5 +1,5 @@
 -- What the code's flows represent.
-use Rattle.ash_phrases.specs.Statements.{Flow, On, Broke, Continued, Returned}
+use Rattle.ash_phrases.specs.StatementMeaning.{Flow, On, Broke, Continued, Returned}
 use Rattle.ash_plain.specs.declared.flow.Flow as flow
 use Rattle.ash_plain.specs.declared.flow.Flow.TheVariants as flows
 

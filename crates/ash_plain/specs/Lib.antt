@@ -1,5 +1,5 @@
 pub mod Sweeping
-pub mod Views
+pub mod ActivityViews
 pub mod LocationViews
 pub mod FlowViews
-pub mod Steps
+pub mod JointSteps

@@ -1,6 +1,6 @@
 //! What runs, and what it runs on.
 
-use crate::objects::Objects;
+use crate::objects::ObjectMap;
 use ash_host::{Event, Word};
 use ash_plain_data::host_call::HostRecord;
 use std::alloc::Global;
@@ -20,7 +20,7 @@ pub struct World {
     pub globals: Vec<Word>,
     /// The objects that something outside holds, as the globals of other modules do.
     pub outside: Vec<u64>,
-    pub objects: Objects,
+    pub objects: ObjectMap,
     /// The last number that was given to an object.
     pub last: u64,
     /// The states of the services.

@@ -1,5 +1,5 @@
 //! Steps on arrays.
-#![tactic(auto, unfolding(crate::specs::Views::activity_seen))]
+#![tactic(auto, unfolding(crate::specs::ActivityViews::activity_seen))]
 
 ghost use Rattle.std.specs.Prelude.{◌≡◌, ◌++◌, IfOk, OnOk, drop, replicate};
 ghost use Rattle.std.specs.Option.{option_map_or};
@@ -9,34 +9,34 @@ ghost use Rattle.ash_phrases.specs.ArraySteps.{zero_element, natural_of, index_i
 ghost use Rattle.ash_phrases.specs.ArraySteps.{count_in, construct_array};
 ghost use Rattle.ash_phrases.specs.ArraySteps.{resized, resize, insert_last, remove_last};
 ghost use Rattle.ash_phrases.specs.ArraySteps.{invoke_array, zero_in};
-ghost use Rattle.ash_phrases.specs.Expressions.{element_at};
+ghost use Rattle.ash_phrases.specs.ExpressionMeaning.{element_at};
 ghost use Rattle.ash_plain_data.specs.ObjectViews.{element_seen, object_seen};
-ghost use Rattle.ash_plain_data.specs.Running.{RunsAs};
+ghost use Rattle.ash_plain_data.specs.CallRuns.{RunsAs};
 ghost use Rattle.ash_plain.specs.LocationViews.{location_seen};
-ghost use Rattle.ash_plain.specs.Views.{activity_seen};
+ghost use Rattle.ash_plain.specs.ActivityViews.{activity_seen};
 
 use crate::activity::Activity;
 use crate::locations::Location;
 use ash_host::{MAX_ELEMENTS, Word};
 use ash_integers::number;
 use ash_phrases::Exception;
-use ash_plain_data::object::{Element, Object};
+use ash_plain_data::object::{Elements, Object};
 use ash_plain_data::operators::zero_of;
 use ash_plain_data::run_error::{RunError, RunResult};
 use ash_typed::{ArrayMethod, IntType, VarType};
 use std::alloc::{AllocError, Global};
 
 /// What an element is before anything is written to it.
-fn zero_element(of: &Element) -> Word
+fn zero_element(of: &Elements) -> Word
     ensures { result ≡ zero_element (element_seen of.now) }
 {
     match of {
-        Element::Bools => zero_of(VarType::Bool),
-        Element::Ints => zero_of(VarType::Integer(IntType::Int)),
-        Element::Uints => zero_of(VarType::Integer(IntType::Uint)),
-        Element::Int64s => zero_of(VarType::Integer(IntType::Int64)),
-        Element::Uint64s => zero_of(VarType::Integer(IntType::Uint64)),
-        Element::Handles { .. } | Element::Hosts(_) => Word::Null,
+        Elements::Bools => zero_of(VarType::Bool),
+        Elements::Ints => zero_of(VarType::Integer(IntType::Int)),
+        Elements::Uints => zero_of(VarType::Integer(IntType::Uint)),
+        Elements::Int64s => zero_of(VarType::Integer(IntType::Int64)),
+        Elements::Uint64s => zero_of(VarType::Integer(IntType::Uint64)),
+        Elements::Handles { .. } | Elements::Hosts(_) => Word::Null,
     }
 }
 
@@ -128,7 +128,7 @@ impl Activity {
     }
 
     /// Constructs an array, which takes no frame and no tick.
-    pub fn construct_array(&mut self, of: Element, args: &[Word]) -> RunResult<Word>
+    pub fn construct_array(&mut self, of: Elements, args: &[Word]) -> RunResult<Word>
         ensures constructed { RunsAs (λ w. w) result (activity_seen self.new)
             (construct_array (element_seen of) args.now (activity_seen self.old)) }
     {

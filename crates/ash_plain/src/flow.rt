@@ -1,10 +1,10 @@
 //! How statements are left.
 
 ghost use Rattle.std.specs.Prelude.{◌≡◌};
-ghost use Rattle.ash_phrases.specs.Statements.{end_block, after_break};
+ghost use Rattle.ash_phrases.specs.StatementMeaning.{end_block, after_break};
 ghost use Rattle.ash_phrases.specs.Functions.{value_of};
-ghost use Rattle.ash_plain_data.specs.Running.{RunsAs};
-ghost use Rattle.ash_plain.specs.Views.{activity_seen};
+ghost use Rattle.ash_plain_data.specs.CallRuns.{RunsAs};
+ghost use Rattle.ash_plain.specs.ActivityViews.{activity_seen};
 ghost use Rattle.ash_plain.specs.FlowViews.{flow_seen};
 
 use crate::activity::Activity;

@@ -1,10 +1,10 @@
 //! Ticks, and frames that are entered and left.
-#![tactic(auto, unfolding(crate::specs::Views::activity_seen))]
+#![tactic(auto, unfolding(crate::specs::ActivityViews::activity_seen))]
 
 ghost use Rattle.std.specs.Prelude.{◌≡◌, ◌∷◌, OnOk, string_bytes};
 ghost use Rattle.ash_phrases.specs.Frames.{tick, demand_frame, frame_of, leave};
-ghost use Rattle.ash_plain_data.specs.Running.{RunsAs};
-ghost use Rattle.ash_plain.specs.Views.{activity_seen};
+ghost use Rattle.ash_plain_data.specs.CallRuns.{RunsAs};
+ghost use Rattle.ash_plain.specs.ActivityViews.{activity_seen};
 
 use crate::activity::{Activity, Frame};
 use ash_host::Word;
@@ -68,7 +68,7 @@ impl Activity {
     }
 
     /// Leaves a frame: the value passes into what the caller holds, then the whole frame is given up.
-    #[tactic(auto, unfolding(crate::specs::Views::activity_seen, ash_phrases::specs::Frames::leave))]
+    #[tactic(auto, unfolding(crate::specs::ActivityViews::activity_seen, ash_phrases::specs::Frames::leave))]
     pub fn leave(&mut self, value: Word) -> RunResult<Word>
         ensures returned { RunsAs (λ w. w) result (activity_seen self.new)
             (leave value (activity_seen self.old)) }

@@ -1,5 +1,5 @@
 //! Calls of host objects and services, what is made of their answers, and boxes that are drawn from the pool.
-#![tactic(auto, unfolding(crate::specs::Views::activity_seen))]
+#![tactic(auto, unfolding(crate::specs::ActivityViews::activity_seen))]
 
 ghost use Rattle.std.specs.Prelude.{◌≡◌, ◌<◌, Some, OnOk, IfSome, map, length};
 ghost use Rattle.std.specs.Prelude.{option_map, nat_eq, slice_get};
@@ -12,8 +12,8 @@ ghost use Rattle.ash_phrases.specs.HostSteps.{accept, invoke_host, get_property}
 ghost use Rattle.ash_phrases.specs.HostSteps.{set_property, place_of_kind};
 ghost use Rattle.ash_phrases.specs.HostSteps.{without_box, draw, construct_host};
 ghost use Rattle.ash_plain_data.specs.CallViews.{call_seen};
-ghost use Rattle.ash_plain_data.specs.Running.{RunsAs};
-ghost use Rattle.ash_plain.specs.Views.{activity_seen, box_seen};
+ghost use Rattle.ash_plain_data.specs.CallRuns.{RunsAs};
+ghost use Rattle.ash_plain.specs.ActivityViews.{activity_seen, box_seen};
 
 use crate::activity::{Activity, FreeBox};
 use ash_host::{Event, HostAnswer, Target, Word};
@@ -164,7 +164,7 @@ impl Activity {
         place_in(&self.world.pool, kind)
     }
 
-    #[tactic(auto, using(crate::proofs::Pools::remove_map), unfolding(crate::specs::Views::activity_seen))]
+    #[tactic(auto, using(crate::proofs::Pools::remove_map), unfolding(crate::specs::ActivityViews::activity_seen))]
     fn take_box(&mut self, place: usize) -> FreeBox
         requires { place < vec_len self.old.world.pool }
         ensures free { slice_get (activity_seen self.old).world.pool place

@@ -1,5 +1,5 @@
 //! Where a value is stored, once a place is computed, and how it is read and written there.
-#![tactic(auto, unfolding(crate::specs::Views::activity_seen))]
+#![tactic(auto, unfolding(crate::specs::ActivityViews::activity_seen))]
 
 ghost use Rattle.std.specs.Prelude.{◌≡◌, IfOk, OnOk, slice_index_or, slice_set};
 ghost use Rattle.ash_host.specs.declared.word.Word.TheVariants.{Null};
@@ -8,15 +8,15 @@ ghost use Rattle.ash_phrases.specs.ObjectSteps.{words_in};
 ghost use Rattle.ash_phrases.specs.Locations.{location_of_variable, location_of_member};
 ghost use Rattle.ash_phrases.specs.Locations.{read, with_local};
 ghost use Rattle.ash_phrases.specs.Locations.{with_global, write};
-ghost use Rattle.ash_plain_data.specs.Running.{RunsAs};
-ghost use Rattle.ash_plain.specs.Views.{activity_seen};
+ghost use Rattle.ash_plain_data.specs.CallRuns.{RunsAs};
+ghost use Rattle.ash_plain.specs.ActivityViews.{activity_seen};
 ghost use Rattle.ash_plain.specs.LocationViews.{location_seen};
-ghost use Rattle.ash_plain.specs.Steps.{read_held, this_held};
+ghost use Rattle.ash_plain.specs.JointSteps.{read_held, this_held};
 
 use crate::activity::Activity;
 use ash_host::Word;
 use ash_plain_data::run_error::RunResult;
-use ash_typed::{Member, VarType, Variable};
+use ash_typed::{ObjectMember, VarType, Variable};
 use std::alloc::{AllocError, Global};
 
 /// A local, a global, a field or an element by the number of its object and its place there, or a property of a host
@@ -44,12 +44,12 @@ pub fn location_of_variable(variable: Variable) -> Location
 }
 
 /// Where an object has a member.
-pub fn location_of_member(member: Member, number: u64) -> Location
+pub fn location_of_member(member: ObjectMember, number: u64) -> Location
     ensures location { location_seen result ≡ location_of_member member number }
 {
     match member {
-        Member::Field { place, .. } => Location::Part { number, place },
-        Member::Property { id, of } => Location::Property { number, id, of },
+        ObjectMember::Field { place, .. } => Location::Part { number, place },
+        ObjectMember::Property { id, of } => Location::Property { number, id, of },
     }
 }
 

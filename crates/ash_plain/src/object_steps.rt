@@ -1,5 +1,5 @@
 //! Steps on objects: what words an object has, and how one is made.
-#![tactic(auto, unfolding(crate::specs::Views::activity_seen))]
+#![tactic(auto, unfolding(crate::specs::ActivityViews::activity_seen))]
 
 ghost use Rattle.std.specs.Prelude.{◌≡◌, ◌<◌, OnOk};
 ghost use Rattle.ash_phrases.specs.Activity.{in_world};
@@ -7,8 +7,8 @@ ghost use Rattle.ash_phrases.specs.ObjectSteps.{object_of, words_in, with_object
 ghost use Rattle.ash_phrases.specs.ObjectSteps.{with_words, demand_number};
 ghost use Rattle.ash_phrases.specs.ObjectSteps.{max_number, make};
 ghost use Rattle.ash_plain_data.specs.ObjectViews.{object_seen};
-ghost use Rattle.ash_plain_data.specs.Running.{RunsAs};
-ghost use Rattle.ash_plain.specs.Views.{activity_seen};
+ghost use Rattle.ash_plain_data.specs.CallRuns.{RunsAs};
+ghost use Rattle.ash_plain.specs.ActivityViews.{activity_seen};
 
 use crate::activity::Activity;
 use ash_host::{MAX_OBJECTS, Word};

@@ -23,16 +23,16 @@ mod iteration;
 
 /// The objects that live, by their numbers.
 #[derive(Drop)]
-pub struct Objects {
+pub struct ObjectMap {
     entries: BTreeMap<u64, Object>,
 }
 
-impl Model for Objects {
+impl Model for ObjectMap {
     ghost use Rattle.std.specs.Prelude.{ℕ, List, map};
     ghost use Rattle.ash_host.specs.Objects as plain;
     ghost use Rattle.ash_plain_data.specs.ObjectViews.{entry_seen};
 
-    ghost Value = { plain.Objects (List ℕ) };
+    ghost Value = { plain.LiveObjects (List ℕ) };
 
     ghost view = { λ o. map entry_seen o.entries.entries };
 }
@@ -108,12 +108,12 @@ fn retain_found(entries: &mut BTreeMap<u64, Object>, found: &IndexSet<u64>)
     entries.retain(|number, _| found.contains(number));
 }
 
-impl Objects {
+impl ObjectMap {
     /// No objects.
-    pub fn new(alloc: Global) -> Objects
+    pub fn new(alloc: Global) -> ObjectMap
         ensures empty { result ≡ [] }
     {
-        Objects {
+        ObjectMap {
             entries: BTreeMap::new(alloc),
         }
     }

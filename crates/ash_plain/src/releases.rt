@@ -1,5 +1,5 @@
 //! What frames hold, release points, and the locals of blocks.
-#![tactic(auto, unfolding(crate::specs::Views::activity_seen))]
+#![tactic(auto, unfolding(crate::specs::ActivityViews::activity_seen))]
 
 ghost use Rattle.std.specs.Prelude.{◌≡◌, [], ◌∷◌, ◌++◌, map, length, flat_map, IfOk, OnOk};
 ghost use Rattle.ash_host.specs.Objects.{handles};
@@ -7,8 +7,8 @@ ghost use Rattle.ash_phrases.specs.Activity.{in_frame};
 ghost use Rattle.ash_phrases.specs.Releases.{holding, give_held, roots_of_frame};
 ghost use Rattle.ash_phrases.specs.Releases.{roots, sweep, release};
 ghost use Rattle.ash_phrases.specs.Releases.{end_expression, declaring, keeping};
-ghost use Rattle.ash_plain_data.specs.Running.{RunsAs};
-ghost use Rattle.ash_plain.specs.Views.{world_seen, frame_seen, activity_seen};
+ghost use Rattle.ash_plain_data.specs.CallRuns.{RunsAs};
+ghost use Rattle.ash_plain.specs.ActivityViews.{world_seen, frame_seen, activity_seen};
 
 use crate::activity::{Activity, Frame, World};
 use crate::objects::push_handles;
@@ -115,7 +115,7 @@ impl Activity {
     }
 
     /// A release point: what can't be reached goes.
-    #[tactic(auto, unfolding(crate::specs::Views::activity_seen, ash_phrases::specs::Releases::release, ash_phrases::specs::Releases::sweep))]
+    #[tactic(auto, unfolding(crate::specs::ActivityViews::activity_seen, ash_phrases::specs::Releases::release, ash_phrases::specs::Releases::sweep))]
     pub fn release(&mut self) -> RunResult<()>
         ensures released { RunsAs (λ _. tt) result (activity_seen self.new)
             (release (activity_seen self.old)) }

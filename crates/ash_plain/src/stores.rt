@@ -1,11 +1,11 @@
 //! Operators on values, and what is stored at a location.
 
 ghost use Rattle.std.specs.Prelude.{◌≡◌};
-ghost use Rattle.ash_phrases.specs.Operators.{calculate, operate};
-ghost use Rattle.ash_phrases.specs.Expressions.{store, update, count_at};
+ghost use Rattle.ash_phrases.specs.OperatorMeaning.{calculate, operate};
+ghost use Rattle.ash_phrases.specs.ExpressionMeaning.{store, update, count_at};
 ghost use Rattle.ash_phrases.specs.Functions.{write_field};
-ghost use Rattle.ash_plain_data.specs.Running.{RunsAs};
-ghost use Rattle.ash_plain.specs.Views.{activity_seen};
+ghost use Rattle.ash_plain_data.specs.CallRuns.{RunsAs};
+ghost use Rattle.ash_plain.specs.ActivityViews.{activity_seen};
 ghost use Rattle.ash_plain.specs.LocationViews.{location_seen};
 
 use crate::activity::Activity;

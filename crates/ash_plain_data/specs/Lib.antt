@@ -2,4 +2,4 @@ pub mod ObjectViews
 pub mod CallViews
 pub mod ClassViews
 pub mod Conversions
-pub mod Running
+pub mod CallRuns

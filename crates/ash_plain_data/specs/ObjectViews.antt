@@ -2,12 +2,12 @@
 use Rattle.std.specs.Prelude.{ℕ, List, map, string_bytes}
 use Rattle.ash_host.specs.Objects as plain
 use Rattle.ash_host.specs.Objects.{Plain}
-use Rattle.ash_plain_data.specs.declared.object.Element as element
-use Rattle.ash_plain_data.specs.declared.object.Element.TheVariants as elements
+use Rattle.ash_plain_data.specs.declared.object.Elements as element
+use Rattle.ash_plain_data.specs.declared.object.Elements.TheVariants as elements
 use Rattle.ash_plain_data.specs.declared.object.Object as object
 use Rattle.ash_plain_data.specs.declared.object.Object.TheVariants as objects
 
-abbrev pub element_seen : element.Element → plain.Element (List ℕ)
+abbrev pub element_seen : element.Elements → plain.Elements (List ℕ)
 element_seen elements.Bools = plain.Bools
 element_seen elements.Ints = plain.Ints
 element_seen elements.Uints = plain.Uints

@@ -15,12 +15,12 @@ ghost use Rattle.ash_phrases.specs.Classes.{entry_of, place_of_class, place_of_i
 ghost use Rattle.ash_phrases.specs.Classes.{implementation_in, implemented, is_class_of};
 ghost use Rattle.ash_phrases.specs.Classes.{is_object_of, element_of};
 ghost use Rattle.ash_phrases.specs.Classes.{places_of_classes};
-ghost use Rattle.ash_phrases.specs.Operators.{zero_of};
-ghost use Rattle.ash_phrases.specs.Calls.{blank};
+ghost use Rattle.ash_phrases.specs.OperatorMeaning.{zero_of};
+ghost use Rattle.ash_phrases.specs.CallMeaning.{blank};
 ghost use Rattle.ash_plain_data.specs.ObjectViews.{element_seen, object_seen};
 ghost use Rattle.ash_plain_data.specs.ClassViews.{program_seen, callee_seen, entry_seen};
 
-use crate::object::{Element, Object};
+use crate::object::{Elements, Object};
 use crate::operators::zero_of;
 use ash_host::Word;
 use ash_typed::{
@@ -40,7 +40,7 @@ pub struct Program<'a> {
 
 /// What a script calls of its own module.
 #[derive(Clone, Copy)]
-pub enum Callee {
+pub enum ModuleCallee {
     /// A function, by its place.
     Function(usize),
     /// A method of a class, by their places.
@@ -123,21 +123,21 @@ fn entry_of_construction<'a>(alloc: Global, class: &'a Class) -> Result<Entry<'a
 pub fn entry_of<'a>(
     alloc: Global,
     tree: &'a Module,
-    callee: Callee,
+    callee: ModuleCallee,
 ) -> Result<Option<Entry<'a>>, AllocError>
     ensures entry { IfOk result (λ found. option_map entry_seen found
         ≡ entry_of (module_of tree.now) (callee_seen callee)) }
 {
     match callee {
-        Callee::Function(place) => match tree.functions.get(place) {
+        ModuleCallee::Function(place) => match tree.functions.get(place) {
             Some(function) => Ok(Some(entry_of_function(alloc, function)?)),
             None => Ok(None),
         },
-        Callee::Method { class, place } => match tree.classes.get(class) {
+        ModuleCallee::Method { class, place } => match tree.classes.get(class) {
             Some(class) => method_in(alloc, class, place),
             None => Ok(None),
         },
-        Callee::Construction(class) => match tree.classes.get(class) {
+        ModuleCallee::Construction(class) => match tree.classes.get(class) {
             Some(class) => Ok(Some(entry_of_construction(alloc, class)?)),
             None => Ok(None),
         },
@@ -304,24 +304,24 @@ impl Program<'_> {
         }
     }
 
-    fn handles_at(&self, place: usize) -> Result<Element, AllocError>
+    fn handles_at(&self, place: usize) -> Result<Elements, AllocError>
         ensures { IfOk result (λ of. element_seen of ≡ Handles self.now.name.now place) }
     {
         let owner = String::from_str(self.alloc, self.name)?;
-        Ok(Element::Handles { owner, place })
+        Ok(Elements::Handles { owner, place })
     }
 
     /// What the elements of an array are of, as the array says it.
-    pub fn element_of(&self, of: TypedElement) -> Result<Element, AllocError>
+    pub fn element_of(&self, of: TypedElement) -> Result<Elements, AllocError>
         ensures element { IfOk result (λ seen. element_seen seen
             ≡ element_of (program_seen self.now) of) }
     {
         match of {
-            TypedElement::Bool => Ok(Element::Bools),
-            TypedElement::Integer(IntType::Int) => Ok(Element::Ints),
-            TypedElement::Integer(IntType::Uint) => Ok(Element::Uints),
-            TypedElement::Integer(IntType::Int64) => Ok(Element::Int64s),
-            TypedElement::Integer(IntType::Uint64) => Ok(Element::Uint64s),
+            TypedElement::Bool => Ok(Elements::Bools),
+            TypedElement::Integer(IntType::Int) => Ok(Elements::Ints),
+            TypedElement::Integer(IntType::Uint) => Ok(Elements::Uints),
+            TypedElement::Integer(IntType::Int64) => Ok(Elements::Int64s),
+            TypedElement::Integer(IntType::Uint64) => Ok(Elements::Uint64s),
             TypedElement::Class(class) => {
                 let place = place_of_class(self.tree, class)?;
                 self.handles_at(place)
@@ -330,7 +330,7 @@ impl Program<'_> {
                 let place = place_of_interface(self.tree, interface)?;
                 self.handles_at(place)
             }
-            TypedElement::Host(kind) => Ok(Element::Hosts(kind)),
+            TypedElement::Host(kind) => Ok(Elements::Hosts(kind)),
         }
     }
 

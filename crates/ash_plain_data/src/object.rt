@@ -12,7 +12,7 @@ use std::alloc::{AllocError, Global};
 /// What the elements of an array are of. Handles of objects of a class or an interface have the module, and the place
 /// of the class or the interface in its source.
 #[derive(Drop)]
-pub enum Element {
+pub enum Elements {
     Bools,
     Ints,
     Uints,
@@ -33,7 +33,7 @@ pub enum Object {
         fields: Vec<Word>,
     },
     Array {
-        of: Element,
+        of: Elements,
         elements: Vec<Word>,
     },
     Host {
@@ -42,24 +42,24 @@ pub enum Object {
     },
 }
 
-impl Element {
-    fn copy_in(&self, alloc: Global) -> Result<Element, AllocError>
+impl Elements {
+    fn copy_in(&self, alloc: Global) -> Result<Elements, AllocError>
         ensures { IfOk result (λ of. element_seen of ≡ element_seen self.now) }
     {
         match self {
-            Element::Bools => Ok(Element::Bools),
-            Element::Ints => Ok(Element::Ints),
-            Element::Uints => Ok(Element::Uints),
-            Element::Int64s => Ok(Element::Int64s),
-            Element::Uint64s => Ok(Element::Uint64s),
-            Element::Handles { owner, place } => {
+            Elements::Bools => Ok(Elements::Bools),
+            Elements::Ints => Ok(Elements::Ints),
+            Elements::Uints => Ok(Elements::Uints),
+            Elements::Int64s => Ok(Elements::Int64s),
+            Elements::Uint64s => Ok(Elements::Uint64s),
+            Elements::Handles { owner, place } => {
                 let owner = String::from_str(alloc, owner.as_str())?;
-                Ok(Element::Handles {
+                Ok(Elements::Handles {
                     owner,
                     place: *place,
                 })
             }
-            Element::Hosts(kind) => Ok(Element::Hosts(*kind)),
+            Elements::Hosts(kind) => Ok(Elements::Hosts(*kind)),
         }
     }
 }

@@ -11,7 +11,7 @@ use Rattle.std.proofs.lemmas.Map.Text.{is_eq-slice_cmp}
 use Rattle.std.proofs.lemmas.Slice.Eq.{bytes_eq-Decides}
 use Rattle.ash_host.specs.declared.word.Word.{Word}
 use Rattle.ash_steps.specs.States.{LoadedModule, compare_names, has_name, with_module, without_module, update_globals}
-use Rattle.ash_plain_steps.specs.Consistency.{ComeAfter, Ascend}
+use Rattle.ash_plain_steps.specs.Consistency.{ModulesComeAfter, ModulesAscend}
 
 -- names
 
@@ -54,7 +54,7 @@ otherwise_after name loaded later differs = by (compare_names loaded.name name) 
 -- ascending modules
 
 after_both : (a b : List ℕ) (ms : List LoadedModule) → compare_names a b ≡ Less
-    → ComeAfter b ms → ComeAfter a ms
+    → ModulesComeAfter b ms → ModulesComeAfter a ms
 after_both a b [] e h = tt
 after_both a b (loaded ∷ more) e h = (before_trans a b loaded.name e h.0, after_both a b more e h.1)
 
@@ -81,8 +81,8 @@ absent_from name loaded more e = by (has_name name loaded) refl e
     by false is none = (is, none)
 
 ascend_with_at : (b : Bool) (new loaded : LoadedModule) (more : List LoadedModule)
-    → is_lt (compare_names new.name loaded.name) ≡ b → has_name new.name loaded ≡ false → Ascend (loaded ∷ more)
-    → Ascend (with_module new more) → Ascend (cond b (new ∷ loaded ∷ more) (loaded ∷ with_module new more))
+    → is_lt (compare_names new.name loaded.name) ≡ b → has_name new.name loaded ≡ false → ModulesAscend (loaded ∷ more)
+    → ModulesAscend (with_module new more) → ModulesAscend (cond b (new ∷ loaded ∷ more) (loaded ∷ with_module new more))
 ascend_with_at true new loaded more is differs h rest =
     let first : compare_names new.name loaded.name ≡ Less = less_is (compare_names new.name loaded.name) is in
     ((first, after_both new.name loaded.name more first h.0), h)
@@ -91,8 +91,8 @@ ascend_with_at false new loaded more is differs h rest =
     (all_with (λ (s : LoadedModule). compare_names loaded.name s.name ≡ Less) new more later h.0, rest)
 
 -- the modules with one more ascend, where none has its name
-pub ascend_with : (new : LoadedModule) (ms : List LoadedModule) → Ascend ms
-    → find (has_name new.name) ms ≡ None → Ascend (with_module new ms)
+pub ascend_with : (new : LoadedModule) (ms : List LoadedModule) → ModulesAscend ms
+    → find (has_name new.name) ms ≡ None → ModulesAscend (with_module new ms)
 ascend_with new [] h absent = (tt, tt)
 ascend_with new (loaded ∷ more) h absent =
     let parts = absent_from new.name loaded more absent in
@@ -112,11 +112,11 @@ all_without P name (loaded ∷ more) h =
     ]
 
 -- the modules without one ascend
-pub ascend_without : (name : List ℕ) (ms : List LoadedModule) → Ascend ms
-    → Ascend (without_module name ms)
+pub ascend_without : (name : List ℕ) (ms : List LoadedModule) → ModulesAscend ms
+    → ModulesAscend (without_module name ms)
 ascend_without name [] h = tt
 ascend_without name (loaded ∷ more) h =
-    elim (not (has_name name loaded)) as (λ b. Ascend
+    elim (not (has_name name loaded)) as (λ b. ModulesAscend
     (cond b (loaded ∷ without_module name more) (without_module name more))) [
       | true ↦ (
         all_without (λ (s : LoadedModule). compare_names loaded.name s.name ≡ Less) name more h.0,
@@ -127,7 +127,7 @@ ascend_without name (loaded ∷ more) h =
 
 -- the globals of a module are changed
 
-after_update : (before name : List ℕ) (globals : List Word) (ms : List LoadedModule) → ComeAfter before ms → ComeAfter before (update_globals name globals ms)
+after_update : (before name : List ℕ) (globals : List Word) (ms : List LoadedModule) → ModulesComeAfter before ms → ModulesComeAfter before (update_globals name globals ms)
 after_update before name globals [] h = tt
 after_update before name globals (m ∷ more) h =
     (after_one (has_name name m) h.0, after_update before name globals more h.1)
@@ -137,11 +137,11 @@ after_update before name globals (m ∷ more) h =
     after_one false e = e
 
 -- the modules with other globals of one ascend
-pub ascend_update : (name : List ℕ) (globals : List Word) (ms : List LoadedModule) → Ascend ms → Ascend (update_globals name globals ms)
+pub ascend_update : (name : List ℕ) (globals : List Word) (ms : List LoadedModule) → ModulesAscend ms → ModulesAscend (update_globals name globals ms)
 ascend_update name globals [] h = tt
 ascend_update name globals (m ∷ more) h =
     (by (has_name name m) (after_update m.name name globals more h.0), ascend_update name globals more h.1)
   where
-    by : (b : Bool) → ComeAfter m.name (update_globals name globals more) → ComeAfter (cond b (let changed : LoadedModule = record m { globals = globals } in changed) m).name (update_globals name globals more)
+    by : (b : Bool) → ModulesComeAfter m.name (update_globals name globals more) → ModulesComeAfter (cond b (let changed : LoadedModule = record m { globals = globals } in changed) m).name (update_globals name globals more)
     by true e = e
     by false e = e

@@ -9,7 +9,7 @@ use Rattle.ash_host.specs.declared.word.Word.{Word}
 use Rattle.ash_steps.specs.States.{LoadedModule, Embedding, has_name, globals_of, update_globals, without_module, with_module}
 use Rattle.ash_plain_steps.specs.declared.state.LoadedModule as code_module
 use Rattle.ash_plain_steps.specs.StateViews.{loaded_seen, modules_seen}
-use Rattle.ash_plain_steps.specs.Consistency.{Ascend, IsRead, AreConsistent, IsInserted}
+use Rattle.ash_plain_steps.specs.Consistency.{ModulesAscend, IsReadFromSource, AreConsistent, IsModuleInserted}
 use Rattle.ash_plain_steps.proofs.Ascending.{ascend_with, ascend_without, ascend_update}
 use Rattle.ash_plain_steps.proofs.Places.{update_globals-set, without_module-remove, map-remove, all-set, all-remove, all-insert}
 use Rattle.ash_plain_steps.proofs.Found.{all_got}
@@ -25,14 +25,14 @@ named_there : (ms : List LoadedModule) (place : ℕ) (m : LoadedModule) → slic
 named_there ms place m g = ap (has_name m.name) (get_or_from_slice_get ms place m m g) ∙ own_name m
 
 -- the globals of a module are changed in its place
-pub globals_set : (ms : List LoadedModule) (place : ℕ) (m : LoadedModule) (globals : List Word) → Ascend ms → slice_get ms place ≡ Some m → set ms place (record m { globals = globals }) ≡ update_globals m.name globals ms
+pub globals_set : (ms : List LoadedModule) (place : ℕ) (m : LoadedModule) (globals : List Word) → ModulesAscend ms → slice_get ms place ≡ Some m → set ms place (record m { globals = globals }) ≡ update_globals m.name globals ms
 globals_set ms place m globals up g =
     let same : get_or ms place m ≡ m = get_or_from_slice_get ms place m m g in
     let is = update_globals-set m.name globals ms place m up (slice_get_within ms place m g) (named_there ms place m g) in
     ap (λ (x : LoadedModule). let changed : LoadedModule = record x { globals = globals } in set ms place changed) (sym same) ∙ sym is
 
 -- a module is removed from its place
-pub removed_there : (ms : List code_module.LoadedModule) (place : ℕ) (m : code_module.LoadedModule) → Ascend (modules_seen ms) → slice_get ms place ≡ Some m → modules_seen (remove ms place) ≡ without_module (loaded_seen m).name (modules_seen ms)
+pub removed_there : (ms : List code_module.LoadedModule) (place : ℕ) (m : code_module.LoadedModule) → ModulesAscend (modules_seen ms) → slice_get ms place ≡ Some m → modules_seen (remove ms place) ≡ without_module (loaded_seen m).name (modules_seen ms)
 removed_there ms place m up g =
     let seen = there ms place m g in
     map-remove loaded_seen ms place
@@ -59,7 +59,7 @@ got_set (y ∷ ys) (suc i) x a e = got_set ys i x a e
 
 -- a module whose globals alone are others
 
-pub seen_set : (ms : List code_module.LoadedModule) (place : ℕ) (m new : code_module.LoadedModule) → Ascend (modules_seen ms) → slice_get ms place ≡ Some m → new ≡ record m { globals = new.globals } → modules_seen (set ms place new) ≡ update_globals (loaded_seen m).name new.globals.items (modules_seen ms)
+pub seen_set : (ms : List code_module.LoadedModule) (place : ℕ) (m new : code_module.LoadedModule) → ModulesAscend (modules_seen ms) → slice_get ms place ≡ Some m → new ≡ record m { globals = new.globals } → modules_seen (set ms place new) ≡ update_globals (loaded_seen m).name new.globals.items (modules_seen ms)
 seen_set ms place m new up g is =
     map-set loaded_seen ms place new
     ∙ ap (λ (s : code_module.LoadedModule). set (modules_seen ms) place (loaded_seen s)) is
@@ -67,22 +67,22 @@ seen_set ms place m new up g is =
 
 pub consistent_set : {Fault : Type 0} (embedding : Embedding Fault) (ms : List code_module.LoadedModule) (place : ℕ) (m new : code_module.LoadedModule) → AreConsistent embedding ms → slice_get ms place ≡ Some m → new ≡ record m { globals = new.globals } → AreConsistent embedding (set ms place new)
 consistent_set embedding ms place m new h g is =
-    let up : Ascend (modules_seen ms) = h.ascending in
-    let read : IsRead embedding m = all_got (IsRead embedding) ms place m g h.read in
-    let still : IsRead embedding new = subst (IsRead embedding) (sym is) read in
+    let up : ModulesAscend (modules_seen ms) = h.ascending in
+    let read : IsReadFromSource embedding m = all_got (IsReadFromSource embedding) ms place m g h.read in
+    let still : IsReadFromSource embedding new = subst (IsReadFromSource embedding) (sym is) read in
     record {
-      ascending = subst Ascend (sym (seen_set ms place m new up g is)) (ascend_update (loaded_seen m).name new.globals.items (modules_seen ms) up);
-      read = all-set (IsRead embedding) ms place new still h.read;
+      ascending = subst ModulesAscend (sym (seen_set ms place m new up g is)) (ascend_update (loaded_seen m).name new.globals.items (modules_seen ms) up);
+      read = all-set (IsReadFromSource embedding) ms place new still h.read;
     }
 
 pub consistent_remove : {Fault : Type 0} (embedding : Embedding Fault) (ms : List code_module.LoadedModule) (place : ℕ) (m : code_module.LoadedModule) → AreConsistent embedding ms → slice_get ms place ≡ Some m → AreConsistent embedding (remove ms place)
 consistent_remove embedding ms place m h g = record {
-  ascending = subst Ascend (sym (removed_there ms place m h.ascending g)) (ascend_without (loaded_seen m).name (modules_seen ms) h.ascending);
-  read = all-remove (IsRead embedding) ms place h.read;
+  ascending = subst ModulesAscend (sym (removed_there ms place m h.ascending g)) (ascend_without (loaded_seen m).name (modules_seen ms) h.ascending);
+  read = all-remove (IsReadFromSource embedding) ms place h.read;
 }
 
-pub consistent_insert : {Fault : Type 0} (embedding : Embedding Fault) (loaded : code_module.LoadedModule) (old new : List code_module.LoadedModule) → AreConsistent embedding old → IsRead embedding loaded → find (has_name (loaded_seen loaded).name) (modules_seen old) ≡ None → modules_seen new ≡ with_module (loaded_seen loaded) (modules_seen old) → IsInserted loaded old new → AreConsistent embedding new
+pub consistent_insert : {Fault : Type 0} (embedding : Embedding Fault) (loaded : code_module.LoadedModule) (old new : List code_module.LoadedModule) → AreConsistent embedding old → IsReadFromSource embedding loaded → find (has_name (loaded_seen loaded).name) (modules_seen old) ≡ None → modules_seen new ≡ with_module (loaded_seen loaded) (modules_seen old) → IsModuleInserted loaded old new → AreConsistent embedding new
 consistent_insert embedding loaded old new h read absent is at = record {
-  ascending = subst Ascend (sym is) (ascend_with (loaded_seen loaded) (modules_seen old) h.ascending absent);
-  read = subst (AllByRecursion (IsRead embedding)) (sym at.1) (all-insert (IsRead embedding) old at.0 loaded read h.read);
+  ascending = subst ModulesAscend (sym is) (ascend_with (loaded_seen loaded) (modules_seen old) h.ascending absent);
+  read = subst (AllByRecursion (IsReadFromSource embedding)) (sym at.1) (all-insert (IsReadFromSource embedding) old at.0 loaded read h.read);
 }

@@ -8,7 +8,7 @@ use Rattle.ash_steps.specs.States.{Embedding, has_name}
 use Rattle.ash_steps.specs.Tasks.{tree_of}
 use Rattle.ash_plain_steps.specs.declared.state.LoadedModule.{LoadedModule}
 use Rattle.ash_plain_steps.specs.StateViews.{loaded_seen, modules_seen}
-use Rattle.ash_plain_steps.specs.Consistency.{IsRead, AreConsistent}
+use Rattle.ash_plain_steps.specs.Consistency.{IsReadFromSource, AreConsistent}
 use Rattle.ash_plain_steps.proofs.Places.{found_at, found_within}
 
 pub all_got : {A : Type 0} (P : A → Type 0) (xs : List A) (i : ℕ) (x : A) → slice_get xs i ≡ Some x → AllByRecursion P xs → P x
@@ -33,5 +33,5 @@ found_some name ms place e g = within_got ms place (found_within (λ (s : Loaded
 -- the tree of a module is what its source is read as
 pub tree_got : {Fault : Type 0} (embedding : Embedding Fault) (ms : List LoadedModule) (place : ℕ) (m : LoadedModule) → AreConsistent embedding ms → slice_get ms place ≡ Some m → tree_of embedding (loaded_seen m) ≡ Some (module_of m.tree)
 tree_got embedding ms place m h g =
-    let read : IsRead embedding m = all_got (IsRead embedding) ms place m g h.read in
+    let read : IsReadFromSource embedding m = all_got (IsReadFromSource embedding) ms place m g h.read in
     rw read refl

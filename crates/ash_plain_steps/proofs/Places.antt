@@ -13,7 +13,7 @@ use Rattle.std.proofs.lemmas.List.Sums.{prefix_len-le-length}
 use Rattle.std.proofs.lemmas.Map.Text.{is_eq-slice_cmp}
 use Rattle.ash_host.specs.declared.word.Word.{Word}
 use Rattle.ash_steps.specs.States.{LoadedModule, compare_names, has_name, with_module, without_module, update_globals}
-use Rattle.ash_plain_steps.specs.Consistency.{ComeAfter, Ascend}
+use Rattle.ash_plain_steps.specs.Consistency.{ModulesComeAfter, ModulesAscend}
 use Rattle.ash_plain_steps.proofs.Ascending.{later_differs, same_name}
 
 -- what is so of each item
@@ -93,7 +93,7 @@ found_nowhere {A} f name items e = none_at f (has_name name) items
 
 -- no other module has the name
 earlier_differs : (name : List ℕ) (loaded : LoadedModule) (more : List LoadedModule) (place : ℕ) (d : LoadedModule)
-    → ComeAfter loaded.name more → place < length more → has_name name (get_or more place d) ≡ true
+    → ModulesComeAfter loaded.name more → place < length more → has_name name (get_or more place d) ≡ true
     → has_name name loaded ≡ false
 earlier_differs name loaded more place d after within here =
     let less : compare_names loaded.name (get_or more place d).name ≡ Less =
@@ -103,11 +103,11 @@ earlier_differs name loaded more place d after within here =
     sym (is_eq-slice_cmp loaded.name name) ∙ ap is_eq less_here
 
 after_named : (name : List ℕ) (loaded : LoadedModule) (more : List LoadedModule) → has_name name loaded ≡ true
-    → ComeAfter loaded.name more → ComeAfter name more
-after_named name loaded more here after = subst (λ (n : List ℕ). ComeAfter n more) (same_name name loaded here) after
+    → ModulesComeAfter loaded.name more → ModulesComeAfter name more
+after_named name loaded more here after = subst (λ (n : List ℕ). ModulesComeAfter n more) (same_name name loaded here) after
 
 unchanged_after : (name : List ℕ) (globals : List Word) (ms : List LoadedModule)
-    → ComeAfter name ms → update_globals name globals ms ≡ ms
+    → ModulesComeAfter name ms → update_globals name globals ms ≡ ms
 unchanged_after name globals [] after = refl
 unchanged_after name globals (loaded ∷ more) after =
     let differs : has_name name loaded ≡ false = later_differs name loaded after.0 in
@@ -115,7 +115,7 @@ unchanged_after name globals (loaded ∷ more) after =
     ap (λ (b : Bool). cond b changed loaded ∷ update_globals name globals more) differs
     ∙ ap (λ (ss : List LoadedModule). loaded ∷ ss) (unchanged_after name globals more after.1)
 
-consistent_after : (name : List ℕ) (ms : List LoadedModule) → ComeAfter name ms
+consistent_after : (name : List ℕ) (ms : List LoadedModule) → ModulesComeAfter name ms
     → without_module name ms ≡ ms
 consistent_after name [] after = refl
 consistent_after name (loaded ∷ more) after =
@@ -125,7 +125,7 @@ consistent_after name (loaded ∷ more) after =
 
 -- what a run leaves is stored in the place of what was found
 pub update_globals-set : (name : List ℕ) (globals : List Word) (ms : List LoadedModule) (place : ℕ)
-    (d : LoadedModule) → Ascend ms → place < length ms
+    (d : LoadedModule) → ModulesAscend ms → place < length ms
     → has_name name (get_or ms place d) ≡ true →
     update_globals name globals ms ≡ set ms place
     (record (get_or ms place d) { globals = globals })
@@ -144,7 +144,7 @@ update_globals-set name globals (loaded ∷ more) (suc place) d up within here =
 
 -- what is removed is what was found
 pub without_module-remove : (name : List ℕ) (ms : List LoadedModule) (place : ℕ) (d : LoadedModule)
-    → Ascend ms → place < length ms → has_name name (get_or ms place d) ≡ true →
+    → ModulesAscend ms → place < length ms → has_name name (get_or ms place d) ≡ true →
     without_module name ms ≡ remove ms place
 without_module-remove name [] place d up within here = absurd (omega arith)
 without_module-remove name (loaded ∷ more) zero d up within here =
@@ -194,7 +194,7 @@ found_there {A} f name items place d e =
 
 -- the item of a name is stored in its place again with other globals
 pub changed_at : {A : Type 0} (f : A → LoadedModule) (name : List ℕ) (globals : List Word) (items : List A) (place : ℕ)
-    (new d : A) → Ascend (map f items) →
+    (new d : A) → ModulesAscend (map f items) →
     position (λ (item : A). has_name name (f item)) items ≡ Some place
     → f new ≡ record (f (get_or items place d)) { globals = globals } →
     map f (set items place new) ≡ update_globals name globals (map f items)
@@ -209,7 +209,7 @@ changed_at {A} f name globals items place new d up e changed =
 
 -- the item of a name is removed
 pub removed_at : {A : Type 0} (f : A → LoadedModule) (name : List ℕ) (items : List A) (place : ℕ)
-    → Ascend (map f items) →
+    → ModulesAscend (map f items) →
     position (λ (item : A). has_name name (f item)) items ≡ Some place
     → map f (remove items place) ≡ without_module name (map f items)
 removed_at f name [] place up e = absurd (cc)

@@ -24,16 +24,16 @@ use Rattle.ash_plain_steps.specs.declared.task.Task as task
 use Rattle.ash_plain_steps.specs.declared.task.Task.TheVariants as tasks
 use Rattle.ash_plain_steps.specs.StateViews.{loaded_seen, modules_seen}
 use Rattle.ash_plain_steps.specs.RequestViews.{step_seen, refusal_seen}
-use Rattle.ash_plain_steps.specs.Consistency.{Ascend}
+use Rattle.ash_plain_steps.specs.Consistency.{ModulesAscend}
 use Rattle.ash_plain_steps.specs.TaskViews.{task_seen, TakesMemoryToFind, RefusesAs}
-use Rattle.ash_plain_steps.specs.StepViews.{ComesTo, ChangesState, IsChange, LosesMemory, IsStep}
+use Rattle.ash_plain_steps.specs.StepViews.{ComesTo, ChangesState, TaskChangesState, LosesMemory, IsStep}
 use Rattle.std.proofs.lemmas.List.{length-set}
 use Rattle.ash_plain_steps.proofs.Found.{within_got}
 use Rattle.ash_plain_steps.proofs.Changed.{lent, set_again, seen_set}
 
 -- the modules while one lends its globals, and afterwards
 
-pub world_lent : (ms : List code_module.LoadedModule) (place : ℕ) (m lending : code_module.LoadedModule) (state : State) (hosts : Hosts) → Ascend (modules_seen ms) → slice_get ms place ≡ Some m → lending ≡ record m { globals = lending.globals } → lending.globals.items ≡ [] → world_of m.globals.items (modules_seen (set ms place lending)) state hosts ≡ world_of m.globals.items (without_module (loaded_seen m).name (modules_seen ms)) state hosts
+pub world_lent : (ms : List code_module.LoadedModule) (place : ℕ) (m lending : code_module.LoadedModule) (state : State) (hosts : Hosts) → ModulesAscend (modules_seen ms) → slice_get ms place ≡ Some m → lending ≡ record m { globals = lending.globals } → lending.globals.items ≡ [] → world_of m.globals.items (modules_seen (set ms place lending)) state hosts ≡ world_of m.globals.items (without_module (loaded_seen m).name (modules_seen ms)) state hosts
 world_lent ms place m lending state hosts up g is none =
     ap with_outside
     (ap (λ (l : List LoadedModule). globals_of l) (seen_set ms place m lending up g is)
@@ -43,7 +43,7 @@ world_lent ms place m lending state hosts up g is none =
     with_outside : List Word → World
     with_outside l = record { globals = m.globals.items; outside = handles l; objects = state.objects; last = state.last; services = state.services; pool = hosts.pool; answers = hosts.answers; events = [] }
 
-pub given_back : (ms : List code_module.LoadedModule) (place : ℕ) (m lending new : code_module.LoadedModule) → Ascend (modules_seen ms) → slice_get ms place ≡ Some m → new ≡ record m { globals = new.globals } → modules_seen (set (set ms place lending) place new) ≡ update_globals (loaded_seen m).name new.globals.items (modules_seen ms)
+pub given_back : (ms : List code_module.LoadedModule) (place : ℕ) (m lending new : code_module.LoadedModule) → ModulesAscend (modules_seen ms) → slice_get ms place ≡ Some m → new ≡ record m { globals = new.globals } → modules_seen (set (set ms place lending) place new) ≡ update_globals (loaded_seen m).name new.globals.items (modules_seen ms)
 given_back ms place m lending new up g is = ap (λ (l : List code_module.LoadedModule). modules_seen l) (set_again ms place lending new) ∙ seen_set ms place m new up g is
 
 -- as many modules as before
@@ -99,20 +99,20 @@ module _ {Code Fault : Type 0} (fault : Code → Fault) where
   loses_changing (Err errors.NoMemory) t h = h
 
 module _ {Code Fault : Type 0} (fault : Code → Fault) (takes : Fault → Type 0) where
-  changes_as : (given : Task) (wanted : TaskResult Fault) → (let one : TaskResult Fault = Ok given in let found : Option (TaskResult Fault) = Some one in found ≡ Some wanted) → (let one : TaskResult Fault = Ok given in IsChange one) → IsChange wanted
-  changes_as given wanted e h = let one : TaskResult Fault = Ok given in let is : one ≡ wanted = cc in subst (λ (w : TaskResult Fault). IsChange w) is h
+  changes_as : (given : Task) (wanted : TaskResult Fault) → (let one : TaskResult Fault = Ok given in let found : Option (TaskResult Fault) = Some one in found ≡ Some wanted) → (let one : TaskResult Fault = Ok given in TaskChangesState one) → TaskChangesState wanted
+  changes_as given wanted e h = let one : TaskResult Fault = Ok given in let is : one ≡ wanted = cc in subst (λ (w : TaskResult Fault). TaskChangesState w) is h
 
   -- A task of the code that changes the state is one of the definitions that does.
-  changes : (ms : List code_module.LoadedModule) (t : task.Task) (wanted : TaskResult Fault) → option_map (λ one. Ok one) (task_seen ms t) ≡ Some wanted → ChangesState t → IsChange wanted
+  changes : (ms : List code_module.LoadedModule) (t : task.Task) (wanted : TaskResult Fault) → option_map (λ one. Ok one) (task_seen ms t) ≡ Some wanted → ChangesState t → TaskChangesState wanted
   changes ms (tasks.Initialize new) wanted e h = changes_as (Initialize new.name.now new.source.now (module_of new.tree)) wanted e tt
   changes ms (tasks.Invoke call) wanted e h = by (slice_get ms call.module) e
     where
-      by : (o : Option code_module.LoadedModule) → option_map (λ one. Ok one) (option_map (λ (m : code_module.LoadedModule). Invoke (loaded_seen m) (module_of m.tree) call.function call.args.items) o) ≡ Some wanted → IsChange wanted
+      by : (o : Option code_module.LoadedModule) → option_map (λ one. Ok one) (option_map (λ (m : code_module.LoadedModule). Invoke (loaded_seen m) (module_of m.tree) call.function call.args.items) o) ≡ Some wanted → TaskChangesState wanted
       by (Some m) e = changes_as (Invoke (loaded_seen m) (module_of m.tree) call.function call.args.items) wanted e tt
       by None e = absurd (cc)
   changes ms (tasks.Remove place) wanted e h = by (slice_get ms place) e
     where
-      by : (o : Option code_module.LoadedModule) → option_map (λ one. Ok one) (option_map (λ (m : code_module.LoadedModule). Remove (loaded_seen m).name) o) ≡ Some wanted → IsChange wanted
+      by : (o : Option code_module.LoadedModule) → option_map (λ one. Ok one) (option_map (λ (m : code_module.LoadedModule). Remove (loaded_seen m).name) o) ≡ Some wanted → TaskChangesState wanted
       by (Some m) e = changes_as (Remove (loaded_seen m).name) wanted e tt
       by None e = absurd (cc)
   changes ms (tasks.Read word) wanted e h = absurd h

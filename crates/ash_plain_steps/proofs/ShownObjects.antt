@@ -19,7 +19,7 @@ use Rattle.ash_steps.specs.Tasks.{TaskResult, Show, require_some, tree_in, tree_
 use Rattle.ash_plain_steps.specs.declared.state.LoadedModule.{LoadedModule}
 use Rattle.ash_plain_steps.specs.declared.state.PlainState.{PlainState}
 use Rattle.ash_plain_steps.specs.StateViews.{loaded_seen, modules_seen, state_seen}
-use Rattle.ash_plain_steps.specs.Consistency.{IsRead, AreConsistent}
+use Rattle.ash_plain_steps.specs.Consistency.{IsReadFromSource, AreConsistent}
 use Rattle.ash_plain_steps.specs.TaskViews.{tree_named, class_in, class_of_object, described_in, TakesMemoryToFind}
 use Rattle.ash_plain_steps.proofs.Given.{got_item}
 
@@ -97,7 +97,7 @@ module _ (kind_name : ℕ → List ℕ) (owner name : List ℕ) (place : ℕ) (f
 
 -- the definitions have the same trees
 
-trees_are : {Fault : Type 0} (embedding : Embedding Fault) (owner : List ℕ) (ms : List LoadedModule) → AllByRecursion (IsRead embedding) ms → option_and_then (tree_of embedding) (find (has_name owner) (modules_seen ms)) ≡ tree_named owner ms
+trees_are : {Fault : Type 0} (embedding : Embedding Fault) (owner : List ℕ) (ms : List LoadedModule) → AllByRecursion (IsReadFromSource embedding) ms → option_and_then (tree_of embedding) (find (has_name owner) (modules_seen ms)) ≡ tree_named owner ms
 trees_are embedding owner [] h = refl
 trees_are embedding owner (m ∷ ms) h = by (has_name owner (loaded_seen m)) (trees_are embedding owner ms h.1)
   where

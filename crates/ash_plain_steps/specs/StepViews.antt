@@ -10,7 +10,7 @@ use Rattle.ash_plain_steps.specs.declared.request.StepError.TheVariants as error
 use Rattle.ash_plain_steps.specs.declared.task.NewModule.{NewModule}
 use Rattle.ash_plain_steps.specs.declared.task.Task.{Task}
 use Rattle.ash_plain_steps.specs.declared.task.Task.TheVariants as tasks
-use Rattle.ash_plain.specs.Views.{world_seen}
+use Rattle.ash_plain.specs.ActivityViews.{world_seen}
 use Rattle.ash_evaluator.specs.declared.ends.Outcome as code_outcome
 use Rattle.ash_evaluator.specs.EndViews.{end_seen}
 use Rattle.ash_steps.specs.Steps.{answered, replied, step, TakesMemory}
@@ -34,11 +34,11 @@ ChangesState (tasks.Remove place) = Unit {0}
 ChangesState _ = ⊥
 
 -- the request is not refused, and its task changes the state
-abbrev pub IsChange : {Fault : Type 0} → TaskResult Fault → Type 0
-IsChange (Ok (Initialize name source tree)) = Unit {0}
-IsChange (Ok (Invoke loaded tree function args)) = Unit {0}
-IsChange (Ok (Remove name)) = Unit {0}
-IsChange _ = ⊥
+abbrev pub TaskChangesState : {Fault : Type 0} → TaskResult Fault → Type 0
+TaskChangesState (Ok (Initialize name source tree)) = Unit {0}
+TaskChangesState (Ok (Invoke loaded tree function args)) = Unit {0}
+TaskChangesState (Ok (Remove name)) = Unit {0}
+TaskChangesState _ = ⊥
 
 -- memory was refused while the state changed
 abbrev pub LosesMemory : {X : Type 0} → Result X StepError → Type 0 → Type 0
@@ -56,7 +56,7 @@ module _ {Code Fault : Type 0} (fault : Code → Fault) (takes : Fault → Type 
       ⊎ (TakesMemory request × TakesMemoryToFind takes (task_of embedding request state)
       × (step_seen fault one ≡ replied (Refused NoMemory) state hosts))
   IsStep (Err errors.NoStep) = step embedding budget request state hosts ≡ None
-  IsStep (Err errors.NoMemory) = IsChange (task_of embedding request state)
+  IsStep (Err errors.NoMemory) = TaskChangesState (task_of embedding request state)
 
 -- A module that can be loaded: a sequence number is left, its tree is what its source is read as, and none has its
 -- name.

@@ -10,14 +10,14 @@ use crate::functions::place_of_function;
 use crate::request::Refusal;
 use ash_host::Word;
 use ash_steps::Argument;
-use ash_steps::sources::Sources;
+use ash_steps::sources::SourceReader;
 use ash_typed::Module;
 use std::alloc::Global;
 
 /// The function that a call names, by its place, and the words of its arguments. Refused with, in this order,
 /// `NoFunction`, `NotCallable` and `BadArguments`.
 #[tactic(auto, using(crate::proofs::Asked::no_function, crate::proofs::Asked::nothing_there, crate::proofs::Asked::not_callable, crate::proofs::Asked::bad_arguments, crate::proofs::Asked::invoked))]
-pub(crate) fn call_in<S: Sources>(
+pub(crate) fn call_in<S: SourceReader>(
     alloc: Global,
     tree: &Module,
     name: &str,

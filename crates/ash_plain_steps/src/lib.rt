@@ -2,11 +2,11 @@
 //! `ash_steps` have.
 //!
 //! A state has its modules by ascending name, each with the typed tree of its source, and the objects that live. How a
-//! source is read is left to the embedding program, by the trait `Sources` of `ash_steps`. Each function is proved to
-//! give what the definition gives that its contract names, and each type to represent what the definitions speak of, by
-//! the functions of `specs/` whose names end in `_seen`; `AreConsistent` says what is known of the modules of a state.
-//! Where memory is refused before the state changes, a request is refused and all is as it was. Where it is refused
-//! later, in a load, a call or a removal, there is neither a step nor a state.
+//! source is read is left to the embedding program, by the trait `SourceReader` of `ash_steps`. Each function is proved
+//! to give what the definition gives that its contract names, and each type to represent what the definitions speak of,
+//! by the functions of `specs/` whose names end in `_seen`; `AreConsistent` says what is known of the modules of a
+//! state. Where memory is refused before the state changes, a request is refused and all is as it was. Where it is
+//! refused later, in a load, a call or a removal, there is neither a step nor a state.
 //!
 //! In reading order: `request` (what is asked and replied), `state`, `task` (what a request asks for); `name`,
 //! `arguments`, `modules`, `functions` (what a request names, and is handed), `shown` (objects as replies show them);

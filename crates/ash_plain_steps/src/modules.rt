@@ -6,7 +6,7 @@ ghost use Rattle.std.specs.Ordering.{is_lt};
 ghost use Rattle.ash_host.specs.Objects.{handles};
 ghost use Rattle.ash_steps.specs.States.{compare_names, has_name, with_module, globals_of};
 ghost use Rattle.ash_plain_steps.specs.StateViews.{loaded_seen, modules_seen};
-ghost use Rattle.ash_plain_steps.specs.Consistency.{IsInserted};
+ghost use Rattle.ash_plain_steps.specs.Consistency.{IsModuleInserted};
 
 use crate::state::LoadedModule;
 use ash_host::Word;
@@ -37,7 +37,7 @@ pub(crate) fn insert(
 ) -> Result<(), AllocError>
     ensures by_name { OnOk result (modules_seen modules.new.items
         ≡ with_module (loaded_seen loaded) (modules_seen modules.old.items)) }
-    ensures at_a_place { OnOk result (IsInserted loaded modules.old.items modules.new.items) }
+    ensures at_a_place { OnOk result (IsModuleInserted loaded modules.old.items modules.new.items) }
 {
     let place = place_after(modules, loaded.name.as_str()).unwrap_or(modules.len());
     modules.insert(place, loaded)?;

@@ -19,14 +19,14 @@ use crate::shown::{count_of, described};
 use crate::state::PlainState;
 use crate::task::{Invocation, NewModule, Task};
 use ash_steps::Argument;
-use ash_steps::sources::Sources;
+use ash_steps::sources::SourceReader;
 
 /// The most requests that are answered.
 const MAX_SEQ: u64 = u64::MAX;
 
 /// Refused with, in this order, `SequenceSpent`, `BadName`, `ModuleTaken`, `TooManyModules` and `BadSource`.
 #[tactic(auto, using(crate::proofs::Given::load_spent, crate::proofs::Given::load_misnamed, crate::proofs::Given::load_taken, crate::proofs::Given::load_many, crate::proofs::Given::load_absent))]
-fn loading<'a, S: Sources>(
+fn loading<'a, S: SourceReader>(
     sources: &S,
     name: &'a str,
     source: &'a [u8],
@@ -56,7 +56,7 @@ fn loading<'a, S: Sources>(
 
 /// Refused with, in this order, `SequenceSpent`, `NoModule`, `NoFunction`, `NotCallable` and `BadArguments`.
 #[tactic(auto, using(crate::proofs::Asked::spent, crate::proofs::Given::call_nowhere))]
-fn calling<S: Sources>(
+fn calling<S: SourceReader>(
     module: &str,
     function: &str,
     arguments: &[Argument],
@@ -90,7 +90,7 @@ fn calling<S: Sources>(
 
 /// Refused with, in this order, `SequenceSpent` and `NoModule`.
 #[tactic(auto, using(crate::proofs::Asked::spent, crate::proofs::Given::discard_nowhere, crate::proofs::Given::removal_given))]
-fn discarding<S: Sources>(
+fn discarding<S: SourceReader>(
     name: &str,
     state: &PlainState,
 ) -> Result<Task<'static>, Refusal<S::Fault>>
@@ -111,7 +111,7 @@ fn discarding<S: Sources>(
 
 /// Refused with, in this order, `NoModule` and `NoGlobal`. It takes no memory.
 #[tactic(auto, using(crate::proofs::Given::read_nowhere, crate::proofs::Given::no_global_there, crate::proofs::Given::global_there))]
-fn reading<S: Sources>(
+fn reading<S: SourceReader>(
     module: &str,
     name: &str,
     state: &PlainState,
@@ -138,7 +138,7 @@ fn reading<S: Sources>(
 /// Refused with `NoObject`. Whether there is an object of the number, and a class of it,
 /// is tested before memory is taken.
 #[tactic(auto, using(crate::proofs::ShownObjects::shown_nowhere, crate::proofs::ShownObjects::shown_by_no_class, crate::proofs::ShownObjects::shown_takes))]
-fn showing<S: Sources>(
+fn showing<S: SourceReader>(
     sources: &S,
     number: u64,
     state: &PlainState,
@@ -164,7 +164,7 @@ fn showing<S: Sources>(
 }
 
 /// The task of a request, or the first cause for which it is refused. `NoMemory` says that memory was refused.
-pub(crate) fn task_of<'a, S: Sources>(
+pub(crate) fn task_of<'a, S: SourceReader>(
     sources: &S,
     request: &Request<'a>,
     state: &PlainState,

@@ -3,7 +3,7 @@
 ghost use Rattle.std.specs.Prelude.{◌≡◌, ◌<◌, ℕ, [], set, Option, Some, slice_get, length, IfOk};
 ghost use Rattle.ash_typed.specs.Modules.{module_of};
 ghost use Rattle.ash_phrases.specs.Ends.{Outcome as OutcomeData, Finished};
-ghost use Rattle.ash_plain.specs.Views.{world_seen};
+ghost use Rattle.ash_plain.specs.ActivityViews.{world_seen};
 ghost use Rattle.ash_evaluator.specs.EndViews.{end_seen, outcome_seen, EndsAs};
 ghost use Rattle.ash_steps.specs.States.{State, Embedding, world_of};
 ghost use Rattle.ash_steps.specs.Tasks.{max_seq, Initialize, Invoke, Remove};
@@ -12,7 +12,7 @@ ghost use Rattle.ash_steps.specs.Steps.{perform};
 ghost use Rattle.ash_plain_steps.specs.StateViews.{loaded_seen, modules_seen, state_seen};
 ghost use Rattle.ash_plain_steps.specs.StateViews.{hosts_seen};
 ghost use Rattle.ash_plain_steps.specs.RequestViews.{step_seen};
-ghost use Rattle.ash_plain_steps.specs.Consistency.{Ascend, AreConsistent, IsRead};
+ghost use Rattle.ash_plain_steps.specs.Consistency.{ModulesAscend, AreConsistent, IsReadFromSource};
 ghost use Rattle.ash_plain_steps.specs.StepViews.{ComesTo, IsLoadable, IsThere, IsAfterCall};
 
 use crate::modules::{handles_of, insert};
@@ -24,7 +24,7 @@ use ash_host::Word;
 use ash_plain::activity::World;
 use ash_plain_data::classes::Program;
 use ash_plain_data::run_error::{RunError, RunResult};
-use ash_steps::sources::Sources;
+use ash_steps::sources::SourceReader;
 use std::alloc::{AllocError, Global};
 use std::mem;
 
@@ -73,7 +73,7 @@ fn begin(state: PlainState, hosts: Hosts, globals: Vec<Word>) -> Result<(Rest, W
 }
 
 /// The step of a request that is answered so, with this world.
-fn answered<S: Sources>(rest: Rest, end: End, world: World) -> Step<S::Fault>
+fn answered<S: SourceReader>(rest: Rest, end: End, world: World) -> Step<S::Fault>
     requires numbered { rest.seq < max_seq }
     ensures stepped { (old : State) → old.seq ≡ rest.seq → step_seen S.fault_seen result
         ≡ answered (end_seen end) (modules_seen rest.modules.items) (world_seen world) old }
@@ -123,7 +123,7 @@ fn outcome_of(run: RunResult<Outcome>) -> Result<Outcome, StepError>
 }
 
 /// The state keeps a module whose initializers came to their end.
-fn keep<S: Sources>(
+fn keep<S: SourceReader>(
     rest: Rest,
     new: NewModule<'_>,
     value: Option<Word>,
@@ -153,7 +153,11 @@ fn keep<S: Sources>(
 }
 
 /// The state goes on without a module whose initializers did not come to their end.
-fn abandon<S: Sources>(rest: Rest, end: End, world: World) -> Result<Step<S::Fault>, AllocError>
+fn abandon<S: SourceReader>(
+    rest: Rest,
+    end: End,
+    world: World,
+) -> Result<Step<S::Fault>, AllocError>
     requires numbered { rest.seq < max_seq }
     ensures stepped { (old : State) → old.seq ≡ rest.seq
         → IfOk result (λ s. step_seen S.fault_seen s
@@ -168,7 +172,7 @@ fn abandon<S: Sources>(rest: Rest, end: End, world: World) -> Result<Step<S::Fau
 }
 
 /// What is left of a load.
-fn finish_load<S: Sources>(
+fn finish_load<S: SourceReader>(
     rest: Rest,
     new: NewModule<'_>,
     outcome: Outcome,
@@ -205,7 +209,7 @@ fn finish_load<S: Sources>(
 }
 
 /// Runs the initializers of a module that is to be loaded.
-pub(crate) fn initialize<S: Sources>(
+pub(crate) fn initialize<S: SourceReader>(
     budget: u64,
     new: NewModule<'_>,
     state: PlainState,
@@ -241,7 +245,7 @@ fn replace_globals(modules: &mut Vec<LoadedModule>, place: usize, globals: Vec<W
 }
 
 /// What is left of a call.
-fn finish_call<S: Sources>(rest: Rest, place: usize, outcome: Outcome) -> Step<S::Fault>
+fn finish_call<S: SourceReader>(rest: Rest, place: usize, outcome: Outcome) -> Step<S::Fault>
     requires numbered { rest.seq < max_seq }
     requires within { place < length rest.modules.items }
     ensures { (m : LoadedModule) (old : State)
@@ -256,7 +260,7 @@ fn finish_call<S: Sources>(rest: Rest, place: usize, outcome: Outcome) -> Step<S
 }
 
 /// Runs a function of a module.
-pub(crate) fn invoke<S: Sources>(
+pub(crate) fn invoke<S: SourceReader>(
     budget: u64,
     call: Invocation,
     state: PlainState,
@@ -264,7 +268,7 @@ pub(crate) fn invoke<S: Sources>(
 ) -> Result<Step<S::Fault>, StepError>
     requires there { IsThere state call.module }
     ensures stepped { (m : LoadedModule) → slice_get state.modules.items call.module ≡ Some m
-        → Ascend (modules_seen state.modules.items)
+        → ModulesAscend (modules_seen state.modules.items)
         → ComesTo (step_seen S.fault_seen) result (perform budget
         (Invoke (loaded_seen m) (module_of m.tree) call.function call.args.items)
         (state_seen state) (hosts_seen hosts)) }
@@ -287,7 +291,7 @@ pub(crate) fn invoke<S: Sources>(
 }
 
 /// Removes the module at a place: a release point without it.
-pub(crate) fn discard<S: Sources>(
+pub(crate) fn discard<S: SourceReader>(
     place: usize,
     state: PlainState,
     hosts: Hosts,
@@ -295,7 +299,7 @@ pub(crate) fn discard<S: Sources>(
     requires there { IsThere state place }
     ensures stepped { (budget : ℕ) (m : LoadedModule)
         → slice_get state.modules.items place ≡ Some m
-        → Ascend (modules_seen state.modules.items)
+        → ModulesAscend (modules_seen state.modules.items)
         → ComesTo (step_seen S.fault_seen) result (perform budget (Remove (loaded_seen m).name)
         (state_seen state) (hosts_seen hosts)) }
     ensures consistent { (embedding : Embedding S.FaultSeen)

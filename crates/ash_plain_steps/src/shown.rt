@@ -21,7 +21,7 @@ use ash_host::Word;
 use ash_plain::objects::handles_to;
 use ash_plain_data::classes::Program;
 use ash_plain_data::object::Object;
-use ash_steps::sources::Sources;
+use ash_steps::sources::SourceReader;
 use ash_typed::{Class, Initialization, Module};
 use std::alloc::{AllocError, Global};
 
@@ -147,7 +147,7 @@ fn array_shown(alloc: Global, words: &[Word]) -> Result<(String, ObjectContents)
 }
 
 /// A host object of a kind, with the name of its type. An `Err` means that memory was refused.
-fn host_shown<S: Sources>(
+fn host_shown<S: SourceReader>(
     alloc: Global,
     sources: &S,
     kind: u16,
@@ -163,7 +163,7 @@ fn host_shown<S: Sources>(
 
 /// The name of the type of an object, and what is in it. `None` where the class of the object is in no module, which is
 /// tested before memory is taken: an `Err` means that memory was refused to an object that can be shown.
-pub(crate) fn described<S: Sources>(
+pub(crate) fn described<S: SourceReader>(
     sources: &S,
     state: &PlainState,
     object: &Object,

@@ -6,7 +6,7 @@ ghost use Rattle.ash_plain_steps.specs.StateViews.{state_seen};
 
 use ash_host::Word;
 use ash_plain::activity::FreeBox;
-use ash_plain::objects::Objects;
+use ash_plain::objects::ObjectMap;
 use ash_plain_data::host_call::HostRecord;
 use ash_typed::Module;
 use std::alloc::Global;
@@ -28,7 +28,7 @@ pub struct PlainState {
     pub alloc: Global,
     /// The modules by ascending name.
     pub modules: Vec<LoadedModule>,
-    pub objects: Objects,
+    pub objects: ObjectMap,
     /// The states of the services, in order of registration.
     pub services: Vec<Vec<u8>>,
     /// The last number that was given to an object.
@@ -55,7 +55,7 @@ impl PlainState {
         PlainState {
             alloc,
             modules: Vec::new(alloc),
-            objects: Objects::new(alloc),
+            objects: ObjectMap::new(alloc),
             services,
             last: 0,
             seq: 0,

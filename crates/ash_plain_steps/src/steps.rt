@@ -16,7 +16,7 @@ use crate::request::{Reply, Request, Step, StepError};
 use crate::runs::{discard, initialize, invoke};
 use crate::state::{Hosts, PlainState};
 use crate::task::Task;
-use ash_steps::sources::Sources;
+use ash_steps::sources::SourceReader;
 
 /// A reply that leaves everything as it is.
 fn replied<F: Drop>(reply: Reply<F>, state: PlainState, hosts: Hosts) -> Step<F>
@@ -30,7 +30,7 @@ fn replied<F: Drop>(reply: Reply<F>, state: PlainState, hosts: Hosts) -> Step<F>
 }
 
 /// What a task does.
-fn perform<S: Sources>(
+fn perform<S: SourceReader>(
     sources: &S,
     budget: u64,
     task: Task<'_>,
@@ -68,7 +68,7 @@ fn perform<S: Sources>(
 ///
 /// `NoStep` where the definitions have no step: hosts gave no answer to a call of the run. `NoMemory` where memory was
 /// refused while the state changed, which can come only of a load, a call or a removal that is not refused.
-pub fn plain_step<S: Sources>(
+pub fn plain_step<S: SourceReader>(
     sources: &S,
     budget: u64,
     request: &Request<'_>,

@@ -5,7 +5,7 @@ use Rattle.std.proofs.lemmas.List.Elements.{Contains-append_right, Contains-appe
 use Rattle.std.proofs.lemmas.Slice.Eq.{bytes_eq-Decides}
 use Rattle.std.proofs.Common.{◌≡◌, ◌<◌, ◌⊎◌, inl, inr, ⊎_elim, ℕ, length, List, [], ◌∷◌, ◌++◌, map, true, Option, Some}
 use Rattle.std.proofs.Common.{None, IfSome, find, All, Any, Contains, slice_get, suc, refl, sym, ap, subst, ◌∙◌, arith}
-use Rattle.ash_classes.specs.References as written_references
+use Rattle.ash_classes.specs.ClassReferences as written_references
 use Rattle.ash_classes.specs.Paths as paths
 use Rattle.ash_registrations.specs.Registrations as host
 use Rattle.ash_tree.specs.declared.tree.types.Primitive.{Primitive}
@@ -18,8 +18,8 @@ use Rattle.ash_typed.specs.declared.types.VarType.{VarType}
 use Rattle.ash_typed.specs.Modules.{Module}
 use Rattle.ash_typed.specs.References as references
 use Rattle.ash_typed.specs.Signatures as signatures
-use Rattle.ash_typing.specs.Types.{var_type, ty_of}
-use Rattle.ash_typing.specs.Environment.{Interface, Class, ModuleDeclarations, first_from, is_class, is_interface_named}
+use Rattle.ash_typing.specs.TypeRules.{var_type, ty_of}
+use Rattle.ash_typing.specs.Environment.{InterfaceSignature, ClassSignature, ModuleDeclarations, first_from, is_class, is_interface_named}
 use Rattle.ash_typing.specs.Environment.{type_declared}
 use Rattle.ash_typing.specs.ModuleDeclarations.{class_type, interface_type, host_object, object_named, element_of}
 use Rattle.ash_typing.specs.ModuleDeclarations.{element_by}
@@ -99,10 +99,10 @@ among_all Q (x ∷ xs) (inr rest) = among_all Q xs rest
 
 -- the name is that of the class, or of the interface, at the place
 abbrev IsNameOfClass : ModuleDeclarations → List ℕ → ℕ → Type 0
-IsNameOfClass named name place = (c : Class) × (slice_get named.classes place ≡ Some c) × (name ≡ c.name)
+IsNameOfClass named name place = (c : ClassSignature) × (slice_get named.classes place ≡ Some c) × (name ≡ c.name)
 
 abbrev IsNameOfInterface : ModuleDeclarations → List ℕ → ℕ → Type 0
-IsNameOfInterface named name place = (i : Interface) × (slice_get named.interfaces place ≡ Some i) × (name ≡ i.name)
+IsNameOfInterface named name place = (i : InterfaceSignature) × (slice_get named.interfaces place ≡ Some i) × (name ≡ i.name)
 
 -- what the name of an object type says
 abbrev IsNamed : ModuleDeclarations → List ℕ → ObjectType → Type 0
@@ -116,9 +116,9 @@ class_is_named named name =
     go (first_from (is_class name) 0 named.classes) (first_place (is_class name) named.classes)
     (first_passes (is_class name) 0 named.classes)
   where
-    go : (found : Option (ℕ × Class)) → IfSome found (λ f. slice_get named.classes f.0 ≡ Some f.1)
+    go : (found : Option (ℕ × ClassSignature)) → IfSome found (λ f. slice_get named.classes f.0 ≡ Some f.1)
         → IfSome found (λ f. is_class name f.1 ≡ true)
-        → IfSome (option_map (λ (f : ℕ × Class). objects.Class f.0) found) (IsNamed named name)
+        → IfSome (option_map (λ (f : ℕ × ClassSignature). objects.Class f.0) found) (IsNamed named name)
     go None at called = tt
     go (Some f) at called = (f.1, at, (bytes_eq-Decides name f.1.name).0 called)
 
@@ -128,9 +128,9 @@ interface_is_named named name =
     go (first_from (is_interface_named name) 0 named.interfaces)
     (first_place (is_interface_named name) named.interfaces) (first_passes (is_interface_named name) 0 named.interfaces)
   where
-    go : (found : Option (ℕ × Interface)) → IfSome found (λ f. slice_get named.interfaces f.0 ≡ Some f.1)
+    go : (found : Option (ℕ × InterfaceSignature)) → IfSome found (λ f. slice_get named.interfaces f.0 ≡ Some f.1)
         → IfSome found (λ f. is_interface_named name f.1 ≡ true)
-        → IfSome (option_map (λ (f : ℕ × Interface). objects.Interface f.0) found) (IsNamed named name)
+        → IfSome (option_map (λ (f : ℕ × InterfaceSignature). objects.Interface f.0) found) (IsNamed named name)
     go None at called = tt
     go (Some f) at called = (f.1, at, (bytes_eq-Decides name f.1.name).0 called)
 
@@ -160,7 +160,7 @@ named_by registrations named name o e = let h = object_is_named registrations na
 same_names : (named : ModuleDeclarations) (one other : List ℕ) (place : ℕ) → IsNameOfInterface named one place
     → IsNameOfInterface named other place → one ≡ other
 same_names named one other place h k = let same = same_Some h.0 k.0 (sym h.1 ∙ k.1) in
-    h.2 ∙ ap (λ (i : Interface). i.name) same ∙ sym k.2
+    h.2 ∙ ap (λ (i : InterfaceSignature). i.name) same ∙ sym k.2
 
 -- classes as they are written
 
@@ -191,10 +191,10 @@ among_listed registrations named (n ∷ ns) interface h =
     go None e h more = inr (more h)
 
 module _ (registrations : List host.Registration) (is : List written.Item) where
-  abbrev seen : signatures.Signatures
+  abbrev seen : signatures.ModuleSignatures
   seen = signatures_in registrations (declarations registrations is)
 
-  written_class : (place : ℕ) (c : signatures.ClassSignature) → slice_get seen.classes place ≡ Some c
+  written_class : (place : ℕ) (c : signatures.ClassTypes) → slice_get seen.classes place ≡ Some c
       → HasClass is place (λ w. signature_of_class (class_declaration registrations (names_in is) w) ≡ c)
   unfolding declarations
   written_class place c h =
@@ -207,14 +207,14 @@ module _ (registrations : List host.Registration) (is : List written.Item) where
       → HasClass is place (λ w. written_references.IsOf w name)
   class_written name place h =
       let at = unmapped named_class (classes_of is) place h.0 h.1 in
-      (at.0, at.1, inl (ap (λ (c : Class). c.name) at.2 ∙ sym h.2))
+      (at.0, at.1, inl (ap (λ (c : ClassSignature). c.name) at.2 ∙ sym h.2))
 
   -- a class that lists the interface of the name
   lister_written : (name : List ℕ) (interface place : ℕ) → IsNameOfInterface (names_in is) name interface
       → references.Lists seen place interface → HasClass is place (λ w. written_references.IsOf w name)
   lister_written name interface place h lists =
       let at = written_class place lists.0 lists.1 in
-      let listed = subst (λ (c : signatures.ClassSignature). Contains c.interfaces interface) (sym at.2) lists.2 in
+      let listed = subst (λ (c : signatures.ClassTypes). Contains c.interfaces interface) (sym at.2) lists.2 in
       let among = among_listed registrations (names_in is) at.0.interfaces interface
       (among_from (λ i. i ≡ interface) (listed_in registrations (names_in is) at.0.interfaces) interface listed refl) in (
         at.0,
@@ -260,11 +260,11 @@ module _ (registrations : List host.Registration) (is : List written.Item) where
   element_found name (Some (objects.Host kind)) to e h = elim h [ ]
   element_found name (Some (objects.Array of)) to e h = absurd h
 
-  object_holds : (to : ℕ) (o : Option ObjectType) → references.Holds seen to (var_type (object_ty o)) → ObjectMay to o
+  object_holds : (to : ℕ) (o : Option ObjectType) → references.VariableHolds seen to (var_type (object_ty o)) → ObjectMay to o
   object_holds to None h = elim h [ ]
   object_holds to (Some o) (references.object h) = h
 
-  handle_holds : (to : ℕ) (o : Option ObjectType) → references.Holds seen to (var_type (handle_ty o)) → ObjectMay to o
+  handle_holds : (to : ℕ) (o : Option ObjectType) → references.VariableHolds seen to (var_type (handle_ty o)) → ObjectMay to o
   handle_holds to None h = elim h [ ]
   handle_holds to (Some o) (references.handle h) = h
 
@@ -272,7 +272,7 @@ module _ (registrations : List host.Registration) (is : List written.Item) where
   array_holds to None h = absurd h
   array_holds to (Some of) (references.in_array h) = h
 
-  no_primitive : (to : ℕ) (primitive : Primitive) → references.Holds seen to (var_type (ty_of primitive)) → ⊥
+  no_primitive : (to : ℕ) (primitive : Primitive) → references.VariableHolds seen to (var_type (ty_of primitive)) → ⊥
   no_primitive to primitives.Bool h = elim h [ ]
   no_primitive to primitives.Int h = elim h [ ]
   no_primitive to primitives.Int64 h = elim h [ ]
@@ -294,8 +294,8 @@ module _ (registrations : List host.Registration) (is : List written.Item) where
       element_found name (object_named registrations (names_in is) name) to refl h
 
   -- a type that is written, of variables that can hold objects of the class
-  type_written : (of : written.Named) (to : ℕ) → references.Holds seen to (var_type (ty_named registrations (names_in is) of))
-      → HasClass is to (λ w. written_references.Names of w)
+  type_written : (of : written.Named) (to : ℕ) → references.VariableHolds seen to (var_type (ty_named registrations (names_in is) of))
+      → HasClass is to (λ w. written_references.NamesClass of w)
   unfolding ty_named
   type_written (written.Prim p primitive) to h = absurd (no_primitive to primitive h)
   type_written (written.Object p name) to h =
@@ -332,42 +332,42 @@ module _ (registrations : List host.Registration) (is : List written.Item) where
   field_written of (written.AMethod f ∷ ms) h = inr (field_written of ms h)
   field_written of (written.AConstructor c ∷ ms) h = inr (field_written of ms h)
 
-  member_written : (of : VarType) (to : ℕ) (m : written.Member) → references.Holds seen to of → IsFieldOf of m
-      → HasClass is to (λ w. written_references.Holds m w)
-  member_written of to (written.AField v) h e = type_written v.of to (subst (references.Holds seen to) (sym e) h)
+  member_written : (of : VarType) (to : ℕ) (m : written.Member) → references.VariableHolds seen to of → IsFieldOf of m
+      → HasClass is to (λ w. written_references.MemberHolds m w)
+  member_written of to (written.AField v) h e = type_written v.of to (subst (references.VariableHolds seen to) (sym e) h)
   member_written of to (written.AMethod f) h e = absurd e
   member_written of to (written.AConstructor c) h e = absurd e
 
-  members_written : (of : VarType) (to : ℕ) (ms : List written.Member) → references.Holds seen to of
-      → Among (IsFieldOf of) ms → HasClass is to (λ w. Among (λ m. written_references.Holds m w) ms)
+  members_written : (of : VarType) (to : ℕ) (ms : List written.Member) → references.VariableHolds seen to of
+      → Among (IsFieldOf of) ms → HasClass is to (λ w. Among (λ m. written_references.MemberHolds m w) ms)
   unfolding Among
   members_written of to [] h e = absurd e
   members_written of to (m ∷ ms) h (inl e) = let at = member_written of to m h e in (at.0, at.1, inl at.2)
   members_written of to (m ∷ ms) h (inr e) = let at = members_written of to ms h e in (at.0, at.1, inr at.2)
 
-  refers_written : (from to : ℕ) → references.Refers seen from to → written_references.Refers (classes_of is) from to
+  refers_written : (from to : ℕ) → references.ClassRefers seen from to → written_references.DeclaredClassRefers (classes_of is) from to
   refers_written from to h =
       let one = written_class from h.0 h.2 in
-      let fields = subst (λ (c : signatures.ClassSignature). Contains c.fields h.1) (sym one.2) h.3 in
+      let fields = subst (λ (c : signatures.ClassTypes). Contains c.fields h.1) (sym one.2) h.3 in
       let typed = among_map
       (λ of. of ≡ h.1) type_declared (all_variables registrations (names_in is) (fields_of one.0.members))
       (among_from (λ of. of ≡ h.1) (map type_declared (all_variables registrations (names_in is) (fields_of one.0.members)))
       h.1 fields refl) in
       let other = members_written h.1 to one.0.members h.4 (field_written h.1 one.0.members typed) in
-      (other.0, other.1, (one.0, one.1, any_among (λ m. written_references.Holds m other.0) one.0.members other.2))
+      (other.0, other.1, (one.0, one.1, any_among (λ m. written_references.MemberHolds m other.0) one.0.members other.2))
 
 pub typed_refers : (registrations : List host.Registration) (is : List written.Item) (m : Module) → IsTyped registrations is m → (from to : ℕ)
-    → references.Refers (signatures.signatures_of (offered registrations) m) from to
-    → written_references.Refers (classes_of is) from to
+    → references.ClassRefers (signatures.signatures_of (offered registrations) m) from to
+    → written_references.DeclaredClassRefers (classes_of is) from to
 typed_refers registrations is m typed from to h =
-    refers_written registrations is from to (subst (λ s. references.Refers s from to) (same_signatures registrations is m typed) h)
+    refers_written registrations is from to (subst (λ s. references.ClassRefers s from to) (same_signatures registrations is m typed) h)
 
 length-mapped : {A B : Type 0} (f : A → B) (xs : List A) → length (map f xs) ≡ length xs
 length-mapped f [] = refl
 length-mapped f (x ∷ xs) = ap suc (length-mapped f xs)
 
 pub typed_ranks : (registrations : List host.Registration) (is : List written.Item) (m : Module) → IsTyped registrations is m → (ranks : List ℕ)
-    → paths.AreRanks (written_references.Refers (classes_of is)) (length (classes_of is)) ranks
+    → paths.AreRanksAlong (written_references.DeclaredClassRefers (classes_of is)) (length (classes_of is)) ranks
     → references.AreRanks (signatures.signatures_of (offered registrations) m) ranks
 typed_ranks registrations is m typed ranks are =
     let long : length (classes_of is) ≡ length (map signatures.signature_of_class m.classes) =

@@ -6,12 +6,12 @@
 #![tactic(auto)]
 
 ghost use Rattle.std.specs.Prelude.{ℕ, List, length};
-ghost use Rattle.ash_classes.specs.References as written;
+ghost use Rattle.ash_classes.specs.ClassReferences as written;
 ghost use Rattle.ash_classes.specs.Paths as paths;
 ghost use Rattle.ash_registrations.specs.Registrations.{Registration};
 ghost use Rattle.ash_tree.specs.Tree.{Item};
 ghost use Rattle.ash_typed.specs.Modules.{Module};
-ghost use Rattle.ash_typed.specs.References.{Refers, AreRanks};
+ghost use Rattle.ash_typed.specs.References.{ClassRefers, AreRanks};
 ghost use Rattle.ash_typed.specs.Signatures.{signatures_of};
 ghost use Rattle.ash_typing.specs.Offered.{offered};
 ghost use Rattle.ash_typing.specs.TypedModules.{IsTyped};
@@ -21,10 +21,11 @@ ghost use Rattle.ash_typing.specs.TypedModules.{IsTyped};
 pub fn typed_ranks_fall()
     ensures refers { (registrations : List Registration) (is : List Item) (typed : Module)
         → IsTyped registrations is typed → (from to : ℕ)
-        → Refers (signatures_of (offered registrations) typed) from to
-        → written.Refers (written.classes_of is) from to }
+        → ClassRefers (signatures_of (offered registrations) typed) from to
+        → written.DeclaredClassRefers (written.classes_of is) from to }
     ensures ranks { (registrations : List Registration) (is : List Item) (typed : Module)
         → IsTyped registrations is typed → (ranks : List ℕ)
-        → paths.AreRanks (written.Refers (written.classes_of is)) (length (written.classes_of is))
-        ranks → AreRanks (signatures_of (offered registrations) typed) ranks }
+        → paths.AreRanksAlong (written.DeclaredClassRefers (written.classes_of is))
+        (length (written.classes_of is)) ranks
+        → AreRanks (signatures_of (offered registrations) typed) ranks }
 {}

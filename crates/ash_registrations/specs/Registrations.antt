@@ -4,10 +4,10 @@ use Rattle.std.specs.Str.{bytes_eq}
 use Rattle.ash_tree.specs.declared.tree.types.Primitive.{Primitive}
 use Rattle.ash_registrations.specs.declared.registration.Registration as code
 use Rattle.ash_registrations.specs.declared.registration.Registration.TheVariants as variants
-use Rattle.ash_registrations.specs.declared.registration.Operation as operations
+use Rattle.ash_registrations.specs.declared.registration.HostFunction as operations
 
 -- An operation is a function of primitives, which is void without a result.
-pub record Operation : Type 0 where
+pub record HostFunction : Type 0 where
   pub name : List ℕ
   pub result : Option Primitive
   pub parameters : List Primitive
@@ -16,13 +16,13 @@ pub record Operation : Type 0 where
 pub data Registration : Type 0 where
   TypeRegistration : (name : List ℕ) (kind : ℕ) → Registration
   FactoryRegistration : (of : List ℕ) (parameters : List Primitive) → Registration
-  MethodRegistration : (of : List ℕ) (id : ℕ) (operation : Operation) → Registration
+  MethodRegistration : (of : List ℕ) (id : ℕ) (operation : HostFunction) → Registration
   PropertyRegistration : (of : List ℕ) (id : ℕ) (value : Primitive) (name : List ℕ) → Registration
   ServiceRegistration : (kind : ℕ) → Registration
-  FunctionRegistration : (service : ℕ) (id : ℕ) (operation : Operation) → Registration
+  FunctionRegistration : (service : ℕ) (id : ℕ) (operation : HostFunction) → Registration
 
 -- `operation_of o` is the operation that the code's represents.
-abbrev pub operation_of : operations.Operation → Operation
+abbrev pub operation_of : operations.HostFunction → HostFunction
 operation_of o = record { name = string_bytes o.name; result = o.result; parameters = o.parameters.items }
 
 -- `registration_of r` is the registration that the code's represents.

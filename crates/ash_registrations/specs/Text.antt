@@ -4,7 +4,7 @@ use Rattle.std.specs.List.{flat_map, concat}
 use Rattle.std.specs.Fmt.{decimal}
 use Rattle.ash_tree.specs.declared.tree.types.Primitive.{Primitive}
 use Rattle.ash_tree.specs.declared.tree.types.Primitive.TheVariants.{Bool, Int, Int64, Uint, Uint64}
-use Rattle.ash_registrations.specs.Registrations.{Operation, Registration, TypeRegistration, FactoryRegistration}
+use Rattle.ash_registrations.specs.Registrations.{HostFunction, Registration, TypeRegistration, FactoryRegistration}
 use Rattle.ash_registrations.specs.Registrations.{MethodRegistration, PropertyRegistration, ServiceRegistration}
 use Rattle.ash_registrations.specs.Registrations.{FunctionRegistration}
 
@@ -31,7 +31,7 @@ parameters_text [] = []
 parameters_text (first ∷ rest) = primitive_text first ++ more_parameters rest
 
 -- `operation_text o` is the operation as in `int add(int)`.
-abbrev pub operation_text : Operation → List ℕ
+abbrev pub operation_text : HostFunction → List ℕ
 operation_text o =
     concat (result_text o.result ∷ codes " " ∷ o.name ∷ codes "(" ∷ parameters_text o.parameters ∷ codes ")" ∷ [])
 

@@ -15,5 +15,5 @@ mod searches;
 mod text;
 
 pub use adding::AddFault;
-pub use registration::{Operation, Registration};
+pub use registration::{HostFunction, Registration};
 pub use registrations::Registrations;

@@ -7,7 +7,7 @@ use ash_tree::Primitive;
 
 /// A function of primitives: a method of a type or a function of a service. Without a result it is `void`.
 #[derive(Debug, PartialEq, Eq, Drop)]
-pub struct Operation {
+pub struct HostFunction {
     pub name: String,
     pub result: Option<Primitive>,
     pub parameters: Vec<Primitive>,
@@ -27,7 +27,7 @@ pub enum Registration {
     Method {
         of: String,
         id: u16,
-        operation: Operation,
+        operation: HostFunction,
     },
     Property {
         of: String,
@@ -41,7 +41,7 @@ pub enum Registration {
     Function {
         service: u16,
         id: u16,
-        operation: Operation,
+        operation: HostFunction,
     },
 }
 

@@ -10,7 +10,7 @@ ghost use Rattle.ash_registrations.specs.Text.{primitive_text, result_text, more
 ghost use Rattle.ash_registrations.specs.Text.{parameters_text};
 ghost use Rattle.ash_registrations.specs.Text.{operation_text, line_of};
 
-use crate::{Operation, Registration};
+use crate::{HostFunction, Registration};
 use ash_tree::Primitive;
 use std::alloc::{AllocError, Global};
 
@@ -73,7 +73,7 @@ fn join_operation(
 }
 
 // As `int add(int)`.
-fn operation(alloc: Global, operation: &Operation) -> Result<String, AllocError>
+fn operation(alloc: Global, operation: &HostFunction) -> Result<String, AllocError>
     ensures { IfOk result (λ text. string_bytes text
         ≡ operation_text (operation_of operation.now)) }
 {
@@ -97,7 +97,12 @@ fn factory_line(alloc: Global, of: &str, types: &[Primitive]) -> Result<String, 
     ["factory ", of, " (", parameters.as_str(), ")\n"].concat(alloc)
 }
 
-fn method_line(alloc: Global, of: &str, id: u16, method: &Operation) -> Result<String, AllocError>
+fn method_line(
+    alloc: Global,
+    of: &str,
+    id: u16,
+    method: &HostFunction,
+) -> Result<String, AllocError>
     ensures { IfOk result (λ text. string_bytes text
         ≡ line_of (MethodRegistration of.now id (operation_of method.now))) }
 {
@@ -146,7 +151,7 @@ fn function_line(
     alloc: Global,
     service: u16,
     id: u16,
-    function: &Operation,
+    function: &HostFunction,
 ) -> Result<String, AllocError>
     ensures { IfOk result (λ text. string_bytes text
         ≡ line_of (FunctionRegistration service id (operation_of function.now))) }

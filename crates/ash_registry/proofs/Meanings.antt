@@ -10,7 +10,7 @@ use Rattle.ash_lex.specs.Tokens.{lexeme_at, Means, Reads, marked, unmarked, gap,
 use Rattle.ash_lex.specs.declared.tokens.Token.{Token}
 use Rattle.ash_lex.proofs.OneReading.{tokens_agree, tokens_or_fault}
 use Rattle.ash_lex.proofs.EveryText.{HasReading, every_text}
-use Rattle.ash_tree.specs.Tokens.{Tokens, tokens_of}
+use Rattle.ash_tree.specs.GrammarTokens.{Tokens, tokens_of}
 use Rattle.ash_tree.specs.Tree.{Declaration}
 use Rattle.ash_tree.specs.Grammar.{Declares}
 use Rattle.ash_lex.specs.declared.words.ReservedWord.{ReservedWord}
@@ -19,10 +19,10 @@ use Rattle.ash_parse.specs.Readers.{ParseResult, Unexpected}
 use Rattle.ash_parse.specs.ItemReader.{declaration_at, is_left}
 use Rattle.ash_parse.proofs.ItemShorter.{declaration_sound, left_is_none}
 use Rattle.ash_parse.proofs.Readings.{bind_ok, ok_is, no_err}
-use Rattle.ash_parse.specs.Faults.{whole_declaration_at}
+use Rattle.ash_parse.specs.ParseFaults.{whole_declaration_at}
 use Rattle.ash_parse.proofs.ItemComplete.{whole_read, one_declaration}
-use Rattle.ash_registry.specs.Texts.{IsCutInto, IsCut, NameClass, NameText, ReservedText, OtherText, IsWord, HasNameClass}
-use Rattle.ash_registry.specs.Texts.{placed_lexeme, IsDeclaring, IsDeclared}
+use Rattle.ash_registry.specs.Texts.{IsCutInto, IsLexed, NameClass, NameText, ReservedText, OtherText, IsWord, HasNameClass}
+use Rattle.ash_registry.specs.Texts.{placed_lexeme, IsDeclaring, IsDeclarationOf}
 use Rattle.ash_registry.specs.NameClasses.{class_of_meaning, class_of_tokens}
 
 -- a token that is cut out of what was read
@@ -164,7 +164,7 @@ name_read text (t ∷ []) cut = by_token text t cut (nat_eq t.from 0) (nat_eq t.
 name_read text (t ∷ u ∷ ts) cut = no_word text (λ m w. let e =
     tokens_agree text (t ∷ u ∷ ts) (lexeme_at [] text m ∷ []) cut.lexed w.lexed in cc)
 
-pub uncut_is_no_name : (text : List ℕ) → IsCut text None → HasNameClass text OtherText
+pub uncut_is_no_name : (text : List ℕ) → IsLexed text None → HasNameClass text OtherText
 uncut_is_no_name text none = no_word text (λ m w. none (lexeme_at [] text m ∷ []) w)
 
 pub one_class : (text : List ℕ) (s t : NameClass) → HasNameClass text s → HasNameClass text t → s ≡ t
@@ -185,17 +185,17 @@ one_class text OtherText ReservedText h k = absurd (h.1 k)
 one_class text OtherText OtherText h k = refl
 
 -- each text has tokens, or none
-cut_by : (text : List ℕ) → length text ≤ max_source_bytes → HasReading text → (c : Option (List Lexeme)) × IsCut text c
+cut_by : (text : List ℕ) → length text ≤ max_source_bytes → HasReading text → (c : Option (List Lexeme)) × IsLexed text c
 cut_by text short (inl h) = (Some h.0, record { short = short; lexed = h.1 })
 cut_by text short (inr h) = (None, λ ts cut. tokens_or_fault text ts h.0 cut.lexed h.1)
 
-a_cut : (text : List ℕ) → (c : Option (List Lexeme)) × IsCut text c
+a_cut : (text : List ℕ) → (c : Option (List Lexeme)) × IsLexed text c
 a_cut text = elim (cases_lt max_source_bytes (length text)) [
   | inl long ↦ (None, λ ts cut. let short = cut.short in omega arith)
   | inr short ↦ cut_by text short (every_text text)
 ]
 
-class_of_text : (text : List ℕ) (c : Option (List Lexeme)) → IsCut text c → (s : NameClass) × HasNameClass text s
+class_of_text : (text : List ℕ) (c : Option (List Lexeme)) → IsLexed text c → (s : NameClass) × HasNameClass text s
 class_of_text text (Some ts) cut = (class_of_tokens (length text) ts, name_read text ts cut)
 class_of_text text None cut = (OtherText, uncut_is_no_name text cut)
 
@@ -223,7 +223,7 @@ pub declared_by_tokens : (text : List ℕ) (ts : List Token) (d : Declaration) �
 declared_by_tokens text ts d cut h =
     subst (λ us. Declares us d) (placed_lexemes ts) (declares_by text (lexemes ts) d cut h)
 
-pub one_declared : (text : List ℕ) (d e : Option Declaration) → IsDeclared text d → IsDeclared text e → d ≡ e
+pub one_declared : (text : List ℕ) (d e : Option Declaration) → IsDeclarationOf text d → IsDeclarationOf text e → d ≡ e
 one_declared text (Some d) (Some e) h k =
     ap (λ (x : Declaration). Some x)
     (one_declaration (map placed_lexeme h.tokens) d e h.declares (declares_by text h.tokens e h.cut k))
@@ -249,15 +249,15 @@ whole_declares ts d rest h =
 
 -- what tokens declare is what reading them gives
 declared_as : (text : List ℕ) (ts : List Lexeme) (r : ParseResult Declaration) → IsCutInto text ts
-    → whole_declaration_at (map placed_lexeme ts) ≡ r → (d : Option Declaration) × IsDeclared text d
+    → whole_declaration_at (map placed_lexeme ts) ≡ r → (d : Option Declaration) × IsDeclarationOf text d
 declared_as text ts (Ok x) cut e =
     (Some x.0, record { tokens = ts; cut = cut; declares = whole_declares (map placed_lexeme ts) x.0 x.1 e })
 declared_as text ts (Err f) cut e =
     (None, λ d h. let r = whole_read (map placed_lexeme ts) d (declares_by text ts d cut h) in cc)
 
-declared_of : (text : List ℕ) (c : Option (List Lexeme)) → IsCut text c → (d : Option Declaration) × IsDeclared text d
+declared_of : (text : List ℕ) (c : Option (List Lexeme)) → IsLexed text c → (d : Option Declaration) × IsDeclarationOf text d
 declared_of text (Some ts) cut = declared_as text ts (whole_declaration_at (map placed_lexeme ts)) cut refl
 declared_of text None cut = (None, λ d h. cut h.tokens h.cut)
 
-pub some_declared : (text : List ℕ) → (d : Option Declaration) × IsDeclared text d
+pub some_declared : (text : List ℕ) → (d : Option Declaration) × IsDeclarationOf text d
 some_declared text = let c = a_cut text in declared_of text c.0 c.1

@@ -4,7 +4,7 @@ use Rattle.ash_tree.specs.Tree.{Declaration}
 use Rattle.ash_registry.specs.declared.fault.RegistryFault.{RegistryFault}
 use Rattle.ash_registrations.specs.Registrations.{Registration}
 use Rattle.ash_registry.specs.Refusals.{cause, RegisteredIf}
-use Rattle.ash_registry.specs.Texts.{NameClass, HasNameClass, IsDeclared}
+use Rattle.ash_registry.specs.Texts.{NameClass, HasNameClass, IsDeclarationOf}
 use Rattle.ash_registry.proofs.Meanings.{one_class, one_declared}
 
 pub skip_cause : {A : Type 0} (test : Bool) (first : RegistryFault) (refusal : Option RegistryFault)
@@ -16,8 +16,8 @@ skip_cause {A} test first refusal registration answered old new e h =
 
 pub for_declared : {A : Type 0} (text : List ℕ) (test : Bool) (first : RegistryFault)
     (refusal : Option Declaration → Option RegistryFault) (registration : Option Declaration → List Registration)
-    (answered : Result A RegistryFault) (old new : List Registration) (d : Option Declaration) → IsDeclared text d
-    → test ≡ false → RegisteredIf (refusal d) (registration d) answered old new → (e : Option Declaration) → IsDeclared text e
+    (answered : Result A RegistryFault) (old new : List Registration) (d : Option Declaration) → IsDeclarationOf text d
+    → test ≡ false → RegisteredIf (refusal d) (registration d) answered old new → (e : Option Declaration) → IsDeclarationOf text e
     → RegisteredIf (cause test first (refusal e)) (registration e) answered old new
 for_declared {A} text test first refusal registration answered old new d is passed h e says =
     subst (λ (x : Option Declaration). RegisteredIf {A = A} (cause test first (refusal x)) (registration x) answered old new)

@@ -1,6 +1,6 @@
 pub mod Texts
 pub mod NameClasses
-pub mod Registrations
-pub mod Text
+pub mod AcceptedRegistrations
+pub mod RegistryText
 pub mod Refusals
-pub mod Registered
+pub mod RegistryViews

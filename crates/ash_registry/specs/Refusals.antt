@@ -14,7 +14,7 @@ use Rattle.ash_tree.specs.Tree.{Element, PrimElement, HandleElement, Named, Prim
 use Rattle.ash_tree.specs.Tree.{Signature, Property, Declaration, ASignature}
 use Rattle.ash_tree.specs.Tree as tree
 use Rattle.ash_registry.specs.Texts.{NameClass, NameText, ReservedText, OtherText}
-use Rattle.ash_registrations.specs.Registrations.{Operation, Registration, TypeRegistration, FactoryRegistration}
+use Rattle.ash_registrations.specs.Registrations.{HostFunction, Registration, TypeRegistration, FactoryRegistration}
 use Rattle.ash_registrations.specs.Registrations.{MethodRegistration, PropertyRegistration, ServiceRegistration}
 use Rattle.ash_registrations.specs.Registrations.{FunctionRegistration}
 use Rattle.ash_registrations.specs.Registrations.{is_type, names_type, takes_kind, takes_name, is_factory_of}
@@ -89,7 +89,7 @@ abbrev pub types_of : Signature → List Named
 types_of s = option_to_list s.result ++ s.parameters
 
 -- `primitive_operation s` is a signature whose types are primitive.
-abbrev pub primitive_operation : Signature → Operation
+abbrev pub primitive_operation : Signature → HostFunction
 primitive_operation s = record {
   name = s.name;
   result = option_and_then primitive_of s.result;

@@ -1,21 +1,21 @@
 -- These definitions say what the texts of a registration mean: the name of a type, and what is declared.
 use Rattle.std.specs.Prelude.{ℕ, ◌≤◌, ◌⊎◌, List, [], ◌∷◌, Option, Some, None, map, length}
-use Rattle.ash_lex.specs.Tokens.{Meaning, name, reserved, unsupported, Lexeme, lexeme_at, Spells, max_source_bytes}
+use Rattle.ash_lex.specs.Tokens.{Meaning, name, reserved, unsupported, Lexeme, lexeme_at, HasTokens, max_source_bytes}
 use Rattle.ash_lex.specs.declared.words.ReservedWord.{ReservedWord}
 use Rattle.ash_lex.specs.declared.words.UnsupportedWord.{UnsupportedWord}
-use Rattle.ash_tree.specs.declared.tree.places.Place.{Place}
+use Rattle.ash_tree.specs.declared.tree.places.Position.{Position}
 use Rattle.ash_tree.specs.Tree.{Declaration}
 use Rattle.ash_tree.specs.Grammar.{Declares}
 
 -- The text has at most as many bytes as a source, and these are its tokens.
 pub record IsCutInto (text : List ℕ) (tokens : List Lexeme) : Type 0 where
   pub short : length text ≤ max_source_bytes
-  pub lexed : Spells text tokens
+  pub lexed : HasTokens text tokens
 
 -- The text has these tokens, or it has none since it is too long or has a lexical fault.
-abbrev pub IsCut : List ℕ → Option (List Lexeme) → Type 0
-IsCut text (Some tokens) = IsCutInto text tokens
-IsCut text None = (tokens : List Lexeme) → ¬ IsCutInto text tokens
+abbrev pub IsLexed : List ℕ → Option (List Lexeme) → Type 0
+IsLexed text (Some tokens) = IsCutInto text tokens
+IsLexed text None = (tokens : List Lexeme) → ¬ IsCutInto text tokens
 
 -- A text is a name, a word of the language, or neither.
 pub data NameClass : Type 0 where
@@ -39,7 +39,7 @@ HasNameClass text ReservedText = IsNoNameWord text
 HasNameClass text OtherText = (¬ IsWord text (name text)) × (¬ IsNoNameWord text)
 
 -- `placed_lexeme t` is a token of a text as the grammar sees it.
-abbrev pub placed_lexeme : Lexeme → Meaning × Place
+abbrev pub placed_lexeme : Lexeme → Meaning × Position
 placed_lexeme t = (t.meaning, record { at = t.from; line = t.line })
 
 -- The text is this declaration, with nothing after it.
@@ -49,6 +49,6 @@ pub record IsDeclaring (text : List ℕ) (declared : Declaration) : Type 0 where
   pub declares : Declares (map placed_lexeme tokens) declared
 
 -- The text declares this, or nothing.
-abbrev pub IsDeclared : List ℕ → Option Declaration → Type 0
-IsDeclared text (Some declared) = IsDeclaring text declared
-IsDeclared text None = (declared : Declaration) → ¬ IsDeclaring text declared
+abbrev pub IsDeclarationOf : List ℕ → Option Declaration → Type 0
+IsDeclarationOf text (Some declared) = IsDeclaring text declared
+IsDeclarationOf text None = (declared : Declaration) → ¬ IsDeclaring text declared

@@ -3,7 +3,7 @@ ghost use Rattle.std.specs.Prelude.{◌≡◌, ℕ, List, false, [], ◌∷◌, 
 ghost use Rattle.std.specs.List.{list_any};
 ghost use Rattle.ash_registrations.specs.Registrations.{registration_of, takes_name};
 ghost use Rattle.std.specs.Str.{bytes_eq};
-ghost use Rattle.ash_registry.specs.Registered.{registered};
+ghost use Rattle.ash_registry.specs.RegistryViews.{registered};
 ghost use Rattle.ash_registry.specs.Refusals.{RegisteredIf, cause_of_many};
 
 use crate::{Registration, Registry, RegistryFault};

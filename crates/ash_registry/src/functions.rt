@@ -4,19 +4,19 @@ ghost use Rattle.std.specs.Prelude.{count_by, nat_le, string_bytes};
 ghost use Rattle.std.specs.List.{list_any};
 ghost use Rattle.std.specs.Option.{option_map};
 ghost use Rattle.ash_tree.specs.Tree.{Declaration as DeclarationTree};
-ghost use Rattle.ash_tree.specs.Views.{declaration_of, signature_of};
+ghost use Rattle.ash_tree.specs.TreeViews.{declaration_of, signature_of};
 ghost use Rattle.ash_registrations.specs.Registrations.{FunctionRegistration, is_service};
 ghost use Rattle.ash_registrations.specs.Registrations.{is_function};
 ghost use Rattle.ash_registrations.specs.Registrations.{takes_function, takes_name};
 ghost use Rattle.ash_registry.specs.declared.fault.RegistryFault.TheVariants.{NoService};
-ghost use Rattle.ash_registry.specs.Registered.{registered};
+ghost use Rattle.ash_registry.specs.RegistryViews.{registered};
 ghost use Rattle.ash_registry.specs.Refusals.{RegisteredIf, RefusedWithoutAllocating};
 ghost use Rattle.ash_registry.specs.Refusals.{cause_of_many};
 ghost use Rattle.ash_registry.specs.Refusals.{refusal_of_function, refusal_of_declared_function};
 ghost use Rattle.ash_registry.specs.Refusals.{refusal_of_operation};
 ghost use Rattle.ash_registry.specs.Refusals.{primitive_operation, function_registration};
 ghost use Rattle.ash_registry.specs.Refusals.{max_registered_functions};
-ghost use Rattle.ash_registry.specs.Texts.{IsDeclared};
+ghost use Rattle.ash_registry.specs.Texts.{IsDeclarationOf};
 
 use crate::signatures::{names_object, operation};
 use crate::texts::read_declaration;
@@ -29,7 +29,7 @@ const MAX_REGISTERED_FUNCTIONS: usize = 256;
 impl Registry {
     /// Registers a function of a service, as `int tally(int)`, by the service's index and the function's number.
     pub fn function(&mut self, service: u16, decl: &str, id: u16) -> Result<(), RegistryFault>
-        ensures registers { (declared : Option DeclarationTree) → IsDeclared decl.now declared
+        ensures registers { (declared : Option DeclarationTree) → IsDeclarationOf decl.now declared
             → RegisteredIf (refusal_of_function (registered self.old) service id declared)
             (function_registration service id declared) result
             (registered self.old) (registered self.new) }

@@ -16,7 +16,7 @@ mod registry;
 mod signatures;
 mod texts;
 
-pub use ash_registrations::{Operation, Registration};
+pub use ash_registrations::{HostFunction, Registration};
 pub use fault::RegistryFault;
 pub use registry::Registry;
 pub use texts::one_meaning;

@@ -5,7 +5,7 @@ ghost use Rattle.std.specs.Prelude.{IfOk};
 ghost use Rattle.std.specs.List.{filter_map, list_any};
 ghost use Rattle.std.specs.Option.{option_map};
 ghost use Rattle.ash_tree.specs.Tree.{Declaration as DeclarationTree};
-ghost use Rattle.ash_tree.specs.Views.{declaration_of, signature_of, type_of};
+ghost use Rattle.ash_tree.specs.TreeViews.{declaration_of, signature_of, type_of};
 ghost use Rattle.ash_registrations.specs.Registrations.{TypeRegistration, FactoryRegistration};
 ghost use Rattle.ash_registrations.specs.Registrations.{MethodRegistration};
 ghost use Rattle.ash_registrations.specs.Registrations.{PropertyRegistration, ServiceRegistration};
@@ -15,7 +15,7 @@ ghost use Rattle.ash_registry.specs.declared.fault.RegistryFault.TheVariants.{Ba
 ghost use Rattle.ash_registry.specs.declared.fault.RegistryFault.TheVariants.{NameTaken};
 ghost use Rattle.ash_registry.specs.declared.fault.RegistryFault.TheVariants.{UnknownType};
 ghost use Rattle.ash_registry.specs.declared.fault.RegistryFault.TheVariants.{NotPrimitive};
-ghost use Rattle.ash_registry.specs.Registered.{registered};
+ghost use Rattle.ash_registry.specs.RegistryViews.{registered};
 ghost use Rattle.ash_registry.specs.Refusals.{RegisteredIf, RefusedWithoutAllocating};
 ghost use Rattle.ash_registry.specs.Refusals.{cause, cause_of_many};
 ghost use Rattle.ash_registry.specs.Refusals.{refusal_of_type, refusal_of_service};
@@ -33,7 +33,7 @@ ghost use Rattle.ash_registry.specs.Refusals.{property_registration};
 ghost use Rattle.ash_registry.specs.Refusals.{value_registration, factory_registration};
 ghost use Rattle.ash_registry.specs.Refusals.{max_registered_members};
 ghost use Rattle.ash_registry.specs.NameClasses.{name_class_of};
-ghost use Rattle.ash_registry.specs.Texts.{NameText, HasNameClass, IsDeclared};
+ghost use Rattle.ash_registry.specs.Texts.{NameText, HasNameClass, IsDeclarationOf};
 ghost use Rattle.ash_registry.specs.Texts as spec;
 
 use crate::signatures::{gives_handle, has_object, names_object, operation, primitives};
@@ -117,7 +117,7 @@ impl Registry {
 
     /// Registers a method of a type, as `int add(int)`, by its number.
     pub fn method(&mut self, of: &str, decl: &str, id: u16) -> Result<(), RegistryFault>
-        ensures registers { (declared : Option DeclarationTree) → IsDeclared decl.now declared
+        ensures registers { (declared : Option DeclarationTree) → IsDeclarationOf decl.now declared
             → RegisteredIf (refusal_of_method (registered self.old) of.now id declared)
             (method_registration of.now id declared) result
             (registered self.old) (registered self.new) }
@@ -196,7 +196,7 @@ impl Registry {
 
     /// Registers a property of a type, as `int value`, by its number.
     pub fn property(&mut self, of: &str, decl: &str, id: u16) -> Result<(), RegistryFault>
-        ensures registers { (declared : Option DeclarationTree) → IsDeclared decl.now declared
+        ensures registers { (declared : Option DeclarationTree) → IsDeclarationOf decl.now declared
             → RegisteredIf (refusal_of_property (registered self.old) of.now id declared)
             (property_registration of.now id declared) result
             (registered self.old) (registered self.new) }
@@ -292,7 +292,7 @@ impl Registry {
 
     /// Registers the factory of a type, as `T@ make(int)`. Its name is ignored.
     pub fn factory(&mut self, of: &str, decl: &str) -> Result<(), RegistryFault>
-        ensures registers { (declared : Option DeclarationTree) → IsDeclared decl.now declared
+        ensures registers { (declared : Option DeclarationTree) → IsDeclarationOf decl.now declared
             → RegisteredIf (refusal_of_factory (registered self.old) of.now declared)
             (factory_registration of.now declared) result
             (registered self.old) (registered self.new) }

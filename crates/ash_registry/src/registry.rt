@@ -6,7 +6,7 @@ ghost use Rattle.ash_registrations.specs.Registrations.{registration_of};
 ghost use Rattle.ash_registrations.specs.Registrations as spec;
 ghost use Rattle.ash_registrations.specs.Registered as table;
 ghost use Rattle.ash_registrations.specs.Text.{text_of, max_registered_text_bytes};
-ghost use Rattle.ash_registry.specs.Registered.{registered};
+ghost use Rattle.ash_registry.specs.RegistryViews.{registered};
 
 use crate::Registration;
 use ash_registrations::Registrations;

@@ -6,10 +6,10 @@ ghost use Rattle.ash_registry.specs.Refusals.{is_unknown, is_unknown_element};
 ghost use Rattle.ash_registry.specs.Refusals.{is_object, primitive_of};
 ghost use Rattle.ash_registry.specs.Refusals.{primitive_operation, types_of, gives_handle_of};
 ghost use Rattle.std.specs.Option.{option_map};
-ghost use Rattle.ash_registry.specs.Registered.{registered};
-ghost use Rattle.ash_tree.specs.Views.{element_of, type_of, signature_of};
+ghost use Rattle.ash_registry.specs.RegistryViews.{registered};
+ghost use Rattle.ash_tree.specs.TreeViews.{element_of, type_of, signature_of};
 
-use crate::{Operation, Registry};
+use crate::{HostFunction, Registry};
 use ash_tree::{Element, ElementKind, Primitive, Signature, Type, TypeKind};
 use std::alloc::{AllocError, Global};
 
@@ -33,7 +33,7 @@ pub(crate) fn primitives(alloc: Global, types: &[Type]) -> Result<Vec<Primitive>
 
 /// A signature whose types are primitive.
 #[tactic(auto, using(ash_registrations::proofs::Mapped::filter_mapped))]
-pub(crate) fn operation(alloc: Global, signature: Signature) -> Result<Operation, AllocError>
+pub(crate) fn operation(alloc: Global, signature: Signature) -> Result<HostFunction, AllocError>
     ensures { IfOk result (λ primitive_types.
         operation_of primitive_types ≡ primitive_operation (signature_of signature)) }
 {
@@ -48,7 +48,7 @@ pub(crate) fn operation(alloc: Global, signature: Signature) -> Result<Operation
         Some(of) => primitive(of),
         None => None,
     };
-    Ok(Operation {
+    Ok(HostFunction {
         name,
         result: of,
         parameters,

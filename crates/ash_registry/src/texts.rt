@@ -3,9 +3,9 @@ ghost use Rattle.std.specs.Prelude.{◌≡◌, ◌↔◌, ℕ, true, List, Optio
 ghost use Rattle.ash_lex.specs.Tokens.{meaning_of, lexeme_of, lexemes};
 ghost use Rattle.ash_parse.specs.declared.faults.ParseFault.{ParseFault};
 ghost use Rattle.ash_tree.specs.Tree.{Declaration as DeclarationTree};
-ghost use Rattle.ash_tree.specs.Views.{declaration_of};
+ghost use Rattle.ash_tree.specs.TreeViews.{declaration_of};
 ghost use Rattle.ash_registry.specs.declared.fault.RegistryFault.TheVariants.{NoMemory};
-ghost use Rattle.ash_registry.specs.Texts.{IsCut, HasNameClass, IsDeclared};
+ghost use Rattle.ash_registry.specs.Texts.{IsLexed, HasNameClass, IsDeclarationOf};
 ghost use Rattle.ash_registry.specs.Texts as spec;
 ghost use Rattle.ash_registry.specs.NameClasses.{class_of_meaning, name_class_of};
 ghost use Rattle.ash_registry.specs.NameClasses.{class_of_token, class_of_tokens};
@@ -30,7 +30,7 @@ pub(crate) enum NameClass {
 // The tokens of a text, unless it is too long or has a lexical fault.
 fn read_tokens(alloc: Global, text: &str) -> Result<Option<Vec<Token>>, RegistryFault>
     ensures cut { IfOk result (λ tokens.
-        IsCut text.now (option_map (λ ts. lexemes ts.items) tokens)) }
+        IsLexed text.now (option_map (λ ts. lexemes ts.items) tokens)) }
     ensures only_memory { IfErr result (λ fault. fault ≡ NoMemory) }
 {
     match lex(alloc, text) {
@@ -89,7 +89,7 @@ pub(crate) fn read_declaration(
     alloc: Global,
     text: &str,
 ) -> Result<Option<Declaration>, RegistryFault>
-    ensures declared { IfOk result (λ d. IsDeclared text.now (option_map declaration_of d)) }
+    ensures declared { IfOk result (λ d. IsDeclarationOf text.now (option_map declaration_of d)) }
     ensures only_memory { IfErr result (λ fault. fault ≡ NoMemory) }
 {
     match read_tokens(alloc, text)? {
@@ -104,8 +104,8 @@ fn parse_whole(
     tokens: &[Token],
     text: &str,
 ) -> Result<Option<Declaration>, RegistryFault>
-    requires { IsCut text.now (Some (lexemes tokens.now)) }
-    ensures declared { IfOk result (λ d. IsDeclared text.now (option_map declaration_of d)) }
+    requires { IsLexed text.now (Some (lexemes tokens.now)) }
+    ensures declared { IfOk result (λ d. IsDeclarationOf text.now (option_map declaration_of d)) }
     ensures only_memory { IfErr result (λ fault. fault ≡ NoMemory) }
 {
     let _text = text;
@@ -129,7 +129,8 @@ pub fn one_meaning()
     ensures some_class { (text : List ℕ) → (s : spec.NameClass) × HasNameClass text s }
     ensures one_class { (text : List ℕ) (s t : spec.NameClass) → HasNameClass text s
         → HasNameClass text t → s ≡ t }
-    ensures some_declaration { (text : List ℕ) → (d : Option DeclarationTree) × IsDeclared text d }
-    ensures one_declaration { (text : List ℕ) (d e : Option DeclarationTree) → IsDeclared text d
-        → IsDeclared text e → d ≡ e }
+    ensures some_declaration { (text : List ℕ)
+        → (d : Option DeclarationTree) × IsDeclarationOf text d }
+    ensures one_declaration { (text : List ℕ) (d e : Option DeclarationTree)
+        → IsDeclarationOf text d → IsDeclarationOf text e → d ≡ e }
 {}

@@ -3,7 +3,7 @@ use Rattle.std.proofs.Common.{◌≡◌, ◌<◌, ◌≤◌, ◌⊎◌, ℕ, ◌
 use Rattle.std.proofs.Common.{Option, Some, None, Ok, Err, Result, inl, inr, ⊎_elim}
 use Rattle.std.proofs.lemmas.List.{append-nil, take_all, take_at}
 use Rattle.std.specs.Io.KnownBytes.{Consumes, IsAtEnd, Appends, Keeps}
-use Rattle.ash_registry.specs.Registrations.{Registration}
+use Rattle.ash_registry.specs.AcceptedRegistrations.{Registration}
 use Rattle.ash_sources.specs.SourceFaults.{SourceFault}
 use Rattle.ash_lines.specs.Source.{Feed}
 use Rattle.ash_lines.specs.Reading.{max_prefix_bytes, source_prefix, ReadsBytes}
@@ -22,8 +22,8 @@ use Rattle.ash_lines.specs.declared.source.ReadFault.{ReadFault}
 use Rattle.ash_lines.specs.declared.source.ReadFault.TheVariants as read_faults
 use Rattle.ash_serve.specs.declared.fault.RunFault.TheVariants as faults
 use Rattle.ash_serve.specs.declared.program.ending.Ending.{Ending}
-use Rattle.ash_serve.specs.declared.program.fault.Fault.{Fault}
-use Rattle.ash_serve.specs.declared.program.fault.Fault.TheVariants as program
+use Rattle.ash_serve.specs.declared.program.fault.ProgramFault.{ProgramFault}
+use Rattle.ash_serve.specs.declared.program.fault.ProgramFault.TheVariants as program
 
 -- so few bytes are all stored
 prefix-whole : (bytes : List ℕ) → length bytes ≤ max_prefix_bytes → source_prefix bytes ≡ bytes
@@ -47,7 +47,7 @@ script_unread streams registered s t k read_faults.TooLong prefix h = (h.0, h.2,
 script_unread streams registered s t k read_faults.Failed prefix h = (h.0, h.2, h.1, refl)
 
 -- there was no memory to judge it
-pub script_unjudged : {S K : Type 0} (streams : ScriptStreams S K) (registered : List Registration) (s t : S) (k : K) (script : List ℕ) (fault : Fault) → ReadsScript streams.feed s script t → Judges registered script (Err fault) → ChecksScript streams registered (check_state s k) (Err fault) (check_state t k)
+pub script_unjudged : {S K : Type 0} (streams : ScriptStreams S K) (registered : List Registration) (s t : S) (k : K) (script : List ℕ) (fault : ProgramFault) → ReadsScript streams.feed s script t → Judges registered script (Err fault) → ChecksScript streams registered (check_state s k) (Err fault) (check_state t k)
 script_unjudged streams registered s t k script program.NoMemory h j = (inr (script, h, j), refl)
 script_unjudged streams registered s t k script program.Usage h j = absurd j
 script_unjudged streams registered s t k script (program.Registry fault) h j = absurd j
@@ -55,7 +55,7 @@ script_unjudged streams registered s t k script (program.Store fault) h j = absu
 script_unjudged streams registered s t k script (program.Run fault) h j = absurd j
 
 -- the script was read, and the verdict on it was written
-pub script_reported : {S K : Type 0} (streams : ScriptStreams S K) (registered : List Registration) (s t : S) (k o : K) (script : List ℕ) (verdict : Option SourceFault) (r : Result Ending Fault) → ReadsScript streams.feed s script t → verdict ≡ verdict_on registered script → WritesVerdict streams.outlet k verdict r o → ChecksScript streams registered (check_state s k) r (check_state t o)
+pub script_reported : {S K : Type 0} (streams : ScriptStreams S K) (registered : List Registration) (s t : S) (k o : K) (script : List ℕ) (verdict : Option SourceFault) (r : Result Ending ProgramFault) → ReadsScript streams.feed s script t → verdict ≡ verdict_on registered script → WritesVerdict streams.outlet k verdict r o → ChecksScript streams registered (check_state s k) r (check_state t o)
 script_reported streams registered s t k o script verdict (Ok ending) h e w = (script, h, subst (λ (x : Option SourceFault). WritesVerdict streams.outlet k x (Ok ending) o) e w)
 script_reported streams registered s t k o script verdict (Err (program.Run faults.Write)) h e w = (script, h, subst (λ (x : Option SourceFault). WritesVerdict streams.outlet k x (Err (program.Run faults.Write)) o) e w)
 script_reported streams registered s t k o script verdict (Err (program.Run faults.Truncated)) h e w = absurd w
@@ -87,7 +87,7 @@ keeps-same contents k o e = subst (λ (y : Writer _). Keeps (contents k.writer.n
     keeps None = tt
     keeps (Some xs) = refl
 
-file-checked : {R W : Type 0} (remaining : R → Option (List ℕ)) (contents : W → Option (List ℕ)) (registered : List Registration) (s t : Reader R) (k o : Writer W) (file : Option (List ℕ)) (r : Result Ending Fault) → left_of remaining s ≡ file → allowance_of s ≡ 2 ^ 40 → k.buffer.items ≡ [] → ChecksScript (streams_with (reader_feed remaining) (writer_outlet contents)) registered (check_state s k) r (check_state t o) → ChecksFile registered (check_state file (contents k.writer.now)) r (contents o.writer.now)
+file-checked : {R W : Type 0} (remaining : R → Option (List ℕ)) (contents : W → Option (List ℕ)) (registered : List Registration) (s t : Reader R) (k o : Writer W) (file : Option (List ℕ)) (r : Result Ending ProgramFault) → left_of remaining s ≡ file → allowance_of s ≡ 2 ^ 40 → k.buffer.items ≡ [] → ChecksScript (streams_with (reader_feed remaining) (writer_outlet contents)) registered (check_state s k) r (check_state t o) → ChecksFile registered (check_state file (contents k.writer.now)) r (contents o.writer.now)
 file-checked remaining contents registered s t k o file (Ok ending) e a b w = (
   w.0,
   script_of file (left_of remaining t) w.0 (subst (λ (y : Option (List ℕ)). Consumes y (left_of remaining t) w.0) e w.1.0.0) w.1.1,
@@ -112,7 +112,7 @@ file-checked remaining contents registered s t k o file (Err (program.Registry f
 file-checked remaining contents registered s t k o file (Err (program.Store fault)) e a b w = absurd w
 
 -- the sink writes into the writer that it was made with
-checked-name : {R W : Type 0} (remaining : R → Option (List ℕ)) (contents : W → Option (List ℕ)) (registered : List Registration) (s t : Reader R) (k o : Writer W) (r : Result Ending Fault) → ChecksScript (streams_with (reader_feed remaining) (writer_outlet contents)) registered (check_state s k) r (check_state t o) → o.writer.ghost_name ≡ k.writer.ghost_name
+checked-name : {R W : Type 0} (remaining : R → Option (List ℕ)) (contents : W → Option (List ℕ)) (registered : List Registration) (s t : Reader R) (k o : Writer W) (r : Result Ending ProgramFault) → ChecksScript (streams_with (reader_feed remaining) (writer_outlet contents)) registered (check_state s k) r (check_state t o) → o.writer.ghost_name ≡ k.writer.ghost_name
 checked-name remaining contents registered s t k o (Ok ending) w = w.2.1.written.1
 checked-name remaining contents registered s t k o (Err (program.Run faults.Write)) w = w.2.broke.1
 checked-name remaining contents registered s t k o (Err (program.Run faults.Read)) w = ap (λ (y : Writer _). y.writer.ghost_name) w.3
@@ -125,7 +125,7 @@ checked-name remaining contents registered s t k o (Err (program.Registry fault)
 checked-name remaining contents registered s t k o (Err (program.Store fault)) w = absurd w
 
 -- the script was checked, where x is what the writer ends as
-pub file_checked : {R W : Type 0} (remaining : R → Option (List ℕ)) (contents : W → Option (List ℕ)) (registered : List Registration) (s t : Reader R) (k o : Writer W) (file : Option (List ℕ)) (r : Result Ending Fault) (before x : W) → left_of remaining s ≡ file → allowance_of s ≡ 2 ^ 40 → k.buffer.items ≡ [] → k.writer.now ≡ before → (o.writer.ghost_name ≡ k.writer.ghost_name → x ≡ o.writer.now) → ChecksScript (streams_with (reader_feed remaining) (writer_outlet contents)) registered (check_state s k) r (check_state t o) → ChecksFile registered (check_state file (contents before)) r (contents x)
+pub file_checked : {R W : Type 0} (remaining : R → Option (List ℕ)) (contents : W → Option (List ℕ)) (registered : List Registration) (s t : Reader R) (k o : Writer W) (file : Option (List ℕ)) (r : Result Ending ProgramFault) (before x : W) → left_of remaining s ≡ file → allowance_of s ≡ 2 ^ 40 → k.buffer.items ≡ [] → k.writer.now ≡ before → (o.writer.ghost_name ≡ k.writer.ghost_name → x ≡ o.writer.now) → ChecksScript (streams_with (reader_feed remaining) (writer_outlet contents)) registered (check_state s k) r (check_state t o) → ChecksFile registered (check_state file (contents before)) r (contents x)
 file_checked remaining contents registered s t k o file r before x e a b n f w =
     let checked = file-checked remaining contents registered s t k o file r e a b w in
     subst (λ (y : _). ChecksFile registered (check_state file (contents y)) r (contents x)) n
@@ -137,7 +137,7 @@ status-verdict : (verdict : Option SourceFault) → ending_status (ending_of ver
 status-verdict None = refl
 status-verdict (Some fault) = refl
 
-pub ends_check : (registered : List Registration) (before : KnownCheck) (output : Option (List ℕ)) (r : Result Ending Fault) → ChecksFile registered before r output → EndsCheck registered before (end_of r) output
+pub ends_check : (registered : List Registration) (before : KnownCheck) (output : Option (List ℕ)) (r : Result Ending ProgramFault) → ChecksFile registered before r output → EndsCheck registered before (end_of r) output
 ends_check registered before output (Ok ending) h = (h.0, h.1, ap ending_status h.2 ∙ status-verdict (verdict_on registered h.0), h.3)
 ends_check registered before output (Err (program.Run faults.Write)) h = (h.0, h.1, refl, h.2, h.3, h.4, h.5)
 ends_check registered before output (Err (program.Run faults.Read)) h = (refl, h)

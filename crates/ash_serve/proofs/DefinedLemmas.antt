@@ -4,12 +4,12 @@ use Rattle.std.proofs.Common.{◌≡◌, ℕ, List, [], ◌∷◌, subst}
 use Rattle.ash_disk.specs.Device.{Device}
 use Rattle.ash_durable.specs.Hosting.{Hosted, Handles, HandlesAll}
 use Rattle.ash_durable.specs.Lives.{LivesOn}
-use Rattle.ash_durable.specs.Running.{RunsToFailure}
+use Rattle.ash_durable.specs.RequestRuns.{RunsToFailure}
 use Rattle.ash_durable.proofs.LivesOn.{lives_on}
 use Rattle.ash_durable.proofs.Running.{runs_to_failure}
 use Rattle.ash_lines.specs.Lines.{Line, HostRequest, Quit, BadRequest, LineTooLong}
-use Rattle.ash_lines.specs.Replies.{LineReply, HostReply, QuitReply, BadRequestReply, LineTooLongReply}
-use Rattle.ash_serve.specs.Running.{host_requests, host_replies}
+use Rattle.ash_lines.specs.ReplyText.{LineReply, HostReply, QuitReply, BadRequestReply, LineTooLongReply}
+use Rattle.ash_serve.specs.StreamRuns.{host_requests, host_replies}
 use Rattle.ash_serve.specs.Serving.{RepliesToAll}
 
 -- a line that asks nothing of the host leaves it as it is

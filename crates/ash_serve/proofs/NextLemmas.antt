@@ -7,7 +7,7 @@ use Rattle.ash_lines.specs.Reading.{is_line}
 use Rattle.ash_lines.specs.Lines.{Line, HostRequest, BadRequest, LineTooLong, cut_line, parse_line, Complete}
 use Rattle.ash_lines.specs.Lines.{max_line_bytes, LoadHeader, Cut, Whole, next, on_line, after_line, after_source, is_unfinished}
 use Rattle.ash_steps.specs.Requests.{Load}
-use Rattle.ash_serve.specs.Serving.{Spells}
+use Rattle.ash_serve.specs.Serving.{BeginsWithLine}
 
 -- a byte of a line, and the bytes after it
 line-head : (byte : ℕ) (bytes : List ℕ) → is_line (byte ∷ bytes) ≡ true → (byte == 10) ≡ false
@@ -53,10 +53,10 @@ unfinished-line (byte ∷ bytes) h = ap is_unfinished (next-cut (byte ∷ bytes)
 pub next-short : (line more : List ℕ) → is_line line ≡ true → length line ≤ max_line_bytes → next (line ++ 10 ∷ more) ≡ after_line (parse_line line) more
 next-short line more h l = next-line line more h ∙ (let e : nat_lt max_line_bytes (length line) ≡ false = grind (arith, nat_tests) in rw e refl)
 
-pub spells-long : (line : List ℕ) → is_line line ≡ true → max_line_bytes < length line → Spells (line ++ 10 ∷ []) LineTooLong
+pub spells-long : (line : List ℕ) → is_line line ≡ true → max_line_bytes < length line → BeginsWithLine (line ++ 10 ∷ []) LineTooLong
 spells-long line h l more = ap next (append_assoc line (10 ∷ []) more) ∙ (next-line line more h ∙ (let e : nat_lt max_line_bytes (length line) ≡ true = grind (arith, nat_tests) in rw e refl))
 
-pub spells-line : (line : List ℕ) (request : Line) → is_line line ≡ true → length line ≤ max_line_bytes → parse_line line ≡ Complete request → Spells (line ++ 10 ∷ []) request
+pub spells-line : (line : List ℕ) (request : Line) → is_line line ≡ true → length line ≤ max_line_bytes → parse_line line ≡ Complete request → BeginsWithLine (line ++ 10 ∷ []) request
 spells-line line request h l e more = ap next (append_assoc line (10 ∷ []) more) ∙ (next-short line more h l ∙ rw e refl)
 
 -- a source after its line
@@ -77,7 +77,7 @@ unfolding is_line
 line-nil = refl
 
 -- a source, then the end of its line
-pub spells-load : (line name source : List ℕ) (count : ℕ) → is_line line ≡ true → length line ≤ max_line_bytes → parse_line line ≡ LoadHeader name count → length source ≡ count → Spells ((line ++ 10 ∷ []) ++ (source ++ 10 ∷ [])) (HostRequest (Load name source))
+pub spells-load : (line name source : List ℕ) (count : ℕ) → is_line line ≡ true → length line ≤ max_line_bytes → parse_line line ≡ LoadHeader name count → length source ≡ count → BeginsWithLine ((line ++ 10 ∷ []) ++ (source ++ 10 ∷ [])) (HostRequest (Load name source))
 spells-load line name source count h l e n more =
     ap next (append_assoc (line ++ 10 ∷ []) (source ++ 10 ∷ []) more)
     ∙ (source-next line name count ((source ++ 10 ∷ []) ++ more) h l e
@@ -90,7 +90,7 @@ some-others name source [] more p = absurd (omega arith)
 some-others name source (byte ∷ others) more p = refl
 
 -- a source whose line goes on
-pub spells-unended : (line name source others : List ℕ) (count : ℕ) → is_line line ≡ true → length line ≤ max_line_bytes → parse_line line ≡ LoadHeader name count → length source ≡ count → is_line others ≡ true → 0 < length others → Spells ((line ++ 10 ∷ []) ++ (source ++ (others ++ 10 ∷ []))) BadRequest
+pub spells-unended : (line name source others : List ℕ) (count : ℕ) → is_line line ≡ true → length line ≤ max_line_bytes → parse_line line ≡ LoadHeader name count → length source ≡ count → is_line others ≡ true → 0 < length others → BeginsWithLine ((line ++ 10 ∷ []) ++ (source ++ (others ++ 10 ∷ []))) BadRequest
 spells-unended line name source others count h l e n o p more =
     ap next (append_assoc (line ++ 10 ∷ []) (source ++ (others ++ 10 ∷ [])) more)
     ∙ (source-next line name count ((source ++ (others ++ 10 ∷ [])) ++ more) h l e

@@ -10,7 +10,7 @@ use Rattle.ash_lines.specs.Source.{IsFeed, Faults}
 use Rattle.ash_lines.specs.Reading.{ReadsLinePart, ReadsWholeLine, FaultsInLine, source_prefix}
 use Rattle.ash_lines.specs.Lines.{Line, HostRequest, BadRequest, LineTooLong, parse_line, Complete, LoadHeader, next}
 use Rattle.ash_lines.specs.Lines.{is_unfinished, max_line_bytes}
-use Rattle.ash_lines.specs.Replies.{line_reply_of}
+use Rattle.ash_lines.specs.ReplyText.{line_reply_of}
 use Rattle.ash_serve.specs.Serving.{Handling, DependsOnPrefix, HandlesRequest, RepliesTo, request_state, run_fault}
 use Rattle.ash_lines.specs.declared.source.ReadFault.{ReadFault}
 use Rattle.ash_lines.specs.declared.source.ReadFault.TheVariants.{TooLong, Failed}

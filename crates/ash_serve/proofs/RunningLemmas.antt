@@ -8,12 +8,12 @@ use Rattle.std.specs.Io.KnownBytes.{Appends, Keeps, Consumes, IsAtEnd, prepend_k
 use Rattle.ash_steps.specs.Requests.{Request, Reply}
 use Rattle.ash_sources.specs.SourceFaults.{SourceFault}
 use Rattle.ash_lines.specs.Lines.{Line, HostRequest, Quit, BadRequest, LineTooLong, ConsistsOf}
-use Rattle.ash_lines.specs.Replies.{LineReply, HostReply, QuitReply, BadRequestReply, LineTooLongReply, reply_line}
-use Rattle.ash_lines.specs.Replies.{text_of}
+use Rattle.ash_lines.specs.ReplyText.{LineReply, HostReply, QuitReply, BadRequestReply, LineTooLongReply, reply_line}
+use Rattle.ash_lines.specs.ReplyText.{text_of}
 use Rattle.ash_serve.specs.Serving.{RequestRelation, Serving, RunState, RepliesTo, RepliesToAll, Log, Serves}
 use Rattle.ash_serve.specs.Serving.{EndsBetweenRequests, Quits, run_state, serving_with}
-use Rattle.ash_serve.specs.Running.{Run, KnownState, RunEnds, ReadsPrefix, ReadsProperPrefix, ReadsAll, GoOn}
-use Rattle.ash_serve.specs.Running.{EndsWithQuit}
+use Rattle.ash_serve.specs.StreamRuns.{Run, KnownState, RunEnds, ReadsPrefix, ReadsProperPrefix, ReadsAll, GoOn}
+use Rattle.ash_serve.specs.StreamRuns.{EndsWithQuit}
 use Rattle.ash_lines.specs.Reader.{left_of, allowance_of, reader_feed, reader_is_feed}
 use Rattle.ash_lines.specs.Writer.{writer_outlet, writer_is_outlet, appends-onward}
 use Rattle.ash_lines.specs.declared.reader.Reader.{Reader}

@@ -3,15 +3,15 @@ use Rattle.std.proofs.Common.{◌≡◌, ℕ, Result, Ok, Err, refl, sym, subst}
 use Rattle.ash_disk.specs.Device.{Device}
 use Rattle.ash_durable.specs.Hosting.{Hosted}
 use Rattle.ash_durable.specs.declared.fault.HostRefused.{HostRefused}
-use Rattle.ash_serve.specs.Running.{KnownState}
+use Rattle.ash_serve.specs.StreamRuns.{KnownState}
 use Rattle.ash_serve.specs.Service.{ServiceStart, ServiceRemains, HostRun, ServesHost, ServesFrom}
 use Rattle.ash_serve.specs.Serving.{run_state}
 use Rattle.ash_serve.specs.declared.fault.RunFault.{RunFault}
-use Rattle.ash_serve.specs.declared.program.fault.Fault.{Fault}
-use Rattle.ash_serve.specs.declared.program.fault.Fault.TheVariants.{Usage, NoMemory, Registry, Store, Run}
+use Rattle.ash_serve.specs.declared.program.fault.ProgramFault.{ProgramFault}
+use Rattle.ash_serve.specs.declared.program.fault.ProgramFault.TheVariants.{Usage, NoMemory, Registry, Store, Run}
 
 -- how a run ended, as the program reports it
-abbrev pub end_of : Result (Unit {0}) RunFault → Result (Unit {0}) Fault
+abbrev pub end_of : Result (Unit {0}) RunFault → Result (Unit {0}) ProgramFault
 end_of (Ok done) = Ok done
 end_of (Err fault) = Err (Run fault)
 
@@ -19,11 +19,11 @@ serves_run : {D : Type 0} (device : Device D) (budget : ℕ) (before : KnownStat
 serves_run device budget before (Ok done) after ran = ran
 serves_run device budget before (Err fault) after ran = ran
 
-pub serves_host : {D : Type 0} (device : Device D) (budget : ℕ) (before : KnownState (Hosted D)) (r : Result (Unit {0}) RunFault) (end : Result (Unit {0}) Fault) (after : ServiceRemains D) → end ≡ end_of r → HostRun device budget before r after → ServesHost device budget before end after
+pub serves_host : {D : Type 0} (device : Device D) (budget : ℕ) (before : KnownState (Hosted D)) (r : Result (Unit {0}) RunFault) (end : Result (Unit {0}) ProgramFault) (after : ServiceRemains D) → end ≡ end_of r → HostRun device budget before r after → ServesHost device budget before end after
 serves_host device budget before r end after is ran =
-    subst (λ (e : Result (Unit {0}) Fault). ServesHost device budget before e after) (sym is) (serves_run device budget before r after ran)
+    subst (λ (e : Result (Unit {0}) ProgramFault). ServesHost device budget before e after) (sym is) (serves_run device budget before r after ran)
 
-pub serves_from : {D : Type 0} (device : Device D) (budget : ℕ) (start : ServiceStart D) (host : Hosted D) (r : Result (Unit {0}) Fault) (after : ServiceRemains D) → start.begins (Ok host) → ServesHost device budget (run_state start.input start.output host) r after → ServesFrom device budget start r after
+pub serves_from : {D : Type 0} (device : Device D) (budget : ℕ) (start : ServiceStart D) (host : Hosted D) (r : Result (Unit {0}) ProgramFault) (after : ServiceRemains D) → start.begins (Ok host) → ServesHost device budget (run_state start.input start.output host) r after → ServesFrom device budget start r after
 serves_from device budget start host (Ok done) after b w = (host, b, w)
 serves_from device budget start host (Err (Run fault)) after b w = (host, b, w)
 serves_from device budget start host (Err (Store fault)) after b w = absurd w
@@ -32,6 +32,6 @@ serves_from device budget start host (Err Usage) after b w = absurd w
 serves_from device budget start host (Err NoMemory) after b w = absurd w
 
 -- a refusal, by what is returned of it
-pub serves_refused : {D : Type 0} (device : Device D) (budget : ℕ) (start : ServiceStart D) (refused : HostRefused D) (r : Result (Unit {0}) Fault) (after : ServiceRemains D) → r ≡ Err (Store refused.fault) → after.a ≡ refused.a → after.b ≡ refused.b → after.output ≡ start.output → start.begins (Err refused) → ServesFrom device budget start r after
+pub serves_refused : {D : Type 0} (device : Device D) (budget : ℕ) (start : ServiceStart D) (refused : HostRefused D) (r : Result (Unit {0}) ProgramFault) (after : ServiceRemains D) → r ≡ Err (Store refused.fault) → after.a ≡ refused.a → after.b ≡ refused.b → after.output ≡ start.output → start.begins (Err refused) → ServesFrom device budget start r after
 serves_refused device budget start refused r after r_is a_is b_is output_is begun =
-    subst (λ (end : Result (Unit {0}) Fault). ServesFrom device budget start end after) (sym r_is) (refused, begun, refl, a_is, b_is, output_is)
+    subst (λ (end : Result (Unit {0}) ProgramFault). ServesFrom device budget start end after) (sym r_is) (refused, begun, refl, a_is, b_is, output_is)

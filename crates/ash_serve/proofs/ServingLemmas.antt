@@ -5,12 +5,12 @@ use Rattle.std.proofs.lemmas.List.{append-nil}
 use Rattle.std.specs.List.{AllByRecursion}
 use Rattle.ash_lines.specs.Source.{Feed, IsFeed}
 use Rattle.ash_lines.specs.Sink.{IsOutlet, WritesAll, FailsPartway}
-use Rattle.ash_lines.specs.Lines.{Line, HostRequest, Quit, BadRequest, LineTooLong, GoesOn, Whole, next, ConsistsOf}
+use Rattle.ash_lines.specs.Lines.{Line, HostRequest, Quit, BadRequest, LineTooLong, ContinuesRun, Whole, next, ConsistsOf}
 use Rattle.ash_lines.specs.Lines.{is_unfinished}
-use Rattle.ash_lines.specs.Replies.{LineReply, HostReply, QuitReply, BadRequestReply, LineTooLongReply, line_reply_of}
-use Rattle.ash_lines.specs.Replies.{reply_line, text_of}
+use Rattle.ash_lines.specs.ReplyText.{LineReply, HostReply, QuitReply, BadRequestReply, LineTooLongReply, line_reply_of}
+use Rattle.ash_lines.specs.ReplyText.{reply_line, text_of}
 use Rattle.ash_serve.specs.Serving.{RequestRelation, Handling, RequestState, Serving, RunState, handling_with, handling_of}
-use Rattle.ash_serve.specs.Serving.{without_output, HandlesNext, HandlesLine, RepliesTo, RepliesToAll, Spells, Log}
+use Rattle.ash_serve.specs.Serving.{without_output, HandlesNext, HandlesLine, RepliesTo, RepliesToAll, BeginsWithLine, Log}
 use Rattle.ash_serve.specs.Serving.{OngoingLog, Serves, EndsByFault, EndsBetweenRequests, Quits, ends_run}
 use Rattle.ash_serve.specs.declared.fault.RunFault.{RunFault}
 use Rattle.ash_serve.specs.declared.fault.RunFault.TheVariants as faults
@@ -51,7 +51,7 @@ quit_ends serving before after reply e w x =
     record { handled = q.1; written = subst (λ (y : LineReply). WritesAll serving.outlet before.output (reply_line y) after.output) q.0 x }
 
 -- after any other reply it goes on
-pub goes_on : {H : Type 0} (handles : RequestRelation H) (old new : H) (line : Line) (reply : LineReply) → ends_run reply ≡ false → RepliesTo handles old line reply new → GoesOn line
+pub goes_on : {H : Type 0} (handles : RequestRelation H) (old new : H) (line : Line) (reply : LineReply) → ends_run reply ≡ false → RepliesTo handles old line reply new → ContinuesRun line
 goes_on handles old new (HostRequest request) reply e a = tt
 goes_on handles old new BadRequest reply e a = tt
 goes_on handles old new LineTooLong reply e a = tt
@@ -66,7 +66,7 @@ next-nil : is_unfinished (next []) ≡ true
 unfolding next
 next-nil = refl
 
-pub spells-some : (bytes : List ℕ) (line : Line) → Spells bytes line → 0 < length bytes
+pub spells-some : (bytes : List ℕ) (line : Line) → BeginsWithLine bytes line → 0 < length bytes
 spells-some [] line h = let e = sym next-nil ∙ ap is_unfinished (h []) in absurd (let q : true ≡ false = e in cc)
 spells-some (byte ∷ bytes) line h = omega arith
 
@@ -105,14 +105,14 @@ log-more serving is io before last after line line_reply log served x = record {
 
 -- one more line after which the run goes on
 
-all-more : (lines : List Line) (line : Line) → AllByRecursion GoesOn lines → GoesOn line → AllByRecursion GoesOn (lines ++ line ∷ [])
+all-more : (lines : List Line) (line : Line) → AllByRecursion ContinuesRun lines → ContinuesRun line → AllByRecursion ContinuesRun (lines ++ line ∷ [])
 all-more [] line h on = (on, tt)
 all-more (first ∷ lines) line h on = (h.0, all-more lines line h.1 on)
 
 pub ongoing-nil : {S K H : Type 0} (serving : Serving S K H) → IsFeed serving.feed → IsOutlet serving.outlet → (state : RunState S K H) → serving.outlet.buffered state.output ≡ [] → OngoingLog serving state state
 ongoing-nil serving is io state e = record { log = log-nil serving is io state e; on = tt }
 
-pub ongoing-more : {S K H : Type 0} (serving : Serving S K H) → IsFeed serving.feed → IsOutlet serving.outlet → (before last after : RunState S K H) (line : Line) (line_reply : LineReply) → OngoingLog serving before last → HandlesLine (handling_of serving) (without_output last) line line_reply (without_output after) → WritesAll serving.outlet last.output (reply_line line_reply) after.output → GoesOn line → OngoingLog serving before after
+pub ongoing-more : {S K H : Type 0} (serving : Serving S K H) → IsFeed serving.feed → IsOutlet serving.outlet → (before last after : RunState S K H) (line : Line) (line_reply : LineReply) → OngoingLog serving before last → HandlesLine (handling_of serving) (without_output last) line line_reply (without_output after) → WritesAll serving.outlet last.output (reply_line line_reply) after.output → ContinuesRun line → OngoingLog serving before after
 ongoing-more serving is io before last after line line_reply gone served x on = record {
   log = log-more serving is io before last after line line_reply gone.log served x;
   on = all-more gone.log.lines line gone.on on;

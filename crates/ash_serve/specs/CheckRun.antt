@@ -2,21 +2,21 @@
 use Rattle.std.specs.Prelude.{◌≡◌, ◌<◌, ◌⊎◌, ℕ, List, [], ◌∷◌, ◌++◌, length, codes, Option, Some, None, option_map}
 use Rattle.std.specs.Prelude.{Result, Ok, Err, IfSome}
 use Rattle.std.specs.Io.KnownBytes.{Appends, Keeps}
-use Rattle.ash_registry.specs.Registrations.{Registration}
+use Rattle.ash_registry.specs.AcceptedRegistrations.{Registration}
 use Rattle.ash_sources.specs.declared.fault.SourceFault as code
 use Rattle.ash_sources.specs.SourceFaults.{SourceFault, fault_of, TakesMemoryFor}
-use Rattle.ash_sources.specs.CheckedSource.{CheckResult, checked_source}
+use Rattle.ash_sources.specs.CheckedSource.{SourceResult, checked_source}
 use Rattle.ash_lines.specs.Source.{Feed, Faults}
 use Rattle.ash_lines.specs.Sink.{Outlet, WritesAll, FailsPartway}
 use Rattle.ash_lines.specs.Reading.{max_prefix_bytes, source_prefix}
 use Rattle.ash_lines.specs.RefusalTexts.{fault_text}
 use Rattle.ash_lines.specs.declared.source.ReadFault.TheVariants as read_faults
 use Rattle.ash_serve.specs.declared.fault.RunFault.TheVariants as faults
-use Rattle.ash_serve.specs.declared.program.ending.End.{End}
+use Rattle.ash_serve.specs.declared.program.ending.ProgramEnd.{ProgramEnd}
 use Rattle.ash_serve.specs.declared.program.ending.Ending.{Ending}
 use Rattle.ash_serve.specs.declared.program.ending.Ending.TheVariants as endings
-use Rattle.ash_serve.specs.declared.program.fault.Fault.{Fault}
-use Rattle.ash_serve.specs.declared.program.fault.Fault.TheVariants as program
+use Rattle.ash_serve.specs.declared.program.fault.ProgramFault.{ProgramFault}
+use Rattle.ash_serve.specs.declared.program.fault.ProgramFault.TheVariants as program
 
 -- the text of the verdict on a script: `ok`, or its refusal as the reply to a `load` has it
 abbrev pub verdict_text : Option SourceFault → List ℕ
@@ -37,7 +37,7 @@ abbrev pub verdict_of : Option code.SourceFault → Option SourceFault
 verdict_of verdict = option_map fault_of verdict
 
 -- why a source is refused, if it is
-abbrev pub fault_in : CheckResult → Option SourceFault
+abbrev pub fault_in : SourceResult → Option SourceFault
 fault_in (Ok items) = None
 fault_in (Err fault) = Some fault
 
@@ -45,17 +45,17 @@ abbrev pub verdict_on : List Registration → List ℕ → Option SourceFault
 verdict_on registered source = fault_in (checked_source registered source)
 
 -- It may take memory to judge any source but one that is too long.
-abbrev pub TakesMemory : List Registration → List ℕ → Type 0
-TakesMemory registered source = TakesMemoryFor (checked_source registered source)
+abbrev pub MayTakeMemoryToCheck : List Registration → List ℕ → Type 0
+MayTakeMemoryToCheck registered source = TakesMemoryFor (checked_source registered source)
 
 -- Judging a source gave why it is refused, if it is, or there was no memory.
-abbrev pub Judges : List Registration → List ℕ → Result (Option code.SourceFault) Fault → Type 0
+abbrev pub Judges : List Registration → List ℕ → Result (Option code.SourceFault) ProgramFault → Type 0
 Judges registered source (Ok verdict) = verdict_of verdict ≡ verdict_on registered source
-Judges registered source (Err program.NoMemory) = TakesMemory registered source
+Judges registered source (Err program.NoMemory) = MayTakeMemoryToCheck registered source
 Judges registered source (Err _) = ⊥
 
 -- The verdict was written, and this is how the program ends by it; or a write failed.
-abbrev pub WritesVerdict : {K : Type 0} → Outlet K → K → Option SourceFault → Result Ending Fault → K
+abbrev pub WritesVerdict : {K : Type 0} → Outlet K → K → Option SourceFault → Result Ending ProgramFault → K
     → Type 0
 WritesVerdict outlet old verdict (Ok ending) new =
     (ending ≡ ending_of verdict) × WritesAll outlet old (verdict_line verdict) new
@@ -91,7 +91,7 @@ check_state input output = record { input = input; output = output }
 -- The script of a source was read and the verdict on it was written; or a read or a write failed, or
 -- there was no memory.
 abbrev pub ChecksScript : {S K : Type 0} → ScriptStreams S K → List Registration → CheckState S K
-    → Result Ending Fault → CheckState S K → Type 0
+    → Result Ending ProgramFault → CheckState S K → Type 0
 ChecksScript streams registered before (Ok ending) after =
     (script : List ℕ) × ReadsScript streams.feed before.input script after.input
     × WritesVerdict streams.outlet before.output (verdict_on registered script) (Ok ending)
@@ -111,7 +111,7 @@ ChecksScript streams registered before (Err (program.Run faults.TooLong)) after 
 ChecksScript streams registered before (Err program.NoMemory) after =
     ((after.input ≡ before.input)
     ⊎ ((script : List ℕ) × ReadsScript streams.feed before.input script after.input
-    × TakesMemory registered script))
+    × MayTakeMemoryToCheck registered script))
     × (after.output ≡ before.output)
 ChecksScript streams registered before (Err _) after = ⊥
 
@@ -124,7 +124,7 @@ abbrev pub KnownCheck : Type 0
 KnownCheck = CheckState (Option (List ℕ)) (Option (List ℕ))
 
 -- The same of a file and a writer, by their bytes alone, where these are known.
-abbrev pub ChecksFile : List Registration → KnownCheck → Result Ending Fault → Option (List ℕ)
+abbrev pub ChecksFile : List Registration → KnownCheck → Result Ending ProgramFault → Option (List ℕ)
     → Type 0
 ChecksFile registered before (Ok ending) output =
     (script : List ℕ) × IsScriptOf before.input script
@@ -147,7 +147,7 @@ verdict_status (Some fault) = 1
 -- there is one. With none, the line for the script is on standard output, and the status is that of
 -- the line. A fault has the status 1, and only where it is one of writing there may be a prefix of
 -- the line.
-abbrev pub EndsBy : List Registration → KnownCheck → ℕ → Option Fault → Option (List ℕ) → Type 0
+abbrev pub EndsBy : List Registration → KnownCheck → ℕ → Option ProgramFault → Option (List ℕ) → Type 0
 EndsBy registered before status None output =
     (script : List ℕ) × IsScriptOf before.input script
     × (status ≡ verdict_status (verdict_on registered script))
@@ -162,5 +162,5 @@ EndsBy registered before status (Some program.NoMemory) output =
     (status ≡ 1) × Keeps before.output output
 EndsBy registered before status (Some _) output = ⊥
 
-abbrev pub EndsCheck : List Registration → KnownCheck → End → Option (List ℕ) → Type 0
+abbrev pub EndsCheck : List Registration → KnownCheck → ProgramEnd → Option (List ℕ) → Type 0
 EndsCheck registered before end output = EndsBy registered before end.status end.fault output

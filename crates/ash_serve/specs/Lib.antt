@@ -1,7 +1,7 @@
 pub mod Session
 pub mod Serving
 pub mod LongSources
-pub mod Running
+pub mod StreamRuns
 pub mod Program
 pub mod CheckRun
 pub mod Service

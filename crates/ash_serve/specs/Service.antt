@@ -3,15 +3,15 @@ use Rattle.std.specs.Prelude.{◌≡◌, ℕ, List, Option, Result, Ok, Err}
 use Rattle.ash_disk.specs.Device.{Device}
 use Rattle.ash_durable.specs.Hosting.{Hosted, first, second, IsSaved, Handles}
 use Rattle.ash_durable.specs.Lives.{LivesOn}
-use Rattle.ash_durable.specs.Running.{RunsToFailure}
+use Rattle.ash_durable.specs.RequestRuns.{RunsToFailure}
 use Rattle.ash_durable.specs.declared.fault.HostRefused.{HostRefused}
 use Rattle.ash_lines.specs.Lines.{Line}
-use Rattle.ash_lines.specs.Replies.{LineReply}
-use Rattle.ash_serve.specs.Running.{KnownState, RunEnds, host_requests, host_replies}
+use Rattle.ash_lines.specs.ReplyText.{LineReply}
+use Rattle.ash_serve.specs.StreamRuns.{KnownState, RunEnds, host_requests, host_replies}
 use Rattle.ash_serve.specs.Serving.{RepliesToAll, run_state}
 use Rattle.ash_serve.specs.declared.fault.RunFault.{RunFault}
-use Rattle.ash_serve.specs.declared.program.fault.Fault.{Fault}
-use Rattle.ash_serve.specs.declared.program.fault.Fault.TheVariants.{Store, Run}
+use Rattle.ash_serve.specs.declared.program.fault.ProgramFault.{ProgramFault}
+use Rattle.ash_serve.specs.declared.program.fault.ProgramFault.TheVariants.{Store, Run}
 
 -- what serving begins with: how a host begins on the disks; the bytes that are left to read and
 -- those that are written, where these are known
@@ -56,7 +56,7 @@ pub record HostRun {D : Type 0} (device : Device D) (budget : ℕ) (before : Kno
 
 -- Serving from a host did this.
 abbrev pub ServesHost : {D : Type 0} → Device D → ℕ → KnownState (Hosted D)
-    → Result (Unit {0}) Fault → ServiceRemains D → Type 0
+    → Result (Unit {0}) ProgramFault → ServiceRemains D → Type 0
 ServesHost device budget before (Ok done) after = HostRun device budget before (Ok done) after
 ServesHost device budget before (Err (Run fault)) after =
     HostRun device budget before (Err fault) after
@@ -64,7 +64,7 @@ ServesHost device budget before (Err _) after = ⊥
 
 -- Serving from a host that begins so did this; or there was a refusal, which is returned, and
 -- nothing was written. The disks are handed back.
-abbrev pub ServesFrom : {D : Type 0} → Device D → ℕ → ServiceStart D → Result (Unit {0}) Fault
+abbrev pub ServesFrom : {D : Type 0} → Device D → ℕ → ServiceStart D → Result (Unit {0}) ProgramFault
     → ServiceRemains D → Type 0
 ServesFrom {D} device budget start (Err (Store fault)) after =
     (refused : HostRefused D) × start.begins (Err refused) × (refused.fault ≡ fault)

@@ -6,10 +6,10 @@ use Rattle.ash_sources.specs.SourceFaults.{SourceFault}
 use Rattle.ash_lines.specs.Source.{Feed, Faults}
 use Rattle.ash_lines.specs.Reading.{source_prefix}
 use Rattle.ash_lines.specs.Sink.{Outlet, WritesAll, FailsPartway}
-use Rattle.ash_lines.specs.Lines.{Line, HostRequest, Quit, BadRequest, LineTooLong, GoesOn, Cut, Whole, next}
+use Rattle.ash_lines.specs.Lines.{Line, HostRequest, Quit, BadRequest, LineTooLong, ContinuesRun, Cut, Whole, next}
 use Rattle.ash_lines.specs.Lines.{ConsistsOf, is_unfinished}
-use Rattle.ash_lines.specs.Replies.{LineReply, HostReply, QuitReply, BadRequestReply, LineTooLongReply, line_reply_of}
-use Rattle.ash_lines.specs.Replies.{reply_line, text_of}
+use Rattle.ash_lines.specs.ReplyText.{LineReply, HostReply, QuitReply, BadRequestReply, LineTooLongReply, line_reply_of}
+use Rattle.ash_lines.specs.ReplyText.{reply_line, text_of}
 use Rattle.ash_lines.specs.declared.reply.LineReply as code
 use Rattle.ash_lines.specs.declared.source.ReadFault.{ReadFault}
 use Rattle.ash_lines.specs.declared.source.ReadFault.TheVariants as read_faults
@@ -57,8 +57,8 @@ RepliesToAll {H} handles old (line ∷ lines) (reply ∷ replies) new =
 RepliesToAll handles old _ _ new = ⊥
 
 -- The input begins with this request, however it goes on after these bytes.
-abbrev pub Spells : List ℕ → Line → Type 0
-Spells bytes line = (more : List ℕ) → next (bytes ++ more) ≡ Whole line more
+abbrev pub BeginsWithLine : List ℕ → Line → Type 0
+BeginsWithLine bytes line = (more : List ℕ) → next (bytes ++ more) ≡ Whole line more
 
 -- ---- one request
 
@@ -84,7 +84,7 @@ request_state input host = record { input = input; host = host }
 pub record HandlesLine {S H : Type 0} (handling : Handling S H) (before : RequestState S H)
     (line : Line) (reply : LineReply) (after : RequestState S H) : Type 0 where
   pub bytes : List ℕ
-  pub spells : Spells bytes line
+  pub spells : BeginsWithLine bytes line
   pub took : handling.feed.reads before.input bytes after.input
   pub handled : RepliesTo handling.handles before.host line reply after.host
 
@@ -205,7 +205,7 @@ pub record Log {S K H : Type 0} (serving : Serving S K H) (before after : RunSta
 pub record OngoingLog {S K H : Type 0} (serving : Serving S K H) (before after : RunState S K H)
     : Type 0 where
   pub log : Log serving before after
-  pub on : AllByRecursion GoesOn log.lines
+  pub on : AllByRecursion ContinuesRun log.lines
 
 -- `quit` was read, and the reply to it was written.
 pub record Quits {S K H : Type 0} (serving : Serving S K H) (before after : RunState S K H)

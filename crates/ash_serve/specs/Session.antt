@@ -5,7 +5,7 @@ use Rattle.ash_lines.specs.Reading.{max_prefix_bytes}
 use Rattle.ash_serve.specs.declared.session.Session.{Session}
 
 -- The buffers of a session have room for a line, for its arguments and for the prefix of a source.
-pub record HasRoom (session : Session) : Type 0 where
+pub record HasSessionRoom (session : Session) : Type 0 where
   pub line : max_line_bytes ≤ vec_capacity session.line
   pub arguments : max_arguments ≤ vec_capacity session.arguments
   pub prefix : max_prefix_bytes ≤ vec_capacity session.prefix

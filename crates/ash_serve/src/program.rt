@@ -12,8 +12,8 @@ use crate::fault::RunFault;
 use ash_disk::MemoryDisk;
 use ash_durable::Host;
 use check::run_check;
-use ending::{End, Ending};
-use fault::Fault;
+use ending::{Ending, ProgramEnd};
+use fault::ProgramFault;
 use registrations::registrations;
 use service::{Service, ServiceEnd, serve_new, serve_stored};
 use std::fs::File;
@@ -21,7 +21,7 @@ use std::process::ExitCode;
 use std::rt::{Env, Files};
 use std::{env, io};
 use store::Store;
-use task::{Limits, Task};
+use task::{Limits, ProgramTask};
 
 /// Runs the program. The status to end with. A fault is written on standard error.
 pub fn main<R: Env + Files<File = File> + Input + Print + Eprint + AllocGlobal>(
@@ -33,7 +33,7 @@ pub fn main<R: Env + Files<File = File> + Input + Print + Eprint + AllocGlobal>(
     };
     let end = match done {
         Ok(end) => end,
-        Err(fault) => End::by(Err(fault)),
+        Err(fault) => ProgramEnd::by(Err(fault)),
     };
     if let Some(fault) = &end.fault {
         let _ = eprintln!(rt; "ashd: {}", fault.code());
@@ -42,11 +42,11 @@ pub fn main<R: Env + Files<File = File> + Input + Print + Eprint + AllocGlobal>(
 }
 
 /// The words of the process. Some that are not text ask for nothing.
-fn words_of<R: Env + AllocGlobal>(rt: &R) -> Result<Vec<String>, Fault> {
+fn words_of<R: Env + AllocGlobal>(rt: &R) -> Result<Vec<String>, ProgramFault> {
     match env::args(rt) {
         Ok(words) => Ok(words.collect(rt.alloc())?),
-        Err(error) if error.kind() == io::ErrorKind::OutOfMemory => Err(Fault::NoMemory),
-        Err(_) => Err(Fault::Usage),
+        Err(error) if error.kind() == io::ErrorKind::OutOfMemory => Err(ProgramFault::NoMemory),
+        Err(_) => Err(ProgramFault::Usage),
     }
 }
 
@@ -55,18 +55,21 @@ fn words_of<R: Env + AllocGlobal>(rt: &R) -> Result<Vec<String>, Fault> {
 fn perform<R: Files<File = File> + Input + Print + AllocGlobal>(
     rt: &R,
     words: &[String],
-) -> Result<End, Fault> {
-    match Task::read(rt.alloc(), words)? {
-        Task::Try { limits } => serve_in_memory(rt, limits)?,
-        Task::Create { folder } => create(rt, folder)?,
-        Task::Serve { folder, limits } => serve(rt, folder, limits)?,
-        Task::Check { file } => return check_path(rt, file),
+) -> Result<ProgramEnd, ProgramFault> {
+    match ProgramTask::read(rt.alloc(), words)? {
+        ProgramTask::Try { limits } => serve_in_memory(rt, limits)?,
+        ProgramTask::Create { folder } => create(rt, folder)?,
+        ProgramTask::Serve { folder, limits } => serve(rt, folder, limits)?,
+        ProgramTask::Check { file } => return check_path(rt, file),
     }
-    Ok(End::by(Ok(Ending::Well)))
+    Ok(ProgramEnd::by(Ok(Ending::Well)))
 }
 
 /// Serves standard input and output, with the store in memory.
-fn serve_in_memory<R: Input + Print + AllocGlobal>(rt: &R, limits: Limits) -> Result<(), Fault> {
+fn serve_in_memory<R: Input + Print + AllocGlobal>(
+    rt: &R,
+    limits: Limits,
+) -> Result<(), ProgramFault> {
     let service = Service {
         a: MemoryDisk::new(rt.alloc()),
         b: MemoryDisk::new(rt.alloc()),
@@ -81,7 +84,7 @@ fn serve<R: Files<File = File> + Input + Print + AllocGlobal>(
     rt: &R,
     folder: &str,
     limits: Limits,
-) -> Result<(), Fault> {
+) -> Result<(), ProgramFault> {
     let Store { a, b, lock } = Store::open(rt, folder)?;
     let service = Service {
         a,
@@ -101,14 +104,17 @@ fn serve<R: Files<File = File> + Input + Print + AllocGlobal>(
 }
 
 /// Creates a store in a folder, and reports it. A store that is there stays as it is.
-fn create<R: Files<File = File> + Print + AllocGlobal>(rt: &R, folder: &str) -> Result<(), Fault> {
+fn create<R: Files<File = File> + Print + AllocGlobal>(
+    rt: &R,
+    folder: &str,
+) -> Result<(), ProgramFault> {
     let Store { a, b, lock } = Store::make(rt, folder)?;
     let registry = registrations(rt.alloc())?;
     drop(Host::create(rt.alloc(), a, b, registry)?);
     drop(lock);
     match println!(rt; "created") {
         Ok(()) => Ok(()),
-        Err(_) => Err(Fault::Run(RunFault::Write)),
+        Err(_) => Err(ProgramFault::Run(RunFault::Write)),
     }
 }
 
@@ -116,7 +122,7 @@ fn create<R: Files<File = File> + Print + AllocGlobal>(rt: &R, folder: &str) -> 
 fn check_path<R: Files<File = File> + Print + AllocGlobal>(
     rt: &R,
     path: &str,
-) -> Result<End, Fault> {
+) -> Result<ProgramEnd, ProgramFault> {
     let file = File::open(rt, path).map_err(open_fault)?;
     let registry = registrations(rt.alloc())?;
     let end = run_check(rt.alloc(), &registry, file, &mut io::writer(rt));
@@ -124,9 +130,9 @@ fn check_path<R: Files<File = File> + Print + AllocGlobal>(
 }
 
 /// Why a script's file could not be opened.
-fn open_fault(error: io::Error) -> Fault {
+fn open_fault(error: io::Error) -> ProgramFault {
     match error.kind() {
-        io::ErrorKind::OutOfMemory => Fault::NoMemory,
-        _ => Fault::Run(RunFault::Read),
+        io::ErrorKind::OutOfMemory => ProgramFault::NoMemory,
+        _ => ProgramFault::Run(RunFault::Read),
     }
 }

@@ -3,10 +3,10 @@
 ghost use Rattle.std.specs.Prelude.{List};
 ghost use Rattle.ash_durable.specs.Hosting.{Handles, IsSaved};
 ghost use Rattle.ash_durable.specs.Lives.{LivesOn};
-ghost use Rattle.ash_durable.specs.Running.{RunsToFailure};
+ghost use Rattle.ash_durable.specs.RequestRuns.{RunsToFailure};
 ghost use Rattle.ash_lines.specs.Lines.{Line};
-ghost use Rattle.ash_lines.specs.Replies.{LineReply};
-ghost use Rattle.ash_serve.specs.Running.{RunEnds, host_requests, host_replies};
+ghost use Rattle.ash_lines.specs.ReplyText.{LineReply};
+ghost use Rattle.ash_serve.specs.StreamRuns.{RunEnds, host_requests, host_replies};
 ghost use Rattle.ash_serve.specs.Serving.{RepliesToAll, run_state};
 
 use crate::fault::RunFault;

@@ -1,7 +1,7 @@
 //! The loop over a source and a sink.
 
 ghost use Rattle.std.specs.Prelude.{◌≡◌, []};
-ghost use Rattle.ash_lines.specs.Replies.{line_reply_of};
+ghost use Rattle.ash_lines.specs.ReplyText.{line_reply_of};
 ghost use Rattle.ash_serve.specs.Serving.{Serves, ends_run, run_state, serving_with};
 
 use crate::fault::RunFault;

@@ -3,7 +3,7 @@
 ghost use Rattle.std.specs.Prelude.{◌≡◌, ◌≤◌, ℕ, List, length, vec_capacity, IfOk};
 ghost use Rattle.ash_lines.specs.Lines.{LoadHeader as Header, max_line_bytes, parse_line};
 ghost use Rattle.ash_lines.specs.Reading.{ReadsWholeLine, max_prefix_bytes};
-ghost use Rattle.ash_serve.specs.Session.{HasRoom};
+ghost use Rattle.ash_serve.specs.Session.{HasSessionRoom};
 ghost use Rattle.ash_serve.specs.Serving.{HandlesNext, HandlesRequest, handling_with, request_state};
 
 use crate::fault::RunFault;
@@ -31,7 +31,7 @@ pub(crate) struct Session {
 
 impl Session {
     pub(crate) fn new(alloc: Global, budget: u64) -> Result<Session, AllocError>
-        ensures room { IfOk result HasRoom }
+        ensures room { IfOk result HasSessionRoom }
         ensures budget { IfOk result (λ session. session.budget ≡ budget) }
     {
         Ok(Session {
@@ -48,10 +48,10 @@ impl Session {
         input: &mut S,
         host: &mut H,
     ) -> Result<Option<LineReply>, RunFault>
-        requires room { HasRoom self.old }
+        requires room { HasSessionRoom self.old }
         ensures handled { HandlesNext (handling_with S.feed (H.handles self.old.budget))
             (request_state input.old host.old) result (request_state input.new host.new) }
-        ensures room { HasRoom self.new }
+        ensures room { HasSessionRoom self.new }
         ensures budget { self.new.budget ≡ self.old.budget }
     {
         match read_line(input, &mut self.line)? {
@@ -68,12 +68,12 @@ impl Session {
         input: &mut S,
         host: &mut H,
     ) -> Result<LineReply, RunFault>
-        requires room { HasRoom self.old }
+        requires room { HasSessionRoom self.old }
         requires short { length self.old.line.items ≤ max_line_bytes }
         ensures handled { (start : S) → ReadsWholeLine S.feed start self.old.line.items input.old
             → HandlesRequest (handling_with S.feed (H.handles self.old.budget))
             (request_state start host.old) result (request_state input.new host.new) }
-        ensures room { HasRoom self.new }
+        ensures room { HasSessionRoom self.new }
         ensures budget { self.new.budget ≡ self.old.budget }
     {
         let line = self.line.as_slice();

@@ -3,28 +3,28 @@ use Rattle.std.proofs.Common.{◌≡◌, ℕ, true, List, sym, subst, ap, ◌∙
 use Rattle.std.specs.Prelude.{IsSomeAnd, IsSome}
 use Rattle.std.specs.Option.{option_and_then}
 use Rattle.ash_host.specs.Objects.{object_at}
-use Rattle.ash_slots.specs.declared.entry.Item.{Item}
+use Rattle.ash_slots.specs.declared.entry.Occupant.{Occupant}
 use Rattle.ash_slots.specs.declared.body.Body.TheVariants.{Script, Array, Host}
 use Rattle.ash_slots.specs.declared.body.Script as scripts
 use Rattle.ash_slots.specs.declared.body.Array as arrays
 use Rattle.ash_slots.specs.Store.{SlotEntry, AreStored, IsIn, change_in, with_item, change_at}
-use Rattle.ash_slots.specs.Responses.{box_of, stored_box, boxed}
+use Rattle.ash_slots.specs.SlotResponses.{box_of, stored_box, boxed}
 use Rattle.ash_slots.proofs.Changing.{change_in_is}
 use Rattle.ash_slots.proofs.Steps.{change_same}
 
 module _ {B : Type 0} where
-  item_same : (n : ℕ) (l : List (ℕ × SlotEntry B)) (it : Item B) → IsSomeAnd (object_at n l) (λ object. object.item ≡ it)
+  item_same : (n : ℕ) (l : List (ℕ × SlotEntry B)) (it : Occupant B) → IsSomeAnd (object_at n l) (λ object. object.item ≡ it)
       → (p : SlotEntry B) → object_at n l ≡ Some p → p.item ≡ it
   item_same n l it h p is = subst (λ (v : Option (SlotEntry B)). IsSomeAnd v (λ object. object.item ≡ it)) is h
 
-  module _ (n : ℕ) (l : List (ℕ × SlotEntry B)) (it : Item B) (mine : IsSomeAnd (object_at n l) (λ object. object.item ≡ it)) where
+  module _ (n : ℕ) (l : List (ℕ × SlotEntry B)) (it : Occupant B) (mine : IsSomeAnd (object_at n l) (λ object. object.item ≡ it)) where
     stored_is : stored_box n l ≡ box_of it.body
     stored_is = go (object_at n l) mine
       where
         go : (v : Option (SlotEntry B)) → IsSomeAnd v (λ object. object.item ≡ it)
             → option_and_then (λ object. box_of (object.item).body) v ≡ box_of it.body
         go None h = absurd h
-        go (Some p) h = ap (λ (i : Item B). box_of i.body) h
+        go (Some p) h = ap (λ (i : Occupant B). box_of i.body) h
 
     -- the box that is called is that of the number
     pub box_was : (box : B) → it.body ≡ Host box → stored_box n l ≡ Some box
@@ -45,4 +45,4 @@ module _ {B : Type 0} where
     pub boxed_at : (slot : ℕ) (s : AreStored l) (here : IsIn n slot l) (after : B) → change_in slot (with_item (record { count = it.count; touched = true; body = Host after })) l ≡ change_at n (boxed after) l
     boxed_at slot s here after =
         change_in_is slot n _ l s here
-        ∙ change_same n _ (boxed after) l s.in_order (λ p at. ap (λ (i : Item B). with_item (record { count = i.count; touched = true; body = Host after }) p) (sym (item_same n l it mine p at)))
+        ∙ change_same n _ (boxed after) l s.in_order (λ p at. ap (λ (i : Occupant B). with_item (record { count = i.count; touched = true; body = Host after }) p) (sym (item_same n l it mine p at)))

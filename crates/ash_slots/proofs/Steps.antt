@@ -6,14 +6,14 @@ use Rattle.std.proofs.lemmas.Bool.{eqb-true, eq-eqb}
 use Rattle.ash_host.specs.Objects.{object_at, IsInOrder}
 use Rattle.ash_host.proofs.Order.{same_in_order}
 use Rattle.ash_host.specs.declared.word.Word.{Word}
-use Rattle.ash_slots.specs.declared.entry.Item.{Item}
+use Rattle.ash_slots.specs.declared.entry.Occupant.{Occupant}
 use Rattle.ash_slots.specs.declared.body.Body.{Body}
 use Rattle.ash_slots.specs.declared.body.Body.TheVariants.{Script, Array}
 use Rattle.ash_slots.specs.declared.body.Script as scripts
 use Rattle.ash_slots.specs.declared.body.Array as arrays
 use Rattle.ash_slots.specs.Bodies.{with_word}
 use Rattle.ash_slots.specs.Store.{SlotEntry, AreStored, IsIn, IsOccupied, change_in, with_item, with_waiting, change_at}
-use Rattle.ash_slots.specs.Counting.{counted, incremented, decremented, with_count, written}
+use Rattle.ash_slots.specs.SlotCounting.{counted, incremented, decremented, with_count, written}
 use Rattle.ash_slots.proofs.Changing.{object_at-change, object_at-change_in, in_order-change, change_in_is}
 
 module _ {A : Type 0} where
@@ -31,19 +31,19 @@ module _ {A : Type 0} where
 
 module _ {B : Type 0} where
   -- what an object's item is, once the object is named
-  item_is : (n : ℕ) (l : List (ℕ × SlotEntry B)) (it : Item B) → IsSomeAnd (object_at n l) (λ object. object.item ≡ it)
+  item_is : (n : ℕ) (l : List (ℕ × SlotEntry B)) (it : Occupant B) → IsSomeAnd (object_at n l) (λ object. object.item ≡ it)
       → (p : SlotEntry B) → object_at n l ≡ Some p → p.item ≡ it
   item_is n l it h p is = subst (λ (v : Option (SlotEntry B)). IsSomeAnd v (λ object. object.item ≡ it)) is h
 
   -- the count of an object is that of its item
-  pub counted_item : (n : ℕ) (l : List (ℕ × SlotEntry B)) (it : Item B)
+  pub counted_item : (n : ℕ) (l : List (ℕ × SlotEntry B)) (it : Occupant B)
       → IsSomeAnd (object_at n l) (λ object. object.item ≡ it) → counted n l ≡ it.count
   counted_item n l it h = go (object_at n l) h
     where
       go : (v : Option (SlotEntry B)) → IsSomeAnd v (λ object. object.item ≡ it)
           → option_map_or (λ object. (object.item).count) v 0 ≡ it.count
       go None h = absurd h
-      go (Some p) h = ap (λ (i : Item B). i.count) h
+      go (Some p) h = ap (λ (i : Occupant B). i.count) h
 
   -- the items in a slot, before and after a change that leaves slots
   pub occupied-change : (slot s : ℕ) (f : SlotEntry B → SlotEntry B) (l : List (ℕ × SlotEntry B))
@@ -78,11 +78,11 @@ module _ {B : Type 0} where
       go false is later =
           ap (λ (b : Bool). (e.0, cond b (g e.1) e.1) ∷ change_in slot g (change_in slot f l)) is ∙ ap (λ (t : List (ℕ × SlotEntry B)). (e.0, e.1) ∷ t) later
 
-  module _ (slot n : ℕ) (l : List (ℕ × SlotEntry B)) (it : Item B) (s : AreStored l) (here : IsIn n slot l) (mine : IsSomeAnd (object_at n l) (λ object. object.item ≡ it)) where
+  module _ (slot n : ℕ) (l : List (ℕ × SlotEntry B)) (it : Occupant B) (s : AreStored l) (here : IsIn n slot l) (mine : IsSomeAnd (object_at n l) (λ object. object.item ≡ it)) where
     pub more_at : change_in slot (with_item (with_count (it.count + 1) it)) l ≡ change_at n incremented l
     more_at =
         change_in_is slot n _ l s here
-        ∙ change_same n _ incremented l s.in_order (λ p is. ap (λ (i : Item B). with_item (with_count (i.count + 1) i) p) (sym (item_is n l it mine p is)))
+        ∙ change_same n _ incremented l s.in_order (λ p is. ap (λ (i : Occupant B). with_item (with_count (i.count + 1) i) p) (sym (item_is n l it mine p is)))
 
     -- nothing is left
     pub none_at : 0 < it.count → it.count - 1 ≡ 0
@@ -97,8 +97,8 @@ module _ {B : Type 0} where
             ≡ decremented p
         each p is =
             let one : it.count ≡ 1 = omega arith in
-            let test : (p.item).count == 1 ≡ true = eq-eqb (p.item).count 1 (ap (λ (i : Item B). i.count) is ∙ one) in
-            ap (λ (i : Item B). record { slot = p.slot; waiting = true; item = with_count (i.count - 1) i }) (sym is)
+            let test : (p.item).count == 1 ≡ true = eq-eqb (p.item).count 1 (ap (λ (i : Occupant B). i.count) is ∙ one) in
+            ap (λ (i : Occupant B). record { slot = p.slot; waiting = true; item = with_count (i.count - 1) i }) (sym is)
             ∙ ap (λ (b : Bool). record { slot = p.slot; waiting = cond b true p.waiting; item = with_count ((p.item).count - 1) p.item }) (sym test)
 
     -- something is left
@@ -112,10 +112,10 @@ module _ {B : Type 0} where
             → with_item (with_count (it.count - 1) it) p ≡ decremented p
         each p is true test =
             let one : (p.item).count ≡ 1 = eqb-true (p.item).count 1 test in
-            let same = ap (λ (i : Item B). i.count) is in
+            let same = ap (λ (i : Occupant B). i.count) is in
             absurd (some (omega arith))
         each p is false test =
-            ap (λ (i : Item B). record { slot = p.slot; waiting = p.waiting; item = with_count (i.count - 1) i }) (sym is)
+            ap (λ (i : Occupant B). record { slot = p.slot; waiting = p.waiting; item = with_count (i.count - 1) i }) (sym is)
             ∙ ap (λ (b : Bool). record { slot = p.slot; waiting = cond b true p.waiting; item = with_count ((p.item).count - 1) p.item }) (sym test)
 
     -- a word was written
@@ -132,7 +132,7 @@ module _ {B : Type 0} where
         each : (p : SlotEntry B) → p.item ≡ it → with_item (record { count = it.count; touched = true; body = Script (record script { fields = fields }) }) p ≡ written place word p
         each p same =
             ap (λ (b : Body B). with_item (record { count = it.count; touched = true; body = b }) p) body_is
-            ∙ ap (λ (i : Item B). with_item (record { count = i.count; touched = true; body = with_word place word i.body }) p) (sym same)
+            ∙ ap (λ (i : Occupant B). with_item (record { count = i.count; touched = true; body = with_word place word i.body }) p) (sym same)
 
     pub element_written : (place : ℕ) (word : Word) (array : arrays.Array) (elements : List Word) → it.body ≡ Array array → elements ≡ slice_set array.elements place word → change_in slot (with_item (record { count = it.count; touched = true; body = Array (record array { elements = elements }) })) l ≡ change_at n (written place word) l
     element_written place word array elements is now =
@@ -147,7 +147,7 @@ module _ {B : Type 0} where
         each : (p : SlotEntry B) → p.item ≡ it → with_item (record { count = it.count; touched = true; body = Array (record array { elements = elements }) }) p ≡ written place word p
         each p same =
             ap (λ (b : Body B). with_item (record { count = it.count; touched = true; body = b }) p) body_is
-            ∙ ap (λ (i : Item B). with_item (record { count = i.count; touched = true; body = with_word place word i.body }) p) (sym same)
+            ∙ ap (λ (i : Occupant B). with_item (record { count = i.count; touched = true; body = with_word place word i.body }) p) (sym same)
 
   -- the slot that a look-up gives has the object
   pub is_in_from : (n slot : ℕ) (l : List (ℕ × SlotEntry B)) → option_map (λ object. object.slot) (object_at n l)

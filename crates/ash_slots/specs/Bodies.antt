@@ -2,8 +2,8 @@
 use Rattle.std.specs.Prelude.{ℕ, Bool, true, false, List, [], slice_set, pos}
 use Rattle.ash_host.specs.declared.word.Word.{Word}
 use Rattle.ash_slots.specs.declared.body.Body.{Body}
-use Rattle.ash_slots.specs.declared.body.Element.{Element}
-use Rattle.ash_slots.specs.declared.body.Element.TheVariants as elements
+use Rattle.ash_slots.specs.declared.body.ElementTag.{ElementTag}
+use Rattle.ash_slots.specs.declared.body.ElementTag.TheVariants as elements
 use Rattle.ash_host.specs.declared.word.Word.TheVariants as words
 use Rattle.ash_slots.specs.declared.body.Body.TheVariants.{Script, Array, Host}
 
@@ -26,7 +26,7 @@ is_boxed (Array _) = false
 is_boxed (Host _) = true
 
 -- what an element of an array is before anything is written to it: zero, or null
-abbrev pub initial_of : Element → Word
+abbrev pub initial_of : ElementTag → Word
 initial_of elements.Bool = words.Bool false
 initial_of elements.Int = words.Int (pos 0)
 initial_of elements.Uint = words.Uint 0

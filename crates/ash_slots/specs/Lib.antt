@@ -1,6 +1,6 @@
 pub mod Bodies
 pub mod Store
 pub mod Lending
-pub mod Counting
-pub mod Responses
-pub mod Arrays
+pub mod SlotCounting
+pub mod SlotResponses
+pub mod SlotArrays

@@ -4,14 +4,14 @@ use Rattle.std.specs.Prelude.{not, List, [], ◌∷◌, length, Option, None}
 use Rattle.std.specs.Prelude.{Some, IfSome, IsSomeAnd, Contains, nat_eq, count_by, if◌then◌else◌}
 use Rattle.slab.specs.Slab.{Slab, get}
 use Rattle.ash_host.specs.Objects.{object_at, IsInOrder}
-use Rattle.ash_slots.specs.declared.entry.Item.{Item}
+use Rattle.ash_slots.specs.declared.entry.Occupant.{Occupant}
 use Rattle.ash_slots.specs.declared.entry.Entry.{Entry}
 
 -- an object with the slot that it is in, and whether the next sweep looks at it
 pub record SlotEntry (B : Type 0) : Type 0 where
   pub slot : ℕ
   pub waiting : Bool
-  pub item : Item B
+  pub item : Occupant B
 
 -- the objects by ascending number, how many slots wait for the sweep, how many can, and the slot that the next object
 -- is put into
@@ -84,7 +84,7 @@ module _ {B : Type 0} where
       ∷ change_in slot change objects
 
   -- an object with another item
-  abbrev pub with_item : Item B → SlotEntry B → SlotEntry B
+  abbrev pub with_item : Occupant B → SlotEntry B → SlotEntry B
   with_item item object = record object { item = item }
 
   -- an object that waits for the sweep, or doesn't

@@ -31,14 +31,14 @@ pub struct Script {
 #[derive(Drop)]
 pub struct Array {
     /// What its elements are.
-    pub element: Element,
+    pub element: ElementTag,
     /// Its elements, in order.
     pub elements: Words,
 }
 
 /// What the elements of an array are.
 #[derive(Clone, Copy, Debug, PartialEq, Eq)]
-pub enum Element {
+pub enum ElementTag {
     Bool,
     Int,
     Uint,
@@ -50,18 +50,18 @@ pub enum Element {
     Kind(u16),
 }
 
-impl Element {
+impl ElementTag {
     /// What an element is before anything is written to it.
     pub fn initial(self) -> Word
         ensures initial { result ≡ initial_of self }
     {
         match self {
-            Element::Bool => Word::Bool(false),
-            Element::Int => Word::Int(0),
-            Element::Uint => Word::Uint(0),
-            Element::Int64 => Word::Int64(0),
-            Element::Uint64 => Word::Uint64(0),
-            Element::Class(_, _) | Element::Kind(_) => Word::Null,
+            ElementTag::Bool => Word::Bool(false),
+            ElementTag::Int => Word::Int(0),
+            ElementTag::Uint => Word::Uint(0),
+            ElementTag::Int64 => Word::Int64(0),
+            ElementTag::Uint64 => Word::Uint64(0),
+            ElementTag::Class(_, _) | ElementTag::Kind(_) => Word::Null,
         }
     }
 }

@@ -3,7 +3,7 @@ ghost use Rattle.std.specs.Prelude.{◌≡◌, ℕ, IsSome, Some};
 ghost use Rattle.ash_host.specs.declared.answer.HostAnswer.{HostAnswer};
 ghost use Rattle.ash_host.specs.Calls.{Start, Invoke, Get, Set};
 ghost use Rattle.ash_slots.specs.Store.{IsIn, IsOccupied, AreStored};
-ghost use Rattle.ash_slots.specs.Responses.{AnswersIn, stored_box, IsHostIn};
+ghost use Rattle.ash_slots.specs.SlotResponses.{AnswersIn, stored_box, IsHostIn};
 
 use crate::body::Body;
 use crate::store::Store;

@@ -2,7 +2,7 @@
 ghost use Rattle.std.specs.Prelude.{◌≡◌, ◌<◌, ◌-◌, ◌^◌, ℕ, IfSome};
 ghost use Rattle.ash_host.specs.Objects.{Lives, handle};
 ghost use Rattle.ash_slots.specs.Store.{IsIn, IsOccupied, AreStored, change_at};
-ghost use Rattle.ash_slots.specs.Counting.{counted, incremented, decremented, change_handle};
+ghost use Rattle.ash_slots.specs.SlotCounting.{counted, incremented, decremented, change_handle};
 
 use crate::store::Store;
 use ash_host::Word;

@@ -1,7 +1,7 @@
 //! The elements of the array in a slot.
 ghost use Rattle.std.specs.Prelude.{◌≡◌, ◌≤◌, ℕ, [], Some, IsSome, IfSome, OnOk, OnErr};
 ghost use Rattle.ash_slots.specs.Store.{IsIn, AreStored, change_at};
-ghost use Rattle.ash_slots.specs.Arrays.{stored_array, IsArrayIn, refilled, lengthened};
+ghost use Rattle.ash_slots.specs.SlotArrays.{stored_array, IsArrayIn, refilled, lengthened};
 
 use crate::body::Body;
 use crate::store::Store;

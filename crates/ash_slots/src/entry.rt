@@ -4,7 +4,7 @@ use crate::body::Body;
 
 /// What changes while an object lives.
 #[derive(Drop)]
-pub struct Item<B> {
+pub struct Occupant<B> {
     /// How many fields and elements hold it, and one for each `hold` that was not undone.
     pub count: u128,
     /// Whether it was made or changed since the marks were cleared.
@@ -18,5 +18,5 @@ pub struct Entry<B> {
     pub number: u64,
     /// Whether the next sweep looks at it.
     pub waiting: bool,
-    pub item: Item<B>,
+    pub item: Occupant<B>,
 }

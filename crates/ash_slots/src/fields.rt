@@ -2,9 +2,9 @@
 ghost use Rattle.std.specs.Prelude.{◌≡◌, ◌<◌, ℕ, Some, IsSomeAnd, slice_get, length};
 ghost use Rattle.ash_host.specs.Objects.{object_at};
 ghost use Rattle.ash_slots.specs.Bodies.{words_of};
-ghost use Rattle.ash_slots.specs.Counting.{HasWordIn};
+ghost use Rattle.ash_slots.specs.SlotCounting.{HasWordIn};
 ghost use Rattle.ash_slots.specs.Store.{IsIn, AreStored, change_at};
-ghost use Rattle.ash_slots.specs.Counting.{written};
+ghost use Rattle.ash_slots.specs.SlotCounting.{written};
 
 use crate::body::Body;
 use crate::store::Store;

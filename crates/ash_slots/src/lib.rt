@@ -16,11 +16,11 @@ mod fields;
 mod store;
 mod words;
 
-pub use body::{Array, Body, Element, Script};
+pub use body::{Array, Body, ElementTag, Script};
 pub use calling::{box_in, invoke_in, set_in, start_in};
 pub use counting::{add_ref, decrement_count, increment_count, remove_ref};
 pub use elements::{grow_elements, set_elements, take_elements};
-pub use entry::{Entry, Item};
+pub use entry::{Entry, Occupant};
 pub use fields::{read_word, write_word};
 pub use store::Store;
 pub use words::Words;

@@ -9,7 +9,7 @@ ghost use Rattle.std.specs.Borrow.{sem};
 ghost use Rattle.ash_slots.specs.Store.{IsIn, IsOccupied, AreStored, IsIdle};
 ghost use Rattle.ash_slots.specs.Store.{NoneWaits, change_in, with_waiting};
 
-use crate::entry::{Entry, Item};
+use crate::entry::{Entry, Occupant};
 use slab::Slab;
 use std::alloc::{AllocFailed, Global};
 use std::collections::BTreeMap;
@@ -65,7 +65,7 @@ impl<B> Store<B> {
     }
 
     /// The object in a slot.
-    pub fn item(&self, slot: usize) -> &Item<B>
+    pub fn item(&self, slot: usize) -> &Occupant<B>
         requires occupied { IsOccupied slot self.now.objects }
         ensures value { (number : ℕ) → IsIn number slot self.now.objects
             → IsSomeAnd (object_at number self.now.objects) (λ object. object.item ≡ result.now) }
@@ -77,7 +77,7 @@ impl<B> Store<B> {
     }
 
     /// The object in a slot, to change it.
-    pub fn item_mut(&mut self, slot: usize) -> &mut Item<B>
+    pub fn item_mut(&mut self, slot: usize) -> &mut Occupant<B>
         requires occupied { IsOccupied slot self.old.objects }
         ensures* writes_back { sem 𝓛 (lends_item B.row self.entry slot result) }
         ensures value { (number : ℕ) → IsIn number slot self.old.objects
@@ -183,7 +183,11 @@ impl<B> Store<B> {
     }
 
     /// Puts an object of a new number into the vacant slot. The next sweep looks at it.
-    pub fn insert(&mut self, number: u64, item: Item<B>) -> Result<usize, AllocFailed<Item<B>>>
+    pub fn insert(
+        &mut self,
+        number: u64,
+        item: Occupant<B>,
+    ) -> Result<usize, AllocFailed<Occupant<B>>>
         requires unused { object_at number self.old.objects ≡ None }
         ensures objects { IfOk result
             (λ slot. self.new.objects

@@ -1,22 +1,22 @@
 -- What the code answers of a source is what the function that checks it says, and what the rules say.
 use Rattle.std.proofs.Common.{◌≡◌, ℕ, List, Result, Ok, Err, refl, sym, ◌∙◌, ap, subst}
 use Rattle.ash_tree.specs.Tree.{Item}
-use Rattle.ash_registry.specs.Registrations.{Registration}
+use Rattle.ash_registry.specs.AcceptedRegistrations.{Registration}
 use Rattle.ash_typed.specs.Modules.{Module as Typed}
 use Rattle.ash_check.specs.declared.faults.CheckFault.{CheckFault}
 use Rattle.ash_check.specs.declared.faults.CheckFault.TheVariants as check_faults
-use Rattle.ash_classes.specs.References.{classes_of}
-use Rattle.ash_check.specs.Checks.{ScriptFault, Cyclic, checked, names_of_cycle, Reports}
+use Rattle.ash_classes.specs.ClassReferences.{classes_of}
+use Rattle.ash_check.specs.Checks.{ScriptFault, Cyclic, checked, names_of_cycle, ReportsFault}
 use Rattle.ash_check.proofs.ExactLaws.{cyclic_is, cycle_is}
 use Rattle.ash_sources.specs.Lexing.{IsText}
 use Rattle.ash_sources.specs.Scripts.{SpellsScript, HasNoScript}
-use Rattle.ash_sources.specs.CheckedSource.{CheckResult, IsCyclicScript, ChecksTokens, Checks, no_tokens, has_tokens}
+use Rattle.ash_sources.specs.CheckedSource.{SourceResult, IsCyclicScript, ChecksTokens, Checks, no_tokens, has_tokens}
 use Rattle.ash_sources.specs.CheckedSource.{IsAccepted, HasCycle, ReportsCycle, unless_fault, items_checked}
 use Rattle.ash_sources.specs.CheckedSource.{checked_source}
 use Rattle.ash_sources.specs.declared.fault.SourceError.{SourceError}
 use Rattle.ash_sources.specs.declared.fault.SourceError.TheVariants as errors
 use Rattle.ash_sources.specs.SourceFaults.{SourceFault, Lexical, Syntactic, Typing, NotYet, fault_of}
-use Rattle.ash_sources.specs.SourceFaults.{typing_error, RefusesAs, RefusesWhere, IfFault}
+use Rattle.ash_sources.specs.SourceFaults.{typing_error, RefusesSource, RefusesWhere, IfFault}
 use Rattle.ash_sources.proofs.CheckedSourceLaws.{parsed, stopped, checked_source-is, checked_source-only}
 use Rattle.ash_sources.proofs.CheckedSourceLaws.{of_tokens, of_no_tokens, takes_items, takes_text}
 
@@ -36,25 +36,25 @@ unspelled_checked registered source (Typing fault) h = absurd h
 unspelled_checked registered source NotYet h = absurd h
 
 pub source_refused : (registered : List Registration) (source : List ℕ) (error : SourceError)
-    → RefusesWhere (HasNoScript source) (IsText source) error → RefusesAs (checked_source registered source) error
+    → RefusesWhere (HasNoScript source) (IsText source) error → RefusesSource (checked_source registered source) error
 source_refused registered source (errors.Fault fault) h = unspelled_checked registered source (fault_of fault) h
 source_refused registered source errors.NoMemory h = takes_text registered source h
 
 -- what the check of types answers
 
-reports_as : (items : List Item) (answer : Result Typed ScriptFault) (fault : CheckFault) → Reports answer fault
-    → RefusesAs (unless_fault items answer) (typing_error fault)
+reports_as : (items : List Item) (answer : Result Typed ScriptFault) (fault : CheckFault) → ReportsFault answer fault
+    → RefusesSource (unless_fault items answer) (typing_error fault)
 reports_as items answer (check_faults.Broken fault) h = ap (unless_fault items) h
 reports_as items answer (check_faults.Cyclic names) h = ap (unless_fault items) h
 reports_as items answer check_faults.NoMemory h = takes_items items answer
 
 pub items_unchecked : (registered : List Registration) (items : List Item) (fault : CheckFault)
-    → Reports (checked registered items) fault → RefusesAs (items_checked registered items) (typing_error fault)
+    → ReportsFault (checked registered items) fault → RefusesSource (items_checked registered items) (typing_error fault)
 items_unchecked registered items fault h = reports_as items (checked registered items) fault h
 
 -- what is accepted, and what is refused for a cycle, by the rules
 
-accepted_by : (registered : List Registration) (source : List ℕ) (items : List Item) (outcome : CheckResult)
+accepted_by : (registered : List Registration) (source : List ℕ) (items : List Item) (outcome : SourceResult)
     → outcome ≡ Ok items → Checks registered source outcome → IsAccepted registered source
 accepted_by registered source items outcome is (no_tokens fault e h) = absurd (cc)
 accepted_by registered source items outcome is (has_tokens tokens h checks) =
@@ -72,12 +72,12 @@ checked_accepted registered source h = checked_source-only registered source (Ok
 
 -- nothing but memory is in the way of what is accepted
 pub accepted_only : (registered : List Registration) (source : List ℕ) (error : SourceError)
-    → RefusesAs (checked_source registered source) error → IsAccepted registered source → error ≡ errors.NoMemory
+    → RefusesSource (checked_source registered source) error → IsAccepted registered source → error ≡ errors.NoMemory
 accepted_only registered source (errors.Fault fault) h a =
     absurd (let found : checked_source registered source ≡ Ok a.items = checked_accepted registered source a in cc)
 accepted_only registered source errors.NoMemory h a = refl
 
-cycle_by : (registered : List Registration) (source : List ℕ) (names : List (List ℕ)) (outcome : CheckResult)
+cycle_by : (registered : List Registration) (source : List ℕ) (names : List (List ℕ)) (outcome : SourceResult)
     → outcome ≡ Err (Typing (Cyclic names)) → Checks registered source outcome
     → ReportsCycle registered source (Typing (Cyclic names))
 cycle_by registered source names outcome is (no_tokens fault e h) = absurd (cc)
@@ -100,7 +100,7 @@ cycle_is_reported registered source fault h names is =
 
 -- a cycle is answered where there is one, and it is the one that is reported
 pub cycle_reported : (registered : List Registration) (source : List ℕ) (error : SourceError)
-    → RefusesAs (checked_source registered source) error
+    → RefusesSource (checked_source registered source) error
     → IfFault (λ fault. (names : List (List ℕ)) → fault ≡ Typing (Cyclic names) → ReportsCycle registered source fault)
     error
 cycle_reported registered source (errors.Fault fault) h = cycle_is_reported registered source (fault_of fault) h
@@ -138,7 +138,7 @@ cycle_not_found registered source items is h =
     cc
 
 pub cycle_only : (registered : List Registration) (source : List ℕ) (error : SourceError)
-    → RefusesAs (checked_source registered source) error → HasCycle registered source
+    → RefusesSource (checked_source registered source) error → HasCycle registered source
     → IfFault (ReportsCycle registered source) error
 cycle_only registered source (errors.Fault fault) h c =
     let k = checked_cycle registered source c in

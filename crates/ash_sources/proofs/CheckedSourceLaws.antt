@@ -4,35 +4,35 @@ use Rattle.std.proofs.Common.{Result, Ok, Err, refl, sym, ◌∙◌, ap, subst}
 use Rattle.std.specs.List.{slice_get}
 use Rattle.std.proofs.lemmas.List.{length-map}
 use Rattle.std.proofs.lemmas.Option.{slice_get-map}
-use Rattle.ash_lex.specs.Tokens.{Lexeme, FirstFault, lexeme_of, lexemes}
+use Rattle.ash_lex.specs.Tokens.{Lexeme, FirstLexFault, lexeme_of, lexemes}
 use Rattle.ash_lex.specs.declared.tokens.Token.{Token}
 use Rattle.ash_lex.specs.declared.faults.LexFault.{LexFault}
 use Rattle.ash_lex.specs.declared.faults.LexFault.TheVariants as faults
 use Rattle.ash_tree.specs.Tree.{Item}
-use Rattle.ash_tree.specs.Tokens.{Tokens, tokens_of, placed}
+use Rattle.ash_tree.specs.GrammarTokens.{Tokens, tokens_of, placed}
 use Rattle.ash_tree.specs.Grammar.{Derives}
 use Rattle.ash_parse.specs.declared.faults.ParseFault.{ParseFault}
 use Rattle.ash_parse.specs.Readers.{ParseResult}
 use Rattle.ash_parse.specs.ItemReader.{module_at}
-use Rattle.ash_parse.specs.Faults.{end_of}
-use Rattle.ash_parse.specs.Faults as parse_spec
+use Rattle.ash_parse.specs.ParseFaults.{end_of}
+use Rattle.ash_parse.specs.ParseFaults as parse_spec
 use Rattle.ash_parse.proofs.ItemComplete.{module_read as parsed_again}
 use Rattle.ash_parse.proofs.WholeModules.{module_derived}
 use Rattle.ash_parse.proofs.FirstFaults.{module_stops_first, first_is_stop}
-use Rattle.ash_registry.specs.Registrations.{Registration}
+use Rattle.ash_registry.specs.AcceptedRegistrations.{Registration}
 use Rattle.ash_typing.specs.declared.fault.Fault.{Fault}
 use Rattle.ash_typed.specs.Modules.{Module as Typed}
-use Rattle.ash_classes.specs.References.{classes_of}
+use Rattle.ash_classes.specs.ClassReferences.{classes_of}
 use Rattle.ash_check.specs.Checks.{ScriptFault, Broken, Cyclic, checked, names_of_cycle}
 use Rattle.ash_check.proofs.ExactLaws.{accepted_is, cycle_is, broken_is}
 use Rattle.ash_sources.specs.Lexing.{IsText, Lexes}
 use Rattle.ash_sources.specs.Scanning.{scan, lexed}
-use Rattle.ash_sources.specs.CheckedSource.{CheckResult, tokens_in, end_by, end_in, IsNoScript}
+use Rattle.ash_sources.specs.CheckedSource.{SourceResult, tokens_in, end_by, end_in, IsNoScript}
 use Rattle.ash_sources.specs.CheckedSource.{IsTypedScript, IsUntypedScript, IsCyclicScript, HasFault, ChecksTokens}
 use Rattle.ash_sources.specs.CheckedSource.{Checks, no_tokens, has_tokens, unless_fault, items_checked}
 use Rattle.ash_sources.specs.CheckedSource.{script_checked, tokens_checked, checked_on, checked_source}
 use Rattle.ash_sources.specs.SourceFaults.{SourceFault, Lexical, Syntactic, Typing, NotYet}
-use Rattle.ash_sources.specs.SourceFaults.{TakesMemoryToFind, TakesMemoryFor}
+use Rattle.ash_sources.specs.SourceFaults.{MayTakeMemory, TakesMemoryFor}
 use Rattle.ash_sources.proofs.LexingLaws.{lexed-is, lexed-only, of_text}
 use Rattle.ash_sources.proofs.ScanLaws.{IsScan, scan-is}
 
@@ -125,7 +125,7 @@ fault_only registered tokens (Typing (Broken fault)) h = untyped_only registered
 fault_only registered tokens (Typing (Cyclic names)) h = cyclic_only registered tokens names h
 fault_only registered tokens NotYet h = absurd h
 
-tokens_only : (registered : List Registration) (tokens : List Lexeme) (outcome : CheckResult)
+tokens_only : (registered : List Registration) (tokens : List Lexeme) (outcome : SourceResult)
     → ChecksTokens registered tokens outcome → tokens_checked registered tokens ≡ outcome
 tokens_only registered tokens (Ok items) h = typed_only registered tokens items h
 tokens_only registered tokens (Err fault) h = fault_only registered tokens fault h
@@ -142,7 +142,7 @@ pub checked_source-is : (registered : List Registration) (source : List ℕ)
 unfolding checked_source
 checked_source-is registered source = checked_on-is registered source (lexed source) (lexed-is source)
 
-pub checked_source-only : (registered : List Registration) (source : List ℕ) (outcome : CheckResult)
+pub checked_source-only : (registered : List Registration) (source : List ℕ) (outcome : SourceResult)
     → Checks registered source outcome → checked_source registered source ≡ outcome
 unfolding checked_source
 checked_source-only registered source outcome (no_tokens fault e h) =
@@ -150,7 +150,7 @@ checked_source-only registered source outcome (no_tokens fault e h) =
 checked_source-only registered source outcome (has_tokens ts h checks) =
     ap (checked_on registered) (lexed-only source (Ok ts) h) ∙ tokens_only registered ts outcome checks
 
-pub checked_source-exact : (registered : List Registration) (source : List ℕ) (outcome : CheckResult)
+pub checked_source-exact : (registered : List Registration) (source : List ℕ) (outcome : SourceResult)
     → (checked_source registered source ≡ outcome) ↔ Checks registered source outcome
 checked_source-exact registered source outcome = (
   λ e. subst (Checks registered source) e (checked_source-is registered source),
@@ -171,7 +171,7 @@ of_no_tokens registered source fault h =
 
 -- a text takes memory to check
 
-takes_fault : (source : List ℕ) (fault : LexFault) → FirstFault source fault → TakesMemoryToFind (Lexical fault)
+takes_fault : (source : List ℕ) (fault : LexFault) → FirstLexFault source fault → MayTakeMemory (Lexical fault)
 takes_fault source (faults.BadCharacter at) h = tt
 takes_fault source (faults.UnclosedComment at) h = tt
 takes_fault source (faults.NumberTooLarge at) h = tt

@@ -7,7 +7,7 @@ use Rattle.std.proofs.lemmas.Grind.{common_steps}
 use Rattle.std.proofs.lemmas.Str.{IsUtf8-from_is_utf8, is_utf8-from_IsUtf8, utf8_valid_len-IsValidUpTo}
 use Rattle.std.specs.Str.{IsUtf8, is_utf8, IsValidUpTo}
 use Rattle.std.specs.Str.Lossy.{utf8_valid_len}
-use Rattle.ash_lex.specs.Tokens.{Lexeme, Spells, FirstFault, IsRefusal}
+use Rattle.ash_lex.specs.Tokens.{Lexeme, HasTokens, FirstLexFault, IsRefusal}
 use Rattle.ash_lex.specs.declared.faults.LexFault.{LexFault}
 use Rattle.ash_lex.specs.declared.faults.LexFault.TheVariants as faults
 use Rattle.ash_lex.proofs.OneReading.{tokens_agree, faults_agree, tokens_or_fault}
@@ -65,7 +65,7 @@ is_short n h = grind (arith, nat_tests)
 
 -- what is found is what the source has
 
-fault_is : (source : List ℕ) → IsText source → (fault : LexFault) → FirstFault source fault
+fault_is : (source : List ℕ) → IsText source → (fault : LexFault) → FirstLexFault source fault
     → HasNoTokens source fault
 fault_is source text (faults.BadCharacter at) h = inr (text, h)
 fault_is source text (faults.UnclosedComment at) h = (text, h)
@@ -92,12 +92,12 @@ lexed-is source = by_tests source (nat_lt 65536 (length source)) (is_utf8 source
 
 -- and what the source has is found
 
-scanned_tokens : (source : List ℕ) (tokens : List Lexeme) → Spells source tokens
+scanned_tokens : (source : List ℕ) (tokens : List Lexeme) → HasTokens source tokens
     → (r : Result (List Lexeme) LexFault) → IsScan source r → r ≡ Ok tokens
 scanned_tokens source tokens spells (Ok other) h = ap (λ x. Ok x) (tokens_agree source other tokens h spells)
 scanned_tokens source tokens spells (Err fault) h = absurd (tokens_or_fault source tokens fault spells h)
 
-scanned_fault : (source : List ℕ) (fault : LexFault) → FirstFault source fault → (r : Result (List Lexeme) LexFault)
+scanned_fault : (source : List ℕ) (fault : LexFault) → FirstLexFault source fault → (r : Result (List Lexeme) LexFault)
     → IsScan source r → r ≡ Err fault
 scanned_fault source fault first (Ok tokens) h = absurd (tokens_or_fault source tokens fault h first)
 scanned_fault source fault first (Err other) h = ap (λ x. Err x) (faults_agree source other fault h first)
@@ -118,7 +118,7 @@ of_long : (source : List ℕ) → 65536 < length source → lexed source ≡ Err
 unfolding lexed
 of_long source h = rw (is_long (length source) h) refl
 
-of_fault : (source : List ℕ) (fault : LexFault) → IsText source → FirstFault source fault
+of_fault : (source : List ℕ) (fault : LexFault) → IsText source → FirstLexFault source fault
     → lexed source ≡ Err fault
 of_fault source fault text first = of_text source text
     ∙ scanned_fault source fault first (scan source) (scan-is source)
@@ -151,10 +151,10 @@ lexes_one source a b x y = sym (lexed-only source a x) ∙ lexed-only source b y
 -- what the lexer answers of a text
 
 pub text_spelled : {A : Type 0} (tokens : A → List Lexeme) (source text : List ℕ) → IsText source → text ≡ source
-    → (r : Result A LexFault) → IfOk r (λ found. Spells text (tokens found))
+    → (r : Result A LexFault) → IfOk r (λ found. HasTokens text (tokens found))
     → IfOk r (λ found. Lexes source (Ok (tokens found)))
 text_spelled tokens source text is same (Ok found) h =
-    (is, subst (λ (t : List ℕ). Spells t (tokens found)) same h)
+    (is, subst (λ (t : List ℕ). HasTokens t (tokens found)) same h)
 text_spelled tokens source text is same (Err fault) h = tt
 
 by_fault : (source : List ℕ) → IsText source → (fault : LexFault) → IsRefusal source fault → LexesNothing source fault

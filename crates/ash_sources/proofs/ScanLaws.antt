@@ -9,8 +9,8 @@ use Rattle.ash_lex.specs.Bytes.{is_line_feed, value_in}
 use Rattle.ash_lex.specs.Signs.{sign_text}
 use Rattle.ash_lex.specs.Pieces.{IsName, IsNumeral}
 use Rattle.ash_lex.specs.Scan.{longest_piece, reserved_word, unsupported_word}
-use Rattle.ash_lex.specs.Tokens.{number, sign, Lexeme, Means, byte_order_mark, Spells, FirstFault}
-use Rattle.ash_lex.specs.ScannedPieces.{IsCut, BeginsWith}
+use Rattle.ash_lex.specs.Tokens.{number, sign, Lexeme, Means, byte_order_mark, HasTokens, FirstLexFault}
+use Rattle.ash_lex.specs.ScannedPieces.{IsLongestPiece, BeginsWithPiece}
 use Rattle.ash_lex.specs.declared.words.ReservedWord.{ReservedWord}
 use Rattle.ash_lex.specs.declared.words.UnsupportedWord.{UnsupportedWord}
 use Rattle.ash_lex.specs.declared.pieces.Piece.{Piece}
@@ -21,12 +21,12 @@ use Rattle.ash_lex.proofs.WordLookups.{reserved_word-is, unsupported_word-is, re
 use Rattle.ash_lex.proofs.Prefixes.{starts-true}
 use Rattle.ash_lex.proofs.LongestPiece.{longest_piece_is, none_begins}
 use Rattle.ash_lex.proofs.Reading.{IsReadTo, past_gap, past_token, first_fault, has_tokens, read_mark, read_nothing}
-use Rattle.ash_sources.specs.Scanning.{Step, Gap, Token, Fault, word_by, step_over, after, From, scan_from, scan}
+use Rattle.ash_sources.specs.Scanning.{ScanStep, Gap, Token, Fault, word_by, step_over, after, From, scan_from, scan}
 
 -- what the text spells, or its first fault
 abbrev pub IsScan : List ℕ → Result (List Lexeme) LexFault → Type 0
-IsScan text (Ok tokens) = Spells text tokens
-IsScan text (Err fault) = FirstFault text fault
+IsScan text (Ok tokens) = HasTokens text tokens
+IsScan text (Err fault) = FirstLexFault text fault
 
 word_means : (piece : List ℕ) → IsName piece → (r : Option ReservedWord) (u : Option UnsupportedWord)
     → reserved_word piece ≡ r → unsupported_word piece ≡ u → Means piece (word_by piece r u)
@@ -37,13 +37,13 @@ word_means piece is None None e f = (is, refl, reserved_word-none piece e, unsup
 module _ (text : List ℕ) (place line : ℕ) (tokens : List Lexeme) (read : IsReadTo text place line tokens)
     (more : place < length text) where
   -- where each step goes on, if what is scanned from there is right
-  abbrev GoesOn : Step → Type 0
+  abbrev GoesOn : ScanStep → Type 0
   GoesOn (Gap n) = (0 < n) × IsReadTo text (place + n) (line + count_by is_line_feed (take n (drop place text))) tokens
   GoesOn (Token n m) = (0 < n) × IsReadTo text (place + n) line
       (tokens ++ record { meaning = m; line = line; from = place; to = place + n } ∷ [])
-  GoesOn (Fault fault) = FirstFault text fault
+  GoesOn (Fault fault) = FirstLexFault text fault
 
-  at_numeral : (n value : ℕ) → IsCut (drop place text) n → IsNumeral (take n (drop place text)) value → (v : Bool)
+  at_numeral : (n value : ℕ) → IsLongestPiece (drop place text) n → IsNumeral (take n (drop place text)) value → (v : Bool)
       → nat_lt value (2 ^ 64) ≡ v → GoesOn (cond v (Token n (number value)) (Fault (faults.NumberTooLarge place)))
   at_numeral n value cut is true e = (
     cut.some,
@@ -60,7 +60,7 @@ module _ (text : List ℕ) (place line : ℕ) (tokens : List Lexeme) (read : IsR
     grind (arith, nat_tests),
   )
 
-  at_piece : (p : Piece) → BeginsWith (drop place text) p → GoesOn (step_over place (drop place text) (Some p))
+  at_piece : (p : Piece) → BeginsWithPiece (drop place text) p → GoesOn (step_over place (drop place text) (Some p))
   at_piece (pieces.Gap n) h = ((h.0).some, past_gap text place line n tokens read h.0 h.1)
   at_piece pieces.UnclosedComment h = first_fault text place line tokens (faults.UnclosedComment place) read (refl, h)
   at_piece (pieces.Name n) h = (
@@ -85,7 +85,7 @@ module _ (text : List ℕ) (place line : ℕ) (tokens : List Lexeme) (read : IsR
   at_longest (Some p) e = at_piece p (longest_piece_is (drop place text) p e)
 
   goes_on : (next : From) → ((n line' : ℕ) (tokens' : List Lexeme) → 0 < n → IsReadTo text (place + n) line' tokens'
-      → IsScan text (next (place + n) line' tokens')) → (s : Step) → GoesOn s
+      → IsScan text (next (place + n) line' tokens')) → (s : ScanStep) → GoesOn s
       → IsScan text (after next (drop place text) place line tokens s)
   goes_on next rest (Gap n) h = rest n _ _ h.0 h.1
   goes_on next rest (Token n m) h = rest n _ _ h.0 h.1

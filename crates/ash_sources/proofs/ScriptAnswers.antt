@@ -5,15 +5,15 @@ use Rattle.ash_lex.specs.declared.tokens.Token.{Token}
 use Rattle.ash_lex.specs.declared.faults.LexFault.{LexFault}
 use Rattle.ash_lex.specs.declared.faults.LexFault.TheVariants as lex_faults
 use Rattle.ash_tree.specs.Tree.{Item}
-use Rattle.ash_tree.specs.Tokens.{Tokens, tokens_of}
+use Rattle.ash_tree.specs.GrammarTokens.{Tokens, tokens_of}
 use Rattle.ash_tree.specs.Grammar.{Derives}
-use Rattle.ash_tree.specs.Views.{module_of as items_of}
+use Rattle.ash_tree.specs.TreeViews.{module_of as items_of}
 use Rattle.ash_tree.specs.declared.tree.items.Module as script
 use Rattle.ash_parse.specs.declared.faults.ParseFault.{ParseFault}
 use Rattle.ash_parse.specs.declared.faults.ParseFault.TheVariants as parse_faults
 use Rattle.ash_parse.specs.Readers.{Halt}
-use Rattle.ash_parse.specs.Faults.{end_of, fault_of as fault_at}
-use Rattle.ash_parse.specs.FirstFault.{FirstFault as FirstSyntaxFault, ReportsFirst}
+use Rattle.ash_parse.specs.ParseFaults.{end_of, fault_of as fault_at}
+use Rattle.ash_parse.specs.FirstFault.{FirstParseFault as FirstSyntaxFault, ReportsFirst}
 use Rattle.ash_sources.specs.CheckedSource.{tokens_in, IsNoScript}
 use Rattle.ash_sources.specs.Lexing.{IsText, Lexes, LexesNothing}
 use Rattle.ash_sources.specs.Scripts.{HasNoItems, SpellsScript, HasNoScript}

@@ -2,7 +2,7 @@
 use Rattle.std.proofs.Common.{◌≡◌, ◌↔◌, ℕ, List, [], Result, Ok, Err, IsOk, IsErr}
 use Rattle.std.proofs.Common.{IfOk, refl, ◌∙◌, ap, ap₂, subst}
 use Rattle.ash_tree.specs.Tree.{Item}
-use Rattle.ash_registry.specs.Registrations.{Registration}
+use Rattle.ash_registry.specs.AcceptedRegistrations.{Registration}
 use Rattle.ash_typed.specs.declared.tree.items.Module as code_tree
 use Rattle.ash_typed.specs.Modules.{Module as Typed, module_of}
 use Rattle.ash_typed.specs.SoundModules.{IsSound}
@@ -10,7 +10,7 @@ use Rattle.ash_typing.specs.Offered.{offered}
 use Rattle.ash_steps.specs.Premises.{ReadsSound}
 use Rattle.ash_steps.specs.SourceViews.{TakesMemoryToRead}
 use Rattle.ash_sources.specs.Lexing.{IsText}
-use Rattle.ash_sources.specs.CheckedSource.{CheckResult, Checks, no_tokens, has_tokens, ChecksTokens, checked_source}
+use Rattle.ash_sources.specs.CheckedSource.{SourceResult, Checks, no_tokens, has_tokens, ChecksTokens, checked_source}
 use Rattle.ash_sources.specs.Scripts.{SpellsScript, HasNoScript}
 use Rattle.ash_sources.specs.TypedSource.{TypedResult, check_items, typed_source}
 use Rattle.ash_sources.specs.declared.sources.AdmittedScripts.{AdmittedScripts}
@@ -20,7 +20,7 @@ use Rattle.ash_sources.specs.Sources.{registrations_by, host_for, embedding_of, 
 use Rattle.ash_sources.specs.declared.fault.SourceError.{SourceError}
 use Rattle.ash_sources.specs.declared.fault.SourceError.TheVariants as errors
 use Rattle.ash_sources.specs.SourceFaults.{SourceFault, NotYet, fault_of}
-use Rattle.ash_sources.specs.SourceFaults.{TakesMemoryToFind, TakesMemoryFor, RefusesAs, RefusesWhere}
+use Rattle.ash_sources.specs.SourceFaults.{MayTakeMemory, TakesMemoryFor, RefusesSource, RefusesWhere}
 use Rattle.ash_sources.proofs.CheckedSourceLaws.{checked_source-is}
 use Rattle.ash_sources.proofs.TypedSourceLaws.{typed_where_spelled, refused_where_unspelled, typed_sound, refused_exact, takes_memory_to_type}
 
@@ -63,23 +63,23 @@ takes_read rules source text = takes_admitted rules.admitted (typed_source rules
 -- what the code answers of a source
 
 pub source_unread : (rules : SourceRules) (source : List ℕ) (error : SourceError)
-    → RefusesWhere (HasNoScript source) (IsText source) error → RefusesAs (read_source rules source) error
+    → RefusesWhere (HasNoScript source) (IsText source) error → RefusesSource (read_source rules source) error
 source_unread rules source (errors.Fault fault) h = unspelled_read rules source (fault_of fault) h
 source_unread rules source errors.NoMemory h = takes_read rules source h
 
 -- the same, as steps say it
-takes_as : (r : TypedResult) → TakesMemoryFor r → TakesMemoryToRead TakesMemoryToFind r
+takes_as : (r : TypedResult) → TakesMemoryFor r → TakesMemoryToRead MayTakeMemory r
 takes_as (Ok typed) h = h
 takes_as (Err fault) h = h
 
 pub memory_refused : (rules : SourceRules) (source : List ℕ) → TakesMemoryFor (read_source rules source)
-    → TakesMemoryToRead TakesMemoryToFind (read_source rules source)
+    → TakesMemoryToRead MayTakeMemory (read_source rules source)
 memory_refused rules source h = takes_as (read_source rules source) h
 
 -- what the code answers of a script
 
-pub admitted_refused : (admitted : AdmittedScripts) (typed alone : TypedResult) (error : SourceError) → RefusesAs typed error
-    → RefusesAs (admitted_as admitted typed alone) error
+pub admitted_refused : (admitted : AdmittedScripts) (typed alone : TypedResult) (error : SourceError) → RefusesSource typed error
+    → RefusesSource (admitted_as admitted typed alone) error
 admitted_refused scripts.All typed alone error h = h
 admitted_refused scripts.UsingNothingRegistered (Ok typed) alone (errors.Fault fault) h = absurd (cc)
 admitted_refused scripts.UsingNothingRegistered (Ok typed) alone errors.NoMemory h = takes_alone alone
@@ -137,7 +137,7 @@ admitted_exact registrations source typed = (
 
 -- no check reports that a script can't be run so far
 
-not_checked : (registered : List Registration) (source : List ℕ) (outcome : CheckResult)
+not_checked : (registered : List Registration) (source : List ℕ) (outcome : SourceResult)
     → Checks registered source outcome → outcome ≡ Err NotYet → ⊥
 not_checked registered source outcome (no_tokens fault is h) e = cc
 not_checked registered source outcome (has_tokens tokens h checks) e = subst (ChecksTokens registered tokens) e checks

@@ -1,7 +1,7 @@
 -- What a source is typed as is what the rules say, and what the code answers.
 use Rattle.std.proofs.Common.{◌≡◌, ◌↔◌, ℕ, List, Result, Ok, Err, refl, sym, ◌∙◌, ap, subst}
 use Rattle.ash_tree.specs.Tree.{Item}
-use Rattle.ash_registry.specs.Registrations.{Registration}
+use Rattle.ash_registry.specs.AcceptedRegistrations.{Registration}
 use Rattle.ash_typed.specs.Modules.{Module as Typed}
 use Rattle.ash_typed.specs.SoundModules.{IsSound}
 use Rattle.ash_typing.specs.Offered.{offered}
@@ -9,15 +9,15 @@ use Rattle.ash_typing.proofs.SoundnessModules.{module_sound}
 use Rattle.ash_typing.proofs.SoundnessNesting.{derived_proper}
 use Rattle.ash_check.specs.declared.faults.CheckFault.{CheckFault}
 use Rattle.ash_check.specs.declared.faults.CheckFault.TheVariants as check_faults
-use Rattle.ash_check.specs.Checks.{ScriptFault, checked, Reports}
+use Rattle.ash_check.specs.Checks.{ScriptFault, checked, ReportsFault}
 use Rattle.ash_check.proofs.ExactLaws.{accepted_is}
 use Rattle.ash_sources.specs.Lexing.{IsText}
-use Rattle.ash_sources.specs.CheckedSource.{CheckResult, Checks, no_tokens, has_tokens, unless_fault, checked_source}
+use Rattle.ash_sources.specs.CheckedSource.{SourceResult, Checks, no_tokens, has_tokens, unless_fault, checked_source}
 use Rattle.ash_sources.specs.Scripts.{SpellsScript, HasNoScript}
 use Rattle.ash_sources.specs.TypedSource.{IsTypedSource, typed_or_fault, check_items}
 use Rattle.ash_sources.specs.TypedSource.{typed_if_checked, typed_source}
 use Rattle.ash_sources.specs.declared.fault.SourceError.{SourceError}
-use Rattle.ash_sources.specs.SourceFaults.{SourceFault, typing_error, TakesMemoryFor, RefusesAs}
+use Rattle.ash_sources.specs.SourceFaults.{SourceFault, typing_error, TakesMemoryFor, RefusesSource}
 use Rattle.ash_sources.proofs.CheckedSourceLaws.{checked_source-is, takes_text}
 use Rattle.ash_sources.proofs.CheckedAnswers.{spelled_checked, unspelled_checked}
 
@@ -27,17 +27,17 @@ takes_items : (answer : Result Typed ScriptFault) → TakesMemoryFor (typed_or_f
 takes_items (Ok typed) = tt
 takes_items (Err fault) = tt
 
-reports_as : (answer : Result Typed ScriptFault) (fault : CheckFault) → Reports answer fault
-    → RefusesAs (typed_or_fault answer) (typing_error fault)
+reports_as : (answer : Result Typed ScriptFault) (fault : CheckFault) → ReportsFault answer fault
+    → RefusesSource (typed_or_fault answer) (typing_error fault)
 reports_as answer (check_faults.Broken fault) h = ap typed_or_fault h
 reports_as answer (check_faults.Cyclic names) h = ap typed_or_fault h
 reports_as answer check_faults.NoMemory h = takes_items answer
 
 pub items_untyped : (registered : List Registration) (items : List Item) (fault : CheckFault)
-    → Reports (checked registered items) fault → (error : SourceError) → error ≡ typing_error fault
-    → RefusesAs (check_items registered items) error
+    → ReportsFault (checked registered items) fault → (error : SourceError) → error ≡ typing_error fault
+    → RefusesSource (check_items registered items) error
 items_untyped registered items fault h error is =
-    subst (RefusesAs (check_items registered items)) (sym is) (reports_as (checked registered items) fault h)
+    subst (RefusesSource (check_items registered items)) (sym is) (reports_as (checked registered items) fault h)
 
 -- a source that spells a script is typed as the script is
 
@@ -72,7 +72,7 @@ ok_of : (r : Result Typed ScriptFault) (typed : Typed) → typed_or_fault r ≡ 
 ok_of (Ok other) typed e = cc
 ok_of (Err fault) typed e = absurd (cc)
 
-by_outcome : (registered : List Registration) (source : List ℕ) (typed : Typed) (outcome : CheckResult)
+by_outcome : (registered : List Registration) (source : List ℕ) (typed : Typed) (outcome : SourceResult)
     → Checks registered source outcome → typed_if_checked registered outcome ≡ Ok typed
     → IsTypedSource registered source typed
 by_outcome registered source typed (Err fault) h e = absurd (cc)
@@ -106,7 +106,7 @@ typed_sound registered source typed e =
 
 -- which fault a source has
 
-refused_by : (registered : List Registration) (source : List ℕ) (fault : SourceFault) (outcome : CheckResult)
+refused_by : (registered : List Registration) (source : List ℕ) (fault : SourceFault) (outcome : SourceResult)
     → Checks registered source outcome → typed_if_checked registered outcome ≡ Err fault → outcome ≡ Err fault
 refused_by registered source fault (Err other) h e = cc
 refused_by registered source fault (Ok items) (no_tokens other is h) e = absurd (cc)
@@ -133,7 +133,7 @@ refused_exact registered source fault =
 
 -- a text takes memory to type
 
-takes_checked : (registered : List Registration) (outcome : CheckResult) → TakesMemoryFor outcome
+takes_checked : (registered : List Registration) (outcome : SourceResult) → TakesMemoryFor outcome
     → TakesMemoryFor (typed_if_checked registered outcome)
 takes_checked registered (Ok items) h = takes_items (checked registered items)
 takes_checked registered (Err fault) h = h

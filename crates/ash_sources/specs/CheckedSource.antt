@@ -8,21 +8,21 @@ use Rattle.std.specs.Prelude.{◌≡◌, ◌-◌, ℕ, List, length, map, Option
 use Rattle.std.specs.List.{slice_get}
 use Rattle.ash_lex.specs.Tokens.{Meaning, Lexeme}
 use Rattle.ash_lex.specs.declared.faults.LexFault.{LexFault}
-use Rattle.ash_tree.specs.declared.tree.places.Place.{Place}
-use Rattle.ash_tree.specs.Tokens.{Tokens}
+use Rattle.ash_tree.specs.declared.tree.places.Position.{Position}
+use Rattle.ash_tree.specs.GrammarTokens.{Tokens}
 use Rattle.ash_tree.specs.Tree.{Item}
 use Rattle.ash_tree.specs.Grammar.{Derives}
 use Rattle.ash_parse.specs.declared.faults.ParseFault.{ParseFault}
 use Rattle.ash_parse.specs.Readers.{Halt, ParseResult}
 use Rattle.ash_parse.specs.ItemReader.{module_at}
-use Rattle.ash_parse.specs.Faults.{fault_of}
-use Rattle.ash_parse.specs.FirstFault.{FirstFault}
-use Rattle.ash_registry.specs.Registrations.{Registration}
+use Rattle.ash_parse.specs.ParseFaults.{fault_of}
+use Rattle.ash_parse.specs.FirstFault.{FirstParseFault}
+use Rattle.ash_registry.specs.AcceptedRegistrations.{Registration}
 use Rattle.ash_typing.specs.declared.fault.Fault.{Fault}
-use Rattle.ash_typing.specs.Items.{check_module}
+use Rattle.ash_typing.specs.ItemRules.{check_module}
 use Rattle.ash_typing.specs.TypedModules.{IsTyped}
 use Rattle.ash_typed.specs.Modules.{Module}
-use Rattle.ash_classes.specs.References.{Refers, classes_of}
+use Rattle.ash_classes.specs.ClassReferences.{DeclaredClassRefers, classes_of}
 use Rattle.ash_classes.specs.Paths.{IsReportedCycle, Reaches}
 use Rattle.ash_check.specs.Checks.{ScriptFault, Broken, Cyclic, checked, names_of_cycle}
 use Rattle.ash_sources.specs.Lexing.{Lexes}
@@ -30,12 +30,12 @@ use Rattle.ash_sources.specs.Scanning.{lexed}
 use Rattle.ash_sources.specs.SourceFaults.{SourceFault, Lexical, Syntactic, Typing, NotYet}
 
 -- the items of a script that is typed, or a fault
-abbrev pub CheckResult : Type 0
-CheckResult = Result (List Item) SourceFault
+abbrev pub SourceResult : Type 0
+SourceResult = Result (List Item) SourceFault
 
 -- tokens as the grammar sees them
 
-abbrev pub seen : Lexeme → Meaning × Place
+abbrev pub seen : Lexeme → Meaning × Position
 seen t = (t.meaning, record { at = t.from; line = t.line })
 
 abbrev pub tokens_in : List Lexeme → Tokens
@@ -52,7 +52,7 @@ end_in tokens = end_by (slice_get tokens (length tokens - 1))
 -- the tokens are no script, and this is their first fault by the grammar
 pub record IsNoScript (tokens : List Lexeme) (fault : ParseFault) : Type 0 where
   pub halt : Halt
-  pub first : FirstFault (tokens_in tokens) halt
+  pub first : FirstParseFault (tokens_in tokens) halt
   pub reported : fault ≡ fault_of (end_in tokens) halt
 
 -- The tokens are those of a script with these items: the rules of typing give it a typed module, and no class reaches
@@ -61,7 +61,7 @@ pub record IsTypedScript (registered : List Registration) (tokens : List Lexeme)
   pub derived : Derives 0 (tokens_in tokens) items
   pub typed : Module
   pub by_rules : IsTyped registered items typed
-  pub acyclic : (class : ℕ) → Reaches (Refers (classes_of items)) class class → ⊥
+  pub acyclic : (class : ℕ) → Reaches (DeclaredClassRefers (classes_of items)) class class → ⊥
 
 -- The tokens are those of a script that breaks a rule of typing: this is the first fault, in the order in which a
 -- script is walked.
@@ -79,7 +79,7 @@ pub record IsCyclicScript (registered : List Registration) (tokens : List Lexeme
   pub by_rules : IsTyped registered items typed
   pub first : ℕ
   pub others : List ℕ
-  pub cycle : IsReportedCycle (Refers (classes_of items)) first others
+  pub cycle : IsReportedCycle (DeclaredClassRefers (classes_of items)) first others
   pub reported : names ≡ names_of_cycle (classes_of items) (first, others)
 
 -- the tokens are those of no script that is typed, and this is why
@@ -91,12 +91,12 @@ HasFault registered tokens (Typing (Cyclic names)) = IsCyclicScript registered t
 HasFault registered tokens NotYet = ⊥
 
 -- what checking the tokens of a source comes to
-abbrev pub ChecksTokens : List Registration → List Lexeme → CheckResult → Type 0
+abbrev pub ChecksTokens : List Registration → List Lexeme → SourceResult → Type 0
 ChecksTokens registered tokens (Ok items) = IsTypedScript registered tokens items
 ChecksTokens registered tokens (Err fault) = HasFault registered tokens fault
 
 -- what checking a source comes to, with these registrations
-pub data Checks (registered : List Registration) (source : List ℕ) (outcome : CheckResult) : Type 0 where
+pub data Checks (registered : List Registration) (source : List ℕ) (outcome : SourceResult) : Type 0 where
   no_tokens : (fault : LexFault) → outcome ≡ Err (Lexical fault) → Lexes source (Err fault)
       → Checks registered source outcome
   has_tokens : (tokens : List Lexeme) → Lexes source (Ok tokens) → ChecksTokens registered tokens outcome
@@ -120,7 +120,7 @@ pub record HasCycle (registered : List Registration) (source : List ℕ) : Type 
   pub typed : Module
   pub by_rules : IsTyped registered items typed
   pub class : ℕ
-  pub cycle : Reaches (Refers (classes_of items)) class class
+  pub cycle : Reaches (DeclaredClassRefers (classes_of items)) class class
 
 -- the fault of such a source: the cycle that is reported
 pub record ReportsCycle (registered : List Registration) (source : List ℕ) (fault : SourceFault) : Type 0 where
@@ -132,23 +132,23 @@ pub record ReportsCycle (registered : List Registration) (source : List ℕ) (fa
 
 -- The same as a function: that it gives what checking the source comes to is proved of it.
 
-abbrev pub unless_fault : List Item → Result Module ScriptFault → CheckResult
+abbrev pub unless_fault : List Item → Result Module ScriptFault → SourceResult
 unless_fault items (Ok typed) = Ok items
 unless_fault items (Err fault) = Err (Typing fault)
 
-abbrev pub items_checked : List Registration → List Item → CheckResult
+abbrev pub items_checked : List Registration → List Item → SourceResult
 items_checked registered items = unless_fault items (checked registered items)
 
-abbrev pub script_checked : List Registration → List Lexeme → ParseResult (List Item) → CheckResult
+abbrev pub script_checked : List Registration → List Lexeme → ParseResult (List Item) → SourceResult
 script_checked registered tokens (Ok script) = items_checked registered script.0
 script_checked registered tokens (Err halt) = Err (Syntactic (fault_of (end_in tokens) halt))
 
-unfoldable pub tokens_checked : List Registration → List Lexeme → CheckResult
+unfoldable pub tokens_checked : List Registration → List Lexeme → SourceResult
 tokens_checked registered tokens = script_checked registered tokens (module_at (tokens_in tokens))
 
-abbrev pub checked_on : List Registration → Result (List Lexeme) LexFault → CheckResult
+abbrev pub checked_on : List Registration → Result (List Lexeme) LexFault → SourceResult
 checked_on registered (Ok tokens) = tokens_checked registered tokens
 checked_on registered (Err fault) = Err (Lexical fault)
 
-unfoldable pub checked_source : List Registration → List ℕ → CheckResult
+unfoldable pub checked_source : List Registration → List ℕ → SourceResult
 checked_source registered source = checked_on registered (lexed source)

@@ -2,7 +2,7 @@
 -- fault. The first of these that holds is its fault.
 use Rattle.std.specs.Prelude.{ℕ, ◌<◌, ◌≤◌, ◌⊎◌, List, length, Result, Ok, Err}
 use Rattle.std.specs.Str.{IsUtf8, IsValidUpTo}
-use Rattle.ash_lex.specs.Tokens.{Lexeme, Spells, FirstFault, max_source_bytes}
+use Rattle.ash_lex.specs.Tokens.{Lexeme, HasTokens, FirstLexFault, max_source_bytes}
 use Rattle.ash_lex.specs.declared.faults.LexFault.{LexFault}
 use Rattle.ash_lex.specs.declared.faults.LexFault.TheVariants as faults
 
@@ -20,14 +20,14 @@ pub record IsNoText (source : List ℕ) (at : ℕ) : Type 0 where
 abbrev pub HasNoTokens : List ℕ → LexFault → Type 0
 HasNoTokens source faults.SourceTooLong = max_source_bytes < length source
 HasNoTokens source (faults.BadCharacter at) = IsNoText source at
-    ⊎ (IsText source × FirstFault source (faults.BadCharacter at))
-HasNoTokens source (faults.UnclosedComment at) = IsText source × FirstFault source (faults.UnclosedComment at)
-HasNoTokens source (faults.NumberTooLarge at) = IsText source × FirstFault source (faults.NumberTooLarge at)
+    ⊎ (IsText source × FirstLexFault source (faults.BadCharacter at))
+HasNoTokens source (faults.UnclosedComment at) = IsText source × FirstLexFault source (faults.UnclosedComment at)
+HasNoTokens source (faults.NumberTooLarge at) = IsText source × FirstLexFault source (faults.NumberTooLarge at)
 HasNoTokens source faults.NoMemory = ⊥
 
 -- what a source's tokens are, or the fault for which it has none
 abbrev pub Lexes : List ℕ → Result (List Lexeme) LexFault → Type 0
-Lexes source (Ok tokens) = IsText source × Spells source tokens
+Lexes source (Ok tokens) = IsText source × HasTokens source tokens
 Lexes source (Err fault) = HasNoTokens source fault
 
 -- The source has no tokens, for this fault; or memory was refused, which a text alone takes.

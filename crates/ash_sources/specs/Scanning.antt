@@ -18,10 +18,10 @@ use Rattle.ash_lex.specs.declared.faults.LexFault.{LexFault}
 use Rattle.ash_lex.specs.declared.faults.LexFault.TheVariants as faults
 
 -- past so many bytes that part tokens, past a token, or a fault
-pub data Step : Type 0 where
-  Gap : ℕ → Step
-  Token : ℕ → Meaning → Step
-  Fault : LexFault → Step
+pub data ScanStep : Type 0 where
+  Gap : ℕ → ScanStep
+  Token : ℕ → Meaning → ScanStep
+  Fault : LexFault → ScanStep
 
 abbrev pub word_by : List ℕ → Option ReservedWord → Option UnsupportedWord → Meaning
 word_by piece (Some w) other = reserved w
@@ -33,11 +33,11 @@ abbrev pub word : List ℕ → Meaning
 word piece = word_by piece (reserved_word piece) (unsupported_word piece)
 
 -- a numeral of n bytes, at a place
-abbrev pub numeral : ℕ → ℕ → ℕ → Step
+abbrev pub numeral : ℕ → ℕ → ℕ → ScanStep
 numeral place n value = if nat_lt value (2 ^ 64) then Token n (number value) else Fault (faults.NumberTooLarge place)
 
 -- past the piece with which what is left begins, at a place
-abbrev pub step_over : ℕ → List ℕ → Option Piece → Step
+abbrev pub step_over : ℕ → List ℕ → Option Piece → ScanStep
 step_over place left None = Fault (faults.BadCharacter place)
 step_over place left (Some (pieces.Gap n)) = Gap n
 step_over place left (Some pieces.UnclosedComment) = Fault (faults.UnclosedComment place)
@@ -50,7 +50,7 @@ step_over place left (Some (pieces.Sign s)) = Token (length (sign_text s)) (sign
 abbrev pub From : Type 0
 From = ℕ → ℕ → List Lexeme → Result (List Lexeme) LexFault
 
-abbrev pub after : From → List ℕ → ℕ → ℕ → List Lexeme → Step → Result (List Lexeme) LexFault
+abbrev pub after : From → List ℕ → ℕ → ℕ → List Lexeme → ScanStep → Result (List Lexeme) LexFault
 after more left place line tokens (Gap n) = more (place + n) (line + count_by is_line_feed (take n left)) tokens
 after more left place line tokens (Token n m) =
     more (place + n) line (tokens ++ record { meaning = m; line = line; from = place; to = place + n } ∷ [])

@@ -1,17 +1,17 @@
 -- Why a source has no typed tree, without where names lie in memory; the code by which that is reported; and how
 -- reading a source fails.
 use Rattle.std.specs.Prelude.{◌≡◌, ℕ, List, map, string_bytes, Result, Ok, Err, codes}
-use Rattle.ash_lex.specs.FaultCodes as lexical
+use Rattle.ash_lex.specs.LexCodes as lexical
 use Rattle.ash_lex.specs.declared.faults.LexFault.{LexFault}
 use Rattle.ash_lex.specs.declared.faults.LexFault.TheVariants as lex_faults
-use Rattle.ash_parse.specs.Faults as syntactic
+use Rattle.ash_parse.specs.ParseFaults as syntactic
 use Rattle.ash_parse.specs.declared.faults.ParseFault.{ParseFault}
 use Rattle.ash_parse.specs.declared.faults.ParseFault.TheVariants as parse_faults
 use Rattle.ash_check.specs.declared.faults.CheckFault.{CheckFault}
 use Rattle.ash_check.specs.declared.faults.CheckFault.TheVariants as check_faults
 use Rattle.ash_typing.specs.RuleCodes as typing
 use Rattle.ash_check.specs.Checks.{ScriptFault, Broken, Cyclic}
-use Rattle.ash_check.specs.Faults.{cycle_code}
+use Rattle.ash_check.specs.CheckFaults.{cycle_code}
 use Rattle.ash_sources.specs.declared.fault.SourceFault as code
 use Rattle.ash_sources.specs.declared.fault.SourceFault.TheVariants as the
 use Rattle.ash_sources.specs.declared.fault.SourceError.{SourceError}
@@ -59,20 +59,20 @@ typing_error check_faults.NoMemory = errors.NoMemory
 -- how reading a source fails
 
 -- Memory may be taken to find each fault but that of a source which its length alone refuses.
-abbrev pub TakesMemoryToFind : SourceFault → Type 0
-TakesMemoryToFind (Lexical lex_faults.SourceTooLong) = ⊥
-TakesMemoryToFind fault = Unit {0}
+abbrev pub MayTakeMemory : SourceFault → Type 0
+MayTakeMemory (Lexical lex_faults.SourceTooLong) = ⊥
+MayTakeMemory fault = Unit {0}
 
 -- Memory may be taken to find what a source comes to, unless it is such a fault.
 abbrev pub TakesMemoryFor : {A : Type 0} → Result A SourceFault → Type 0
 TakesMemoryFor (Ok found) = Unit {0}
-TakesMemoryFor (Err fault) = TakesMemoryToFind fault
+TakesMemoryFor (Err fault) = MayTakeMemory fault
 
 -- The error is the fault that a source comes to, or that memory was refused, where finding what it comes to may take
 -- some.
-abbrev pub RefusesAs : {A : Type 0} → Result A SourceFault → SourceError → Type 0
-RefusesAs outcome (errors.Fault fault) = outcome ≡ Err (fault_of fault)
-RefusesAs outcome errors.NoMemory = TakesMemoryFor outcome
+abbrev pub RefusesSource : {A : Type 0} → Result A SourceFault → SourceError → Type 0
+RefusesSource outcome (errors.Fault fault) = outcome ≡ Err (fault_of fault)
+RefusesSource outcome errors.NoMemory = TakesMemoryFor outcome
 
 -- The error is a fault of which this holds, or that memory was refused, where some may be taken.
 abbrev pub RefusesWhere : (SourceFault → Type 0) → Type 0 → SourceError → Type 0

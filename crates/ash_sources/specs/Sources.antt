@@ -1,8 +1,8 @@
 -- How the sources of modules are read: by what is registered, and by which scripts are admitted.
 use Rattle.std.specs.Prelude.{ℕ, List, [], Ok, Err}
-use Rattle.ash_registry.specs.Registrations.{Registration}
-use Rattle.ash_registry.specs.Registered.{registered}
-use Rattle.ash_typed.specs.Signatures.{Host}
+use Rattle.ash_registry.specs.AcceptedRegistrations.{Registration}
+use Rattle.ash_registry.specs.RegistryViews.{registered}
+use Rattle.ash_typed.specs.Signatures.{HostSignatures}
 use Rattle.ash_typing.specs.Environment.{name_of_kind}
 use Rattle.ash_typing.specs.Offered.{offered}
 use Rattle.ash_steps.specs.States.{Embedding}
@@ -47,7 +47,7 @@ abbrev pub registrations_by : AdmittedScripts → List Registration → List Reg
 registrations_by scripts.All registrations = registrations
 registrations_by scripts.UsingNothingRegistered registrations = []
 
-abbrev pub host_for : SourceRules → Host
+abbrev pub host_for : SourceRules → HostSignatures
 host_for rules = offered (registrations_by rules.admitted rules.registered)
 
 -- what requests see of this

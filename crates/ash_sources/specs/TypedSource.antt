@@ -6,14 +6,14 @@ use Rattle.std.specs.Prelude.{ℕ, List, Result, Ok, Err}
 use Rattle.ash_lex.specs.Tokens.{Lexeme}
 use Rattle.ash_tree.specs.Tree.{Item}
 use Rattle.ash_tree.specs.Grammar.{Derives}
-use Rattle.ash_registry.specs.Registrations.{Registration}
+use Rattle.ash_registry.specs.AcceptedRegistrations.{Registration}
 use Rattle.ash_typing.specs.TypedModules.{IsTyped}
 use Rattle.ash_typed.specs.Modules.{Module}
-use Rattle.ash_classes.specs.References.{Refers, classes_of}
+use Rattle.ash_classes.specs.ClassReferences.{DeclaredClassRefers, classes_of}
 use Rattle.ash_classes.specs.Paths.{Reaches}
 use Rattle.ash_check.specs.Checks.{ScriptFault, checked}
 use Rattle.ash_sources.specs.Lexing.{Lexes}
-use Rattle.ash_sources.specs.CheckedSource.{CheckResult, tokens_in, checked_source}
+use Rattle.ash_sources.specs.CheckedSource.{SourceResult, tokens_in, checked_source}
 use Rattle.ash_sources.specs.SourceFaults.{SourceFault, Typing}
 
 -- the typed tree of a source, or a fault
@@ -28,7 +28,7 @@ pub record IsTypedSource (registered : List Registration) (source : List ℕ) (t
   pub items : List Item
   pub derived : Derives 0 (tokens_in tokens) items
   pub by_rules : IsTyped registered items typed
-  pub acyclic : (class : ℕ) → Reaches (Refers (classes_of items)) class class → ⊥
+  pub acyclic : (class : ℕ) → Reaches (DeclaredClassRefers (classes_of items)) class class → ⊥
 
 -- The same as a function: that it gives the typed tree where the source has one, and else the fault that checking comes
 -- to, is proved of it.
@@ -41,7 +41,7 @@ typed_or_fault (Err fault) = Err (Typing fault)
 abbrev pub check_items : List Registration → List Item → TypedResult
 check_items registered items = typed_or_fault (checked registered items)
 
-abbrev pub typed_if_checked : List Registration → CheckResult → TypedResult
+abbrev pub typed_if_checked : List Registration → SourceResult → TypedResult
 typed_if_checked registered (Ok items) = check_items registered items
 typed_if_checked registered (Err fault) = Err fault
 

@@ -2,19 +2,19 @@
 
 ghost use Rattle.std.specs.Prelude.{◌≡◌, ◌↔◌, ℕ, List, Ok, IsOk, IfOk, IfErr, OnOk, MatchResult};
 ghost use Rattle.std.specs.List.{AllByRecursion};
-ghost use Rattle.ash_tree.specs.Views.{module_of as items_of};
+ghost use Rattle.ash_tree.specs.TreeViews.{module_of as items_of};
 ghost use Rattle.ash_tree.specs.Tree.{Item};
-ghost use Rattle.ash_registry.specs.Registrations.{Registration};
-ghost use Rattle.ash_registry.specs.Registered.{registered};
+ghost use Rattle.ash_registry.specs.AcceptedRegistrations.{Registration};
+ghost use Rattle.ash_registry.specs.RegistryViews.{registered};
 ghost use Rattle.ash_typed.specs.Modules.{Module as Typed};
 ghost use Rattle.ash_typing.specs.Nesting.{ItemsDeclareInBlocks};
 ghost use Rattle.ash_typing.specs.TypedModules.{IsFree, IsTyped};
 ghost use Rattle.ash_tree.specs.Items.{item_names};
 ghost use Rattle.ash_check.specs.Checks.{Cyclic};
-ghost use Rattle.ash_sources.specs.CheckedSource.{CheckResult, Checks, IsAccepted};
+ghost use Rattle.ash_sources.specs.CheckedSource.{SourceResult, Checks, IsAccepted};
 ghost use Rattle.ash_sources.specs.CheckedSource.{HasCycle, ReportsCycle};
 ghost use Rattle.ash_sources.specs.CheckedSource.{items_checked, checked_source};
-ghost use Rattle.ash_sources.specs.SourceFaults.{Typing, RefusesAs, IfFault};
+ghost use Rattle.ash_sources.specs.SourceFaults.{Typing, RefusesSource, IfFault};
 ghost use Rattle.ash_sources.specs.declared.fault.SourceError.TheVariants.{NoMemory};
 
 use crate::fault::SourceError;
@@ -29,7 +29,7 @@ fn check_module(alloc: Global, registry: &Registry, script: Module) -> Result<Mo
     requires nested { ItemsDeclareInBlocks (items_of script) }
     ensures found { IfOk result (λ found. items_checked (registered registry.now) (items_of script)
         ≡ Ok (items_of found)) }
-    ensures refused { IfErr result (RefusesAs (items_checked (registered registry.now)
+    ensures refused { IfErr result (RefusesSource (items_checked (registered registry.now)
         (items_of script))) }
 {
     check(alloc, registry, &script)?;
@@ -50,7 +50,7 @@ pub(crate) fn checked_module(
 ) -> Result<Module, SourceError>
     ensures found { IfOk result (λ script. checked_source (registered registry.now) source.now
         ≡ Ok (items_of script)) }
-    ensures refused { IfErr result (RefusesAs (checked_source (registered registry.now)
+    ensures refused { IfErr result (RefusesSource (checked_source (registered registry.now)
         source.now)) }
 {
     match script_of(alloc, source) {
@@ -82,7 +82,7 @@ pub fn check_source(alloc: Global, registry: &Registry, source: &[u8]) -> Result
         (IfFault (ReportsCycle (registered registry.now) source.now)) }
     // All of it as one function of the source, with the first fault.
     ensures found { OnOk result (IsOk (checked_source (registered registry.now) source.now)) }
-    ensures refused { IfErr result (RefusesAs (checked_source (registered registry.now)
+    ensures refused { IfErr result (RefusesSource (checked_source (registered registry.now)
         source.now)) }
 {
     match checked_module(alloc, registry, source) {
@@ -93,7 +93,7 @@ pub fn check_source(alloc: Global, registry: &Registry, source: &[u8]) -> Result
 
 /// Checking a source comes to one script that is typed, or to one fault.
 pub fn checking_has_one_result()
-    ensures exact { (registered : List Registration) (source : List ℕ) (outcome : CheckResult) →
+    ensures exact { (registered : List Registration) (source : List ℕ) (outcome : SourceResult) →
         (checked_source registered source ≡ outcome) ↔ Checks registered source outcome }
 {}
 

@@ -2,7 +2,7 @@
 
 ghost use Rattle.std.specs.Prelude.{IfOk, IfErr};
 ghost use Rattle.ash_lex.specs.Tokens.{lexemes};
-ghost use Rattle.ash_tree.specs.Views.{module_of as items_of};
+ghost use Rattle.ash_tree.specs.TreeViews.{module_of as items_of};
 ghost use Rattle.ash_tree.specs.Grammar.{Derives};
 ghost use Rattle.ash_sources.specs.CheckedSource.{tokens_in};
 ghost use Rattle.ash_sources.specs.Lexing.{IsText};

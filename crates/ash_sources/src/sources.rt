@@ -1,16 +1,16 @@
 //! How the sources of modules are read: to the typed tree of each, by what is registered.
 
 ghost use Rattle.std.specs.Prelude.{◌≡◌, ◌↔◌, ℕ, List, [], Ok, Err, IsOk, IsErr, IfOk, IfErr};
-ghost use Rattle.ash_tree.specs.Views.{module_of as items_of};
-ghost use Rattle.ash_registry.specs.Registrations.{Registration as Registered};
-ghost use Rattle.ash_registry.specs.Registered.{registered};
+ghost use Rattle.ash_tree.specs.TreeViews.{module_of as items_of};
+ghost use Rattle.ash_registry.specs.AcceptedRegistrations.{Registration as Registered};
+ghost use Rattle.ash_registry.specs.RegistryViews.{registered};
 ghost use Rattle.ash_typed.specs.Modules.{Module as Typed, module_of};
 ghost use Rattle.ash_typed.specs.SoundModules.{IsSound};
 ghost use Rattle.ash_typing.specs.Environment.{name_of_kind};
 ghost use Rattle.ash_typing.specs.Nesting.{ItemsDeclareInBlocks};
 ghost use Rattle.ash_steps.specs.Premises.{ReadsSound};
-ghost use Rattle.ash_sources.specs.SourceFaults.{SourceFault as Fault, NotYet, RefusesAs, fault_of};
-ghost use Rattle.ash_sources.specs.SourceFaults.{TakesMemoryToFind};
+ghost use Rattle.ash_sources.specs.SourceFaults.{SourceFault as Fault, NotYet, RefusesSource, fault_of};
+ghost use Rattle.ash_sources.specs.SourceFaults.{MayTakeMemory};
 ghost use Rattle.ash_sources.specs.TypedSource.{check_items, typed_source};
 ghost use Rattle.ash_sources.specs.Sources.{SourceRules, rules_of, typed_or_not_yet, admitted_as};
 ghost use Rattle.ash_sources.specs.Sources.{read_source, host_for, embedding_of};
@@ -20,7 +20,7 @@ use crate::fault::{SourceError, SourceFault};
 use crate::parsing::script_of;
 use crate::typing::type_script;
 use ash_registry::{Registration, Registry};
-use ash_steps::sources::Sources as ReadSources;
+use ash_steps::sources::SourceReader;
 use ash_tree::Module;
 use ash_typed::Module as Tree;
 use std::alloc::{AllocError, Global};
@@ -47,7 +47,7 @@ fn type_alone(alloc: Global, script: &Module) -> Result<Tree, SourceError>
     requires nested { ItemsDeclareInBlocks (items_of script.now) }
     ensures found { IfOk result (λ tree. typed_or_not_yet (check_items [] (items_of script.now))
         ≡ Ok (module_of tree)) }
-    ensures refused { IfErr result (RefusesAs (typed_or_not_yet (check_items []
+    ensures refused { IfErr result (RefusesSource (typed_or_not_yet (check_items []
         (items_of script.now)))) }
 {
     match type_script(alloc, &Registry::new(alloc), script) {
@@ -65,7 +65,7 @@ impl Sources<'_> {
         ensures found { IfOk result (λ tree. admitted_as self.now.admitted
             (check_items (registered self.now.registry.now) (items_of script.now))
             (check_items [] (items_of script.now)) ≡ Ok (module_of tree)) }
-        ensures refused { IfErr result (RefusesAs (admitted_as self.now.admitted
+        ensures refused { IfErr result (RefusesSource (admitted_as self.now.admitted
             (check_items (registered self.now.registry.now) (items_of script.now))
             (check_items [] (items_of script.now)))) }
     {
@@ -87,7 +87,8 @@ impl Sources<'_> {
             ≡ Ok (module_of tree)) }
         ensures sound { IfOk result (λ tree. IsSound (host_for (rules_of self.now))
             (module_of tree)) }
-        ensures refused { IfErr result (RefusesAs (read_source (rules_of self.now) source.now)) }
+        ensures refused { IfErr result
+            (RefusesSource (read_source (rules_of self.now) source.now)) }
     {
         match script_of(alloc, source) {
             Ok(script) => self.admit(alloc, &script),
@@ -107,7 +108,7 @@ impl Sources<'_> {
     }
 }
 
-impl ReadSources for Sources<'_> {
+impl SourceReader for Sources<'_> {
     type Fault = SourceFault;
 
     ghost FaultSeen = { Fault };
@@ -116,7 +117,7 @@ impl ReadSources for Sources<'_> {
 
     ghost embedding = { λ s. embedding_of (rules_of s) };
 
-    ghost TakesMemory = { TakesMemoryToFind };
+    ghost TakesMemory = { MayTakeMemory };
 
     #[tactic(auto, using(crate::proofs::SourceLaws::memory_refused))]
     fn read(&self, alloc: Global, source: &[u8]) -> Result<Result<Tree, SourceFault>, AllocError> {

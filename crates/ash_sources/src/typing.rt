@@ -1,16 +1,16 @@
 //! The typed tree of a script, and what a source is typed as.
 
 ghost use Rattle.std.specs.Prelude.{◌≡◌, ◌↔◌, ℕ, List, Ok, Err, IfOk, IfErr};
-ghost use Rattle.ash_tree.specs.Views.{module_of as items_of};
-ghost use Rattle.ash_registry.specs.Registrations.{Registration};
-ghost use Rattle.ash_registry.specs.Registered.{registered};
+ghost use Rattle.ash_tree.specs.TreeViews.{module_of as items_of};
+ghost use Rattle.ash_registry.specs.AcceptedRegistrations.{Registration};
+ghost use Rattle.ash_registry.specs.RegistryViews.{registered};
 ghost use Rattle.ash_typed.specs.Modules.{Module as Typed, module_of};
 ghost use Rattle.ash_typed.specs.SoundModules.{IsSound};
 ghost use Rattle.ash_typing.specs.Nesting.{ItemsDeclareInBlocks};
 ghost use Rattle.ash_typing.specs.Offered.{offered};
 ghost use Rattle.ash_sources.specs.CheckedSource.{checked_source};
 ghost use Rattle.ash_sources.specs.TypedSource.{IsTypedSource, check_items, typed_source};
-ghost use Rattle.ash_sources.specs.SourceFaults.{SourceFault as Fault, RefusesAs};
+ghost use Rattle.ash_sources.specs.SourceFaults.{SourceFault as Fault, RefusesSource};
 
 use crate::fault::SourceError;
 use ash_check::check;
@@ -33,7 +33,7 @@ pub(crate) fn type_script(
     requires nested { ItemsDeclareInBlocks (items_of script.now) }
     ensures found { IfOk result (λ tree. check_items (registered registry.now)
         (items_of script.now) ≡ Ok (module_of tree)) }
-    ensures refused { IfErr result (RefusesAs (check_items (registered registry.now)
+    ensures refused { IfErr result (RefusesSource (check_items (registered registry.now)
         (items_of script.now))) }
 {
     match check(alloc, registry, script) {

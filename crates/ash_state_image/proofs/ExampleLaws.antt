@@ -14,7 +14,7 @@ use Rattle.ash_state_image.specs.Snapshots.{Loaded, Snapshot}
 use Rattle.ash_state_image.specs.Image.{FitsText, max_registered_text_bytes, version_number}
 use Rattle.ash_state_image.specs.ImageReading.{is_text, registered_at, modules_at, services_at, objects_at, snapshot_at, image_at}
 use Rattle.ash_state_image.specs.Rules.{IsImage, AreReached, held_by, is_whole}
-use Rattle.ash_state_image.specs.Examples.{IsSomeImage, IsDamaged}
+use Rattle.ash_state_image.specs.ImageExamples.{IsSomeImage, IsDamaged}
 use Rattle.ash_state_image.proofs.Numbers.{IsBytes}
 use Rattle.ash_state_image.proofs.NameLaws.{both}
 use Rattle.ash_state_image.proofs.FieldLaws.{text_field}

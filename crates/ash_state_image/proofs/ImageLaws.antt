@@ -10,13 +10,13 @@ use Rattle.ash_host.specs.Objects.{Plain, numbers}
 use Rattle.ash_state_image.specs.declared.version.Version.{Version}
 use Rattle.ash_state_image.specs.declared.version.Version.TheVariants as versions
 use Rattle.ash_state_image.specs.Fields.{number, text, items, ◌>>=◌, number_at, whole}
-use Rattle.ash_state_image.specs.Words.{word, FitsWord}
+use Rattle.ash_state_image.specs.ImageWords.{word, FitsWord}
 use Rattle.ash_state_image.specs.ObjectBytes.{plain, FitsPlain}
 use Rattle.ash_state_image.specs.Snapshots.{Loaded, Snapshot}
 use Rattle.ash_state_image.specs.Image.{loaded_module, service, object, state_bytes, version_number, is_module_name}
 use Rattle.ash_state_image.specs.Image.{are_ascending, names_of, do_rise, has_version, max_source_bytes, max_globals, max_modules}
 use Rattle.ash_state_image.specs.Image.{max_services, FitsText, FitsModule, FitsObject, FitServices}
-use Rattle.ash_state_image.specs.Image.{FitModules, FitObjects, Fits, Spells}
+use Rattle.ash_state_image.specs.Image.{FitModules, FitObjects, FitsVersion, IsSpelling}
 use Rattle.ash_state_image.specs.ImageReading.{name_at, source_at, globals_at, module_at, modules_at, services_at, body_at}
 use Rattle.ash_state_image.specs.ImageReading.{object_at, objects_at, is_text, registered_at, snapshot_at, version_at, image_at}
 use Rattle.ash_state_image.proofs.Numbers.{IsBytes}
@@ -124,7 +124,7 @@ registered_field =
     (λ bytes h. text_fits bytes h.1)
     (λ bytes h. (omega (arith, h.short), some_text bytes h.short h.utf8))
 
-snapshot_field : (version : Version) → IsField state_bytes (Fits version) (snapshot_at version)
+snapshot_field : (version : Version) → IsField state_bytes (FitsVersion version) (snapshot_at version)
 unfolding snapshot_at
 snapshot_field version =
     as_field
@@ -139,7 +139,7 @@ snapshot_field version =
       objects = x.1.1.1.1.1;
     })
     (λ (s : Snapshot). (s.registered, (s.seq, (s.last, (s.services, (s.modules, s.objects))))))
-    state_bytes (Fits version)
+    state_bytes (FitsVersion version)
     (λ s h. refl)
     (λ x h. refl)
     (λ x h. record {
@@ -193,20 +193,20 @@ version_field = record { takes = version_takes; again = version_again }
 -- ---- what the readers promise
 
 image_field : IsField (λ (x : Version × Snapshot). number 2 (version_number x.0) ++ state_bytes x.1)
-    (λ (x : Version × Snapshot). ⊤ × Fits x.0 x.1) image_at
+    (λ (x : Version × Snapshot). ⊤ × FitsVersion x.0 x.1) image_at
 unfolding image_at
 image_field = then_field version_field snapshot_field
 
 pub is_spelled : (bytes : List ℕ) (x : Version × Snapshot) → IsBytes bytes → whole image_at bytes ≡ Some x
-    → Spells bytes x.0 x.1
+    → IsSpelling bytes x.0 x.1
 is_spelled bytes x ok e = let t = whole_takes image_field bytes x ok e in (t.0.1, t.1)
 
-pub is_read : (bytes : List ℕ) (version : Version) (s : Snapshot) → Spells bytes version s
+pub is_read : (bytes : List ℕ) (version : Version) (s : Snapshot) → IsSpelling bytes version s
     → whole image_at bytes ≡ Some (version, s)
 is_read bytes version s h = ap (whole image_at) h.1 ∙ whole_again image_field (version, s) (tt, h.0)
 
 -- bytes are the spelling of one snapshot, in one version
-pub spelled_once : (bytes : List ℕ) (v w : Version) (s t : Snapshot) → Spells bytes v s → Spells bytes w t
+pub spelled_once : (bytes : List ℕ) (v w : Version) (s t : Snapshot) → IsSpelling bytes v s → IsSpelling bytes w t
     → (v ≡ w) × (s ≡ t)
 spelled_once bytes v w s t h g =
     let same : (v, s) ≡ (w, t) = some_is (v, s) (w, t) (sym (is_read bytes v s h) ∙ is_read bytes w t g) in

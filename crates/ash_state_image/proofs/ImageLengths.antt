@@ -5,14 +5,14 @@ use Rattle.std.proofs.lemmas.List.{length-append}
 use Rattle.byteorder.specs.Numbers.{length-bytes_low_first}
 use Rattle.ash_host.specs.declared.word.Word.{Word}
 use Rattle.ash_host.specs.declared.word.Word.TheVariants as words
-use Rattle.ash_host.specs.Objects.{Element, Bools, Ints, Uints, Int64s, Uint64s, Handles, Hosts, Plain, Script, Array, Host}
+use Rattle.ash_host.specs.Objects.{Elements, Bools, Ints, Uints, Int64s, Uint64s, Handles, Hosts, Plain, Script, Array, Host}
 use Rattle.ash_state_image.specs.declared.version.Version.{Version}
 use Rattle.ash_state_image.specs.declared.version.Version.TheVariants as versions
 use Rattle.ash_state_image.specs.Fields.{number, text, items}
-use Rattle.ash_state_image.specs.Words.{word}
+use Rattle.ash_state_image.specs.ImageWords.{word}
 use Rattle.ash_state_image.specs.ObjectBytes.{element, host, plain, FitsPlain, FitsHost}
 use Rattle.ash_state_image.specs.Snapshots.{Loaded, Snapshot}
-use Rattle.ash_state_image.specs.Image.{loaded_module, service, object, version_number, state_bytes, image, FitsModule, FitsObject, Fits}
+use Rattle.ash_state_image.specs.Image.{loaded_module, service, object, version_number, state_bytes, image, FitsModule, FitsObject, FitsVersion}
 use Rattle.ash_state_image.proofs.NameLaws.{name_short}
 
 number_length : (size n : ℕ) → length (number size n) ≡ size
@@ -40,7 +40,7 @@ words_short : (ws : List Word) → length (flat_map word ws) ≤ 9 * length ws
 words_short [] = omega arith
 words_short (w ∷ ws) = omega (arith, length-append (word w) (flat_map word ws), word_short w, words_short ws)
 
-element_short : (of : Element ℕ) → length (element of) ≤ 4
+element_short : (of : Elements ℕ) → length (element of) ≤ 4
 element_short Bools = omega arith
 element_short Ints = omega arith
 element_short Uints = omega arith
@@ -124,7 +124,7 @@ modules_short (m ∷ ms) h =
 lists : Snapshot → List ℕ
 lists s = items 2 service s.services ++ (items 1 loaded_module s.modules ++ items 4 object s.objects)
 
-lists_short : (version : Version) (s : Snapshot) → Fits version s
+lists_short : (version : Version) (s : Snapshot) → FitsVersion version s
     → length (lists s) ≤ 2 + 16448 + (1 + 1086576) + (4 + 151056384)
 unfolding lists
 lists_short version s h =
@@ -167,7 +167,7 @@ image_length s =
     )
 
 -- with a tag before it, too
-pub image_short : (version : Version) (s : Snapshot) → Fits version s → length (image version s) + 1 < 2 ^ 28
+pub image_short : (version : Version) (s : Snapshot) → FitsVersion version s → length (image version s) + 1 < 2 ^ 28
 unfolding lists
 image_short version s h =
     let after = lists_short version s h in

@@ -5,7 +5,7 @@ use Rattle.ash_host.specs.Objects.{Plain, Script, Array, Host}
 use Rattle.ash_state_image.specs.declared.version.Version.{Version}
 use Rattle.ash_state_image.specs.declared.version.Version.TheVariants as versions
 use Rattle.ash_state_image.specs.Snapshots.{Snapshot}
-use Rattle.ash_state_image.specs.Image.{has_version, FitsObject, Fits}
+use Rattle.ash_state_image.specs.Image.{has_version, FitsObject, FitsVersion}
 
 in_version_two : (object : Plain ℕ) → has_version versions.Two object ≡ true
 in_version_two (Script owner class fields) = refl
@@ -19,7 +19,7 @@ each_in_two (e ∷ es) h = (
   each_in_two es h.1,
 )
 
-pub one_fits_two : (s : Snapshot) → Fits versions.One s → Fits versions.Two s
+pub one_fits_two : (s : Snapshot) → FitsVersion versions.One s → FitsVersion versions.Two s
 one_fits_two s h = record {
   text = h.text;
   seq = h.seq;
@@ -29,6 +29,6 @@ one_fits_two s h = record {
   objects = record { few = h.objects.few; each = each_in_two s.objects h.objects.each; order = h.objects.order };
 }
 
-pub shaped_fits_two : (version : Version) (s : Snapshot) → Fits version s → Fits versions.Two s
+pub shaped_fits_two : (version : Version) (s : Snapshot) → FitsVersion version s → FitsVersion versions.Two s
 shaped_fits_two versions.One s h = one_fits_two s h
 shaped_fits_two versions.Two s h = h

@@ -4,9 +4,9 @@ use Rattle.std.specs.List.{AllByRecursion}
 use Rattle.std.proofs.lemmas.Bool.{leb-true, le-leb}
 use Rattle.ash_host.specs.declared.word.Word.{Word}
 use Rattle.ash_host.specs.Limits.{max_elements, max_state_bytes}
-use Rattle.ash_host.specs.Objects.{Element, Bools, Ints, Uints, Int64s, Uint64s, Handles, Hosts, Plain, Script, Array, Host}
+use Rattle.ash_host.specs.Objects.{Elements, Bools, Ints, Uints, Int64s, Uint64s, Handles, Hosts, Plain, Script, Array, Host}
 use Rattle.ash_state_image.specs.Fields.{number, text, items}
-use Rattle.ash_state_image.specs.Words.{word, FitsWord}
+use Rattle.ash_state_image.specs.ImageWords.{word, FitsWord}
 use Rattle.ash_state_image.specs.ObjectBytes.{max_class_members, element, plain, FitsElement, FitsHost}
 use Rattle.ash_state_image.specs.ObjectBytes.{FitsPlain, element_case, element_at, fields_at, elements_at, state_at}
 use Rattle.ash_state_image.specs.ObjectBytes.{kind_and_state_at, script_at, array_at, plain_case, plain_at, host}
@@ -17,7 +17,7 @@ use Rattle.ash_state_image.proofs.WordLaws.{word_field}
 
 -- ---- what the elements of an array are
 
-element_takes : (tag : ℕ) (bytes : List ℕ) (x : Element ℕ × List ℕ) → IsBytes bytes → element_case tag bytes ≡ Some x
+element_takes : (tag : ℕ) (bytes : List ℕ) (x : Elements ℕ × List ℕ) → IsBytes bytes → element_case tag bytes ≡ Some x
     → HasCase element FitsElement tag bytes x
 unfolding element_case
 element_takes zero bytes x ok e = bare_takes element FitsElement 0 Bools refl tt bytes x ok e
@@ -32,7 +32,7 @@ element_takes (suc (suc (suc (suc (suc (suc zero)))))) bytes x ok e =
     case_takes element FitsElement 6 (λ n. Hosts n) (number_field 2) (λ n lt. (refl, lt)) bytes x ok e
 element_takes (suc (suc (suc (suc (suc (suc (suc n))))))) bytes x ok e = absurd cc
 
-element_again : (of : Element ℕ) → FitsElement of → IsCase element element_case of
+element_again : (of : Elements ℕ) → FitsElement of → IsCase element element_case of
 unfolding element_case
 element_again Bools h = record { tag = 0; small = omega arith; body = []; spelled = refl; read = λ rest. refl }
 element_again Ints h = record { tag = 1; small = omega arith; body = []; spelled = refl; read = λ rest. refl }
@@ -112,7 +112,7 @@ plain_takes (suc zero) bytes x ok e =
 plain_takes (suc (suc zero)) bytes x ok e =
     case_takes plain FitsPlain 2 (λ (y : ℕ × List ℕ). Host y.0 y.1) kind_and_state_field (λ y h. (refl, h)) bytes x ok e
 plain_takes (suc (suc (suc zero))) bytes x ok e =
-    case_takes plain FitsPlain 3 (λ (y : Element ℕ × List Word). Array y.0 y.1) (pair_field element_field elements_field)
+    case_takes plain FitsPlain 3 (λ (y : Elements ℕ × List Word). Array y.0 y.1) (pair_field element_field elements_field)
     (λ y h. (refl, record { element_fits = h.0; few = h.1.0; words = h.1.1 })) bytes x ok e
 plain_takes (suc (suc (suc (suc n)))) bytes x ok e = absurd cc
 
@@ -142,7 +142,7 @@ plain_again (Array of elements) h = record {
   body = _;
   spelled = refl;
   read = λ rest.
-      as_again (λ (y : Element ℕ × List Word). Array y.0 y.1) (pair_field element_field elements_field) (of, elements) rest
+      as_again (λ (y : Elements ℕ × List Word). Array y.0 y.1) (pair_field element_field elements_field) (of, elements) rest
       (h.element_fits, (h.few, h.words));
 }
 

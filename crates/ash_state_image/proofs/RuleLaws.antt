@@ -9,7 +9,7 @@ use Rattle.std.proofs.lemmas.Bool.{ltb-true, leb-true, lt-ltb, le-leb, eqb-true,
 use Rattle.std.proofs.lemmas.List.Elements.{filter_map-append}
 use Rattle.std.proofs.lemmas.List.Folds.{list_all-append}
 use Rattle.ash_host.specs.Objects.{Bools, Ints, Uints, Int64s, Uint64s, Handles, Hosts, Plain, Script, Array, Host}
-use Rattle.ash_host.specs.Objects.{Objects, object_at, numbers, handle, handles, fields_of, references, Lives, IsInOrder}
+use Rattle.ash_host.specs.Objects.{LiveObjects, object_at, numbers, handle, handles, fields_of, references, Lives, IsInOrder}
 use Rattle.ash_host.specs.Reach.{is_among}
 use Rattle.ash_host.proofs.Membership.{or_cases, or_first, or_second, and_both, both_and, is_among_yes, is_among_says}
 use Rattle.ash_host.proofs.Membership.{is_among-numbers}
@@ -17,7 +17,7 @@ use Rattle.ash_host.proofs.Order.{object_here, object_later, none_after, in_orde
 use Rattle.ash_state_image.specs.Snapshots.{Loaded, Snapshot}
 use Rattle.ash_state_image.proofs.FieldLaws.{some_is}
 use Rattle.ash_state_image.specs.Rules.{KeepsRules, AreReached}
-use Rattle.ash_state_image.specs.Rules.{held_by, IsPlaced, IsWhole, is_given, is_placed, are_elements, module_lives}
+use Rattle.ash_state_image.specs.Rules.{held_by, IsPlaced, IsWholeSnapshot, is_given, is_placed, are_elements, module_lives}
 use Rattle.ash_state_image.specs.Rules.{object_lives, is_linked, is_whole}
 
 -- ---- lists
@@ -38,15 +38,15 @@ all_pass p (m ∷ ns) each =
     both_and (p m) (list_all p ns) (each m (or_first (nat_eq m m) (is_among ns m) (eq-eqb m m refl)))
     (all_pass p ns (λ n among. each n (or_second (nat_eq n m) (is_among ns n) among)))
 
-pub alive_is : (objects : Objects ℕ) (n : ℕ) → is_among (numbers objects) n ≡ true → Lives objects n
+pub alive_is : (objects : LiveObjects ℕ) (n : ℕ) → is_among (numbers objects) n ≡ true → Lives objects n
 alive_is objects n among = sym (is_among-numbers n objects) ∙ among
 
-pub is_alive : (objects : Objects ℕ) (n : ℕ) → Lives objects n → is_among (numbers objects) n ≡ true
+pub is_alive : (objects : LiveObjects ℕ) (n : ℕ) → Lives objects n → is_among (numbers objects) n ≡ true
 is_alive objects n lives = is_among-numbers n objects ∙ lives
 
 -- ---- numbers
 
-given_at : (last : ℕ) (objects : Objects ℕ) (n : ℕ) → list_all (is_given last) objects ≡ true
+given_at : (last : ℕ) (objects : LiveObjects ℕ) (n : ℕ) → list_all (is_given last) objects ≡ true
     → is_among (numbers objects) n ≡ true → (0 < n) × (n ≤ last)
 given_at last [] n all among = absurd cc
 given_at last (e ∷ objects) n all among =
@@ -62,7 +62,7 @@ given_at last (e ∷ objects) n all among =
       | inr later ↦ given_at last objects n both.1 later
     ]
 
-all_given : (last : ℕ) (objects : Objects ℕ)
+all_given : (last : ℕ) (objects : LiveObjects ℕ)
     → ((n : ℕ) → is_among (numbers objects) n ≡ true → (0 < n) × (n ≤ last))
     → list_all (is_given last) objects ≡ true
 all_given last [] each = refl
@@ -96,14 +96,14 @@ placed_yes count (Array (Handles owner class) elements) h = lt-ltb owner count h
 placed_yes count (Array (Hosts kind) elements) h = refl
 placed_yes count (Host kind state) h = refl
 
-all_placed_say : (count : ℕ) (objects : Objects ℕ) → list_all (λ (e : ℕ × Plain ℕ). is_placed count e.1) objects ≡ true
+all_placed_say : (count : ℕ) (objects : LiveObjects ℕ) → list_all (λ (e : ℕ × Plain ℕ). is_placed count e.1) objects ≡ true
     → AllByRecursion (λ (e : ℕ × Plain ℕ). IsPlaced count e.1) objects
 all_placed_say count [] all = tt
 all_placed_say count (e ∷ objects) all =
     let both = and_both (is_placed count e.1) (list_all (λ (o : ℕ × Plain ℕ). is_placed count o.1) objects) all in
     (placed_says count e.1 both.0, all_placed_say count objects both.1)
 
-all_placed : (count : ℕ) (objects : Objects ℕ) → AllByRecursion (λ (e : ℕ × Plain ℕ). IsPlaced count e.1) objects
+all_placed : (count : ℕ) (objects : LiveObjects ℕ) → AllByRecursion (λ (e : ℕ × Plain ℕ). IsPlaced count e.1) objects
     → list_all (λ (e : ℕ × Plain ℕ). is_placed count e.1) objects ≡ true
 all_placed count [] all = refl
 all_placed count (e ∷ objects) all =
@@ -133,7 +133,7 @@ globals_live alive (m ∷ modules) =
 -- ---- handles of objects
 
 -- what an object refers to, where all live
-refers_step : (alive : List ℕ) (e : ℕ × Plain ℕ) (objects : Objects ℕ) (one other : ℕ) (b : Bool) → nat_eq one e.0 ≡ b
+refers_step : (alive : List ℕ) (e : ℕ × Plain ℕ) (objects : LiveObjects ℕ) (one other : ℕ) (b : Bool) → nat_eq one e.0 ≡ b
     → object_lives alive e ≡ true → is_among (references (e ∷ objects) one) other ≡ true
     → (is_among (references objects one) other ≡ true → is_among alive other ≡ true)
     → is_among alive other ≡ true
@@ -147,7 +147,7 @@ refers_step alive e objects one other false is lives among later =
     later (sym (ap (λ (o : Option (Plain ℕ)). is_among (option_map_or (λ object. handles (fields_of object)) o []) other)
     (object_later one e objects is)) ∙ among)
 
-refers_at : (alive : List ℕ) (objects : Objects ℕ) (one other : ℕ) → list_all (object_lives alive) objects ≡ true
+refers_at : (alive : List ℕ) (objects : LiveObjects ℕ) (one other : ℕ) → list_all (object_lives alive) objects ≡ true
     → is_among (references objects one) other ≡ true → is_among alive other ≡ true
 refers_at alive [] one other all among = absurd cc
 refers_at alive (e ∷ objects) one other all among =
@@ -163,7 +163,7 @@ none_refers : (other : ℕ) → refers_in None other ≡ true → ⊥
 none_refers other among = absurd cc
 
 -- what refers to a number refers to it with another object before it
-refers_later : (e : ℕ × Plain ℕ) (objects : Objects ℕ) (one other : ℕ) → IsInOrder (e ∷ objects) → (o : Option (Plain ℕ))
+refers_later : (e : ℕ × Plain ℕ) (objects : LiveObjects ℕ) (one other : ℕ) → IsInOrder (e ∷ objects) → (o : Option (Plain ℕ))
     → object_at one objects ≡ o → refers_in (object_at one objects) other ≡ true
     → refers_in (object_at one (e ∷ objects)) other ≡ true
 refers_later e objects one other order None is among =
@@ -173,7 +173,7 @@ refers_later e objects one other order (Some object) is among =
     ap (λ (o : Option (Plain ℕ)). refers_in o other) (object_later one e objects apart) ∙ among
 
 -- where each that is referred to lives, all do
-all_live_where : (alive : List ℕ) (objects : Objects ℕ) → IsInOrder objects
+all_live_where : (alive : List ℕ) (objects : LiveObjects ℕ) → IsInOrder objects
     → ((one other : ℕ) → is_among (references objects one) other ≡ true → is_among alive other ≡ true)
     → list_all (object_lives alive) objects ≡ true
 all_live_where alive [] order each = refl
@@ -186,7 +186,7 @@ all_live_where alive (e ∷ objects) order each =
 
 -- ---- the rules
 
-pub rules_say : (s : Snapshot) → IsInOrder s.objects → is_whole s ≡ true → IsWhole s
+pub rules_say : (s : Snapshot) → IsInOrder s.objects → is_whole s ≡ true → IsWholeSnapshot s
 rules_say s order e =
     let typed = and_both (list_all (λ (o : ℕ × Plain ℕ). are_elements o.1) s.objects) (is_linked s) e in
     let given = and_both (list_all (is_given s.last) s.objects) _ typed.1 in
@@ -209,7 +209,7 @@ rules_say s order e =
       };
     }
 
-pub rules_kept : (s : Snapshot) → IsWhole s → is_whole s ≡ true
+pub rules_kept : (s : Snapshot) → IsWholeSnapshot s → is_whole s ≡ true
 rules_kept s h =
     both_and (list_all (λ (o : ℕ × Plain ℕ). are_elements o.1) s.objects) (is_linked s)
     (all_true (λ (o : ℕ × Plain ℕ). are_elements o.1) s.objects h.typed)
@@ -235,5 +235,5 @@ only_kept {V} x y b same keeps says breaks =
 pub broken_whole : (s : Snapshot) → is_whole s ≡ false → (false ≡ true) ↔ KeepsRules s
 broken_whole s breaks = (λ wrong. absurd cc, λ keeps. absurd (never (is_whole s) breaks (rules_kept s keeps.whole)))
 
-pub with_reached : (s : Snapshot) (b : Bool) → IsWhole s → ((b ≡ true) ↔ AreReached s) → (b ≡ true) ↔ KeepsRules s
+pub with_reached : (s : Snapshot) (b : Bool) → IsWholeSnapshot s → ((b ≡ true) ↔ AreReached s) → (b ≡ true) ↔ KeepsRules s
 with_reached s b whole h = (λ holds. record { whole = whole; reached = h.0 holds }, λ keeps. h.1 keeps.reached)

@@ -6,11 +6,11 @@ use Rattle.std.specs.List.{list_all}
 use Rattle.std.proofs.lemmas.Bool.{eqb-true, eq-eqb}
 use Rattle.std.proofs.lemmas.List.{get_or-set_same, length-append}
 use Rattle.std.proofs.lemmas.List.Folds.{list_any-append}
-use Rattle.ash_host.specs.Objects.{Objects, numbers, references, Lives}
+use Rattle.ash_host.specs.Objects.{LiveObjects, numbers, references, Lives}
 use Rattle.ash_host.specs.Reach.{Root, Field, ReachableIn, is_among}
 use Rattle.ash_host.proofs.Membership.{or_cases, or_first, or_second, is_among_yes, is_among_says, is_among-numbers, refers_lives}
 use Rattle.ash_state_image.specs.Image.{do_rise}
-use Rattle.ash_state_image.specs.Search.{Progress, IsMarked, IsPending, Visited, Searches, unmarked, with_marked}
+use Rattle.ash_state_image.specs.Search.{SearchProgress, IsMarked, IsPending, Visited, Searches, unmarked, with_marked}
 use Rattle.ash_state_image.proofs.OrderLaws.{rises_from, tail_rises, among_at, index_of}
 
 -- ---- lists
@@ -83,7 +83,7 @@ set_here marked i lt = get_or-set_same marked i true false lt
 
 -- ---- one number after the other
 
-pub visited_none : (alive : List ℕ) (s : Progress) → Visited alive [] s s
+pub visited_none : (alive : List ℕ) (s : SearchProgress) → Visited alive [] s s
 visited_none alive s = record {
   same = refl;
   count = refl;
@@ -94,7 +94,7 @@ visited_none alive s = record {
   all = λ i lt h. absurd cc;
 }
 
-pub visited_then : (alive a b : List ℕ) (s t u : Progress) → Visited alive a s t → Visited alive b t u → Visited alive (a ++ b) s u
+pub visited_then : (alive a b : List ℕ) (s t u : SearchProgress) → Visited alive a s t → Visited alive b t u → Visited alive (a ++ b) s u
 visited_then alive a b s t u p q = record {
   same = q.same ∙ p.same;
   count = q.count ∙ p.count;
@@ -121,7 +121,7 @@ visited_then alive a b s t u p q = record {
 }
 
 -- a number that is not there
-pub visited_missing : (alive : List ℕ) (n : ℕ) (s : Progress) → is_among alive n ≡ false → Visited alive (n ∷ []) s s
+pub visited_missing : (alive : List ℕ) (n : ℕ) (s : SearchProgress) → is_among alive n ≡ false → Visited alive (n ∷ []) s s
 visited_missing alive n s missing = record {
   same = refl;
   count = refl;
@@ -135,7 +135,7 @@ visited_missing alive n s missing = record {
 }
 
 -- a number whose index is marked
-pub visited_marked : (alive : List ℕ) (n i : ℕ) (s : Progress) → do_rise alive ≡ true → i < length alive → get_or alive i 0 ≡ n
+pub visited_marked : (alive : List ℕ) (n i : ℕ) (s : SearchProgress) → do_rise alive ≡ true → i < length alive → get_or alive i 0 ≡ n
     → IsMarked s i → Visited alive (n ∷ []) s s
 visited_marked alive n i s rise within is marked = record {
   same = refl;
@@ -150,7 +150,7 @@ visited_marked alive n i s rise within is marked = record {
 }
 
 -- a number whose index is marked now, and waits
-pub visited_new : (alive : List ℕ) (n i : ℕ) (s : Progress) → do_rise alive ≡ true → i < length alive → get_or alive i 0 ≡ n
+pub visited_new : (alive : List ℕ) (n i : ℕ) (s : SearchProgress) → do_rise alive ≡ true → i < length alive → get_or alive i 0 ≡ n
     → length s.marked ≡ length alive → get_or s.marked i false ≡ false
     → Visited alive (n ∷ []) s (record { marked = set s.marked i true; pending = s.pending ++ i ∷ [] })
 visited_new alive n i s rise within is size unmarked =
@@ -177,18 +177,18 @@ visited_new alive n i s rise within is size unmarked =
           subst (λ (k : ℕ). get_or (set s.marked i true) k false ≡ true) (sym same) (set_here s.marked i here);
     }
 
-marked_or_new : (alive : List ℕ) (n i : ℕ) (s new : Progress) (b : Bool) → get_or s.marked i false ≡ b → do_rise alive ≡ true
+marked_or_new : (alive : List ℕ) (n i : ℕ) (s new : SearchProgress) (b : Bool) → get_or s.marked i false ≡ b → do_rise alive ≡ true
     → i < length alive → get_or alive i 0 ≡ n → length s.marked ≡ length alive → new ≡ with_marked i s
     → Visited alive (n ∷ []) s new
 marked_or_new alive n i s new true here rise within is size e =
     let same : new ≡ s = e ∙ ap (λ (b : Bool). cond b s (record { marked = set s.marked i true; pending = s.pending ++ i ∷ [] })) here in
-    subst (λ (t : Progress). Visited alive (n ∷ []) s t) (sym same) (visited_marked alive n i s rise within is here)
+    subst (λ (t : SearchProgress). Visited alive (n ∷ []) s t) (sym same) (visited_marked alive n i s rise within is here)
 marked_or_new alive n i s new false here rise within is size e =
     let same : new ≡ record { marked = set s.marked i true; pending = s.pending ++ i ∷ [] } =
     e ∙ ap (λ (b : Bool). cond b s (record { marked = set s.marked i true; pending = s.pending ++ i ∷ [] })) here in
-    subst (λ (t : Progress). Visited alive (n ∷ []) s t) (sym same) (visited_new alive n i s rise within is size here)
+    subst (λ (t : SearchProgress). Visited alive (n ∷ []) s t) (sym same) (visited_new alive n i s rise within is size here)
 
-pub visited_mark : (alive : List ℕ) (n i : ℕ) (s new : Progress) → do_rise alive ≡ true → i < length alive
+pub visited_mark : (alive : List ℕ) (n i : ℕ) (s new : SearchProgress) → do_rise alive ≡ true → i < length alive
     → get_or alive i 0 ≡ n → length s.marked ≡ length alive → new ≡ with_marked i s → Visited alive (n ∷ []) s new
 visited_mark alive n i s new rise within is size e =
     marked_or_new alive n i s new (get_or s.marked i false) refl rise within is size e
@@ -196,7 +196,7 @@ visited_mark alive n i s new rise within is size e =
 -- ---- the whole search
 
 -- after the roots were looked for, with nothing marked before
-pub searches_roots : (held : List ℕ) (objects : Objects ℕ) (old new : Progress)
+pub searches_roots : (held : List ℕ) (objects : LiveObjects ℕ) (old new : SearchProgress)
     → length old.marked ≡ length objects → ((i : ℕ) → IsMarked old i → ⊥) → ((i : ℕ) → IsPending old i → ⊥)
     → length (numbers objects) ≡ length objects
     → Visited (numbers objects) held old new → Searches held objects new
@@ -218,7 +218,7 @@ searches_roots held objects old new size none_marked none_waits same_length v = 
 }
 
 -- after one that waited was taken out, and what it refers to was looked for
-pub searches_next : (held : List ℕ) (objects : Objects ℕ) (marked : List Bool) (pending : List ℕ) (i : ℕ) (new : Progress)
+pub searches_next : (held : List ℕ) (objects : LiveObjects ℕ) (marked : List Bool) (pending : List ℕ) (i : ℕ) (new : SearchProgress)
     → length (numbers objects) ≡ length objects
     → Searches held objects (record { marked = marked; pending = pending ++ i ∷ [] })
     → Visited (numbers objects) (references objects (get_or (numbers objects) i 0))
@@ -253,7 +253,7 @@ searches_next held objects marked pending i new same_length h v = record {
 pub none_among : (n : ℕ) → is_among [] n ≡ true → ⊥
 none_among n h = absurd cc
 
-module _ (held : List ℕ) (objects : Objects ℕ) (s : Progress) (search : Searches held objects s) (none : s.pending ≡ [])
+module _ (held : List ℕ) (objects : LiveObjects ℕ) (s : SearchProgress) (search : Searches held objects s) (none : s.pending ≡ [])
     (same_length : length (numbers objects) ≡ length objects) where
   -- what is reachable is marked
   reached_marked : (n : ℕ) → ReachableIn (Contains held) objects n

@@ -19,13 +19,13 @@ use Rattle.ash_state_image.specs.declared.stored.StoredObject.{StoredObject}
 use Rattle.ash_state_image.specs.Image.{do_rise}
 use Rattle.ash_state_image.specs.Rules.{held_by}
 use Rattle.ash_state_image.specs.Snapshots.{Loaded}
-use Rattle.ash_state_image.specs.Views.{module_of, modules_of, object_of, objects_of}
-use Rattle.ash_state_image.specs.Search.{Progress, Visited, Searches}
+use Rattle.ash_state_image.specs.SnapshotViews.{module_of, modules_of, object_of, objects_of}
+use Rattle.ash_state_image.specs.Search.{SearchProgress, Visited, Searches}
 use Rattle.ash_state_image.proofs.FieldLaws.{some_is}
 use Rattle.ash_state_image.proofs.OrderLaws.{rises_from, tail_rises}
 use Rattle.ash_state_image.proofs.SearchLaws.{visited_none, visited_then, searches_roots, searches_next, among_last, none_among, all_reached, all_marked}
 
-pub visited_start : (alive : List ℕ) (s : Progress) → Visited alive [] s s
+pub visited_start : (alive : List ℕ) (s : SearchProgress) → Visited alive [] s s
 visited_start = visited_none
 
 -- the handles among one word
@@ -47,7 +47,7 @@ handles_none (words.Uint m) e = refl
 handles_none (words.Int64 z) e = refl
 handles_none (words.Uint64 m) e = refl
 
-pub visit_more : (alive : List ℕ) (ws : List Word) (k : ℕ) (w : Word) (s t u : Progress) → k < length ws
+pub visit_more : (alive : List ℕ) (ws : List Word) (k : ℕ) (w : Word) (s t u : SearchProgress) → k < length ws
     → Visited alive (handles (take k ws)) s t → Visited alive (handles (get_or ws k w ∷ [])) t u
     → Visited alive (handles (take (k + 1) ws)) s u
 visit_more alive ws k w s t u lt p q =
@@ -64,7 +64,7 @@ held_append ms ns =
     ap handles (flat_map-append (λ (m : Loaded). m.globals) ms ns)
     ∙ filter_map-append handle (flat_map (λ (m : Loaded). m.globals) ms) (flat_map (λ (m : Loaded). m.globals) ns)
 
-pub visit_globals_more : (alive : List ℕ) (ms : List StoredModule) (k : ℕ) (m : StoredModule) (ws : List Word) (s t u : Progress)
+pub visit_globals_more : (alive : List ℕ) (ms : List StoredModule) (k : ℕ) (m : StoredModule) (ws : List Word) (s t u : SearchProgress)
     → k < length ms → m ≡ get_or ms k m → ws ≡ m.globals.items
     → Visited alive (held_by (modules_of (take k ms))) s t → Visited alive (handles ws) t u
     → Visited alive (held_by (modules_of (take (k + 1) ms))) s u
@@ -122,7 +122,7 @@ module _ (held : List ℕ) (xs : List StoredObject) (marked : List Bool) (before
       let within = marked_within marked i (whole.waiting i (among_last after i)) in
       omega (arith, within, whole.size, length-map xs object_of)
 
-  pub next_searches : (d : StoredObject) (new : Progress) → do_rise (numbers (objects_of xs)) ≡ true
+  pub next_searches : (d : StoredObject) (new : SearchProgress) → do_rise (numbers (objects_of xs)) ≡ true
       → Visited (numbers (objects_of xs)) (handles (fields_of (object_of (get_or xs i d)).1))
       (record { marked = marked; pending = after }) new
       → Searches held (objects_of xs) new
@@ -142,7 +142,7 @@ none_of count i marked =
           (get_or_past (replicate count false) i false (omega (arith, length-replicate count false))) marked
     ]
 
-pub begins : (held : List ℕ) (xs : List StoredObject) (alive : List ℕ) (count : ℕ) (s new : Progress) → count ≡ length xs
+pub begins : (held : List ℕ) (xs : List StoredObject) (alive : List ℕ) (count : ℕ) (s new : SearchProgress) → count ≡ length xs
     → s.marked ≡ replicate count false → s.pending ≡ [] → alive ≡ numbers (objects_of xs) → Visited alive held s new
     → Searches held (objects_of xs) new
 begins held xs alive count s new many unmarked none is visited =
@@ -153,7 +153,7 @@ begins held xs alive count s new many unmarked none is visited =
     (length_numbers xs ∙ sym (length-map xs object_of))
     (subst (λ (ns : List ℕ). Visited ns held s new) is visited)
 
-pub ends : (held : List ℕ) (xs : List StoredObject) (s : Progress) (b : Bool) → Searches held (objects_of xs) s → s.pending ≡ []
+pub ends : (held : List ℕ) (xs : List StoredObject) (s : SearchProgress) (b : Bool) → Searches held (objects_of xs) s → s.pending ≡ []
     → b ≡ list_all (λ (m : Bool). m) s.marked
     → (b ≡ true) ↔ ((n : ℕ) → Lives (objects_of xs) n → ReachableIn (Contains held) (objects_of xs) n)
 ends held xs s b search none is =

@@ -8,7 +8,7 @@ use Rattle.std.proofs.Math.Facts.{sfits_to_z, Fits-of_z}
 use Rattle.ash_host.specs.declared.word.Word.{Word}
 use Rattle.ash_host.specs.declared.word.Word.TheVariants as words
 use Rattle.ash_state_image.specs.Fields.{number}
-use Rattle.ash_state_image.specs.Words.{word, FitsWord, value_at, word_at}
+use Rattle.ash_state_image.specs.ImageWords.{word, FitsWord, value_at, word_at}
 use Rattle.ash_state_image.proofs.Numbers.{IsBytes}
 use Rattle.ash_state_image.proofs.FieldLaws.{IsField, number_field, checked_field, tagged_field, HasCase, IsCase, case_takes}
 use Rattle.ash_state_image.proofs.FieldLaws.{bare_takes, as_again}

@@ -1,7 +1,7 @@
 -- Bytes that are an image, and bytes that differ from them in one thing and are the image of nothing.
 use Rattle.std.specs.Prelude.{ℕ, zero, suc, List, [], ◌∷◌, ◌++◌, length, take, codes}
 use Rattle.std.specs.List.{flat_map}
-use Rattle.ash_state_image.specs.Examples.{none2, none4, none8, in8, null, handle_to, nothing_rest, empty_object}
+use Rattle.ash_state_image.specs.ImageExamples.{none2, none4, none8, in8, null, handle_to, nothing_rest, empty_object}
 
 -- the same bytes so many times
 abbrev pub repeated : ℕ → List ℕ → List ℕ

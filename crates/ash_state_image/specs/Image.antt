@@ -12,7 +12,7 @@ use Rattle.ash_host.specs.Objects.{Plain, Array, numbers}
 use Rattle.ash_state_image.specs.declared.version.Version.{Version}
 use Rattle.ash_state_image.specs.declared.version.Version.TheVariants as versions
 use Rattle.ash_state_image.specs.Fields.{number, text, items}
-use Rattle.ash_state_image.specs.Words.{word, FitsWord}
+use Rattle.ash_state_image.specs.ImageWords.{word, FitsWord}
 use Rattle.ash_state_image.specs.ObjectBytes.{plain, host, FitsPlain, FitsHost}
 use Rattle.ash_state_image.specs.Snapshots.{Loaded, Snapshot}
 
@@ -160,7 +160,7 @@ pub record FitObjects (version : Version) (objects : List (ℕ × Plain ℕ)) : 
   pub order : IsTrue (do_rise (numbers objects))
 
 -- a snapshot that has a spelling in a version
-pub record Fits (version : Version) (s : Snapshot) : Type 0 where
+pub record FitsVersion (version : Version) (s : Snapshot) : Type 0 where
   pub text : FitsText s.registered
   pub seq : s.seq < 2 ^ 64
   pub last : s.last < 2 ^ 64
@@ -169,5 +169,5 @@ pub record Fits (version : Version) (s : Snapshot) : Type 0 where
   pub objects : FitObjects version s.objects
 
 -- The bytes are the one spelling of a snapshot in a version.
-abbrev pub Spells : List ℕ → Version → Snapshot → Type 0
-Spells bytes version s = Fits version s × (bytes ≡ image version s)
+abbrev pub IsSpelling : List ℕ → Version → Snapshot → Type 0
+IsSpelling bytes version s = FitsVersion version s × (bytes ≡ image version s)

@@ -7,7 +7,7 @@ use Rattle.ash_host.specs.Limits.{max_objects}
 use Rattle.ash_state_image.specs.declared.version.Version.{Version}
 use Rattle.ash_state_image.specs.declared.version.Version.TheVariants as versions
 use Rattle.ash_state_image.specs.Fields.{◌>>=◌, as_at, checked_at, pair_at, then_at, number_at, text_at, items_at}
-use Rattle.ash_state_image.specs.Words.{word_at}
+use Rattle.ash_state_image.specs.ImageWords.{word_at}
 use Rattle.ash_state_image.specs.ObjectBytes.{kind_and_state_at, plain_at}
 use Rattle.ash_state_image.specs.Snapshots.{Loaded, Snapshot}
 use Rattle.ash_state_image.specs.Image.{is_module_name, are_ascending, names_of, do_rise}

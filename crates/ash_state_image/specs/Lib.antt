@@ -1,12 +1,12 @@
 pub mod Fields
-pub mod Words
+pub mod ImageWords
 pub mod ObjectBytes
-pub mod ObjectViews
+pub mod ImageObjectViews
 pub mod Snapshots
 pub mod Image
 pub mod ImageReading
-pub mod Views
+pub mod SnapshotViews
 pub mod Rules
 pub mod Search
-pub mod Examples
+pub mod ImageExamples
 pub mod Damage

@@ -4,11 +4,11 @@ use Rattle.std.specs.Prelude.{ℕ, zero, suc, ◌<◌, ◌≤◌, ◌^◌, nat_l
 use Rattle.std.specs.List.{AllByRecursion}
 use Rattle.ash_host.specs.declared.word.Word.{Word}
 use Rattle.ash_host.specs.Limits.{max_elements, max_state_bytes}
-use Rattle.ash_host.specs.Objects.{Element, Bools, Ints, Uints, Int64s, Uint64s}
+use Rattle.ash_host.specs.Objects.{Elements, Bools, Ints, Uints, Int64s, Uint64s}
 use Rattle.ash_host.specs.Objects.{Handles, Hosts, Plain, Script, Array, Host}
 use Rattle.ash_state_image.specs.Fields.{number, text, items, as_at, checked_at, pair_at}
 use Rattle.ash_state_image.specs.Fields.{number_at, text_at, items_at, tagged_at}
-use Rattle.ash_state_image.specs.Words.{word, FitsWord, word_at}
+use Rattle.ash_state_image.specs.ImageWords.{word, FitsWord, word_at}
 
 -- the most fields of an object, as a class has at most so many members
 abbrev pub max_class_members : ℕ
@@ -17,7 +17,7 @@ max_class_members = 32
 -- the spelling
 
 -- what the elements of an array are: a tag, and what the class or the kind is
-abbrev pub element : Element ℕ → List ℕ
+abbrev pub element : Elements ℕ → List ℕ
 element Bools = number 1 0
 element Ints = number 1 1
 element Uints = number 1 2
@@ -35,7 +35,7 @@ abbrev pub host : ℕ → List ℕ → List ℕ
 host kind state = number 2 kind ++ text 2 state
 
 -- an array after its tag: what its elements are, and the elements
-abbrev pub array : Element ℕ → List Word → List ℕ
+abbrev pub array : Elements ℕ → List Word → List ℕ
 array of elements = element of ++ items 2 word elements
 
 -- a tag, and the object
@@ -46,7 +46,7 @@ plain (Array of elements) = number 1 3 ++ array of elements
 
 -- what has a spelling
 
-abbrev pub FitsElement : Element ℕ → Type 0
+abbrev pub FitsElement : Elements ℕ → Type 0
 FitsElement (Handles owner class) = (owner < 2 ^ 8) × (class < 2 ^ 16)
 FitsElement (Hosts kind) = kind < 2 ^ 16
 FitsElement _ = ⊤
@@ -61,7 +61,7 @@ pub record FitsHost (kind : ℕ) (state : List ℕ) : Type 0 where
   pub kind_fits : kind < 2 ^ 16
   pub short : length state ≤ max_state_bytes
 
-pub record FitsArray (of : Element ℕ) (elements : List Word) : Type 0 where
+pub record FitsArray (of : Elements ℕ) (elements : List Word) : Type 0 where
   pub element_fits : FitsElement of
   pub few : length elements ≤ max_elements
   pub words : AllByRecursion FitsWord elements
@@ -75,7 +75,7 @@ FitsPlain (Array of elements) = FitsArray of elements
 -- reading
 
 -- what the elements with this tag are
-unfoldable pub element_case : ℕ → List ℕ → Option (Element ℕ × List ℕ)
+unfoldable pub element_case : ℕ → List ℕ → Option (Elements ℕ × List ℕ)
 element_case zero = λ rest. Some (Bools, rest)
 element_case (suc zero) = λ rest. Some (Ints, rest)
 element_case (suc (suc zero)) = λ rest. Some (Uints, rest)
@@ -85,7 +85,7 @@ element_case (suc (suc (suc (suc (suc zero))))) = as_at (λ x. Handles x.0 x.1) 
 element_case (suc (suc (suc (suc (suc (suc zero)))))) = as_at (λ n. Hosts n) (number_at 2)
 element_case (suc (suc (suc (suc (suc (suc (suc more))))))) = λ rest. None
 
-unfoldable pub element_at : List ℕ → Option (Element ℕ × List ℕ)
+unfoldable pub element_at : List ℕ → Option (Elements ℕ × List ℕ)
 element_at = tagged_at element_case
 
 -- a count that fields may have, and so many words
@@ -109,7 +109,7 @@ script_at = as_at (λ (x : ℕ × (ℕ × List Word)). Script x.0 x.1.0 x.1.1)
     (pair_at (number_at 1) (pair_at (number_at 2) fields_at))
 
 unfoldable pub array_at : List ℕ → Option (Plain ℕ × List ℕ)
-array_at = as_at (λ (x : Element ℕ × List Word). Array x.0 x.1) (pair_at element_at elements_at)
+array_at = as_at (λ (x : Elements ℕ × List Word). Array x.0 x.1) (pair_at element_at elements_at)
 
 -- an object with this tag
 unfoldable pub plain_case : ℕ → List ℕ → Option (Plain ℕ × List ℕ)

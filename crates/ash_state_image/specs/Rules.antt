@@ -4,12 +4,12 @@ use Rattle.std.specs.Bool.{IsTrue}
 use Rattle.std.specs.List.{flat_map, list_all, AllByRecursion}
 use Rattle.ash_host.specs.declared.word.Word.{Word}
 use Rattle.ash_host.specs.declared.word.Word.TheVariants as words
-use Rattle.ash_host.specs.Objects.{Element, Bools, Ints, Uints, Int64s, Uint64s, Handles, Hosts, Plain, Script, Array}
+use Rattle.ash_host.specs.Objects.{Elements, Bools, Ints, Uints, Int64s, Uint64s, Handles, Hosts, Plain, Script, Array}
 use Rattle.ash_host.specs.Objects.{numbers, handles, fields_of, Lives, AreNumbered}
 use Rattle.ash_host.specs.Reach.{NoneDangles, ReachableIn, is_among}
 use Rattle.ash_state_image.specs.declared.version.Version.{Version}
 use Rattle.ash_state_image.specs.Snapshots.{Loaded, Snapshot}
-use Rattle.ash_state_image.specs.Image.{Fits, Spells}
+use Rattle.ash_state_image.specs.Image.{FitsVersion, IsSpelling}
 
 -- the numbers of the objects that globals are handles to
 abbrev pub held_by : List Loaded → List ℕ
@@ -23,7 +23,7 @@ IsPlaced count _ = ⊤
 
 -- A word that an array of such elements may hold, as far as the array says it. Of handles it does not say it: that an
 -- object is of a class, or of a kind, is asked with the sources and with what is registered.
-abbrev pub is_element : Element ℕ → Word → Bool
+abbrev pub is_element : Elements ℕ → Word → Bool
 is_element Bools (words.Bool value) = true
 is_element Ints (words.Int value) = true
 is_element Uints (words.Uint value) = true
@@ -40,7 +40,7 @@ are_elements _ = true
 
 -- Numbers are above 0 and at most the last that was given, classes are of modules that are there, the elements of an
 -- array are of its type, and no handle is to an object that does not live.
-pub record IsWhole (s : Snapshot) : Type 0 where
+pub record IsWholeSnapshot (s : Snapshot) : Type 0 where
   pub numbered : AreNumbered s.last s.objects
   pub placed : AllByRecursion (λ (e : ℕ × Plain ℕ). IsPlaced (length s.modules) e.1) s.objects
   pub typed : AllByRecursion (λ (e : ℕ × Plain ℕ). IsTrue (are_elements e.1)) s.objects
@@ -52,31 +52,31 @@ AreReached s = (number : ℕ) → Lives s.objects number → ReachableIn (Contai
 
 -- and every object can be reached
 pub record KeepsRules (s : Snapshot) : Type 0 where
-  pub whole : IsWhole s
+  pub whole : IsWholeSnapshot s
   pub reached : AreReached s
 
 -- A snapshot has an image in some version: whatever the sources and the registrations are, nothing is wrong with it.
 abbrev pub IsShaped : Snapshot → Type 0
-IsShaped s = (version : Version) × Fits version s × KeepsRules s
+IsShaped s = (version : Version) × FitsVersion version s × KeepsRules s
 
 -- The bytes are the image of a snapshot that keeps the rules: they spell it, each byte of them.
 abbrev pub IsImage : List ℕ → Version → Snapshot → Type 0
-IsImage bytes version s = Spells bytes version s × KeepsRules s
+IsImage bytes version s = IsSpelling bytes version s × KeepsRules s
 
 -- the tag of a body that is an image
 abbrev pub image_tag : ℕ
 image_tag = 1
 
 -- The bytes are the body of a record that leads from every state to that of an image: a tag, and the image.
-abbrev pub IsBody : List ℕ → Version → Snapshot → Type 0
-IsBody bytes version s = (image : List ℕ) × (bytes ≡ image_tag ∷ image) × IsImage image version s
+abbrev pub IsImageBody : List ℕ → Version → Snapshot → Type 0
+IsImageBody bytes version s = (image : List ℕ) × (bytes ≡ image_tag ∷ image) × IsImage image version s
 
 -- the tests
 
 abbrev pub is_given : ℕ → ℕ × Plain ℕ → Bool
 is_given last e = nat_lt 0 e.0 && nat_le e.0 last
 
-abbrev pub is_placed_element : ℕ → Element ℕ → Bool
+abbrev pub is_placed_element : ℕ → Elements ℕ → Bool
 is_placed_element count (Handles owner class) = nat_lt owner count
 is_placed_element count _ = true
 

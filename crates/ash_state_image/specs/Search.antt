@@ -1,24 +1,24 @@
 -- The search for what is reachable: each object is marked once, and waits until its handles are followed.
 use Rattle.std.specs.Prelude.{◌≡◌, ◌⊎◌, ℕ, ◌+◌, ◌<◌, if◌then◌else◌, Bool, true, false}
 use Rattle.std.specs.Prelude.{List, [], ◌∷◌, ◌++◌, length, get_or, set, Contains}
-use Rattle.ash_host.specs.Objects.{Objects, numbers, references}
+use Rattle.ash_host.specs.Objects.{LiveObjects, numbers, references}
 use Rattle.ash_host.specs.Reach.{ReachableIn, is_among}
 use Rattle.ash_state_image.specs.declared.reaching.Search.{Search}
 
 -- which objects are marked, by their index, and the indices of those that wait
-pub record Progress : Type 0 where
+pub record SearchProgress : Type 0 where
   pub marked : List Bool
   pub pending : List ℕ
 
-abbrev pub IsMarked : Progress → ℕ → Type 0
+abbrev pub IsMarked : SearchProgress → ℕ → Type 0
 IsMarked s i = get_or s.marked i false ≡ true
 
 -- with an index marked, and waiting, if it was not marked
-abbrev pub with_marked : ℕ → Progress → Progress
+abbrev pub with_marked : ℕ → SearchProgress → SearchProgress
 with_marked i s = if get_or s.marked i false then s
     else record { marked = set s.marked i true; pending = s.pending ++ i ∷ [] }
 
-abbrev pub IsPending : Progress → ℕ → Type 0
+abbrev pub IsPending : SearchProgress → ℕ → Type 0
 IsPending s i = is_among s.pending i ≡ true
 
 -- how many are not marked
@@ -29,7 +29,7 @@ unmarked (false ∷ marked) = unmarked marked + 1
 
 -- What a search is after objects of these numbers were looked for: they are marked, what is newly marked waits, and
 -- nothing else is changed.
-pub record Visited (alive wanted : List ℕ) (old new : Progress) : Type 0 where
+pub record Visited (alive wanted : List ℕ) (old new : SearchProgress) : Type 0 where
   pub same : length new.marked ≡ length old.marked
   pub count : unmarked new.marked + length new.pending ≡ unmarked old.marked + length old.pending
   pub grows : (i : ℕ) → IsMarked old i → IsMarked new i
@@ -41,7 +41,7 @@ pub record Visited (alive wanted : List ℕ) (old new : Progress) : Type 0 where
 
 -- What is marked is reachable from what is held, what is held is marked, and what a marked object that waits no longer
 -- refers to is marked.
-pub record Searches (held : List ℕ) (objects : Objects ℕ) (s : Progress) : Type 0 where
+pub record Searches (held : List ℕ) (objects : LiveObjects ℕ) (s : SearchProgress) : Type 0 where
   pub size : length s.marked ≡ length objects
   pub waiting : (i : ℕ) → IsPending s i → IsMarked s i
   pub sound : (i : ℕ) → IsMarked s i → ReachableIn (Contains held) objects (get_or (numbers objects) i 0)
@@ -51,5 +51,5 @@ pub record Searches (held : List ℕ) (objects : Objects ℕ) (s : Progress) : T
       → IsMarked s j)
 
 -- how far the code has come
-abbrev pub progress_of : Search → Progress
+abbrev pub progress_of : Search → SearchProgress
 progress_of s = record { marked = s.marked.items; pending = s.pending.items }

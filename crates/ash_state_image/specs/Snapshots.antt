@@ -1,7 +1,7 @@
 -- What an image is of.
 use Rattle.std.specs.Prelude.{ℕ, List}
 use Rattle.ash_host.specs.declared.word.Word.{Word}
-use Rattle.ash_host.specs.Objects.{Objects}
+use Rattle.ash_host.specs.Objects.{LiveObjects}
 
 -- a module: its name, its source, and what its globals hold, in source order
 pub record Loaded : Type 0 where
@@ -18,4 +18,4 @@ pub record Snapshot : Type 0 where
   pub last : ℕ
   pub services : List (ℕ × List ℕ)
   pub modules : List Loaded
-  pub objects : Objects ℕ
+  pub objects : LiveObjects ℕ

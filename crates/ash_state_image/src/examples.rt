@@ -2,13 +2,13 @@
 //! of nothing. These functions do nothing when they run.
 ghost use Rattle.std.specs.Prelude.{◌++◌, ◌∷◌, [], take, replicate, codes};
 ghost use Rattle.ash_state_image.specs.Rules.{IsImage};
-ghost use Rattle.ash_state_image.specs.Examples.{IsSomeImage, IsDamaged, without_text};
-ghost use Rattle.ash_state_image.specs.Examples.{with_text, with_one_type};
-ghost use Rattle.ash_state_image.specs.Examples.{nothing, nothing_rest, of_each, of_each_rest};
-ghost use Rattle.ash_state_image.specs.Examples.{without_arrays, without_arrays_rest};
-ghost use Rattle.ash_state_image.specs.Examples.{of_types, of_types_rest};
-ghost use Rattle.ash_state_image.specs.Examples.{none2, none4, none8, null};
-ghost use Rattle.ash_state_image.specs.Examples.{handle_to, empty_object};
+ghost use Rattle.ash_state_image.specs.ImageExamples.{IsSomeImage, IsDamaged, without_text};
+ghost use Rattle.ash_state_image.specs.ImageExamples.{with_text, with_one_type};
+ghost use Rattle.ash_state_image.specs.ImageExamples.{nothing, nothing_rest, of_each, of_each_rest};
+ghost use Rattle.ash_state_image.specs.ImageExamples.{without_arrays, without_arrays_rest};
+ghost use Rattle.ash_state_image.specs.ImageExamples.{of_types, of_types_rest};
+ghost use Rattle.ash_state_image.specs.ImageExamples.{none2, none4, none8, null};
+ghost use Rattle.ash_state_image.specs.ImageExamples.{handle_to, empty_object};
 ghost use Rattle.ash_state_image.specs.Damage.{repeated, other_text, modules_named};
 ghost use Rattle.ash_state_image.specs.Damage.{so_many_modules, one_named};
 ghost use Rattle.ash_state_image.specs.Damage.{so_many_services, one_global, one_object};

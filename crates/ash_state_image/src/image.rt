@@ -21,12 +21,12 @@ ghost use Rattle.std.specs.Prelude.{if◌then◌else◌, OnOk, IfOk, IfSome, IsO
 ghost use Rattle.std.specs.Prelude.{IsOkUnless, ℕ, List, option_map};
 ghost use Rattle.ash_state_image.specs.Fields.{ReturnsField, text, whole};
 ghost use Rattle.ash_state_image.specs.Snapshots.{Snapshot};
-ghost use Rattle.ash_state_image.specs.Image.{Fits, Spells, image, image_of, image_v1_of};
+ghost use Rattle.ash_state_image.specs.Image.{FitsVersion, IsSpelling, image, image_of, image_v1_of};
 ghost use Rattle.ash_state_image.specs.Image.{max_registered_text_bytes};
-ghost use Rattle.ash_state_image.specs.Rules.{KeepsRules, IsShaped, IsImage, IsBody, image_tag};
+ghost use Rattle.ash_state_image.specs.Rules.{KeepsRules, IsShaped, IsImage, IsImageBody, image_tag};
 ghost use Rattle.ash_state_image.specs.ImageReading.{is_text, registered_at, snapshot_at};
 ghost use Rattle.ash_state_image.specs.ImageReading.{version_at, image_at};
-ghost use Rattle.ash_state_image.specs.Views.{snapshot_of, image_read, snapshot_in};
+ghost use Rattle.ash_state_image.specs.SnapshotViews.{snapshot_of, image_read, snapshot_in};
 ghost use Rattle.ash_state_image.specs.declared.version.Version.{Version};
 ghost use Rattle.ash_state_image.specs.declared.version.Version.TheVariants.{One, Two};
 ghost use Rattle.ash_state_image.specs.declared.fields.ReadError.TheVariants.{Damaged};
@@ -134,8 +134,8 @@ fn whole_image(alloc: Global, bytes: &[u8]) -> Result<StoredImage, ReadError>
 /// What all of the bytes spell, in either version, whatever the rules.
 fn read_spelling(alloc: Global, bytes: &[u8]) -> Result<Option<StoredImage>, AllocError>
     ensures found { IfOk result (λ found. IfSome found (λ i.
-        Spells bytes.now i.version (snapshot_of i.state))) }
-    ensures only { (version : Version) (s : Snapshot) → Spells bytes.now version s
+        IsSpelling bytes.now i.version (snapshot_of i.state))) }
+    ensures only { (version : Version) (s : Snapshot) → IsSpelling bytes.now version s
         → IfOk result (λ found. option_map image_read found ≡ Some (version, s)) }
     ensures without_memory { version_at bytes.now ≡ None → IsOk result }
 {
@@ -172,9 +172,9 @@ pub fn read_image(alloc: Global, bytes: &[u8]) -> Result<Option<StoredImage>, Al
 pub fn read_body(alloc: Global, bytes: &[u8]) -> Result<Option<StoredImage>, AllocError>
     // The bytes are the body of what is read.
     ensures found { IfOk result (λ found. IfSome found (λ i.
-        IsBody bytes.now i.version (snapshot_of i.state))) }
+        IsImageBody bytes.now i.version (snapshot_of i.state))) }
     // What the bytes are the body of is read, unless memory is refused.
-    ensures only { (version : Version) (s : Snapshot) → IsBody bytes.now version s
+    ensures only { (version : Version) (s : Snapshot) → IsImageBody bytes.now version s
         → IfOk result (λ found. option_map image_read found ≡ Some (version, s)) }
     // Where there is no tag of an image, memory is not refused.
     ensures without_memory { ((image : List ℕ) → bytes.now ≡ image_tag ∷ image → ⊥) → IsOk result }
@@ -196,17 +196,17 @@ pub fn image_of_one_state()
 
 /// What is spelled is read, where the rules hold. This function does nothing when it runs.
 pub fn images_are_read()
-    ensures again { (version : Version) (s : Snapshot) → Fits version s → KeepsRules s
+    ensures again { (version : Version) (s : Snapshot) → FitsVersion version s → KeepsRules s
         → IsImage (image version s) version s }
 {}
 
 /// Version 1 moves to version 2: a state that has an image in version 1 has one in version 2, and the bytes of the two
 /// differ in the version alone. This function does nothing when it runs.
 pub fn version_one_moves()
-    ensures fits { (s : Snapshot) → Fits One s → Fits Two s }
+    ensures fits { (s : Snapshot) → FitsVersion One s → FitsVersion Two s }
     ensures moves { (bytes : List ℕ) (s : Snapshot) → IsImage bytes One s
         → IsImage (image_of s) Two s }
-    ensures shaped { (s : Snapshot) → IsShaped s → Fits Two s × KeepsRules s }
+    ensures shaped { (s : Snapshot) → IsShaped s → FitsVersion Two s × KeepsRules s }
     ensures same { (s : Snapshot) → image_of s ≡ 2 ∷ drop 1 (image_v1_of s) }
 {}
 
@@ -220,7 +220,7 @@ fn write_registered(out: &mut Vec<u8>, registered: &str) -> Result<(), AllocErro
 }
 
 fn write_image_into(out: &mut Vec<u8>, state: StateParts<'_>) -> Result<(), AllocError>
-    requires { Fits Two (snapshot_in state) }
+    requires { FitsVersion Two (snapshot_in state) }
     ensures { OnOk result (out.new.items ≡ out.old.items ++ image_of (snapshot_in state.entry)) }
 {
     write_u16(out, VERSION)?;
@@ -235,7 +235,7 @@ fn write_image_into(out: &mut Vec<u8>, state: StateParts<'_>) -> Result<(), Allo
 /// The image of a state, in version 2. Its memory is taken at once.
 pub fn write_image(alloc: Global, state: StateParts<'_>) -> Result<Vec<u8>, AllocError>
     // The state has an image.
-    requires fits { Fits Two (snapshot_in state) }
+    requires fits { FitsVersion Two (snapshot_in state) }
     ensures written { IfOk result (λ image. image.items ≡ image_of (snapshot_in state.entry)) }
     // Where the rules hold, it is read again.
     ensures read { KeepsRules (snapshot_in state.entry)
@@ -252,12 +252,12 @@ pub fn write_image(alloc: Global, state: StateParts<'_>) -> Result<Vec<u8>, Allo
 /// at once.
 pub fn write_body(alloc: Global, state: StateParts<'_>) -> Result<Vec<u8>, AllocError>
     // The state has an image.
-    requires fits { Fits Two (snapshot_in state) }
+    requires fits { FitsVersion Two (snapshot_in state) }
     ensures written { IfOk result (λ body.
         body.items ≡ image_tag ∷ image_of (snapshot_in state.entry)) }
     // Where the rules hold, it is read again.
     ensures read { KeepsRules (snapshot_in state.entry)
-        → IfOk result (λ body. IsBody body.items Two (snapshot_in state.entry)) }
+        → IfOk result (λ body. IsImageBody body.items Two (snapshot_in state.entry)) }
     // It fits into a record.
     ensures short { IfOk result (λ body. length body.items < 2 ^ 28) }
 {

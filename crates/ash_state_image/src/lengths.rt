@@ -2,14 +2,14 @@
 
 ghost use Rattle.std.specs.Prelude.{◌≡◌, ◌<◌, ◌≤◌, ◌+◌, ◌*◌, ◌^◌, length};
 ghost use Rattle.std.specs.List.{flat_map};
-ghost use Rattle.ash_state_image.specs.Words.{word};
+ghost use Rattle.ash_state_image.specs.ImageWords.{word};
 ghost use Rattle.ash_state_image.specs.ObjectBytes.{element, host, plain, FitsHost, FitsPlain};
-ghost use Rattle.ash_state_image.specs.ObjectViews.{element_of, plain_in};
+ghost use Rattle.ash_state_image.specs.ImageObjectViews.{element_of, plain_in};
 ghost use Rattle.ash_state_image.specs.Image.{loaded_module, service, object, image_of};
 ghost use Rattle.ash_state_image.specs.Image.{FitsModule, FitsObject, FitServices};
-ghost use Rattle.ash_state_image.specs.Image.{FitModules, FitObjects, Fits};
-ghost use Rattle.ash_state_image.specs.Views.{services_in, module_in, modules_in};
-ghost use Rattle.ash_state_image.specs.Views.{object_in, objects_in, snapshot_in};
+ghost use Rattle.ash_state_image.specs.Image.{FitModules, FitObjects, FitsVersion};
+ghost use Rattle.ash_state_image.specs.SnapshotViews.{services_in, module_in, modules_in};
+ghost use Rattle.ash_state_image.specs.SnapshotViews.{object_in, objects_in, snapshot_in};
 ghost use Rattle.ash_state_image.specs.declared.version.Version.TheVariants.{Two};
 
 use crate::parts::{BodyParts, HostParts, ModuleParts, ObjectParts, StateParts};
@@ -131,7 +131,7 @@ fn modules_length(modules: &[ModuleParts<'_>]) -> usize
 
 /// What services, modules and objects have beside their counts.
 fn lists_length(state: StateParts<'_>) -> usize
-    requires { Fits Two (snapshot_in state) }
+    requires { FitsVersion Two (snapshot_in state) }
     ensures exact { result ≡ length (flat_map service (services_in state.entry.services.now))
         + length (flat_map loaded_module (modules_in state.entry.modules.now))
         + length (flat_map object (objects_in state.entry.objects.now)) }
@@ -143,7 +143,7 @@ fn lists_length(state: StateParts<'_>) -> usize
 /// How many bytes the image of a state has.
 #[tactic(auto, using(crate::proofs::ImageLengths::image_length))]
 pub fn image_length(state: StateParts<'_>) -> usize
-    requires fits { Fits Two (snapshot_in state) }
+    requires fits { FitsVersion Two (snapshot_in state) }
     ensures exact { result ≡ length (image_of (snapshot_in state.entry)) }
     ensures most { result < 2 ^ 34 }
 {

@@ -14,7 +14,7 @@ ghost use Rattle.ash_state_image.specs.Fields.{ReturnsField, times_at, items};
 ghost use Rattle.ash_state_image.specs.Image.{is_module_name, loaded_module};
 ghost use Rattle.ash_state_image.specs.Image.{FitsModule, FitModules};
 ghost use Rattle.ash_state_image.specs.ImageReading.{name_at, source_at, module_at, modules_at};
-ghost use Rattle.ash_state_image.specs.Views.{module_of, modules_of, module_in, modules_in};
+ghost use Rattle.ash_state_image.specs.SnapshotViews.{module_of, modules_of, module_in, modules_in};
 ghost use Rattle.ash_state_image.specs.declared.fields.ReadError.TheVariants.{Damaged};
 
 use crate::fields::{ReadError, prefix, u8_at, u16_at, u32_at, write_u8, write_u16, write_u32};

@@ -4,7 +4,7 @@ ghost use Rattle.std.specs.Prelude.{◌≡◌};
 ghost use Rattle.std.specs.List.{list_all};
 ghost use Rattle.ash_state_image.specs.Image.{are_ascending, names_of};
 ghost use Rattle.ash_state_image.specs.Image.{is_name_start, is_name_part, is_name, is_module_name};
-ghost use Rattle.ash_state_image.specs.Views.{modules_of};
+ghost use Rattle.ash_state_image.specs.SnapshotViews.{modules_of};
 
 use crate::limits::MAX_MODULE_NAME_BYTES;
 use crate::stored::StoredModule;

@@ -10,8 +10,8 @@ ghost use Rattle.ash_host.specs.Objects.{numbers};
 ghost use Rattle.ash_state_image.specs.Fields.{ReturnsField, times_at, items};
 ghost use Rattle.ash_state_image.specs.Image.{object, do_rise, has_version, FitsObject, FitObjects};
 ghost use Rattle.ash_state_image.specs.ImageReading.{body_at, object_at, objects_at};
-ghost use Rattle.ash_state_image.specs.ObjectViews.{plain_of};
-ghost use Rattle.ash_state_image.specs.Views.{object_of, objects_of, object_in, objects_in};
+ghost use Rattle.ash_state_image.specs.ImageObjectViews.{plain_of};
+ghost use Rattle.ash_state_image.specs.SnapshotViews.{object_of, objects_of, object_in, objects_in};
 ghost use Rattle.ash_state_image.specs.declared.version.Version.TheVariants.{Two};
 
 use crate::fields::{ReadError, u32_at, u64_at, write_u32, write_u64};

@@ -22,8 +22,8 @@ ghost use Rattle.ash_state_image.specs.ObjectBytes.{FitsScript, FitsHost, FitsAr
 ghost use Rattle.ash_state_image.specs.ObjectBytes.{element_at, kind_and_state_at};
 ghost use Rattle.ash_state_image.specs.ObjectBytes.{script_at, array_at};
 ghost use Rattle.ash_state_image.specs.ObjectBytes.{plain_at};
-ghost use Rattle.ash_state_image.specs.ObjectViews.{element_of, script_of, service_of};
-ghost use Rattle.ash_state_image.specs.ObjectViews.{array_of, plain_of, plain_in};
+ghost use Rattle.ash_state_image.specs.ImageObjectViews.{element_of, script_of, service_of};
+ghost use Rattle.ash_state_image.specs.ImageObjectViews.{array_of, plain_of, plain_in};
 ghost use Rattle.ash_state_image.specs.declared.fields.ReadError.TheVariants.{Damaged};
 
 use crate::fields::{ReadError, prefix, u8_at, u16_at, write_u8, write_u16};

@@ -10,7 +10,7 @@ ghost use Rattle.ash_host.specs.Objects.{numbers, handle, handles};
 ghost use Rattle.ash_state_image.specs.Image.{do_rise};
 ghost use Rattle.ash_state_image.specs.Rules.{held_by, AreReached};
 ghost use Rattle.ash_state_image.specs.Search.{Visited, Searches, progress_of, with_marked};
-ghost use Rattle.ash_state_image.specs.Views.{objects_of, modules_of, snapshot_of};
+ghost use Rattle.ash_state_image.specs.SnapshotViews.{objects_of, modules_of, snapshot_of};
 
 use crate::stored::{StoredModule, StoredState, words_of};
 use ash_host::Word;

@@ -4,13 +4,13 @@ ghost use Rattle.std.specs.Prelude.{◌≡◌, ◌↔◌, IfOk, IsTrue};
 ghost use Rattle.std.specs.List.{list_all};
 ghost use Rattle.ash_host.specs.Objects.{numbers, fields_of};
 ghost use Rattle.ash_host.specs.Reach.{is_among};
-ghost use Rattle.ash_state_image.specs.ObjectViews.{element_of, plain_of};
+ghost use Rattle.ash_state_image.specs.ImageObjectViews.{element_of, plain_of};
 ghost use Rattle.ash_state_image.specs.Image.{do_rise};
 ghost use Rattle.ash_state_image.specs.Rules.{is_given, is_placed, is_element};
 ghost use Rattle.ash_state_image.specs.Rules.{are_elements, all_live};
 ghost use Rattle.ash_state_image.specs.Rules.{module_lives, object_lives, is_linked};
 ghost use Rattle.ash_state_image.specs.Rules.{is_whole, KeepsRules};
-ghost use Rattle.ash_state_image.specs.Views.{object_of, objects_of, modules_of, snapshot_of};
+ghost use Rattle.ash_state_image.specs.SnapshotViews.{object_of, objects_of, modules_of, snapshot_of};
 
 use crate::reaching::are_reached;
 use crate::stored::{ElementType, StoredBody, StoredModule, StoredObject, StoredState, words_of};

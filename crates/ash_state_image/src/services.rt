@@ -10,7 +10,7 @@ ghost use Rattle.ash_state_image.specs.Fields.{ReturnsField, times_at, items};
 ghost use Rattle.ash_state_image.specs.ObjectBytes.{FitsHost, kind_and_state_at};
 ghost use Rattle.ash_state_image.specs.Image.{service, FitServices};
 ghost use Rattle.ash_state_image.specs.ImageReading.{services_at};
-ghost use Rattle.ash_state_image.specs.Views.{services_of, services_in};
+ghost use Rattle.ash_state_image.specs.SnapshotViews.{services_of, services_in};
 
 use crate::fields::{ReadError, u16_at, write_u16};
 use crate::limits::MAX_SERVICES;

@@ -2,7 +2,7 @@
 
 ghost use Rattle.std.specs.Prelude.{◌≡◌};
 ghost use Rattle.ash_host.specs.Objects.{fields_of};
-ghost use Rattle.ash_state_image.specs.ObjectViews.{plain_of};
+ghost use Rattle.ash_state_image.specs.ImageObjectViews.{plain_of};
 
 use crate::version::Version;
 use ash_host::Word;

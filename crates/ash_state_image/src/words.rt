@@ -13,14 +13,14 @@
 ghost use Rattle.std.specs.Prelude.{◌≡◌, ◌++◌, OnOk, IsOkUnless};
 ghost use Rattle.std.specs.List.{flat_map};
 ghost use Rattle.ash_state_image.specs.Fields.{ReturnsField, times_at, number};
-ghost use Rattle.ash_state_image.specs.Words.{word, word_at};
+ghost use Rattle.ash_state_image.specs.ImageWords.{word, word_at};
 ghost use Rattle.ash_state_image.specs.declared.fields.ReadError.TheVariants.{Damaged};
 
 use crate::fields::{ReadError, u8_at, u32_at, u64_at, write_u8, write_u32, write_u64};
 use ash_host::Word;
 use std::alloc::{AllocError, Global};
 
-#[tactic(auto, unfolding(crate::specs::Words::word_at, crate::specs::Words::value_at))]
+#[tactic(auto, unfolding(crate::specs::ImageWords::word_at, crate::specs::ImageWords::value_at))]
 fn word_of(bytes: &[u8]) -> Result<(Word, &[u8]), ReadError>
     ensures read { ReturnsField (λ x. (x.0, x.1.now)) result (word_at bytes.now) }
     // It takes no memory.

@@ -3,26 +3,26 @@ use Rattle.std.proofs.lemmas.Option.{none-some, same_Some}
 use Rattle.std.proofs.Common.{ℕ, zero, suc, ◌+◌, ◌-◌, ◌<◌, length, Some, slice_get, get_or, drop, drop-cons, add-one}
 use Rattle.std.proofs.Common.{arith, ◌≡◌, List, [], ◌∷◌, map, Bool, true, false, ◌||◌, refl, sym, ap, ◌∙◌, Box, Vec}
 use Rattle.std.proofs.Common.{Global, rules}
-use Rattle.ash_tree.specs.declared.tree.places.Place.{Place}
+use Rattle.ash_tree.specs.declared.tree.places.Position.{Position}
 use Rattle.ash_tree.specs.declared.tree.statements.Label.{Label}
 use Rattle.ash_tree.specs.declared.tree.statements.StmtKind.TheViews as stmt_views
 use Rattle.ash_tree.specs.declared.tree.statements.Stmt as code_stmt
 use Rattle.ash_tree.specs.declared.tree.statements.Case as code_case
 use Rattle.ash_tree.specs.declared.tree.expressions.Expr as code_expr
 use Rattle.ash_tree.specs.Tree.{If, IfElse, labelled, next_case, stmts, cases}
-use Rattle.ash_tree.specs.Views.{stmt_at, stmt_of, case_of, expr_of}
+use Rattle.ash_tree.specs.TreeViews.{stmt_at, stmt_of, case_of, expr_of}
 use Rattle.ash_tree.proofs.Rows.{stmts_of-row}
 use Rattle.ash_typing.specs.Returning.{any_returns, last_returns, case_returns}
 
-pub if_is : (p : Place) (c : code_expr.Expr) (s : Box code_stmt.Stmt Global) → stmt_at p (stmt_views.If c s) ≡ If p (expr_of c) (stmt_of s.value)
+pub if_is : (p : Position) (c : code_expr.Expr) (s : Box code_stmt.Stmt Global) → stmt_at p (stmt_views.If c s) ≡ If p (expr_of c) (stmt_of s.value)
 if_is p c s = search (rules, stmt_views.the_lemmas)
 
-pub if_else_is : (p : Place) (c : code_expr.Expr) (s t : Box code_stmt.Stmt Global) → stmt_at p (stmt_views.IfElse c s t) ≡ IfElse p (expr_of c) (stmt_of s.value) (stmt_of t.value)
+pub if_else_is : (p : Position) (c : code_expr.Expr) (s t : Box code_stmt.Stmt Global) → stmt_at p (stmt_views.IfElse c s t) ≡ IfElse p (expr_of c) (stmt_of s.value) (stmt_of t.value)
 if_else_is p c s t = search (rules, stmt_views.the_lemmas)
 
 -- labels
 
-case_made : (p : Place) (l : Label) (body : Vec code_stmt.Stmt Global) → case_of (code_case.roll-Case (record { place = p; label = l; body = body })) ≡ labelled p l (stmts (map stmt_of body.items))
+case_made : (p : Position) (l : Label) (body : Vec code_stmt.Stmt Global) → case_of (code_case.roll-Case (record { place = p; label = l; body = body })) ≡ labelled p l (stmts (map stmt_of body.items))
 case_made p l body = search (rules, stmt_views.the_lemmas, stmts_of-row)
 
 pub case_is : (c : code_case.Case) → case_of c ≡ labelled (code_case.out-Case c).place (code_case.out-Case c).label (stmts (map stmt_of (code_case.out-Case c).body.items))

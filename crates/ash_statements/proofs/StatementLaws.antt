@@ -5,7 +5,7 @@ use Rattle.std.proofs.Common.{drop_of_length-le, Result, Option, option_map, rul
 use Rattle.std.proofs.lemmas.List.{take_at, take-map, length-map, map-append}
 use Rattle.std.specs.declared.vec.Vec.{Vec}
 use Rattle.std.specs.declared.alloc.Global.{Global}
-use Rattle.ash_tree.specs.declared.tree.places.Place.{Place}
+use Rattle.ash_tree.specs.declared.tree.places.Position.{Position}
 use Rattle.ash_tree.specs.declared.tree.statements.StmtKind.TheViews as kinds
 use Rattle.ash_tree.specs.declared.tree.statements.Stmt as code_stmt
 use Rattle.ash_tree.specs.declared.tree.statements.Case as code_case
@@ -13,7 +13,7 @@ use Rattle.ash_tree.specs.declared.tree.expressions.Expr as code_expr
 use Rattle.ash_tree.specs.declared.tree.statements.Label.{Label}
 use Rattle.std.specs.declared.boxed.Box.{Box}
 use Rattle.ash_tree.specs.Tree as written
-use Rattle.ash_tree.specs.Views.{stmt_at, stmt_of, case_of, expr_of}
+use Rattle.ash_tree.specs.TreeViews.{stmt_at, stmt_of, case_of, expr_of}
 use Rattle.ash_tree.proofs.Rows.{block_is, switch_is}
 use Rattle.ash_typed.specs.declared.tree.statements.Stmt as typed_stmt
 use Rattle.ash_typed.specs.declared.tree.statements.Case as typed_case
@@ -24,12 +24,12 @@ use Rattle.ash_typing.specs.TypingResult.{TypingResult, ◌>>=◌}
 use Rattle.ash_typed.specs.StatementTree.{Initialization, Stmt, Block, Stmts, no_stmt, stmt, stmts, Case, labelled}
 use Rattle.ash_typed.specs.StatementTree.{Cases, no_case, next_case, cases}
 use Rattle.ash_typing.specs.Environment.{Declared}
-use Rattle.ash_typing.specs.Statements.{check_stmt, check_stmts, check_cases}
+use Rattle.ash_typing.specs.StatementRules.{check_stmt, check_stmts, check_cases}
 use Rattle.ash_environment.specs.declared.signatures.Binding as code_binding
 use Rattle.ash_environment.specs.declared.error.CheckError.{CheckError}
 use Rattle.ash_environment.specs.declared.error.CheckError.TheVariants as errors
 use Rattle.ash_environment.specs.Agreement.{FailsWith}
-use Rattle.ash_environment.specs.Views.{binding_of}
+use Rattle.ash_environment.specs.EnvironmentViews.{binding_of}
 use Rattle.ash_statements.proofs.ReturnLaws.{case_is, begins_at}
 use Rattle.ash_typing.specs.Scopes.{Scope, block_of, after}
 use Rattle.ash_typing.specs.Labels.{is_last}
@@ -125,11 +125,11 @@ block_of_source source ss items is i = ap (stmt_at source.place) is ∙ block_is
 pub switch_of_source : (source : code_stmt.Stmt) (e : code_expr.Expr) (cs : Vec code_case.Case Global) (items : List code_case.Case) → source.kind ≡ kinds.Switch e cs → items ≡ cs.items → stmt_of source ≡ written.Switch source.place (expr_of e) (written.cases (map case_of items))
 switch_of_source source e cs items is i = ap (stmt_at source.place) is ∙ switch_is source.place e cs ∙ ap (λ xs. written.Switch source.place (expr_of e) (written.cases (map case_of xs))) (sym i)
 
-pub block_checked : (scope inner : Scope) (s : written.Stmt) (p : Place) (ss : written.Stmts) (body : Stmts) → s ≡ written.Block p ss → inner ≡ block_of scope → check_stmts inner ss ≡ Ok body → check_stmt scope s ≡ Ok (Block p.line body)
+pub block_checked : (scope inner : Scope) (s : written.Stmt) (p : Position) (ss : written.Stmts) (body : Stmts) → s ≡ written.Block p ss → inner ≡ block_of scope → check_stmts inner ss ≡ Ok body → check_stmt scope s ≡ Ok (Block p.line body)
 block_checked scope inner s p ss body is k h =
     ap (check_stmt scope) is ∙ ap (λ x. check_stmts x ss >>= λ b. Ok (Block p.line b)) (sym k) ∙ ap (λ r. r >>= λ b. Ok (Block p.line b)) h
 
-pub block_fails : (scope inner : Scope) (s : written.Stmt) (p : Place) (ss : written.Stmts) (e : CheckError) → s ≡ written.Block p ss → inner ≡ block_of scope → FailsWith e (check_stmts inner ss) → FailsWith e (check_stmt scope s)
+pub block_fails : (scope inner : Scope) (s : written.Stmt) (p : Position) (ss : written.Stmts) (e : CheckError) → s ≡ written.Block p ss → inner ≡ block_of scope → FailsWith e (check_stmts inner ss) → FailsWith e (check_stmt scope s)
 block_fails scope inner s p ss (errors.Fault f) is k h =
     ap (check_stmt scope) is ∙ ap (λ x. check_stmts x ss >>= λ b. Ok (Block p.line b)) (sym k) ∙ ap (λ r. r >>= λ b. Ok (Block p.line b)) h
 block_fails scope inner s p ss errors.NoMemory is k h = tt

@@ -7,17 +7,17 @@ use Rattle.ash_typed.specs.declared.tree.expressions.Expr as expr_code
 use Rattle.ash_typed.specs.declared.tree.statements.Stmt as stmt_code
 use Rattle.ash_typed.specs.declared.tree.statements.Case as case_code
 use Rattle.ash_typed.specs.declared.tree.statements.Initialization as initialization_code
-use Rattle.ash_typed.specs.Tree.{Expr}
-use Rattle.ash_typed.specs.Views.{expr_of}
+use Rattle.ash_typed.specs.TypedTree.{Expr}
+use Rattle.ash_typed.specs.TypedTreeViews.{expr_of}
 use Rattle.ash_typed.specs.StatementTree.{Initialization, Stmts, Cases, cases}
 use Rattle.ash_typed.specs.BodyViews.{value_of, case_of, body_of}
 use Rattle.ash_typing.specs.Environment.{Declared}
-use Rattle.ash_typing.specs.Expressions.{TypedExpr}
+use Rattle.ash_typing.specs.ExpressionRules.{TypedExpr}
 use Rattle.ash_typing.specs.Scopes.{Scope}
 use Rattle.ash_environment.specs.declared.signatures.Binding as binding
 use Rattle.ash_expressions.specs.declared.typed_expr.TypedExpr as typed_expr
-use Rattle.ash_environment.specs.Views.{binding_of, signatures_of}
-use Rattle.ash_expressions.specs.Views.{typed_of}
+use Rattle.ash_environment.specs.EnvironmentViews.{binding_of, signatures_of}
+use Rattle.ash_expressions.specs.TypedExprViews.{typed_of}
 use Rattle.ash_statements.specs.declared.scopes.Scope as scope
 
 abbrev pub locals_of : Vec binding.Binding Global → List Declared

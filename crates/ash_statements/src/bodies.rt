@@ -1,13 +1,13 @@
 //! Bodies of functions.
 
 ghost use Rattle.std.specs.Prelude.{◌≡◌, map};
-ghost use Rattle.ash_tree.specs.Views.{stmt_of};
+ghost use Rattle.ash_tree.specs.TreeViews.{stmt_of};
 ghost use Rattle.ash_typing.specs.Environment.{with_locals};
 ghost use Rattle.ash_typing.specs.Returning as returning;
-ghost use Rattle.ash_typing.specs.Statements as definition;
+ghost use Rattle.ash_typing.specs.StatementRules as definition;
 ghost use Rattle.ash_typed.specs.BodyViews.{body_of};
 ghost use Rattle.ash_environment.specs.Agreement.{Agrees};
-ghost use Rattle.ash_environment.specs.Views.{binding_of, environment_of};
+ghost use Rattle.ash_environment.specs.EnvironmentViews.{binding_of, environment_of};
 
 use crate::returning::any_returns;
 use crate::scopes::Scope;
@@ -17,7 +17,7 @@ use ash_tree::Stmt;
 use ash_typing::Ty;
 
 /// Checks the body of a function that returns this type, whose parameters are the locals.
-#[tactic(auto, unfolding(ash_typing::specs::Statements::check_body))]
+#[tactic(auto, unfolding(ash_typing::specs::StatementRules::check_body))]
 pub fn check_body<'a>(
     env: &Environment<'_, 'a>,
     mut locals: Vec<Binding<'a>>,

@@ -1,12 +1,12 @@
 //! `if`, once its parts are typed: a condition has to be a truth value.
 
 ghost use Rattle.std.specs.Prelude.{◌≡◌, Ok, IfOk};
-ghost use Rattle.ash_typed.specs.Views.{expr_of};
+ghost use Rattle.ash_typed.specs.TypedTreeViews.{expr_of};
 ghost use Rattle.ash_typed.specs.StatementTree.{If, no_branch, branch};
 ghost use Rattle.ash_typed.specs.BodyViews.{stmt_of};
-ghost use Rattle.ash_typing.specs.Statements as definition;
+ghost use Rattle.ash_typing.specs.StatementRules as definition;
 ghost use Rattle.ash_environment.specs.Agreement.{Agrees};
-ghost use Rattle.ash_expressions.specs.Views.{typed_of};
+ghost use Rattle.ash_expressions.specs.TypedExprViews.{typed_of};
 
 use ash_environment::CheckResult;
 use ash_expressions::{TypedExpr, check_bool};
@@ -14,7 +14,7 @@ use ash_typed::{Expr as Tree, Stmt, StmtKind};
 use std::alloc::{AllocError, Global};
 
 /// `if (condition) inner`
-#[tactic(auto, unfolding(ash_typing::specs::Statements::check_if))]
+#[tactic(auto, unfolding(ash_typing::specs::StatementRules::check_if))]
 pub(crate) fn build_if(line: usize, condition: TypedExpr, inner: Box<Stmt>) -> CheckResult<Stmt>
     ensures { Agrees stmt_of result
         (definition.check_if line (Ok (typed_of condition)) (Ok (stmt_of inner.value))) }
@@ -38,7 +38,7 @@ fn if_stmt(line: usize, condition: Tree, then: Box<Stmt>) -> Stmt
 }
 
 /// `if (condition) inner else other`
-#[tactic(auto, unfolding(ash_typing::specs::Statements::check_if_else))]
+#[tactic(auto, unfolding(ash_typing::specs::StatementRules::check_if_else))]
 pub(crate) fn build_if_else(
     line: usize,
     condition: TypedExpr,

@@ -3,16 +3,16 @@
 ghost use Rattle.std.specs.Prelude.{◌≡◌, map, option_map, IfOk};
 ghost use Rattle.ash_registrations.specs.Registered.{registered};
 ghost use Rattle.ash_tree.specs.Tree.{place_of_type};
-ghost use Rattle.ash_tree.specs.Views.{element_of, type_of, initializer_of, decl_of};
+ghost use Rattle.ash_tree.specs.TreeViews.{element_of, type_of, initializer_of, decl_of};
 ghost use Rattle.ash_typed.specs.BodyViews.{value_of};
 ghost use Rattle.ash_typing.specs.Environment as environment;
 ghost use Rattle.ash_typing.specs.ModuleDeclarations as type_names;
-ghost use Rattle.ash_typing.specs.Expressions as typing;
+ghost use Rattle.ash_typing.specs.ExpressionRules as typing;
 ghost use Rattle.ash_typing.specs.Declarations as definition;
 ghost use Rattle.ash_environment.specs.Agreement.{Agrees};
-ghost use Rattle.ash_environment.specs.Views.{class_signature_of, classes_of, callee_of};
-ghost use Rattle.ash_environment.specs.Views.{environment_of};
-ghost use Rattle.ash_expressions.specs.Views.{typed_of};
+ghost use Rattle.ash_environment.specs.EnvironmentViews.{class_signature_of, classes_of, callee_of};
+ghost use Rattle.ash_environment.specs.EnvironmentViews.{environment_of};
+ghost use Rattle.ash_expressions.specs.TypedExprViews.{typed_of};
 ghost use Rattle.ash_statements.specs.StatementViews.{optional_expr};
 
 use ash_environment::{Callee, CheckResult, Environment, Parameters, fault_at, ty_named, var_type};
@@ -20,13 +20,13 @@ use ash_expressions::{
     Arguments, AssignmentSide, TypedExpr, array_callee, build_call, check_expr, check_exprs,
     coerce_for_assignment,
 };
-use ash_tree::{Decl, Element, Initializer, Place, Type, TypeKind};
-use ash_typed::{Expr, Initialization, ObjectType, Target};
+use ash_tree::{Decl, Element, Initializer, Position, Type, TypeKind};
+use ash_typed::{CallTarget, Expr, Initialization, ObjectType};
 use ash_typing::{Callable, Rule, Ty};
 
 /// Where a type is written.
 #[tactic(auto, using(ash_tree::proofs::Rows::type_place_is))]
-pub fn place_of(of: &Type) -> Place
+pub fn place_of(of: &Type) -> Position
     ensures place_written { result ≡ place_of_type (type_of of.now) }
 {
     of.place
@@ -78,7 +78,7 @@ fn class_callee<'a>(env: &Environment<'a, '_>, place: usize) -> Option<Callee<'a
 {
     let class = env.signatures.classes.get(place)?;
     Some(Callee {
-        target: Callable::Target(Target::Class(place)),
+        target: Callable::Target(CallTarget::Class(place)),
         result: Ty::Handle(ObjectType::Class(place)),
         parameters: Some(Parameters::Script(&class.parameters)),
     })

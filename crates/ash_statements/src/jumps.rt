@@ -1,25 +1,25 @@
 //! Statements that leave: `break`, `continue` and `return`.
 
 ghost use Rattle.std.specs.Prelude.{◌≡◌, ◌||◌, map, option_map};
-ghost use Rattle.ash_tree.specs.Views as written;
-ghost use Rattle.ash_typed.specs.Views.{expr_of};
+ghost use Rattle.ash_tree.specs.TreeViews as written;
+ghost use Rattle.ash_typed.specs.TypedTreeViews.{expr_of};
 ghost use Rattle.ash_typed.specs.BodyViews.{stmt_of};
-ghost use Rattle.ash_typing.specs.Statements as definition;
+ghost use Rattle.ash_typing.specs.StatementRules as definition;
 ghost use Rattle.ash_environment.specs.Agreement.{Agrees};
-ghost use Rattle.ash_environment.specs.Views.{classes_of, binding_of};
-ghost use Rattle.ash_expressions.specs.Views.{typed_of};
+ghost use Rattle.ash_environment.specs.EnvironmentViews.{classes_of, binding_of};
+ghost use Rattle.ash_expressions.specs.TypedExprViews.{typed_of};
 ghost use Rattle.ash_statements.specs.StatementViews.{scope_of};
 
 use crate::scopes::Scope;
 use ash_environment::{Binding, CheckResult, Environment, fault_at, is_void};
 use ash_expressions::{AssignmentSide, TypedExpr, check_expr, coerce_for_assignment};
-use ash_tree::{Expr, Place};
+use ash_tree::{Expr, Position};
 use ash_typed::{Expr as Tree, Stmt as TypedStmt, StmtKind as TypedKind};
 use ash_typing::{Rule, Ty};
 
 /// `break`, which has to leave a loop or a `switch`.
-#[tactic(auto, unfolding(ash_typing::specs::Statements::check_break))]
-pub(crate) fn check_break(scope: &Scope, place: Place) -> CheckResult<TypedStmt>
+#[tactic(auto, unfolding(ash_typing::specs::StatementRules::check_break))]
+pub(crate) fn check_break(scope: &Scope, place: Position) -> CheckResult<TypedStmt>
     ensures { Agrees stmt_of result
         (definition.check_break (scope.now.in_loop || scope.now.in_switch) place) }
 {
@@ -34,8 +34,8 @@ pub(crate) fn check_break(scope: &Scope, place: Place) -> CheckResult<TypedStmt>
 }
 
 /// `continue`, which has to be in a loop.
-#[tactic(auto, unfolding(ash_typing::specs::Statements::check_continue))]
-pub(crate) fn check_continue(scope: &Scope, place: Place) -> CheckResult<TypedStmt>
+#[tactic(auto, unfolding(ash_typing::specs::StatementRules::check_continue))]
+pub(crate) fn check_continue(scope: &Scope, place: Position) -> CheckResult<TypedStmt>
     ensures { Agrees stmt_of result (definition.check_continue scope.now.in_loop place) }
 {
     if !scope.in_loop {
@@ -55,7 +55,7 @@ fn returns_nothing(of: Ty) -> bool
 }
 
 /// A value that is returned at this offset.
-#[tactic(auto, unfolding(ash_typing::specs::Statements::returned))]
+#[tactic(auto, unfolding(ash_typing::specs::StatementRules::returned))]
 fn build_return_value(env: &Environment, of: Ty, at: usize, value: TypedExpr) -> CheckResult<Tree>
     ensures { Agrees expr_of result
         (definition.returned (classes_of env.now) of at (typed_of value)) }
@@ -67,11 +67,11 @@ fn build_return_value(env: &Environment, of: Ty, at: usize, value: TypedExpr) ->
 }
 
 /// `return`, with a value where its function returns one.
-#[tactic(auto, unfolding(ash_typing::specs::Statements::check_return))]
+#[tactic(auto, unfolding(ash_typing::specs::StatementRules::check_return))]
 pub(crate) fn check_return(
     scope: &Scope,
     locals: &[Binding],
-    place: Place,
+    place: Position,
     value: &Option<Expr>,
 ) -> CheckResult<TypedStmt>
     ensures { Agrees stmt_of result

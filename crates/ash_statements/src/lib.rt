@@ -1,12 +1,12 @@
 //! The check of statements: the body of a function, whose parameters are its first locals, typed, or its first fault.
 //!
-//! `check_body` of `ash_typing/specs/Statements.antt` defines what a body is, and which fault of it is the first: of a
-//! statement its parts in the order of the text, then the statement. The function `check_body` returns what it defines,
-//! unless memory runs out; `Agrees` of `ash_environment/specs/Agreement.antt` says so of each function that may fail.
-//! `check_decl` does the same for a declared variable, of a block, a class or a module, by `Declarations.antt` beside
-//! it; and `body_returns` says which bodies return, however their conditions turn out, by `Returning.antt`. Expressions
-//! are checked by `ash_expressions`, in environments of `ash_environment`. The crate uses `ash_tree`, whose trees it
-//! checks, `ash_typed`, whose trees it makes, and the rules of `ash_typing`.
+//! `check_body` of `ash_typing/specs/StatementRules.antt` defines what a body is, and which fault of it is the first:
+//! of a statement its parts in the order of the text, then the statement. The function `check_body` returns what it
+//! defines, unless memory runs out; `Agrees` of `ash_environment/specs/Agreement.antt` says so of each function that
+//! may fail. `check_decl` does the same for a declared variable, of a block, a class or a module, by
+//! `Declarations.antt` beside it; and `body_returns` says which bodies return, however their conditions turn out, by
+//! `Returning.antt`. Expressions are checked by `ash_expressions`, in environments of `ash_environment`. The crate uses
+//! `ash_tree`, whose trees it checks, `ash_typed`, whose trees it makes, and the rules of `ash_typing`.
 //!
 //! A function `check_*` takes a part of a script; a function `build_*` takes parts that are checked, and returns the
 //! typed phrase that they are the parts of, or its fault.

@@ -1,10 +1,10 @@
 //! Variables of a block.
 
 ghost use Rattle.std.specs.Prelude.{◌≡◌, ◌++◌, map, IfOk};
-ghost use Rattle.ash_tree.specs.Views.{decl_of, vars_of};
+ghost use Rattle.ash_tree.specs.TreeViews.{decl_of, vars_of};
 ghost use Rattle.ash_typing.specs.ModuleDeclarations.{declared};
 ghost use Rattle.ash_typing.specs.Scopes as scopes;
-ghost use Rattle.ash_typing.specs.Statements as definition;
+ghost use Rattle.ash_typing.specs.StatementRules as definition;
 ghost use Rattle.ash_environment.specs.Agreement.{Agrees};
 ghost use Rattle.ash_statements.specs.StatementViews.{locals_of, scope_of, values_of};
 
@@ -40,7 +40,7 @@ fn check_local_decls<'n>(
 }
 
 /// Checks variables of one type.
-#[tactic(auto, unfolding(ash_typing::specs::Statements::check_vars))]
+#[tactic(auto, unfolding(ash_typing::specs::StatementRules::check_vars))]
 pub(crate) fn check_local_vars<'n>(
     scope: &Scope<'_, 'n>,
     locals: &mut Vec<Binding<'n>>,

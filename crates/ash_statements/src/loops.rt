@@ -1,14 +1,14 @@
 //! Loops, once their parts are typed, and the head of a `for`.
 
 ghost use Rattle.std.specs.Prelude.{◌≡◌, Ok, map, option_map, IfOk};
-ghost use Rattle.ash_tree.specs.Views as written;
-ghost use Rattle.ash_typed.specs.Views.{expr_of};
+ghost use Rattle.ash_tree.specs.TreeViews as written;
+ghost use Rattle.ash_typed.specs.TypedTreeViews.{expr_of};
 ghost use Rattle.ash_typed.specs.BodyViews.{stmt_of, head_of};
 ghost use Rattle.ash_typing.specs.Scopes as scopes;
-ghost use Rattle.ash_typing.specs.Statements as definition;
+ghost use Rattle.ash_typing.specs.StatementRules as definition;
 ghost use Rattle.ash_environment.specs.Agreement.{Agrees};
-ghost use Rattle.ash_environment.specs.Views.{environment_of};
-ghost use Rattle.ash_expressions.specs.Views.{typed_of, all_typed_of};
+ghost use Rattle.ash_environment.specs.EnvironmentViews.{environment_of};
+ghost use Rattle.ash_expressions.specs.TypedExprViews.{typed_of, all_typed_of};
 ghost use Rattle.ash_statements.specs.StatementViews.{locals_of, scope_of, optional_typed_of};
 ghost use Rattle.ash_statements.specs.StatementViews.{optional_expr};
 
@@ -16,14 +16,14 @@ use crate::locals::check_local_vars;
 use crate::scopes::Scope;
 use ash_environment::{Binding, CheckResult, Environment, fault_at};
 use ash_expressions::{AssignmentSide, TypedExpr, check_bool, check_expr};
-use ash_tree::{Expr, Place, Stmt as Source, StmtKind};
+use ash_tree::{Expr, Position, Stmt as Source, StmtKind};
 use ash_typed::{Expr as Tree, Head, Stmt, Test, nodes};
 use ash_typing::Rule;
 use std::alloc::{AllocError, Global};
 
 /// Checks the head of a `for`, which the grammar has as a statement: nothing, variables, which are added to the locals,
 /// or an expression.
-#[tactic(auto, using(ash_tree::proofs::Rows::block_is, ash_tree::proofs::Rows::switch_is), unfolding(ash_typing::specs::Statements::check_head))]
+#[tactic(auto, using(ash_tree::proofs::Rows::block_is, ash_tree::proofs::Rows::switch_is), unfolding(ash_typing::specs::StatementRules::check_head))]
 pub(crate) fn check_for_head<'n>(
     scope: &Scope<'_, 'n>,
     locals: &mut Vec<Binding<'n>>,
@@ -61,7 +61,7 @@ pub(crate) fn check_for_head<'n>(
 }
 
 /// `while (condition) inner`
-#[tactic(auto, unfolding(ash_typing::specs::Statements::check_while))]
+#[tactic(auto, unfolding(ash_typing::specs::StatementRules::check_while))]
 pub(crate) fn build_while(
     alloc: Global,
     line: usize,
@@ -77,7 +77,7 @@ pub(crate) fn build_while(
 }
 
 /// `do inner while (condition);`
-#[tactic(auto, unfolding(ash_typing::specs::Statements::check_do_while))]
+#[tactic(auto, unfolding(ash_typing::specs::StatementRules::check_do_while))]
 pub(crate) fn build_do_while(
     alloc: Global,
     line: usize,
@@ -95,7 +95,7 @@ pub(crate) fn build_do_while(
 /// The parts of `for`, as the source has them.
 #[derive(Clone, Copy)]
 pub(crate) struct ForParts<'n> {
-    pub(crate) place: Place,
+    pub(crate) place: Position,
     pub(crate) first: &'n Source,
     pub(crate) condition: &'n Option<Expr>,
     pub(crate) steps: &'n [Expr],
@@ -112,7 +112,7 @@ pub(crate) struct CheckedFor {
 }
 
 /// `for (head condition; steps) body`
-#[tactic(auto, unfolding(ash_typing::specs::Statements::check_for))]
+#[tactic(auto, unfolding(ash_typing::specs::StatementRules::check_for))]
 pub(crate) fn build_for(alloc: Global, line: usize, parts: CheckedFor) -> CheckResult<Stmt>
     ensures { Agrees stmt_of result
         (definition.check_for line (Ok (head_of parts.head))

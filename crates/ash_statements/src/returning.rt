@@ -2,7 +2,7 @@
 
 ghost use Rattle.std.specs.Prelude.{◌≡◌, map};
 ghost use Rattle.ash_tree.specs.Tree.{stmts, cases};
-ghost use Rattle.ash_tree.specs.Views.{stmt_of, case_of};
+ghost use Rattle.ash_tree.specs.TreeViews.{stmt_of, case_of};
 ghost use Rattle.ash_typing.specs.Returning as definition;
 
 use ash_tree::{Case, Label, Stmt, StmtKind};

@@ -2,13 +2,13 @@
 
 ghost use Rattle.std.specs.Prelude.{◌≡◌, drop, map, IfOk};
 ghost use Rattle.std.specs.List.{list_any};
-ghost use Rattle.ash_tree.specs.Views.{decl_of};
+ghost use Rattle.ash_tree.specs.TreeViews.{decl_of};
 ghost use Rattle.ash_typing.specs.Environment.{declares};
 ghost use Rattle.ash_typing.specs.ModuleDeclarations.{declared};
 ghost use Rattle.ash_typing.specs.Scopes as scopes;
-ghost use Rattle.ash_typing.specs.Statements as definition;
+ghost use Rattle.ash_typing.specs.StatementRules as definition;
 ghost use Rattle.ash_environment.specs.Agreement.{Agrees};
-ghost use Rattle.ash_environment.specs.Views.{binding_of, environment_of};
+ghost use Rattle.ash_environment.specs.EnvironmentViews.{binding_of, environment_of};
 ghost use Rattle.ash_statements.specs.StatementViews.{scope_of};
 
 use ash_environment::{Binding, CheckResult, Environment, Signatures, fault_at};
@@ -78,7 +78,7 @@ impl<'a, 'n> Scope<'a, 'n> {
     }
 
     /// A new local, whose name has to be free in its block.
-    #[tactic(auto, unfolding(ash_typing::specs::Statements::fresh))]
+    #[tactic(auto, unfolding(ash_typing::specs::StatementRules::fresh))]
     pub(crate) fn new_local(
         &self,
         locals: &[Binding],

@@ -3,13 +3,13 @@
 ghost use Rattle.std.specs.Prelude.{◌≡◌, [], map, option_map, IfOk};
 ghost use Rattle.ash_tree.specs.Tree.{Declare, Evaluate, Block, If, IfElse, While};
 ghost use Rattle.ash_tree.specs.Tree.{DoWhile, For, Switch, stmts, cases};
-ghost use Rattle.ash_tree.specs.Views as written;
+ghost use Rattle.ash_tree.specs.TreeViews as written;
 ghost use Rattle.ash_typed.specs.BodyViews.{stmt_of};
 ghost use Rattle.ash_typing.specs.Scopes as scopes;
-ghost use Rattle.ash_typing.specs.Statements as definition;
+ghost use Rattle.ash_typing.specs.StatementRules as definition;
 ghost use Rattle.ash_environment.specs.Agreement.{Agrees};
 ghost use Rattle.ash_statements.specs.StatementViews.{locals_of, scope_of, stmts_in, cases_in};
-ghost use Rattle.ash_environment.specs.Views.{binding_of};
+ghost use Rattle.ash_environment.specs.EnvironmentViews.{binding_of};
 
 use crate::conditions::{boxed_stmt, build_if, build_if_else};
 use crate::jumps::{check_break, check_continue, check_return};
@@ -22,7 +22,7 @@ use crate::scopes::Scope;
 use crate::switches::{LabelContext, check_label, integer_type_in, is_last};
 use ash_environment::{Binding, CheckResult};
 use ash_expressions::{AssignmentSide, check_expr, check_exprs, integer_type};
-use ash_tree::{Case, Expr, Place, Stmt, StmtKind, Vars};
+use ash_tree::{Case, Expr, Position, Stmt, StmtKind, Vars};
 use ash_typed::{Case as TypedCase, IntType, Stmt as TypedStmt, StmtKind as TypedKind, nodes};
 
 /// The branches of `if` with `else`.
@@ -94,7 +94,7 @@ fn check_stmt<'n>(
 fn check_declaration<'n>(
     scope: &Scope<'_, 'n>,
     locals: &mut Vec<Binding<'n>>,
-    place: Place,
+    place: Position,
     vars: &'n Vars,
 ) -> CheckResult<TypedStmt>
     ensures typed { Agrees stmt_of result
@@ -116,7 +116,7 @@ fn check_declaration<'n>(
 fn check_evaluation(
     scope: &Scope,
     locals: &[Binding],
-    place: Place,
+    place: Position,
     value: &Expr,
 ) -> CheckResult<TypedStmt>
     ensures { Agrees stmt_of result
@@ -174,7 +174,7 @@ pub(crate) fn check_block<'n>(
 fn check_inner_block<'n>(
     scope: &Scope<'_, 'n>,
     locals: &mut Vec<Binding<'n>>,
-    place: Place,
+    place: Position,
     body: &'n [Stmt],
 ) -> CheckResult<TypedStmt>
     ensures typed { Agrees stmt_of result
@@ -193,11 +193,11 @@ fn check_inner_block<'n>(
 
 /// `if (condition) inner`
 #[cycle(statements)]
-#[tactic(auto, unfolding(ash_typing::specs::Statements::check_if))]
+#[tactic(auto, unfolding(ash_typing::specs::StatementRules::check_if))]
 fn check_if<'n>(
     scope: &Scope<'_, 'n>,
     locals: &mut Vec<Binding<'n>>,
-    place: Place,
+    place: Position,
     condition: &Expr,
     inner: &'n Stmt,
 ) -> CheckResult<TypedStmt>
@@ -217,11 +217,11 @@ fn check_if<'n>(
 
 /// `if (condition) inner else other`
 #[cycle(statements)]
-#[tactic(auto, unfolding(ash_typing::specs::Statements::check_if_else))]
+#[tactic(auto, unfolding(ash_typing::specs::StatementRules::check_if_else))]
 fn check_if_else<'n>(
     scope: &Scope<'_, 'n>,
     locals: &mut Vec<Binding<'n>>,
-    place: Place,
+    place: Position,
     condition: &Expr,
     branches: Branches<'n>,
 ) -> CheckResult<TypedStmt>
@@ -243,11 +243,11 @@ fn check_if_else<'n>(
 
 /// `while (condition) inner`
 #[cycle(statements)]
-#[tactic(auto, unfolding(ash_typing::specs::Statements::check_while))]
+#[tactic(auto, unfolding(ash_typing::specs::StatementRules::check_while))]
 fn check_while<'n>(
     scope: &Scope<'_, 'n>,
     locals: &mut Vec<Binding<'n>>,
-    place: Place,
+    place: Position,
     condition: &Expr,
     inner: &'n Stmt,
 ) -> CheckResult<TypedStmt>
@@ -271,11 +271,11 @@ fn check_while<'n>(
 
 /// `do inner while (condition);`
 #[cycle(statements)]
-#[tactic(auto, unfolding(ash_typing::specs::Statements::check_do_while))]
+#[tactic(auto, unfolding(ash_typing::specs::StatementRules::check_do_while))]
 fn check_do_while<'n>(
     scope: &Scope<'_, 'n>,
     locals: &mut Vec<Binding<'n>>,
-    place: Place,
+    place: Position,
     inner: &'n Stmt,
     condition: &Expr,
 ) -> CheckResult<TypedStmt>
@@ -299,7 +299,7 @@ fn check_do_while<'n>(
 
 /// `for (first; condition; steps) body`
 #[cycle(statements)]
-#[tactic(auto, unfolding(ash_typing::specs::Statements::check_for))]
+#[tactic(auto, unfolding(ash_typing::specs::StatementRules::check_for))]
 fn check_for<'n>(
     scope: &Scope<'_, 'n>,
     locals: &mut Vec<Binding<'n>>,
@@ -341,7 +341,7 @@ fn check_for<'n>(
 fn check_switch<'n>(
     scope: &Scope<'_, 'n>,
     locals: &mut Vec<Binding<'n>>,
-    place: Place,
+    place: Position,
     value: &Expr,
     labels: &'n [Case],
 ) -> CheckResult<TypedStmt>

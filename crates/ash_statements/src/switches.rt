@@ -3,7 +3,7 @@
 ghost use Rattle.std.specs.Prelude.{◌≡◌, ◌<◌, ◌+◌, length, map, drop};
 ghost use Rattle.std.specs.List.{list_any};
 ghost use Rattle.ash_tree.specs.Tree.{cases};
-ghost use Rattle.ash_tree.specs.Views.{case_of};
+ghost use Rattle.ash_tree.specs.TreeViews.{case_of};
 ghost use Rattle.ash_typing.specs.Labels as constants;
 ghost use Rattle.ash_typing.specs.Switches as definition;
 ghost use Rattle.ash_environment.specs.Agreement.{Agrees};

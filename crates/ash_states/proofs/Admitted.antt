@@ -1,11 +1,11 @@
 -- A host may be in what a request leaves, where it may be in what the request finds.
 use Rattle.std.proofs.Common.{◌≡◌, ℕ, List, [], Some, refl, sym, ap, subst, inl, inr}
 use Rattle.std.specs.Prelude.{IsSome}
-use Rattle.ash_registry.specs.Registrations.{Registration}
+use Rattle.ash_registry.specs.AcceptedRegistrations.{Registration}
 use Rattle.ash_steps.specs.Requests.{Request, Reply}
 use Rattle.ash_steps.specs.Steps.{Step, performed}
 use Rattle.ash_steps.specs.Steps as steps
-use Rattle.ash_wellformed.specs.Laws.{OffersNothing, a_function, a_construction, a_method, a_property}
+use Rattle.ash_wellformed.specs.WellFormedLaws.{OffersNothing, a_function, a_construction, a_method, a_property}
 use Rattle.ash_wellformed.proofs.Values.{none_in}
 use Rattle.ash_wellformed.proofs.Entries.{mapped}
 use Rattle.ash_wellformed.proofs.Found.{some_mapped}
@@ -16,8 +16,8 @@ use Rattle.ash_wellformed_states.proofs.First.{empty_well}
 use Rattle.ash_sources.specs.SourceFaults.{SourceFault}
 use Rattle.ash_sources.specs.Sources.{admitting_unregistered}
 use Rattle.ash_sources.proofs.SourceLaws.{read_sound}
-use Rattle.ash_states.specs.States.{HostState, IsAdmitted, empty, embedding_for, offered_to}
-use Rattle.ash_states.specs.Steps.{no_hosts, outcome_of, step, Steps, StepsKeepAdmitted, HaveSteps}
+use Rattle.ash_states.specs.HostStates.{HostState, IsAdmitted, empty, embedding_for, offered_to}
+use Rattle.ash_states.specs.StateSteps.{no_hosts, outcome_of, step, StateSteps, StepsKeepAdmitted, HaveSteps}
 use Rattle.ash_states.proofs.NoServices.{steps_leave_none}
 
 no_hosts_are : AreHosts no_hosts

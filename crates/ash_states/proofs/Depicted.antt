@@ -3,8 +3,8 @@ use Rattle.std.proofs.Common.{◌≡◌, ◌≤◌, ℕ, List, [], ◌∷◌, ma
 use Rattle.std.specs.Prelude.{Ok, length}
 use Rattle.std.specs.List.{AllByRecursion}
 use Rattle.std.specs.Str.{IsUtf8}
-use Rattle.ash_host.specs.Objects.{Objects, Bools, Ints, Uints, Int64s, Uint64s, Handles, Hosts, Plain, Script, Array, Host}
-use Rattle.ash_registry.specs.Text.{text_of}
+use Rattle.ash_host.specs.Objects.{LiveObjects, Bools, Ints, Uints, Int64s, Uint64s, Handles, Hosts, Plain, Script, Array, Host}
+use Rattle.ash_registry.specs.RegistryText.{text_of}
 use Rattle.ash_typed.specs.Modules.{Module}
 use Rattle.ash_sources.specs.Sources.{admitting_unregistered}
 use Rattle.ash_sources.proofs.SourceLaws.{read_sound, admitted_exact}
@@ -13,12 +13,12 @@ use Rattle.ash_state_image.specs.declared.version.Version.TheVariants.{Two}
 use Rattle.ash_state_image.specs.declared.parts.ModuleParts.{ModuleParts}
 use Rattle.ash_state_image.specs.declared.parts.ObjectParts.{ObjectParts}
 use Rattle.ash_state_image.specs.Snapshots.{Loaded, Snapshot}
-use Rattle.ash_state_image.specs.Views.{modules_in, object_in, objects_in}
-use Rattle.ash_state_image.specs.Image.{Fits, FitsText, image_of}
-use Rattle.ash_states.specs.States.{HostState, IsAdmitted, embedding_for, offered_to}
+use Rattle.ash_state_image.specs.SnapshotViews.{modules_in, object_in, objects_in}
+use Rattle.ash_state_image.specs.Image.{FitsVersion, FitsText, image_of}
+use Rattle.ash_states.specs.HostStates.{HostState, IsAdmitted, embedding_for, offered_to}
 use Rattle.ash_states.specs.Images.{IsDepicted, IsImageIn}
 use Rattle.ash_states.specs.Indexes.{index_in, plain_indexed, entry_indexed, snapshot_for, IsPlainIndexed, HasKind, HaveKinds, HaveImages}
-use Rattle.ash_states.specs.Writing.{AreListed}
+use Rattle.ash_states.specs.Writing.{AreWrittenIn}
 use Rattle.ash_states.proofs.Lists.{all_more, all_map}
 use Rattle.ash_states.proofs.Fitting.{modules_fit, objects_fit}
 use Rattle.ash_states.proofs.SnapshotRules.{IsWritten, each_written, rules, same_state}
@@ -27,7 +27,7 @@ module _ (s : HostState) (h : IsAdmitted s) where
   short : (source : List ℕ) (tree : Module) → (embedding_for s.registered).read source ≡ Ok tree → length source ≤ 65536
   short source tree read = ((typed_rules [] source tree ((admitted_exact s.registered source tree).0 read).1).lexed.0).short
 
-  pub snapshot_fits : FitsText (text_of s.registered) → HaveKinds (snapshot_for s).objects → Fits Two (snapshot_for s)
+  pub snapshot_fits : FitsText (text_of s.registered) → HaveKinds (snapshot_for s).objects → FitsVersion Two (snapshot_for s)
   snapshot_fits text kinds = record {
     text = text;
     seq = omega (arith, (h.formed).seq);
@@ -46,7 +46,7 @@ module _ (s : HostState) (h : IsAdmitted s) where
   }
 
   -- what spells the snapshot is the image of the state
-  pub image_is : (bytes : List ℕ) → Fits Two (snapshot_for s) → bytes ≡ image_of (snapshot_for s) → IsImageIn Two bytes s
+  pub image_is : (bytes : List ℕ) → FitsVersion Two (snapshot_for s) → bytes ≡ image_of (snapshot_for s) → IsImageIn Two bytes s
   image_is bytes fits is =
       (snapshot_for s, ((fits, is), rules (embedding_for s.registered) (offered_to s.registered) (read_sound (admitting_unregistered s.registered)) s.state h.formed s.registered), depicted)
 
@@ -63,7 +63,7 @@ kind_indexed index (Array (Handles owner place) elements) k = tt
 kind_indexed index (Array (Hosts kind) elements) k = k
 kind_indexed index (Host kind state) k = k
 
-kinds_indexed : (index : List ℕ → ℕ) (os : Objects (List ℕ)) → HaveKinds os → HaveKinds (map (entry_indexed index) os)
+kinds_indexed : (index : List ℕ → ℕ) (os : LiveObjects (List ℕ)) → HaveKinds os → HaveKinds (map (entry_indexed index) os)
 kinds_indexed index [] ks = tt
 kinds_indexed index (e ∷ os) ks = (kind_indexed index e.1 ks.0, kinds_indexed index os ks.1)
 
@@ -80,7 +80,7 @@ snapshot_same a b registered seq last services modules objects =
     ∙ ap (λ (x : ℕ). let t : Snapshot = record { registered = b.registered; seq = b.seq; last = x; services = a.services; modules = a.modules; objects = a.objects } in t) last
     ∙ ap (λ (x : List (ℕ × List ℕ)). let t : Snapshot = record { registered = b.registered; seq = b.seq; last = b.last; services = x; modules = a.modules; objects = a.objects } in t) services
     ∙ ap (λ (x : List Loaded). let t : Snapshot = record { registered = b.registered; seq = b.seq; last = b.last; services = b.services; modules = x; objects = a.objects } in t) modules
-    ∙ ap (λ (x : Objects ℕ). let t : Snapshot = record { registered = b.registered; seq = b.seq; last = b.last; services = b.services; modules = b.modules; objects = x } in t) objects
+    ∙ ap (λ (x : LiveObjects ℕ). let t : Snapshot = record { registered = b.registered; seq = b.seq; last = b.last; services = b.services; modules = b.modules; objects = x } in t) objects
 
 pub all_indexed : (s : HostState) → IsAdmitted s → AllByRecursion (λ (e : ℕ × Plain (List ℕ)). IsPlainIndexed (s.state).modules e.1) (s.state).objects
 all_indexed s h =
@@ -92,16 +92,16 @@ abbrev pub listed_snapshot : HostState → List ℕ → List ModuleParts → Lis
 listed_snapshot s text modules objects = record { registered = text; seq = (s.state).seq; last = (s.state).last; services = []; modules = modules_in modules; objects = objects_in objects }
 
 -- has a spelling, where the text of what is registered has one
-pub parts_fit : (s : HostState) → IsAdmitted s → (modules : List ModuleParts) (objects : List ObjectParts) → AreListed s modules objects → (text : List ℕ) → text ≡ text_of s.registered → IsUtf8 text → length text ≤ 1048576 → Fits Two (listed_snapshot s text modules objects)
+pub parts_fit : (s : HostState) → IsAdmitted s → (modules : List ModuleParts) (objects : List ObjectParts) → AreWrittenIn s modules objects → (text : List ℕ) → text ≡ text_of s.registered → IsUtf8 text → length text ≤ 1048576 → FitsVersion Two (listed_snapshot s text modules objects)
 parts_fit s h modules objects listed text is utf8 short_text =
-    subst (Fits Two) (sym same) (snapshot_fits s h (subst FitsText is (record { utf8 = utf8; short = short_text })) kinds)
+    subst (FitsVersion Two) (sym same) (snapshot_fits s h (subst FitsText is (record { utf8 = utf8; short = short_text })) kinds)
   where
     same : listed_snapshot s text modules objects ≡ snapshot_for s
     same = snapshot_same (listed_snapshot s text modules objects) (snapshot_for s) is refl refl refl listed.same_modules listed.same_objects
 
     kinds : HaveKinds (snapshot_for s).objects
-    kinds = subst (λ (os : Objects ℕ). HaveKinds os) listed.same_objects (all_map object_in (λ (e : ℕ × Plain ℕ). HasKind e.1) objects listed.kinds)
+    kinds = subst (λ (os : LiveObjects ℕ). HaveKinds os) listed.same_objects (all_map object_in (λ (e : ℕ × Plain ℕ). HasKind e.1) objects listed.kinds)
 
 -- what is written of the parts is the image of the state
-pub image_by_parts : (s : HostState) → IsAdmitted s → (snapshot : Snapshot) → snapshot ≡ snapshot_for s → Fits Two snapshot → (bytes : List ℕ) → bytes ≡ image_of snapshot → IsImageIn Two bytes s
-image_by_parts s h snapshot same fits bytes is = image_is s h bytes (subst (Fits Two) same fits) (is ∙ ap image_of same)
+pub image_by_parts : (s : HostState) → IsAdmitted s → (snapshot : Snapshot) → snapshot ≡ snapshot_for s → FitsVersion Two snapshot → (bytes : List ℕ) → bytes ≡ image_of snapshot → IsImageIn Two bytes s
+image_by_parts s h snapshot same fits bytes is = image_is s h bytes (subst (FitsVersion Two) same fits) (is ∙ ap image_of same)

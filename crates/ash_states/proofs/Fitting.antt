@@ -5,13 +5,13 @@ use Rattle.std.specs.List.{AllByRecursion}
 use Rattle.std.proofs.lemmas.List.{length-map}
 use Rattle.std.proofs.lemmas.Option.{same_Some}
 use Rattle.ash_host.specs.declared.word.Word.{Word}
-use Rattle.ash_host.specs.Objects.{Objects, Element, Bools, Ints, Uints, Int64s, Uint64s, Handles, Hosts, Plain, Script, Array, Host, object_at, fields_of, Lives}
+use Rattle.ash_host.specs.Objects.{LiveObjects, Elements, Bools, Ints, Uints, Int64s, Uint64s, Handles, Hosts, Plain, Script, Array, Host, object_at, fields_of, Lives}
 use Rattle.ash_integers.specs.declared.int_type.IntType.{IntType}
 use Rattle.ash_typed.specs.declared.types.VarType.{VarType}
 use Rattle.ash_typed.specs.Modules.{Class, Module}
 use Rattle.ash_typed.specs.Signatures as signatures
-use Rattle.ash_typed.specs.Signatures.{Signatures, signatures_of, type_declared, types_of_globals}
-use Rattle.ash_typed.specs.SoundModules.{IsSound, IsClass, AreClasses}
+use Rattle.ash_typed.specs.Signatures.{ModuleSignatures, signatures_of, type_declared, types_of_globals}
+use Rattle.ash_typed.specs.SoundModules.{IsSound, IsSoundClass, AreSoundClasses}
 use Rattle.ash_phrases.specs.Classes.{Program}
 use Rattle.ash_steps.specs.States.{LoadedModule, State, Embedding}
 use Rattle.ash_steps.specs.Premises.{ReadsSound}
@@ -20,7 +20,7 @@ use Rattle.ash_wellformed.proofs.Values.{shape_lives}
 use Rattle.ash_wellformed.proofs.Lists.{values_length}
 use Rattle.ash_wellformed_states.specs.WellFormedStates.{known_of, IsLoaded, HasValidName, IsWellFormedState}
 use Rattle.ash_state_image.specs.declared.version.Version.TheVariants.{Two}
-use Rattle.ash_state_image.specs.Words.{FitsWord}
+use Rattle.ash_state_image.specs.ImageWords.{FitsWord}
 use Rattle.ash_state_image.specs.ObjectBytes.{FitsElement, FitsScript, FitsPlain}
 use Rattle.ash_state_image.specs.Image.{max_source_bytes, do_rise, has_version, FitsModule, FitsObject, FitModules, FitObjects}
 use Rattle.ash_states.specs.Indexes.{index_in, element_indexed, plain_indexed, entry_indexed, stored_of, stored_modules_of, IsElementIndexed, IsPlainIndexed, HasElementKind, HasKind, HaveKinds}
@@ -37,7 +37,7 @@ integer_fits (uint f) = f
 integer_fits (int64 f) = f
 integer_fits (uint64 f) = f
 
-module _ {all : Objects (List ℕ)} (small : (n : ℕ) → Lives all n → n < 2 ^ 64) where
+module _ {all : LiveObjects (List ℕ)} (small : (n : ℕ) → Lives all n → n < 2 ^ 64) where
   reference_fits : {Fits : Shape → Type 0} {w : Word} → IsReference all Fits w → FitsWord w
   reference_fits to_nothing = tt
   reference_fits (to_object {number} {shape} at fits) = small number (shape_lives number all shape at)
@@ -63,19 +63,19 @@ fields_indexed index (Script owner place fields) = refl
 fields_indexed index (Array of elements) = refl
 fields_indexed index (Host kind state) = refl
 
-class_at : (s : Signatures) (start k : ℕ) (cs : List Class) (c : Class) → AreClasses s start cs → slice_get cs k ≡ Some c → (place : ℕ) × IsClass s place c
+class_at : (s : ModuleSignatures) (start k : ℕ) (cs : List Class) (c : Class) → AreSoundClasses s start cs → slice_get cs k ≡ Some c → (place : ℕ) × IsSoundClass s place c
 class_at s start k [] c h at = absurd (cc)
-class_at s start zero (x ∷ cs) c h at = (start, subst (IsClass s start) (same_Some x c at) h.0)
+class_at s start zero (x ∷ cs) c h at = (start, subst (IsSoundClass s start) (same_Some x c at) h.0)
 class_at s start (suc k) (x ∷ cs) c h at = class_at s (start + 1) k cs c h.1 at
 
-few_fields : {host : signatures.Host} {tree : Module} → IsSound host tree → (class : ℕ) (c : Class) → slice_get tree.classes class ≡ Some c → length c.fields ≤ 32
+few_fields : {host : signatures.HostSignatures} {tree : Module} → IsSound host tree → (class : ℕ) (c : Class) → slice_get tree.classes class ≡ Some c → length c.fields ≤ 32
 few_fields {host} {tree} sound class c at =
     let (place, is) = class_at (signatures_of host tree) 0 class tree.classes c sound.classes at in
     omega (arith, is.few)
 
 -- objects
 
-element_fits : (ms : List LoadedModule) (of : Element (List ℕ)) → IsElementIndexed ms of → HasElementKind (element_indexed (index_in ms) of) → FitsElement (element_indexed (index_in ms) of)
+element_fits : (ms : List LoadedModule) (of : Elements (List ℕ)) → IsElementIndexed ms of → HasElementKind (element_indexed (index_in ms) of) → FitsElement (element_indexed (index_in ms) of)
 element_fits ms Bools h k = tt
 element_fits ms Ints h k = tt
 element_fits ms Uints h k = tt
@@ -89,7 +89,7 @@ has_two (Script owner class fields) = refl
 has_two (Array of elements) = refl
 has_two (Host kind state) = refl
 
-module _ {Fault : Type 0} (embedding : Embedding Fault) (host : signatures.Host) (reads : ReadsSound host embedding) (short : (source : List ℕ) (tree : Module) → embedding.read source ≡ Ok tree → length source ≤ max_source_bytes) (s : State) (h : IsWellFormedState embedding host s) where
+module _ {Fault : Type 0} (embedding : Embedding Fault) (host : signatures.HostSignatures) (reads : ReadsSound host embedding) (short : (source : List ℕ) (tree : Module) → embedding.read source ≡ Ok tree → length source ≤ max_source_bytes) (s : State) (h : IsWellFormedState embedding host s) where
   small : (n : ℕ) → Lives s.objects n → n < 2 ^ 64
   small n lives = omega (arith, ((h.numbered).given n lives).1, h.last)
 

@@ -4,7 +4,7 @@ use Rattle.std.specs.Prelude.{Contains}
 use Rattle.std.specs.List.{AllByRecursion}
 use Rattle.std.proofs.lemmas.List.{length-map}
 use Rattle.ash_host.specs.declared.word.Word.{Word}
-use Rattle.ash_host.specs.Objects.{Plain, Script, Array, Host, Objects, handles, fields_of, Lives}
+use Rattle.ash_host.specs.Objects.{Plain, Script, Array, Host, LiveObjects, handles, fields_of, Lives}
 use Rattle.ash_host.specs.Reach.{ReachableIn}
 use Rattle.ash_typed.specs.Signatures as signatures
 use Rattle.ash_steps.specs.States.{LoadedModule, Embedding, globals_of}
@@ -12,7 +12,7 @@ use Rattle.ash_wellformed.specs.WellFormed.{AreObjects, AreOffered, IsState}
 use Rattle.ash_wellformed_states.specs.WellFormedStates.{known_of, IsLoaded, IsWellFormedState}
 use Rattle.ash_state_image.specs.declared.version.Version.{Version}
 use Rattle.ash_state_image.specs.Snapshots.{Loaded, Snapshot}
-use Rattle.ash_state_image.specs.Image.{Fits}
+use Rattle.ash_state_image.specs.Image.{FitsVersion}
 use Rattle.ash_state_image.specs.Rules.{held_by, KeepsRules}
 use Rattle.ash_states.specs.Images.{name_at, plain_named, entry_named, loaded_of, loaded_modules_of, state_of}
 use Rattle.ash_states.proofs.Names.{valid_names, ascend_of}
@@ -31,11 +31,11 @@ globals_same (m ∷ ms) = ap (λ (ws : List Word). m.globals ++ ws) (globals_sam
 pub held_same : (ms : List Loaded) → handles (globals_of (loaded_modules_of ms)) ≡ held_by ms
 held_same ms = ap handles (globals_same ms)
 
-module _ {Fault : Type 0} (embedding : Embedding Fault) (host : signatures.Host) (version : Version) (s : Snapshot) (fits : Fits version s) (keeps : KeepsRules s) where
+module _ {Fault : Type 0} (embedding : Embedding Fault) (host : signatures.HostSignatures) (version : Version) (s : Snapshot) (fits : FitsVersion version s) (keeps : KeepsRules s) where
   abbrev ms : List LoadedModule
   ms = loaded_modules_of s.modules
 
-  abbrev objects : Objects (List ℕ)
+  abbrev objects : LiveObjects (List ℕ)
   objects = map (entry_named (name_at ms)) s.objects
 
   abbrev names : ℕ → List ℕ

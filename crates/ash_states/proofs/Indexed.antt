@@ -8,7 +8,7 @@ use Rattle.std.proofs.lemmas.Option.{same_Some, slice_get_within, get_or_from_sl
 use Rattle.std.proofs.lemmas.List.Folds.{find_at}
 use Rattle.std.proofs.lemmas.List.Sums.{passes_at_first, sum_by-cons}
 use Rattle.ash_host.specs.declared.word.Word.{Word}
-use Rattle.ash_host.specs.Objects.{Objects, Element, Handles, Plain, Script, Array, Host}
+use Rattle.ash_host.specs.Objects.{LiveObjects, Elements, Handles, Plain, Script, Array, Host}
 use Rattle.ash_host.proofs.RecordLaws.{bytes_decide}
 use Rattle.ash_integers.specs.declared.int_type.IntType.TheVariants as ints
 use Rattle.ash_typed.specs.declared.types.Element as typed_element
@@ -16,7 +16,7 @@ use Rattle.ash_typed.specs.declared.types.Element.TheVariants as elements
 use Rattle.ash_typed.specs.Modules.{Interface, Module}
 use Rattle.ash_typed.specs.Signatures as signatures
 use Rattle.ash_typed.specs.Signatures.{signatures_of}
-use Rattle.ash_typed.specs.SoundModules.{IsSound, IsInterface}
+use Rattle.ash_typed.specs.SoundModules.{IsSound, IsSoundInterface}
 use Rattle.ash_phrases.specs.Classes.{Program, place_of_class, place_of_interface, element_of}
 use Rattle.ash_steps.specs.States.{LoadedModule, State, Embedding, has_name}
 use Rattle.ash_steps.specs.Tasks.{tree_in, tree_of}
@@ -72,12 +72,12 @@ at_most_all : (class : ℕ) (is : List Interface) → before class is ≤ length
 at_most_all class [] = omega arith
 at_most_all class (i ∷ is) = omega (arith, before-cons class i is, at_most_one class i, at_most_all class is)
 
-module _ {host : signatures.Host} {tree : Module} (sound : IsSound host tree) where
+module _ {host : signatures.HostSignatures} {tree : Module} (sound : IsSound host tree) where
   pub class_place : (class : ℕ) → class < length tree.classes → place_of_class tree class < 2 ^ 16
   class_place class lt = omega (arith, at_most_all class tree.interfaces, sound.few_types)
 
   before_all : (interface : ℕ) (i : Interface) → slice_get tree.interfaces interface ≡ Some i → i.classes_before ≤ length tree.classes
-  before_all interface i at = (rec_at (IsInterface (signatures_of host tree) (length tree.classes)) tree.interfaces interface i sound.interfaces at).before
+  before_all interface i at = (rec_at (IsSoundInterface (signatures_of host tree) (length tree.classes)) tree.interfaces interface i sound.interfaces at).before
 
   pub interface_place : (interface : ℕ) → interface < length tree.interfaces → place_of_interface tree interface < 2 ^ 16
   interface_place interface lt =
@@ -87,7 +87,7 @@ module _ {host : signatures.Host} {tree : Module} (sound : IsSound host tree) wh
       omega (arith, sound.few_types)
 
 -- what is known of the name of a module: its index, and that the tree is sound
-pub record IsIndexedName (host : signatures.Host) (ms : List LoadedModule) (owner : List ℕ) (tree : Module) : Type 0 where
+pub record IsIndexedName (host : signatures.HostSignatures) (ms : List LoadedModule) (owner : List ℕ) (tree : Module) : Type 0 where
   pub within : index_in ms owner < length ms
   pub named : name_at ms (index_in ms owner) ≡ owner
   pub sound : IsSound host tree
@@ -102,7 +102,7 @@ tree_read : {Fault : Type 0} (r : Result Module Fault) (tree : Module) → tree_
 tree_read (Ok t) tree e = ap (λ (x : Module). Ok x) (same_Some t tree e)
 tree_read (Err fault) tree e = absurd (cc)
 
-module _ {Fault : Type 0} (embedding : Embedding Fault) (host : signatures.Host) (reads : ReadsSound host embedding) (s : State) (h : IsWellFormedState embedding host s) where
+module _ {Fault : Type 0} (embedding : Embedding Fault) (host : signatures.HostSignatures) (reads : ReadsSound host embedding) (s : State) (h : IsWellFormedState embedding host s) where
   pub indexed_name : (owner : List ℕ) (tree : Module) → known_of embedding s.modules owner ≡ Some tree → IsIndexedName host s.modules owner tree
   indexed_name owner tree known =
       let (m, found, read) = chained (tree_of embedding) (find (has_name owner) s.modules) tree known in
@@ -112,7 +112,7 @@ module _ {Fault : Type 0} (embedding : Embedding Fault) (host : signatures.Host)
   is_indexed : {owner : List ℕ} {tree : Module} (place : ℕ) → IsIndexedName host s.modules owner tree → place < 2 ^ 16 → IsIndexed s.modules owner place
   is_indexed place name lt = record { index_fits = omega (arith, name.within, h.few_modules); place_fits = lt }
 
-  script_placeable : (all : Objects (List ℕ)) (owner : List ℕ) (place : ℕ) (fields : List Word) → IsScript (known_of embedding s.modules) all owner place fields → IsPlaceable s.modules (Script owner place fields)
+  script_placeable : (all : LiveObjects (List ℕ)) (owner : List ℕ) (place : ℕ) (fields : List Word) → IsScript (known_of embedding s.modules) all owner place fields → IsPlaceable s.modules (Script owner place fields)
   script_placeable all owner place fields script =
       let name = indexed_name owner script.tree script.known in
       let lt : place < 2 ^ 16 = subst (λ (p : ℕ). p < 2 ^ 16) (sym script.is) (class_place name.sound script.class (slice_get_within (script.tree).classes script.class script.source script.at)) in
@@ -143,7 +143,7 @@ module _ {Fault : Type 0} (embedding : Embedding Fault) (host : signatures.Host)
       handles_placeable program (place_of_interface program.tree interface) words known (interface_place (indexed_name program.name program.tree known).sound interface named)
   array_placeable program (elements.Host kind) words known named = record { indexed = tt; placed = tt; back = refl }
 
-  pub placeable : {all : Objects (List ℕ)} {o : Plain (List ℕ)} → IsObject (known_of embedding s.modules) all o → IsPlaceable s.modules o
+  pub placeable : {all : LiveObjects (List ℕ)} {o : Plain (List ℕ)} → IsObject (known_of embedding s.modules) all o → IsPlaceable s.modules o
   placeable {all} (is_script {owner} {place} {fields} script) = script_placeable all owner place fields script
-  placeable (is_array {ws = words} array) = subst (λ (of : Element (List ℕ)). IsPlaceable s.modules (Array of words)) (sym array.is) (array_placeable array.program array.element words array.known array.named)
+  placeable (is_array {ws = words} array) = subst (λ (of : Elements (List ℕ)). IsPlaceable s.modules (Array of words)) (sym array.is) (array_placeable array.program array.element words array.known array.named)
   placeable (is_host state) = record { indexed = tt; placed = tt; back = refl }

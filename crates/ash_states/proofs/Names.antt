@@ -57,7 +57,7 @@ ascending_of (m ∷ []) h = refl
 ascending_of (m ∷ next ∷ ms) h = ap (λ (o : Ordering). is_lt o && are_ascending (names_of (stored_modules_of (next ∷ ms)))) (h.0).0 ∙ ascending_of (next ∷ ms) h.1
 
 -- what ascends for the definitions ascends for the code
-pub code_ascend : (ms : List LoadedModule) → Ascend ms → code.Ascend ms
+pub code_ascend : (ms : List LoadedModule) → Ascend ms → code.ModulesAscend ms
 code_ascend [] h = tt
 code_ascend (m ∷ ms) h = (h.0, code_ascend ms h.1)
 

@@ -12,7 +12,7 @@ use Rattle.ash_phrases.specs.HostSteps.{with_state}
 use Rattle.ash_phrases.specs.Traces.{WorldTransition, WritesGlobal, WritesWords, Makes, Draws, TakesAnswer, Notes, Transition, TakesTick, InFrame, Enters, Leaves, InWorld, Releases, Trace, Here, Then}
 use Rattle.ash_phrases.specs.Classes.{Program}
 use Rattle.ash_phrases.specs.Ends.{End, Finished, Threw, Aborted, Outcome, call_function, load_module}
-use Rattle.ash_phrases.specs.Laws.{EffectsStay, first_of_load}
+use Rattle.ash_phrases.specs.MeaningLaws.{EffectsStay, first_of_load}
 use Rattle.ash_phrases.proofs.Endings.{runs_stay}
 use Rattle.ash_wellformed.proofs.Entries.{mapped}
 use Rattle.ash_steps.specs.States.{State, Hosts, Embedding, without_module, world_of}

@@ -1,9 +1,9 @@
 -- Bytes are the image of one state.
 use Rattle.std.proofs.Common.{◌≡◌, List, sym, ap, ◌∙◌}
-use Rattle.ash_registry.specs.Registrations.{Registration}
+use Rattle.ash_registry.specs.AcceptedRegistrations.{Registration}
 use Rattle.ash_steps.specs.States.{State}
 use Rattle.ash_state_image.proofs.ImageLaws.{spelled_once}
-use Rattle.ash_states.specs.States.{HostState}
+use Rattle.ash_states.specs.HostStates.{HostState}
 use Rattle.ash_states.specs.Images.{state_of, IsImageOfOneState}
 
 host_same : (s t : HostState) → s.registered ≡ t.registered → s.state ≡ t.state → s ≡ t

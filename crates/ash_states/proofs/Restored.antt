@@ -2,8 +2,8 @@
 use Rattle.std.proofs.Common.{◌≡◌, ℕ, List, [], map, sym, ap, ◌∙◌, subst}
 use Rattle.std.specs.Prelude.{Some, None}
 use Rattle.std.specs.List.{AllByRecursion}
-use Rattle.ash_host.specs.Objects.{Objects}
-use Rattle.ash_registry.specs.Registrations.{Registration}
+use Rattle.ash_host.specs.Objects.{LiveObjects}
+use Rattle.ash_registry.specs.AcceptedRegistrations.{Registration}
 use Rattle.ash_steps.specs.States.{LoadedModule, State, Embedding}
 use Rattle.ash_sources.specs.SourceFaults.{SourceFault}
 use Rattle.ash_wellformed.specs.WellFormed.{AreObjects, AreOffered}
@@ -15,10 +15,10 @@ use Rattle.ash_plain_steps.specs.Consistency.{AreConsistent}
 use Rattle.ash_plain_steps.specs.Consistency as code
 use Rattle.ash_state_image.specs.Snapshots.{Loaded, Snapshot}
 use Rattle.ash_state_image.specs.Rules.{IsShaped}
-use Rattle.ash_states.specs.States.{HostState, IsAdmitted, embedding_for, offered_to}
-use Rattle.ash_states.specs.Images.{loaded_of, loaded_modules_of, state_of, IsRefused}
+use Rattle.ash_states.specs.HostStates.{HostState, IsAdmitted, embedding_for, offered_to}
+use Rattle.ash_states.specs.Images.{loaded_of, loaded_modules_of, state_of, IsImageRefused}
 use Rattle.ash_states.specs.Holding.{held_with}
-use Rattle.ash_states.specs.Restoring.{HasTree, ReadsModules, RestoresState}
+use Rattle.ash_states.specs.StateRestoring.{HasTree, ReadsModules, RestoresHostState}
 use Rattle.ash_states.proofs.Lists.{all_more, all_unmap}
 use Rattle.ash_states.proofs.Names.{ascend_of, code_ascend}
 use Rattle.ash_states.proofs.Formed.{formed}
@@ -27,13 +27,13 @@ use Rattle.ash_states.proofs.Formed.{formed}
 pub state_same : (a b : State) → a.modules ≡ b.modules → a.objects ≡ b.objects → a.services ≡ b.services → a.last ≡ b.last → a.seq ≡ b.seq → a ≡ b
 state_same a b modules objects services last seq =
     ap (λ (x : List LoadedModule). let t : State = record { modules = x; objects = a.objects; services = a.services; last = a.last; seq = a.seq } in t) modules
-    ∙ ap (λ (x : Objects (List ℕ)). let t : State = record { modules = b.modules; objects = x; services = a.services; last = a.last; seq = a.seq } in t) objects
+    ∙ ap (λ (x : LiveObjects (List ℕ)). let t : State = record { modules = b.modules; objects = x; services = a.services; last = a.last; seq = a.seq } in t) objects
     ∙ ap (λ (x : List (List ℕ)). let t : State = record { modules = b.modules; objects = b.objects; services = x; last = a.last; seq = a.seq } in t) services
     ∙ ap (λ (x : ℕ). let t : State = record { modules = b.modules; objects = b.objects; services = b.services; last = x; seq = a.seq } in t) last
     ∙ ap (λ (x : ℕ). let t : State = record { modules = b.modules; objects = b.objects; services = b.services; last = b.last; seq = x } in t) seq
 
 -- what is stored is of the types that the sources say
-abbrev pub Typed : List Registration → List LoadedModule → Objects (List ℕ) → Type 0
+abbrev pub Typed : List Registration → List LoadedModule → LiveObjects (List ℕ) → Type 0
 Typed registered ms objects = AllByRecursion (IsLoaded (embedding_for registered) objects) ms × AreObjects (known_of (embedding_for registered) ms) objects × AreOffered (offered_to registered) objects
 
 module _ (registered : List Registration) (snapshot : Snapshot) where
@@ -47,22 +47,22 @@ module _ (registered : List Registration) (snapshot : Snapshot) where
       subst (λ (r : List Registration). IsAdmitted (record { registered = r; state = state_of snapshot })) at
       (subst (λ (t : State). IsAdmitted (record { registered = s.registered; state = t })) (sym is) h)
 
-  has_tree : (objects : Objects (List ℕ)) (m : Loaded) → IsLoaded embedding objects (loaded_of m) → HasTree embedding m
+  has_tree : (objects : LiveObjects (List ℕ)) (m : Loaded) → IsLoaded embedding objects (loaded_of m) → HasTree embedding m
   has_tree objects m l = (l.tree, l.is)
 
   -- there is a service
-  pub served : (snapshot.services ≡ [] → ⊥) → IsRefused registered snapshot
+  pub served : (snapshot.services ≡ [] → ⊥) → IsImageRefused registered snapshot
   served not s at is none h = not none
 
   -- a source has no typed tree
-  pub unread : ReadsModules embedding snapshot.modules None → IsRefused registered snapshot
+  pub unread : ReadsModules embedding snapshot.modules None → IsImageRefused registered snapshot
   unread not s at is none h =
       let there = admitted_at s at is h in
       not (all_more (λ (m : Loaded). IsLoaded embedding (state_of snapshot).objects (loaded_of m)) (HasTree embedding) (has_tree (state_of snapshot).objects) snapshot.modules
       (all_unmap loaded_of (IsLoaded embedding (state_of snapshot).objects) snapshot.modules ((there.formed).loaded)))
 
   -- something that is stored is not of its type
-  pub mistyped : (Typed registered (state_of snapshot).modules (state_of snapshot).objects → ⊥) → IsRefused registered snapshot
+  pub mistyped : (Typed registered (state_of snapshot).modules (state_of snapshot).objects → ⊥) → IsImageRefused registered snapshot
   mistyped not s at is none h =
       let there = admitted_at s at is h in
       not ((there.formed).loaded, (there.formed).living, (there.formed).offered)
@@ -72,21 +72,21 @@ module _ (registered : List Registration) (snapshot : Snapshot) where
   -- the modules that are read ascend as those that were stored
   pub read_consistent : IsShaped snapshot → (ms : List code_module.LoadedModule) → ReadsModules embedding snapshot.modules (Some ms) → AreConsistent embedding ms
   read_consistent (version, fits, keeps) ms read = record {
-    ascending = subst (λ (all : List LoadedModule). code.Ascend all) (sym read.0) (code_ascend (loaded_modules_of snapshot.modules) (ascend_of snapshot.modules (fits.modules).order));
+    ascending = subst (λ (all : List LoadedModule). code.ModulesAscend all) (sym read.0) (code_ascend (loaded_modules_of snapshot.modules) (ascend_of snapshot.modules (fits.modules).order));
     read = read.1;
   }
 
   -- what is not of its type as it is read is not so as it was stored
-  pub mistyped_read : (ms : List LoadedModule) (objects : Objects (List ℕ)) → ms ≡ (state_of snapshot).modules → objects ≡ (state_of snapshot).objects → (Typed registered ms objects → ⊥) → IsRefused registered snapshot
+  pub mistyped_read : (ms : List LoadedModule) (objects : LiveObjects (List ℕ)) → ms ≡ (state_of snapshot).modules → objects ≡ (state_of snapshot).objects → (Typed registered ms objects → ⊥) → IsImageRefused registered snapshot
   mistyped_read ms objects same_modules same_objects not =
       mistyped (λ typed. not (subst (λ (all : List LoadedModule). Typed registered all objects) (sym same_modules) (subst (Typed registered (state_of snapshot).modules) (sym same_objects) typed)))
 
   -- and what is of its type as it is read
-  pub typed_read : (ms : List LoadedModule) (objects : Objects (List ℕ)) → ms ≡ (state_of snapshot).modules → objects ≡ (state_of snapshot).objects → Typed registered ms objects → Typed registered (state_of snapshot).modules (state_of snapshot).objects
+  pub typed_read : (ms : List LoadedModule) (objects : LiveObjects (List ℕ)) → ms ≡ (state_of snapshot).modules → objects ≡ (state_of snapshot).objects → Typed registered ms objects → Typed registered (state_of snapshot).modules (state_of snapshot).objects
   typed_read ms objects same_modules same_objects typed =
       subst (λ (all : List LoadedModule). Typed registered all (state_of snapshot).objects) same_modules (subst (Typed registered ms) same_objects typed)
 
-  pub restored : IsShaped snapshot → snapshot.services ≡ [] → (s : PlainState) → (state_seen s).services ≡ [] → ReadsModules embedding snapshot.modules (Some s.modules.items) → s.objects ≡ (state_of snapshot).objects → s.last ≡ snapshot.last → s.seq ≡ snapshot.seq → Typed registered (state_of snapshot).modules (state_of snapshot).objects → RestoresState registered snapshot (Some s)
+  pub restored : IsShaped snapshot → snapshot.services ≡ [] → (s : PlainState) → (state_seen s).services ≡ [] → ReadsModules embedding snapshot.modules (Some s.modules.items) → s.objects ≡ (state_of snapshot).objects → s.last ≡ snapshot.last → s.seq ≡ snapshot.seq → Typed registered (state_of snapshot).modules (state_of snapshot).objects → RestoresHostState registered snapshot (Some s)
   restored (version, fits, keeps) none s empty read objects last seq typed =
       (same, none, record { admitted = admitted; consistent = read_consistent (version, fits, keeps) s.modules.items read })
     where

@@ -5,10 +5,10 @@ use Rattle.std.specs.List.{AllByRecursion, list_all}
 use Rattle.std.specs.Option.{option_map_or}
 use Rattle.std.proofs.lemmas.List.{length-map}
 use Rattle.ash_host.specs.declared.word.Word.{Word}
-use Rattle.ash_host.specs.Objects.{Objects, Element, Plain, Host, object_at, handles, fields_of, Lives}
+use Rattle.ash_host.specs.Objects.{LiveObjects, Elements, Plain, Host, object_at, handles, fields_of, Lives}
 use Rattle.ash_host.specs.Reach.{ReachableIn, NoneDangles}
 use Rattle.ash_integers.specs.declared.int_type.IntType.TheVariants as ints
-use Rattle.ash_registry.specs.Registrations.{Registration}
+use Rattle.ash_registry.specs.AcceptedRegistrations.{Registration}
 use Rattle.ash_typed.specs.declared.types.Element as typed_element
 use Rattle.ash_typed.specs.declared.types.Element.TheVariants as elements
 use Rattle.ash_typed.specs.TypeOf.{type_of_element}
@@ -33,7 +33,7 @@ use Rattle.ash_states.proofs.Fitting.{fields_indexed}
 
 -- what globals and objects hold lives
 
-module _ {Fault : Type 0} (embedding : Embedding Fault) (host : signatures.Host) (s : State) (h : IsWellFormedState embedding host s) where
+module _ {Fault : Type 0} (embedding : Embedding Fault) (host : signatures.HostSignatures) (s : State) (h : IsWellFormedState embedding host s) where
   held_lives : (n : ℕ) → Contains (handles (globals_of s.modules)) n → Lives s.objects n
   held_lives n i =
       let (m, among, there) = from_globals s.modules n i in
@@ -58,7 +58,7 @@ pub record IsWritten (ms : List LoadedModule) (e : ℕ × Plain (List ℕ)) : Ty
 
 -- the elements of an array are of its type
 
-module _ (index : List ℕ → ℕ) {p : Program} {all : Objects (List ℕ)} where
+module _ (index : List ℕ → ℕ) {p : Program} {all : LiveObjects (List ℕ)} where
   typed_elements : (of : typed_element.Element) {ws : List Word} → AllAre p all (type_of_element of) ws → list_all (is_element (element_indexed index (element_of p of))) ws ≡ true
   typed_elements of none_are = refl
   typed_elements elements.Bool (and_is is_truth vs) = typed_elements elements.Bool vs
@@ -70,16 +70,16 @@ module _ (index : List ℕ → ℕ) {p : Program} {all : Objects (List ℕ)} whe
   typed_elements (elements.Interface interface) (and_is v vs) = typed_elements (elements.Interface interface) vs
   typed_elements (elements.Host kind) (and_is v vs) = typed_elements (elements.Host kind) vs
 
-module _ {Fault : Type 0} (embedding : Embedding Fault) (host : signatures.Host) (reads : ReadsSound host embedding) (s : State) (h : IsWellFormedState embedding host s) where
+module _ {Fault : Type 0} (embedding : Embedding Fault) (host : signatures.HostSignatures) (reads : ReadsSound host embedding) (s : State) (h : IsWellFormedState embedding host s) where
   abbrev index : List ℕ → ℕ
   index = index_in s.modules
 
-  abbrev entries : Objects ℕ
+  abbrev entries : LiveObjects ℕ
   entries = map (entry_indexed index) s.objects
 
   typed_one : {o : Plain (List ℕ)} → IsObject (known_of embedding s.modules) s.objects o → are_elements (plain_indexed index o) ≡ true
   typed_one (is_script script) = refl
-  typed_one (is_array {ws = ws} array) = subst (λ (of : Element (List ℕ)). list_all (is_element (element_indexed index of)) ws ≡ true) (sym array.is) (typed_elements index array.element array.values)
+  typed_one (is_array {ws = ws} array) = subst (λ (of : Elements (List ℕ)). list_all (is_element (element_indexed index of)) ws ≡ true) (sym array.is) (typed_elements index array.element array.values)
   typed_one (is_host state) = refl
 
   pub each_written : AllByRecursion (IsWritten s.modules) s.objects

@@ -1,7 +1,7 @@
 -- The step that the code takes is one that a host takes.
 use Rattle.std.proofs.Common.{◌≡◌, ℕ, List, [], None, Result, Ok, Err, option_map, sym, ap, subst, inl, inr}
 use Rattle.std.specs.Prelude.{Option, Some, IsSome, IfOk}
-use Rattle.ash_registry.specs.Registrations.{Registration}
+use Rattle.ash_registry.specs.AcceptedRegistrations.{Registration}
 use Rattle.ash_steps.specs.States.{State, Hosts}
 use Rattle.ash_steps.specs.States as states
 use Rattle.ash_steps.specs.Requests.{Request, NoMemory}
@@ -21,8 +21,8 @@ use Rattle.ash_sources.specs.declared.fault.SourceFault as code_fault
 use Rattle.ash_sources.specs.SourceFaults.{SourceFault, fault_of}
 use Rattle.ash_sources.specs.SourceFaults as faults
 use Rattle.ash_sources.specs.Sources.{SourceRules, embedding_of, admitting_unregistered}
-use Rattle.ash_states.specs.States.{HostState, IsAdmitted, empty, embedding_for}
-use Rattle.ash_states.specs.Steps.{no_hosts, outcome_of, Steps}
+use Rattle.ash_states.specs.HostStates.{HostState, IsAdmitted, empty, embedding_for}
+use Rattle.ash_states.specs.StateSteps.{no_hosts, outcome_of, StateSteps}
 use Rattle.ash_states.specs.Holding.{held_with, IsHeld, IsStepOf}
 use Rattle.ash_states.proofs.Admitted.{empty_admitted, has_step, step_admitted}
 
@@ -34,7 +34,7 @@ module _ (registered : List Registration) (budget : ℕ) (request : Request) (ol
   abbrev CodeStep : Type 0
   CodeStep = code_step.Step code_fault.SourceFault
 
-  taken : (one : CodeStep) → IsStep fault_of faults.TakesMemoryToFind (embedding_for registered) budget request (state_seen old) no_hosts (Ok one) → Steps budget request (held_with registered old) (reply_seen fault_of one.reply) (held_with registered one.state)
+  taken : (one : CodeStep) → IsStep fault_of faults.MayTakeMemory (embedding_for registered) budget request (state_seen old) no_hosts (Ok one) → StateSteps budget request (held_with registered old) (reply_seen fault_of one.reply) (held_with registered one.state)
   taken one (inl e) = inl (ap (option_map (outcome_of registered)) e)
   taken one (inr (takes, finds, same)) = inr (record {
     takes = takes;
@@ -50,7 +50,7 @@ module _ (registered : List Registration) (budget : ℕ) (request : Request) (ol
   }
 
   at_none : (result : Result CodeStep StepError)
-      → IsStep fault_of faults.TakesMemoryToFind (embedding_for registered) budget request (state_seen old) no_hosts result
+      → IsStep fault_of faults.MayTakeMemory (embedding_for registered) budget request (state_seen old) no_hosts result
       → IfOk result (λ one. steps.Steps (embedding_for registered) budget request (state_seen old) no_hosts (step_seen fault_of one))
       → IfOk result (λ one. AreConsistent (embedding_for registered) one.state.modules.items)
       → IsStepOf registered budget request old result
@@ -60,26 +60,26 @@ module _ (registered : List Registration) (budget : ℕ) (request : Request) (ol
 
   step_is : (hosts : Hosts) (result : Result CodeStep StepError)
       → hosts ≡ no_hosts
-      → IsStep fault_of faults.TakesMemoryToFind (embedding_for registered) budget request (state_seen old) hosts result
+      → IsStep fault_of faults.MayTakeMemory (embedding_for registered) budget request (state_seen old) hosts result
       → IfOk result (λ one. steps.Steps (embedding_for registered) budget request (state_seen old) hosts (step_seen fault_of one))
       → IfOk result (λ one. AreConsistent (embedding_for registered) one.state.modules.items)
       → IsStepOf registered budget request old result
   step_is hosts result none is stepped consistent =
       at_none result
-      (subst (λ (h : Hosts). IsStep fault_of faults.TakesMemoryToFind (embedding_for registered) budget request (state_seen old) h result) none is)
+      (subst (λ (h : Hosts). IsStep fault_of faults.MayTakeMemory (embedding_for registered) budget request (state_seen old) h result) none is)
       (subst (λ (h : Hosts). IfOk result (λ one. steps.Steps (embedding_for registered) budget request (state_seen old) h (step_seen fault_of one))) none stepped)
       consistent
 
   -- as the sources are read by what is registered
   pub step_by : (by : SourceRules) → by ≡ admitting_unregistered registered → (hosts : Hosts) (result : Result CodeStep StepError)
       → hosts ≡ no_hosts
-      → IsStep fault_of faults.TakesMemoryToFind (embedding_of by) budget request (state_seen old) hosts result
+      → IsStep fault_of faults.MayTakeMemory (embedding_of by) budget request (state_seen old) hosts result
       → IfOk result (λ one. steps.Steps (embedding_of by) budget request (state_seen old) hosts (step_seen fault_of one))
       → IfOk result (λ one. AreConsistent (embedding_of by) one.state.modules.items)
       → IsStepOf registered budget request old result
   step_by by same hosts result none is stepped consistent =
       step_is hosts result none
-      (subst (λ (x : SourceRules). IsStep fault_of faults.TakesMemoryToFind (embedding_of x) budget request (state_seen old) hosts result) same is)
+      (subst (λ (x : SourceRules). IsStep fault_of faults.MayTakeMemory (embedding_of x) budget request (state_seen old) hosts result) same is)
       (subst (λ (x : SourceRules). IfOk result (λ one. steps.Steps (embedding_of x) budget request (state_seen old) hosts (step_seen fault_of one))) same stepped)
       (subst (λ (x : SourceRules). IfOk result (λ one. AreConsistent (embedding_of x) one.state.modules.items)) same consistent)
 

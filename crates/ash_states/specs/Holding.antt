@@ -1,6 +1,6 @@
 -- What is known of the state that the code has.
 use Rattle.std.specs.Prelude.{ℕ, List, Result, Ok, Err}
-use Rattle.ash_registry.specs.Registrations.{Registration}
+use Rattle.ash_registry.specs.AcceptedRegistrations.{Registration}
 use Rattle.ash_steps.specs.Requests.{Request}
 use Rattle.ash_plain_steps.specs.declared.request.Step as code_step
 use Rattle.ash_plain_steps.specs.declared.request.StepError.{StepError}
@@ -10,8 +10,8 @@ use Rattle.ash_plain_steps.specs.StateViews.{state_seen}
 use Rattle.ash_plain_steps.specs.Consistency.{AreConsistent}
 use Rattle.ash_sources.specs.declared.fault.SourceFault as code_fault
 use Rattle.ash_sources.specs.SourceFaults.{fault_of}
-use Rattle.ash_states.specs.States.{HostState, IsAdmitted, embedding_for}
-use Rattle.ash_states.specs.Steps.{Steps, HasNoEnd}
+use Rattle.ash_states.specs.HostStates.{HostState, IsAdmitted, embedding_for}
+use Rattle.ash_states.specs.StateSteps.{StateSteps, FailsInChange}
 
 -- the state with what is registered
 abbrev pub held_with : List Registration → PlainState → HostState
@@ -27,6 +27,7 @@ pub record IsHeld (registered : List Registration) (s : PlainState) : Type 0 whe
 abbrev pub IsStepOf : List Registration → ℕ → Request → PlainState
     → Result (code_step.Step code_fault.SourceFault) StepError → Type 0
 IsStepOf registered budget request old (Ok one) =
-    Steps budget request (held_with registered old) (reply_seen fault_of one.reply) (held_with registered one.state)
+    StateSteps budget request (held_with registered old) (reply_seen fault_of one.reply)
+    (held_with registered one.state)
     × IsHeld registered one.state
-IsStepOf registered budget request old (Err error) = HasNoEnd request (held_with registered old) error
+IsStepOf registered budget request old (Err error) = FailsInChange request (held_with registered old) error

@@ -1,15 +1,15 @@
 -- The image of the state of a host. In an image each object knows its module by the module's index, in a state by name.
 use Rattle.std.specs.Prelude.{◌≡◌, ℕ, List, [], ◌∷◌, map, slice_get, Option, Some, None}
 use Rattle.std.specs.Option.{option_map_or}
-use Rattle.ash_host.specs.Objects.{Element, Bools, Ints, Uints, Int64s, Uint64s}
+use Rattle.ash_host.specs.Objects.{Elements, Bools, Ints, Uints, Int64s, Uint64s}
 use Rattle.ash_host.specs.Objects.{Handles, Hosts, Plain, Script, Array, Host}
-use Rattle.ash_registry.specs.Registrations.{Registration}
-use Rattle.ash_registry.specs.Text.{text_of}
+use Rattle.ash_registry.specs.AcceptedRegistrations.{Registration}
+use Rattle.ash_registry.specs.RegistryText.{text_of}
 use Rattle.ash_steps.specs.States.{LoadedModule, State}
 use Rattle.ash_state_image.specs.declared.version.Version.{Version}
 use Rattle.ash_state_image.specs.Snapshots.{Loaded, Snapshot}
 use Rattle.ash_state_image.specs.Rules.{IsImage}
-use Rattle.ash_states.specs.States.{HostState, IsAdmitted}
+use Rattle.ash_states.specs.HostStates.{HostState, IsAdmitted}
 
 -- The state that a snapshot is of, whatever is registered.
 
@@ -18,7 +18,7 @@ abbrev pub name_at : List LoadedModule → ℕ → List ℕ
 name_at ms index = option_map_or (λ (m : LoadedModule). m.name) (slice_get ms index) []
 
 -- what the elements of an array are, each module by its name
-abbrev pub element_named : (ℕ → List ℕ) → Element ℕ → Element (List ℕ)
+abbrev pub element_named : (ℕ → List ℕ) → Elements ℕ → Elements (List ℕ)
 element_named name Bools = Bools
 element_named name Ints = Ints
 element_named name Uints = Uints
@@ -72,16 +72,16 @@ abbrev pub IsBodyIn : Version → List ℕ → HostState → Type 0
 IsBodyIn version body s = (image : List ℕ) × (body ≡ 1 ∷ image) × IsImageIn version image s
 
 -- No host with these registrations may be in the state of the snapshot.
-abbrev pub IsRefused : List Registration → Snapshot → Type 0
-IsRefused registered snapshot =
+abbrev pub IsImageRefused : List Registration → Snapshot → Type 0
+IsImageRefused registered snapshot =
     (s : HostState) → s.registered ≡ registered → state_of snapshot ≡ s.state → snapshot.services ≡ [] → IsAdmitted s
     → ⊥
 
 -- What is restored of a snapshot with these registrations: the one state that it is of, where a host may be in it.
-abbrev pub IsRestored : List Registration → Snapshot → Option HostState → Type 0
-IsRestored registered snapshot (Some s) =
+abbrev pub IsImageRestored : List Registration → Snapshot → Option HostState → Type 0
+IsImageRestored registered snapshot (Some s) =
     (s.registered ≡ registered) × (state_of snapshot ≡ s.state) × (snapshot.services ≡ []) × IsAdmitted s
-IsRestored registered snapshot None = IsRefused registered snapshot
+IsImageRestored registered snapshot None = IsImageRefused registered snapshot
 
 -- Bytes are the image of one state where these are the registrations, whoever reads them.
 abbrev pub IsImageOfOneState : Type 0

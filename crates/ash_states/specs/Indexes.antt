@@ -1,14 +1,14 @@
 -- The snapshot that is written of a state: each module by its index.
 use Rattle.std.specs.Prelude.{ℕ, ◌<◌, ◌^◌, List, [], map, position, unwrap_or}
 use Rattle.std.specs.List.{AllByRecursion}
-use Rattle.ash_host.specs.Objects.{Element, Bools, Ints, Uints, Int64s, Uint64s}
+use Rattle.ash_host.specs.Objects.{Elements, Bools, Ints, Uints, Int64s, Uint64s}
 use Rattle.ash_host.specs.Objects.{Handles, Hosts, Plain, Script, Array, Host}
-use Rattle.ash_registry.specs.Text.{text_of}
+use Rattle.ash_registry.specs.RegistryText.{text_of}
 use Rattle.ash_steps.specs.States.{LoadedModule, has_name}
 use Rattle.ash_state_image.specs.Snapshots.{Loaded, Snapshot}
 use Rattle.ash_state_image.specs.declared.version.Version.TheVariants.{Two}
 use Rattle.ash_state_image.specs.Image.{FitsText}
-use Rattle.ash_states.specs.States.{HostState, IsAdmitted}
+use Rattle.ash_states.specs.HostStates.{HostState, IsAdmitted}
 use Rattle.ash_states.specs.Images.{IsImageIn}
 
 -- the index of the module of a name; 0 where no module has it
@@ -16,7 +16,7 @@ abbrev pub index_in : List LoadedModule → List ℕ → ℕ
 index_in ms name = unwrap_or (position (has_name name) ms) 0
 
 -- what the elements of an array are, each module by its index
-abbrev pub element_indexed : (List ℕ → ℕ) → Element (List ℕ) → Element ℕ
+abbrev pub element_indexed : (List ℕ → ℕ) → Elements (List ℕ) → Elements ℕ
 element_indexed index Bools = Bools
 element_indexed index Ints = Ints
 element_indexed index Uints = Uints
@@ -59,7 +59,7 @@ pub record IsIndexed (ms : List LoadedModule) (owner : List ℕ) (place : ℕ) :
   pub index_fits : index_in ms owner < 2 ^ 8
   pub place_fits : place < 2 ^ 16
 
-abbrev pub IsElementIndexed : List LoadedModule → Element (List ℕ) → Type 0
+abbrev pub IsElementIndexed : List LoadedModule → Elements (List ℕ) → Type 0
 IsElementIndexed ms (Handles owner place) = IsIndexed ms owner place
 IsElementIndexed ms _ = Unit {0}
 
@@ -69,7 +69,7 @@ IsPlainIndexed ms (Array of elements) = IsElementIndexed ms of
 IsPlainIndexed ms (Host kind state) = Unit {0}
 
 -- the kind of host objects in two bytes
-abbrev pub HasElementKind : {M : Type 0} → Element M → Type 0
+abbrev pub HasElementKind : {M : Type 0} → Elements M → Type 0
 HasElementKind (Hosts kind) = kind < 2 ^ 16
 HasElementKind _ = Unit {0}
 

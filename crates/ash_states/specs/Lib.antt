@@ -1,7 +1,7 @@
-pub mod States
-pub mod Steps
+pub mod HostStates
+pub mod StateSteps
 pub mod Images
 pub mod Holding
 pub mod Indexes
-pub mod Restoring
+pub mod StateRestoring
 pub mod Writing

@@ -1,9 +1,9 @@
 //! The laws of the states of hosts. A function without a body does nothing: its contract is the law.
 
 ghost use Rattle.std.specs.Prelude.{List};
-ghost use Rattle.ash_registry.specs.Registrations.{Registration};
-ghost use Rattle.ash_states.specs.States.{IsAdmitted, empty};
-ghost use Rattle.ash_states.specs.Steps.{StepsKeepAdmitted, HaveSteps};
+ghost use Rattle.ash_registry.specs.AcceptedRegistrations.{Registration};
+ghost use Rattle.ash_states.specs.HostStates.{IsAdmitted, empty};
+ghost use Rattle.ash_states.specs.StateSteps.{StepsKeepAdmitted, HaveSteps};
 ghost use Rattle.ash_states.specs.Images.{IsImageOfOneState};
 ghost use Rattle.ash_states.specs.Indexes.{HaveImages};
 

@@ -2,10 +2,10 @@
 //! the plain program of `ash_plain_steps`, is written as an image by `ash_state_image`, and is restored from one: each
 //! source is read again, and a state is restored only where what is stored is of the types that the sources say.
 //!
-//! The definitions are in `specs/`: `States` (which states a host may be in), `Steps` (what a request does) and
-//! `Images` (which bytes are the image of a state). In reading order: `state`, and below it `steps`; `restoring`, with
-//! `modules` and `objects` (what was stored, with names in place of indexes); `writing`, with `parts` (what is written,
-//! with indexes in place of names); `laws`.
+//! The definitions are in `specs/`: `HostStates` (which states a host may be in), `StateSteps` (what a request does)
+//! and `Images` (which bytes are the image of a state). In reading order: `state`, and below it `steps`; `restoring`,
+//! with `modules` and `objects` (what was stored, with names in place of indexes); `writing`, with `parts` (what is
+//! written, with indexes in place of names); `laws`.
 #![tactic(auto)]
 
 pub mod laws;

@@ -2,16 +2,16 @@
 
 ghost use Rattle.std.specs.Prelude.{IfOk, option_map};
 ghost use Rattle.std.specs.Vec.{vec_items};
-ghost use Rattle.ash_state_image.specs.Views.{module_of, modules_of};
-ghost use Rattle.ash_states.specs.Restoring.{ReadsModule, ReadsModules};
+ghost use Rattle.ash_state_image.specs.SnapshotViews.{module_of, modules_of};
+ghost use Rattle.ash_states.specs.StateRestoring.{ReadsModule, ReadsModules};
 
 use ash_plain_steps::state::LoadedModule;
 use ash_state_image::stored::StoredModule;
-use ash_steps::sources::Sources;
+use ash_steps::sources::SourceReader;
 use std::alloc::{AllocError, Global};
 
 /// A module that was stored, with the typed tree of its source, where it has one.
-fn read_module<S: Sources>(
+fn read_module<S: SourceReader>(
     alloc: Global,
     sources: &S,
     stored: StoredModule,
@@ -35,7 +35,7 @@ fn read_module<S: Sources>(
 }
 
 /// The modules that were stored, each with the typed tree of its source, where each has one.
-pub(crate) fn read_modules<S: Sources>(
+pub(crate) fn read_modules<S: SourceReader>(
     alloc: Global,
     sources: &S,
     stored: Vec<StoredModule>,

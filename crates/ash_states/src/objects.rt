@@ -5,12 +5,12 @@ ghost use Rattle.ash_host.specs.Objects.{numbers};
 ghost use Rattle.ash_plain_data.specs.ObjectViews.{element_seen, object_seen};
 ghost use Rattle.ash_plain_steps.specs.StateViews.{modules_seen};
 ghost use Rattle.ash_state_image.specs.Image.{do_rise};
-ghost use Rattle.ash_state_image.specs.ObjectViews.{element_of, plain_of};
-ghost use Rattle.ash_state_image.specs.Views.{objects_of};
+ghost use Rattle.ash_state_image.specs.ImageObjectViews.{element_of, plain_of};
+ghost use Rattle.ash_state_image.specs.SnapshotViews.{objects_of};
 ghost use Rattle.ash_states.specs.Images.{name_at, element_named, plain_named, entry_named};
 
-use ash_plain::objects::Objects;
-use ash_plain_data::object::{Element, Object};
+use ash_plain::objects::ObjectMap;
+use ash_plain_data::object::{Elements, Object};
 use ash_plain_steps::state::LoadedModule;
 use ash_state_image::stored::{ElementType, StoredBody, StoredObject};
 use std::alloc::{AllocError, Global};
@@ -30,24 +30,24 @@ fn element_of(
     alloc: Global,
     modules: &[LoadedModule],
     of: ElementType,
-) -> Result<Element, AllocError>
+) -> Result<Elements, AllocError>
     ensures { IfOk result (λ e. element_seen e
         ≡ element_named (name_at (modules_seen modules.now)) (element_of of)) }
 {
     match of {
-        ElementType::Bool => Ok(Element::Bools),
-        ElementType::Int => Ok(Element::Ints),
-        ElementType::Uint => Ok(Element::Uints),
-        ElementType::Int64 => Ok(Element::Int64s),
-        ElementType::Uint64 => Ok(Element::Uint64s),
+        ElementType::Bool => Ok(Elements::Bools),
+        ElementType::Int => Ok(Elements::Ints),
+        ElementType::Uint => Ok(Elements::Uints),
+        ElementType::Int64 => Ok(Elements::Int64s),
+        ElementType::Uint64 => Ok(Elements::Uint64s),
         ElementType::Class(owner, place) => {
             let owner = String::from_str(alloc, name_at(modules, owner))?;
-            Ok(Element::Handles {
+            Ok(Elements::Handles {
                 owner,
                 place: usize::from(place),
             })
         }
-        ElementType::Host(kind) => Ok(Element::Hosts(kind)),
+        ElementType::Host(kind) => Ok(Elements::Hosts(kind)),
     }
 }
 
@@ -88,12 +88,12 @@ pub(crate) fn objects_of(
     alloc: Global,
     modules: &[LoadedModule],
     stored: Vec<StoredObject>,
-) -> Result<Objects, AllocError>
+) -> Result<ObjectMap, AllocError>
     requires rise { IsTrue (do_rise (numbers (objects_of stored.items))) }
     ensures named { IfOk result (λ objects. objects
         ≡ map (entry_named (name_at (modules_seen modules.now))) (objects_of stored.items)) }
 {
-    let mut objects = Objects::new(alloc);
+    let mut objects = ObjectMap::new(alloc);
     for StoredObject { number, body } in stored {
         let object = object_of(alloc, modules, body)?;
         objects.insert(number, object)?;

@@ -5,16 +5,16 @@ ghost use Rattle.std.specs.List.{position, AllByRecursion};
 ghost use Rattle.ash_steps.specs.States.{has_name};
 ghost use Rattle.ash_plain_data.specs.ObjectViews.{element_seen, object_seen};
 ghost use Rattle.ash_plain_steps.specs.StateViews.{loaded_seen, modules_seen};
-ghost use Rattle.ash_state_image.specs.ObjectViews.{element_of, plain_in};
-ghost use Rattle.ash_state_image.specs.Views.{modules_in, objects_in};
+ghost use Rattle.ash_state_image.specs.ImageObjectViews.{element_of, plain_in};
+ghost use Rattle.ash_state_image.specs.SnapshotViews.{modules_in, objects_in};
 ghost use Rattle.ash_states.specs.Indexes.{index_in, element_indexed, plain_indexed};
 ghost use Rattle.ash_states.specs.Indexes.{entry_indexed, stored_modules_of};
 ghost use Rattle.ash_states.specs.Indexes.{IsElementIndexed, IsPlainIndexed};
 ghost use Rattle.ash_states.specs.Indexes.{HasElementKind, HasKind};
 ghost use Rattle.ash_states.specs.Writing.{HavePartKinds};
 
-use ash_plain::objects::Objects;
-use ash_plain_data::object::{Element, Object};
+use ash_plain::objects::ObjectMap;
+use ash_plain_data::object::{Elements, Object};
 use ash_plain_steps::state::LoadedModule;
 use ash_state_image::parts::{
     ArrayParts, BodyParts, HostParts, ModuleParts, ObjectParts, ScriptParts,
@@ -37,22 +37,22 @@ fn index_of(modules: &[LoadedModule], name: &str) -> usize
 }
 
 /// What the elements of an array are.
-fn element_type(modules: &[LoadedModule], of: &Element) -> ElementType
+fn element_type(modules: &[LoadedModule], of: &Elements) -> ElementType
     requires indexed { IsElementIndexed (modules_seen modules.now) (element_seen of.now) }
     ensures indexed { element_of result
         ≡ element_indexed (index_in (modules_seen modules.now)) (element_seen of.now) }
     ensures kind { HasElementKind (element_of result) }
 {
     match of {
-        Element::Bools => ElementType::Bool,
-        Element::Ints => ElementType::Int,
-        Element::Uints => ElementType::Uint,
-        Element::Int64s => ElementType::Int64,
-        Element::Uint64s => ElementType::Uint64,
-        Element::Handles { owner, place } => {
+        Elements::Bools => ElementType::Bool,
+        Elements::Ints => ElementType::Int,
+        Elements::Uints => ElementType::Uint,
+        Elements::Int64s => ElementType::Int64,
+        Elements::Uint64s => ElementType::Uint64,
+        Elements::Handles { owner, place } => {
             ElementType::Class(index_of(modules, owner.as_str()) as u8, *place as u16)
         }
-        Element::Hosts(kind) => ElementType::Host(*kind),
+        Elements::Hosts(kind) => ElementType::Host(*kind),
     }
 }
 
@@ -88,7 +88,7 @@ fn body_parts<'a>(modules: &[LoadedModule], object: &'a Object) -> BodyParts<'a>
 pub(crate) fn object_parts<'a>(
     alloc: Global,
     modules: &[LoadedModule],
-    objects: &'a Objects,
+    objects: &'a ObjectMap,
 ) -> Result<Vec<ObjectParts<'a>>, AllocError>
     requires indexed { AllByRecursion (λ e. IsPlainIndexed (modules_seen modules.now) e.1)
         objects.now }

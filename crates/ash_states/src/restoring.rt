@@ -1,11 +1,11 @@
 //! A state that was stored, restored where a host may be in it.
 
 ghost use Rattle.std.specs.Prelude.{◌≡◌, IfOk};
-ghost use Rattle.ash_registry.specs.Registered.{registered};
+ghost use Rattle.ash_registry.specs.RegistryViews.{registered};
 ghost use Rattle.ash_sources.specs.Sources.{rules_of, admitting_unregistered};
 ghost use Rattle.ash_state_image.specs.Rules.{IsShaped};
-ghost use Rattle.ash_state_image.specs.Views.{snapshot_of};
-ghost use Rattle.ash_states.specs.Restoring.{RestoresState};
+ghost use Rattle.ash_state_image.specs.SnapshotViews.{snapshot_of};
+ghost use Rattle.ash_states.specs.StateRestoring.{RestoresHostState};
 
 use crate::modules::read_modules;
 use crate::objects::objects_of;
@@ -34,7 +34,7 @@ pub(crate) fn restore_state(
     stored: StoredState,
 ) -> Result<Option<PlainState>, AllocError>
     requires shaped { IsShaped (snapshot_of stored) }
-    ensures exact { IfOk result (RestoresState (registered registry.now) (snapshot_of stored)) }
+    ensures exact { IfOk result (RestoresHostState (registered registry.now) (snapshot_of stored)) }
 {
     let sources = sources_for(registry);
     if !stored.services.is_empty() {

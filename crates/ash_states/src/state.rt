@@ -1,14 +1,14 @@
 //! The state of a host: its steps, and its image.
 
 ghost use Rattle.std.specs.Prelude.{◌≡◌, ◌<◌, ◌^◌, length, IfOk};
-ghost use Rattle.ash_registry.specs.Registered.{registered};
+ghost use Rattle.ash_registry.specs.RegistryViews.{registered};
 ghost use Rattle.ash_plain_steps.specs.RequestViews.{request_seen};
 ghost use Rattle.ash_state_image.specs.Rules.{IsShaped};
-ghost use Rattle.ash_state_image.specs.Views.{snapshot_of};
+ghost use Rattle.ash_state_image.specs.SnapshotViews.{snapshot_of};
 ghost use Rattle.ash_state_image.specs.declared.version.Version.TheVariants.{Two};
-ghost use Rattle.ash_states.specs.States.{empty};
-ghost use Rattle.ash_states.specs.Steps.{Handled};
-ghost use Rattle.ash_states.specs.Images.{IsImageIn, IsBodyIn, IsRestored};
+ghost use Rattle.ash_states.specs.HostStates.{empty};
+ghost use Rattle.ash_states.specs.StateSteps.{Handled};
+ghost use Rattle.ash_states.specs.Images.{IsImageIn, IsBodyIn, IsImageRestored};
 
 use crate::restoring::restore_state;
 use crate::steps::{first_state, step_of};
@@ -36,9 +36,9 @@ pub struct HostState {
 }
 
 impl Model for HostState {
-    ghost use Rattle.ash_registry.specs.Registered.{registered};
+    ghost use Rattle.ash_registry.specs.RegistryViews.{registered};
     ghost use Rattle.ash_plain_steps.specs.StateViews.{state_seen};
-    ghost use Rattle.ash_states.specs.States as states;
+    ghost use Rattle.ash_states.specs.HostStates as states;
     ghost use Rattle.ash_states.specs.Holding.{IsHeld};
 
     ghost Value = { states.HostState };
@@ -68,7 +68,7 @@ impl HostState {
         stored: StoredState,
     ) -> Result<Option<HostState>, AllocError>
         requires shaped { IsShaped (snapshot_of stored) }
-        ensures exact { IfOk result (IsRestored (registered registry) (snapshot_of stored)) }
+        ensures exact { IfOk result (IsImageRestored (registered registry) (snapshot_of stored)) }
     {
         match restore_state(alloc, &registry, stored)? {
             Some(state) => Ok(Some(HostState { registry, state })),

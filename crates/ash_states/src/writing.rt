@@ -1,14 +1,14 @@
 //! The image of a state.
 
 ghost use Rattle.std.specs.Prelude.{◌≡◌, ◌<◌, ◌^◌, length, IfOk};
-ghost use Rattle.ash_registry.specs.Registered.{registered};
-ghost use Rattle.ash_state_image.specs.Image.{Fits};
-ghost use Rattle.ash_state_image.specs.Views.{snapshot_in};
+ghost use Rattle.ash_registry.specs.RegistryViews.{registered};
+ghost use Rattle.ash_state_image.specs.Image.{FitsVersion};
+ghost use Rattle.ash_state_image.specs.SnapshotViews.{snapshot_in};
 ghost use Rattle.ash_state_image.specs.declared.version.Version.TheVariants.{Two};
 ghost use Rattle.ash_states.specs.Images.{IsImageIn, IsBodyIn};
 ghost use Rattle.ash_states.specs.Holding.{IsHeld, held_with};
 ghost use Rattle.ash_states.specs.Indexes.{snapshot_for};
-ghost use Rattle.ash_states.specs.Writing.{AreListed};
+ghost use Rattle.ash_states.specs.Writing.{AreWrittenIn};
 
 use crate::parts::{module_parts, object_parts};
 use ash_plain_steps::state::PlainState;
@@ -25,11 +25,11 @@ fn state_parts<'a>(
     objects: &'a [ObjectParts<'a>],
 ) -> StateParts<'a>
     requires held { IsHeld (registered registry.now) state.now }
-    requires listed { AreListed (held_with (registered registry.now) state.now)
+    requires listed { AreWrittenIn (held_with (registered registry.now) state.now)
         modules.now objects.now }
     ensures same { snapshot_in result
         ≡ snapshot_for (held_with (registered registry.now) state.now) }
-    ensures fits { Fits Two (snapshot_in result) }
+    ensures fits { FitsVersion Two (snapshot_in result) }
 {
     StateParts {
         registered: registry.text(),
@@ -49,7 +49,7 @@ fn image_by(
     objects: &[ObjectParts<'_>],
 ) -> Result<Vec<u8>, AllocError>
     requires held { IsHeld (registered registry.now) state.now }
-    requires listed { AreListed (held_with (registered registry.now) state.now)
+    requires listed { AreWrittenIn (held_with (registered registry.now) state.now)
         modules.now objects.now }
     ensures image { IfOk result (λ image. IsImageIn Two image.items
         (held_with (registered registry.now) state.now)) }
@@ -66,7 +66,7 @@ fn body_by(
     objects: &[ObjectParts<'_>],
 ) -> Result<Vec<u8>, AllocError>
     requires held { IsHeld (registered registry.now) state.now }
-    requires listed { AreListed (held_with (registered registry.now) state.now)
+    requires listed { AreWrittenIn (held_with (registered registry.now) state.now)
         modules.now objects.now }
     ensures body { IfOk result (λ body. IsBodyIn Two body.items
         (held_with (registered registry.now) state.now)) }

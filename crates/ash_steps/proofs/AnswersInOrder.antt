@@ -7,14 +7,14 @@ use Rattle.ash_phrases.specs.Activity.{World, Activity}
 use Rattle.ash_phrases.specs.Releases.{sweep}
 use Rattle.ash_phrases.specs.Classes.{Program}
 use Rattle.ash_phrases.specs.Ends.{End, Finished, Threw, Aborted, Outcome, call_function, load_module}
-use Rattle.ash_phrases.specs.Laws.{EffectsStay}
+use Rattle.ash_phrases.specs.MeaningLaws.{EffectsStay}
 use Rattle.ash_phrases.proofs.AnswersInOrder.{taken_in_order, sweep_leaves}
 use Rattle.ash_phrases.proofs.Endings.{runs_stay}
 use Rattle.ash_steps.specs.States.{LoadedModule, State, Hosts, Embedding, without_module, world_of}
 use Rattle.ash_steps.specs.Requests.{Request, Value, ShownAs, Number, Done, Refused}
 use Rattle.ash_steps.specs.Tasks.{Task, Initialize, Invoke, Remove, Read, Show, Count, Rewrite, TaskResult, task_of}
 use Rattle.ash_steps.specs.Steps.{Step, replied, without_globals, after_load_with, after_load, after_call, after_discard, perform, unless_refused, History, Steps, performed, put_off, Runs, no_request, next_request}
-use Rattle.ash_steps.specs.Laws.{TakesInOrder}
+use Rattle.ash_steps.specs.StepLaws.{RunTakesInOrder}
 use Rattle.ash_steps.proofs.Numbers.{step_lives}
 
 -- answers that are taken in order
@@ -80,7 +80,7 @@ module _ (F : Type 0) (old : State) (hosts : Hosts) (numbered : AreNumbered old.
 joined : (a b c : List HostRecord) → Takes a b → Takes b c → Takes a c
 joined a b c one two = (one.0 ++ two.0, one.1 ∙ ap (λ (records : List HostRecord). one.0 ++ records) two.1 ∙ sym (append_assoc one.0 two.0 c))
 
-pub runs_take : {F : Type 0} (embedding : Embedding F) (budget : ℕ) (requests : List Request) (state : State) (hosts : Hosts) (history : History F) → Runs embedding budget requests state hosts history → AreNumbered state.last state.objects → TakesInOrder hosts history
+pub runs_take : {F : Type 0} (embedding : Embedding F) (budget : ℕ) (requests : List Request) (state : State) (hosts : Hosts) (history : History F) → Runs embedding budget requests state hosts history → AreNumbered state.last state.objects → RunTakesInOrder hosts history
 runs_take embedding budget requests state hosts history no_request numbered = ([], refl)
 runs_take embedding budget requests state hosts history (next_request {request} {requests = others} {one} {rest} s r) numbered =
     joined hosts.answers (one.hosts).answers (rest.hosts).answers

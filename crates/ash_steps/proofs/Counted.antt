@@ -6,7 +6,7 @@ use Rattle.ash_steps.specs.States.{LoadedModule, State, Hosts, Embedding, withou
 use Rattle.ash_steps.specs.Requests.{Request, Value, ShownAs, Number, Done, Refused}
 use Rattle.ash_steps.specs.Tasks.{Task, Initialize, Invoke, Remove, Read, Show, Count, Rewrite, TaskResult, task_of}
 use Rattle.ash_steps.specs.Steps.{Step, replied, after_load_with, after_load, after_call, after_discard, perform, unless_refused, Steps, performed, put_off}
-use Rattle.ash_steps.specs.Laws.{CountsAnswers}
+use Rattle.ash_steps.specs.StepLaws.{CountsAnswers}
 
 -- what holds of a step holds of what it is equal to
 of_this : {F : Type 0} (old : State) (this one : Step F) → CountsAnswers old this.reply this.state → Some this ≡ Some one → CountsAnswers old one.reply one.state

@@ -7,7 +7,7 @@ use Rattle.ash_steps.specs.States.{LoadedModule, State, Hosts, Embedding, withou
 use Rattle.ash_steps.specs.Requests.{Request, Refusal, Reply, Value, ShownAs, Number, Done, Refused}
 use Rattle.ash_steps.specs.Tasks.{Task, Initialize, Invoke, Remove, Read, Show, Count, Rewrite, TaskResult, task_of}
 use Rattle.ash_steps.specs.Steps.{Step, replied, after_load_with, after_load, after_call, after_discard, perform, unless_refused, step, History, begin_history, with_step, run, Steps, performed, put_off, Runs, no_request, next_request}
-use Rattle.ash_steps.specs.Laws.{AreOneUnlessPutOff}
+use Rattle.ash_steps.specs.StepLaws.{AreOneUnlessPutOff}
 
 -- determined
 

@@ -8,7 +8,7 @@ use Rattle.ash_phrases.specs.Releases.{sweep}
 use Rattle.ash_phrases.specs.Classes.{Program}
 use Rattle.ash_phrases.specs.Ends.{End, Finished, Threw, Aborted, Outcome, call_function, load_module}
 use Rattle.ash_phrases.specs.Answers.{Answerers, HostsFit}
-use Rattle.ash_phrases.specs.Laws.{EffectsStay, first_of_load, NumbersLiveOnce}
+use Rattle.ash_phrases.specs.MeaningLaws.{EffectsStay, first_of_load, NumbersLiveOnce}
 use Rattle.ash_phrases.proofs.Released.{swept_by}
 use Rattle.ash_phrases.proofs.Fits.{fit_along, released_fits}
 use Rattle.ash_phrases.proofs.Endings.{runs_stay}

@@ -7,8 +7,8 @@ use Rattle.ash_phrases.specs.Activity.{World, Activity}
 use Rattle.ash_phrases.specs.Releases.{sweep}
 use Rattle.ash_phrases.specs.Classes.{Program}
 use Rattle.ash_phrases.specs.Ends.{End, Finished, Threw, Aborted, Outcome, call_function, load_module}
-use Rattle.ash_phrases.specs.Numbers.{Numbering, numbering_of as numbering_in, Lives}
-use Rattle.ash_phrases.specs.Laws.{EffectsStay, NumbersLiveOnce}
+use Rattle.ash_phrases.specs.Numbers.{Numbering, numbering_of as numbering_in, NumberLives}
+use Rattle.ash_phrases.specs.MeaningLaws.{EffectsStay, NumbersLiveOnce}
 use Rattle.ash_phrases.proofs.Released.{swept_by}
 use Rattle.ash_phrases.proofs.Lives.{joined_lives, same_lives}
 use Rattle.ash_phrases.proofs.Numbers.{along, onward_from, released_onward}
@@ -17,16 +17,16 @@ use Rattle.ash_steps.specs.States.{LoadedModule, State, Hosts, Embedding, withou
 use Rattle.ash_steps.specs.Requests.{Request, Value, ShownAs, Number, Done, Refused}
 use Rattle.ash_steps.specs.Tasks.{Task, Initialize, Invoke, Remove, Read, Show, Count, Rewrite, TaskResult, task_of}
 use Rattle.ash_steps.specs.Steps.{Step, replied, without_globals, after_load_with, after_load, after_call, after_discard, perform, unless_refused, History, Steps, performed, put_off, Runs, no_request, next_request}
-use Rattle.ash_steps.specs.Laws.{events_of_reply, events_of}
+use Rattle.ash_steps.specs.StepLaws.{events_of_reply, events_of}
 
 -- what a step does to numbers
 abbrev pub StepLives : {F : Type 0} → State → Step F → Type 0
-StepLives old one = Lives (numbering_of old) (events_of_reply one.reply) (numbering_of one.state)
+StepLives old one = NumberLives (numbering_of old) (events_of_reply one.reply) (numbering_of one.state)
 
 of_this : {F : Type 0} (old : State) (this one : Step F) → StepLives old this → Some this ≡ Some one → StepLives old one
 of_this {F} old this one h e = subst (λ (s : Step F). StepLives old s) (ap (λ (o : Option (Step F)). unwrap_or o this) e) h
 
-still : (state : State) → AreNumbered state.last state.objects → Lives (numbering_of state) [] (numbering_of state)
+still : (state : State) → AreNumbered state.last state.objects → NumberLives (numbering_of state) [] (numbering_of state)
 still state numbered = same_lives (numbering_of state) (numbering_of state) [] numbered (omega arith) (λ n. refl) (λ n. refl) (λ n. refl)
 
 -- a release point without frames
@@ -39,13 +39,13 @@ outcome_onward first outcome numbered stays =
     onward_from numbered begin (released_onward [] (stays.last).world outcome.world stays.released (begin.lives).numbered)
 
 -- the events of what begins with none
-from_none : (a b : World) → a.events ≡ [] → NumbersLiveOnce a b → Lives (numbering_in a) b.events (numbering_in b)
-from_none a b none h = subst (λ (events : List Event). Lives (numbering_in a) events (numbering_in b)) (sym (h.events ∙ ap (λ (events : List Event). events ++ h.more) none)) h.lives
+from_none : (a b : World) → a.events ≡ [] → NumbersLiveOnce a b → NumberLives (numbering_in a) b.events (numbering_in b)
+from_none a b none h = subst (λ (events : List Event). NumberLives (numbering_in a) events (numbering_in b)) (sym (h.events ∙ ap (λ (events : List Event). events ++ h.more) none)) h.lives
 
 -- a load that does not finish: a release point of its frames, and one of its globals
-unfinished : (old : State) (world first : World) → numbering_in first ≡ numbering_of old → first.events ≡ [] → AreNumbered first.last first.objects → NumbersLiveOnce first world → Lives (numbering_of old) (without_globals world).events (numbering_in (without_globals world))
+unfinished : (old : State) (world first : World) → numbering_in first ≡ numbering_of old → first.events ≡ [] → AreNumbered first.last first.objects → NumbersLiveOnce first world → NumberLives (numbering_of old) (without_globals world).events (numbering_in (without_globals world))
 unfinished old world first same none ordered h =
-    subst (λ (n : Numbering). Lives n (without_globals world).events (numbering_in (without_globals world))) same
+    subst (λ (n : Numbering). NumberLives n (without_globals world).events (numbering_in (without_globals world))) same
     (from_none first (without_globals world) none (onward_from ordered h (record {
       more = again.more;
       events = again.events;
@@ -59,7 +59,7 @@ module _ (F : Type 0) (old : State) (numbered : AreNumbered old.last old.objects
   -- loads
 
   load_lives : (name source : List ℕ) (end : End) (world first : World) → numbering_in first ≡ numbering_of old → first.events ≡ [] → AreNumbered first.last first.objects → NumbersLiveOnce first world → StepLives {F = F} old (after_load_with name source old end world)
-  load_lives name source (Finished value) world first same none ordered h = subst (λ (n : Numbering). Lives n world.events (numbering_in world)) same (from_none first world none h)
+  load_lives name source (Finished value) world first same none ordered h = subst (λ (n : Numbering). NumberLives n world.events (numbering_in world)) same (from_none first world none h)
   load_lives name source (Threw x function line) world first same none ordered h = unfinished old world first same none ordered h
   load_lives name source (Aborted function line) world first same none ordered h = unfinished old world first same none ordered h
 
@@ -96,7 +96,7 @@ pub step_lives : {F : Type 0} (embedding : Embedding F) (budget : ℕ) (request 
 step_lives embedding budget request old hosts one (performed e) numbered = unless _ old numbered budget (task_of embedding request old) hosts one e
 step_lives {F} embedding budget request old hosts one (put_off {refusal} off e) numbered = subst (λ (s : Step F). StepLives old s) (sym e) (still old numbered)
 
-pub runs_live : {F : Type 0} (embedding : Embedding F) (budget : ℕ) (requests : List Request) (state : State) (hosts : Hosts) (history : History F) → Runs embedding budget requests state hosts history → AreNumbered state.last state.objects → Lives (numbering_of state) (events_of history) (numbering_of history.state)
+pub runs_live : {F : Type 0} (embedding : Embedding F) (budget : ℕ) (requests : List Request) (state : State) (hosts : Hosts) (history : History F) → Runs embedding budget requests state hosts history → AreNumbered state.last state.objects → NumberLives (numbering_of state) (events_of history) (numbering_of history.state)
 runs_live embedding budget requests state hosts history no_request numbered = still state numbered
 runs_live embedding budget requests state hosts history (next_request {request} {requests = others} {one} {rest} s r) numbered =
     let first = step_lives embedding budget request state hosts one s numbered in

@@ -1,7 +1,7 @@
 -- Small modules with host objects, which requests load, call and discard.
 use Rattle.std.specs.Prelude.{[], ◌∷◌, codes, Some, None}
 use Rattle.ash_typed.specs.declared.tree.operations.Calculator.TheVariants as calculators
-use Rattle.ash_typed.specs.Tree.{Assign}
+use Rattle.ash_typed.specs.TypedTree.{Assign}
 use Rattle.ash_typed.specs.Modules.{Variables, Function, Module}
 use Rattle.ash_phrases.specs.ExampleParts.{int, number, global, calculate, named, alone, evaluate, function}
 use Rattle.ash_phrases.specs.ExampleParts.{module_of, counter, new_counter, f}

@@ -11,7 +11,7 @@ use Rattle.ash_typed.specs.declared.tree.operations.Operands.TheVariants as oper
 use Rattle.ash_typed.specs.declared.tree.operations.Operation.TheVariants as operations
 use Rattle.ash_typed.specs.declared.tree.operations.Change.TheVariants as changes
 use Rattle.ash_typed.specs.declared.tree.statements.Test.TheVariants as tests
-use Rattle.ash_typed.specs.Tree.{Number, Expr, Read, Convert, Alter, Operate, Assign}
+use Rattle.ash_typed.specs.TypedTree.{Number, Expr, Read, Convert, Alter, Operate, Assign}
 use Rattle.ash_typed.specs.StatementTree.{Evaluate, Block, no_head, For, repeated, Return, stmts}
 use Rattle.ash_typed.specs.Modules.{Function, Module}
 use Rattle.ash_phrases.specs.ExampleParts.{int, number, local, global, calculate, named, alone}

@@ -4,8 +4,8 @@ pub mod Tasks
 pub mod Steps
 pub mod Premises
 pub mod SourceViews
-pub mod Laws
-pub mod Examples
+pub mod StepLaws
+pub mod StepExamples
 pub mod RunExamples
 pub mod IntegerRuns
 pub mod ObjectRuns

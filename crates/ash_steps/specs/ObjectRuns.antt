@@ -8,14 +8,14 @@ use Rattle.ash_typed.specs.declared.types.Element.TheVariants as elements
 use Rattle.ash_typed.specs.declared.types.ObjectType.TheVariants as objects
 use Rattle.ash_typed.specs.declared.types.VarType.{VarType}
 use Rattle.ash_typed.specs.declared.types.VarType.TheVariants as vars
-use Rattle.ash_typed.specs.declared.tree.operations.Member.TheVariants as members
+use Rattle.ash_typed.specs.declared.tree.operations.ObjectMember.TheVariants as members
 use Rattle.ash_typed.specs.declared.tree.operations.Method.TheVariants as methods
 use Rattle.ash_typed.specs.declared.tree.operations.ArrayMethod.TheVariants as arrays
-use Rattle.ash_typed.specs.declared.tree.operations.Target.TheVariants as targets
+use Rattle.ash_typed.specs.declared.tree.operations.CallTarget.TheVariants as targets
 use Rattle.ash_typed.specs.declared.tree.operations.Comparator.TheVariants as comparators
 use Rattle.ash_typed.specs.declared.tree.operations.Operands.TheVariants as operands
 use Rattle.ash_typed.specs.declared.tree.operations.Operation.TheVariants as operations
-use Rattle.ash_typed.specs.Tree.{Expr, Null, This, Read, Invoke, Cast, Operate, Assign, Call, Place, Held, exprs}
+use Rattle.ash_typed.specs.TypedTree.{Expr, Null, This, Read, Invoke, Cast, Operate, Assign, Call, Place, Held, exprs}
 use Rattle.ash_typed.specs.StatementTree.{Initialization, Stmt, Declare}
 use Rattle.ash_typed.specs.Modules.{Function, Interface, Class, Module}
 use Rattle.ash_phrases.specs.ExampleParts.{int, handle_of_class, number, local, global, variable, named, alone}

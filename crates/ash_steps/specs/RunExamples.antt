@@ -7,7 +7,7 @@ use Rattle.ash_typed.specs.Modules.{Module}
 use Rattle.ash_steps.specs.States.{State, Embedding, empty}
 use Rattle.ash_steps.specs.Requests.{Request, Reply}
 use Rattle.ash_steps.specs.Steps.{History, run}
-use Rattle.ash_steps.specs.Examples.{name_of_kind, hosts}
+use Rattle.ash_steps.specs.StepExamples.{name_of_kind, hosts}
 
 -- sources of one byte, which is the place of a module among these; no other is a source
 abbrev pub module_at : List Module → List ℕ → Result Module (Unit {0})

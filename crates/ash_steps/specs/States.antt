@@ -6,7 +6,7 @@ use Rattle.std.specs.Ordering.{is_lt, nat_cmp}
 use Rattle.std.specs.Cmp.Lexicographic.{slice_cmp}
 use Rattle.std.specs.Str.{bytes_eq}
 use Rattle.ash_host.specs.declared.word.Word.{Word}
-use Rattle.ash_host.specs.Objects.{Objects, handles}
+use Rattle.ash_host.specs.Objects.{LiveObjects, handles}
 use Rattle.ash_host.specs.Records.{HostRecord}
 use Rattle.ash_typed.specs.Modules.{Module}
 use Rattle.ash_phrases.specs.Activity.{FreeBox, World}
@@ -22,7 +22,7 @@ pub record LoadedModule : Type 0 where
 -- was given to an object, and how many requests have been answered.
 pub record State : Type 0 where
   pub modules : List LoadedModule
-  pub objects : Objects (List ℕ)
+  pub objects : LiveObjects (List ℕ)
   pub services : List (List ℕ)
   pub last : ℕ
   pub seq : ℕ

@@ -16,7 +16,7 @@ use Rattle.ash_typed.specs.declared.types.VarType.TheVariants as vars
 use Rattle.ash_typed.specs.StatementTree.{Initialization}
 use Rattle.ash_typed.specs.Modules.{Function, Class, Module}
 use Rattle.ash_typed.specs.SoundModules.{names_of_globals}
-use Rattle.ash_phrases.specs.Operators.{word_at}
+use Rattle.ash_phrases.specs.OperatorMeaning.{word_at}
 use Rattle.ash_phrases.specs.Classes.{places_of_classes, dotted}
 use Rattle.ash_steps.specs.declared.argument.Argument.{Argument}
 use Rattle.ash_steps.specs.declared.argument.Argument.TheVariants as arguments

@@ -19,7 +19,7 @@ ghost use Rattle.ash_steps.specs.Requests.{BadName, BadSource, ModuleTaken, NoMo
 ghost use Rattle.ash_steps.specs.Requests.{NoFunction, NotCallable};
 ghost use Rattle.ash_steps.specs.Requests.{BadArguments, NoGlobal, NoObject};
 ghost use Rattle.ash_steps.specs.Requests.{TooManyModules, SequenceSpent};
-ghost use Rattle.ash_steps.specs.Examples.{Replies, m, k, adding, with_counter, counter_shown};
+ghost use Rattle.ash_steps.specs.StepExamples.{RepliesInTurn, m, k, adding, with_counter, counter_shown};
 ghost use Rattle.ash_steps.specs.RunExamples.{RepliesOf, RepliesFrom, begin};
 ghost use Rattle.ash_steps.specs.IntegerRuns as integers;
 ghost use Rattle.ash_steps.specs.IntegerRuns.{full_of_modules, spent};
@@ -28,27 +28,27 @@ ghost use Rattle.ash_steps.specs.ObjectRuns.{class_shown, array_shown, numbers_s
 
 /// What a few runs over requests reply.
 pub fn worked_runs()
-    ensures loaded_and_called { Replies
+    ensures loaded_and_called { RepliesInTurn
         (Load m (4 ∷ []) ∷ Call m (codes "f") (Argument.Number (pos 5) ∷ []) ∷ Get m (codes "n")
         ∷ Call m (codes "f") [] ∷ Call m (codes "f") (Argument.Number (pos (2 ^ 31)) ∷ []) ∷ Seq
         ∷ []) 0 []
         (Answered (Finished None) 1 [] ∷ Answered (Finished (Some (Word.Int (pos 7)))) 2 []
         ∷ Value (Word.Int (pos 7)) ∷ Refused BadArguments ∷ Refused BadArguments ∷ Number 2 ∷ []) }
-    ensures shown_and_discarded { Replies
+    ensures shown_and_discarded { RepliesInTurn
         (Load m (1 ∷ []) ∷ Object 1 ∷ Discard m ∷ Object 1 ∷ []) 1 (started 1 7 ∷ [])
         (Answered (Finished None) 1 (Drew 1 ∷ []) ∷ ShownAs (counter_shown 1 1 7)
         ∷ Answered (Finished None) 2 (Dropped 1 ∷ []) ∷ Refused NoObject ∷ []) }
-    ensures held_by_another_module { Replies
+    ensures held_by_another_module { RepliesInTurn
         (Load m (1 ∷ []) ∷ Load k (2 ∷ []) ∷ Call k (codes "f") [] ∷ Get m (codes "g") ∷ []) 1
         (started 1 7 ∷ [])
         (Answered (Finished None) 1 (Drew 1 ∷ []) ∷ Answered (Finished None) 2 []
         ∷ Answered (Finished (Some (Word.Int (pos 21)))) 3 [] ∷ Value (Word.Object 1) ∷ []) }
-    ensures not_finished { Replies
+    ensures not_finished { RepliesInTurn
         (Load m (3 ∷ []) ∷ Call m (codes "f") [] ∷ Seq ∷ []) 0 (tallied_by 3 0 3 ∷ [])
         (Answered (Threw Exception.DivideByZero (codes "(init)") 1) 1
         (Called (Target.Service 0) 1 ∷ [])
         ∷ Refused NoModule ∷ Number 1 ∷ []) }
-    ensures in_order { Replies
+    ensures in_order { RepliesInTurn
         (Load (57 ∷ []) [] ∷ Load m [] ∷ Load m (2 ∷ []) ∷ Load m [] ∷ Call m (codes "g") []
         ∷ Call m (codes "pick") [] ∷ Seq ∷ []) 0 []
         (Refused BadName ∷ Refused (BadSource tt) ∷ Answered (Finished None) 1 []

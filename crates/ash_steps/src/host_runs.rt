@@ -14,7 +14,7 @@ ghost use Rattle.ash_phrases.specs.ReleaseExamples.{value_read};
 ghost use Rattle.ash_steps.specs.Requests.{Load, Call, Discard, Get, Object, Seq};
 ghost use Rattle.ash_steps.specs.Requests.{Answered, Value, ShownAs, Number};
 ghost use Rattle.ash_steps.specs.Requests.{Refused, NoModule, NoObject};
-ghost use Rattle.ash_steps.specs.Examples.{m, with_counter, counter_shown};
+ghost use Rattle.ash_steps.specs.StepExamples.{m, with_counter, counter_shown};
 ghost use Rattle.ash_steps.specs.RunExamples.{RepliesOf, RepliesFrom, begin};
 ghost use Rattle.ash_steps.specs.HostRuns as hosts;
 ghost use Rattle.ash_steps.specs.ObjectRuns as objects;

@@ -5,8 +5,8 @@ ghost use Rattle.ash_host.specs.Objects.{AreNumbered};
 ghost use Rattle.ash_phrases.specs.Answers.{Answerers};
 ghost use Rattle.ash_steps.specs.States.{State, Hosts, Embedding};
 ghost use Rattle.ash_steps.specs.Requests.{Request, Refusal, Refused};
-ghost use Rattle.ash_steps.specs.Laws.{CountsAnswers, AreOneUnlessPutOff, NumbersLiveOnce};
-ghost use Rattle.ash_steps.specs.Laws.{IsNotAborted, TakesInOrder};
+ghost use Rattle.ash_steps.specs.StepLaws.{CountsAnswers, AreOneUnlessPutOff, RunNumbersLiveOnce};
+ghost use Rattle.ash_steps.specs.StepLaws.{ReplyIsNotAborted, RunTakesInOrder};
 ghost use Rattle.ash_steps.specs.Tasks.{first_refusal};
 ghost use Rattle.ash_steps.specs.Steps.{Step, History, step, replied, run, Steps, Runs};
 ghost use Rattle.ash_steps.specs.Premises.{HostsAnswer};
@@ -54,7 +54,7 @@ pub fn numbers_live_once<F>()
         (state : State) (hosts : Hosts) (history : History F)
         → Runs embedding budget requests state hosts history
         → AreNumbered state.last state.objects
-        → NumbersLiveOnce state history }
+        → RunNumbersLiveOnce state history }
 {}
 
 /// The states of host objects, of services and of free boxes stay no longer than they may be, where hosts answer what
@@ -74,7 +74,7 @@ pub fn budget_suffices<F>()
         (state : State) (hosts : Hosts) (one : Step F)
         → AreNumbered state.last state.objects
         → step embedding budget request state hosts ≡ Some one
-        → IsNotAborted one.reply
+        → ReplyIsNotAborted one.reply
         → step embedding (budget + more) request state hosts ≡ Some one }
 {}
 
@@ -84,5 +84,5 @@ pub fn answers_are_taken_in_order<F>()
         (state : State) (hosts : Hosts) (history : History F)
         → Runs embedding budget requests state hosts history
         → AreNumbered state.last state.objects
-        → TakesInOrder hosts history }
+        → RunTakesInOrder hosts history }
 {}

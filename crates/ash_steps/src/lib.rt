@@ -1,14 +1,14 @@
 //! What a request does to the state of a host: states, requests, and their steps.
 //!
-//! A state has the modules that are loaded, each with its globals, the objects, the states of the services, the
-//! last number that was given to an object, and how many requests have been answered. A request is refused for its
-//! first cause, which changes nothing, or does what it asks for, and raises that number where it is answered; or it is
-//! refused for a cause that is not in the state, as where memory runs out. The crate uses the meaning of typed
-//! trees, and leaves open how a source is read: its definitions take what the embedding program has registered, with
-//! the function that gives the typed tree of a source, or its first fault. They are in `specs/`, in reading order:
+//! A state has the modules that are loaded, each with its globals, the objects, the states of the services, the last
+//! number that was given to an object, and how many requests have been answered. A request is refused for its first
+//! cause, which changes nothing, or does what it asks for, and raises that number where it is answered; or it is
+//! refused for a cause that is not in the state, as where memory runs out. The crate uses the meaning of typed trees,
+//! and leaves open how a source is read: its definitions take what the embedding program has registered, with the
+//! function that gives the typed tree of a source, or its first fault. They are in `specs/`, in reading order:
 //! `States`, `Requests`, `Tasks` (the refusals of each request, in order), `Steps` (what is done, and runs over
-//! requests), `Premises` (what statements may take as given), `SourceViews` (what is read of sources), `Laws`, and
-//! `Examples` with those beside it.
+//! requests), `Premises` (what statements may take as given), `SourceViews` (what is read of sources), `StepLaws`, and
+//! `StepExamples` with those beside it.
 //!
 //! In reading order: `argument` (what a call is handed), `sources` (the trait of programs that read sources), `laws`
 //! (of steps), `examples` and `host_runs` (runs that are computed).

@@ -8,7 +8,7 @@ use ash_typed::Module;
 use std::alloc::{AllocError, Global};
 
 /// How sources are read, and what kinds are called.
-pub trait Sources {
+pub trait SourceReader {
     /// Why a source has no typed tree.
     type Fault: Drop;
 

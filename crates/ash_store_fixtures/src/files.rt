@@ -4,7 +4,7 @@ use std::alloc::{AllocError, Global};
 
 /// A module as an image has it. Where it has a global, that is an `int`.
 #[derive(Clone, Copy)]
-pub struct Module<'a> {
+pub struct ImageModule<'a> {
     pub name: &'static str,
     pub source: &'a [u8],
     pub global: Option<i32>,
@@ -17,7 +17,7 @@ fn length_of(bytes: &[u8]) -> [u8; 4] {
 }
 
 /// Adds a module to an image.
-fn add_module(image: &mut Vec<u8>, module: &Module) -> Result<(), AllocError> {
+fn add_module(image: &mut Vec<u8>, module: &ImageModule) -> Result<(), AllocError> {
     let [length, _, _, _] = length_of(module.name.as_bytes());
     image.push(length)?;
     image.extend_from_slice(module.name.as_bytes())?;
@@ -38,7 +38,7 @@ pub fn image_in(
     alloc: Global,
     version: u8,
     seq: u64,
-    modules: &[Module],
+    modules: &[ImageModule],
 ) -> Result<Vec<u8>, AllocError> {
     let mut image = Vec::from_slice(alloc, &[version, 0, 0, 0, 0, 0])?;
     image.extend_from_slice(&seq.to_le_bytes())?;
@@ -53,7 +53,7 @@ pub fn image_in(
 }
 
 /// The same in the version that is written.
-pub fn image(alloc: Global, seq: u64, modules: &[Module]) -> Result<Vec<u8>, AllocError> {
+pub fn image(alloc: Global, seq: u64, modules: &[ImageModule]) -> Result<Vec<u8>, AllocError> {
     image_in(alloc, 2, seq, modules)
 }
 

@@ -1,6 +1,6 @@
 //! Stores with about as many bytes of records as make a host install a new generation, written by hand.
 
-use crate::files::{Module, add_record, generation, image};
+use crate::files::{ImageModule, add_record, generation, image};
 use crate::hosts::SOURCE;
 use std::alloc::{AllocError, Global};
 
@@ -35,7 +35,7 @@ fn large_image(alloc: Global, seq: u64, last: usize) -> Result<Vec<u8>, AllocErr
     let source = longest.as_slice();
     let mut modules = Vec::new(alloc);
     for name in &NAMES {
-        modules.push(Module {
+        modules.push(ImageModule {
             name: *name,
             source,
             global: None,
@@ -49,7 +49,7 @@ fn large_image(alloc: Global, seq: u64, last: usize) -> Result<Vec<u8>, AllocErr
 
 /// The image of a host with the module `m` that is asked for `n`, which is 2.
 fn small_image(alloc: Global, seq: u64) -> Result<Vec<u8>, AllocError> {
-    let module = Module {
+    let module = ImageModule {
         name: "m",
         source: SOURCE,
         global: Some(2),

@@ -1,7 +1,7 @@
 //! Lives of a store as data: what is asked of a host from the making or the opening of its store until it is closed,
 //! and the files by hand that it then leaves. What is answered is written out, so that a test compares a text.
 
-use crate::files::{Module, add_record, generation, image_in};
+use crate::files::{ImageModule, add_record, generation, image_in};
 use crate::hosts::{
     EMPTY, SOURCE, State, add, call_in, closed, created, discard, discard_of, disk, fuse, get,
     global, inner, line_of, load, load_as, object, opened, reopened, seq, shown, snapshot, state,
@@ -15,7 +15,7 @@ use std::test::Fail;
 
 /// What is asked of a host.
 #[derive(Clone, Copy)]
-pub enum Step {
+pub enum HostStep {
     /// The module `m` is loaded.
     Load,
     /// The function `f` of `m` is called with a number.
@@ -48,25 +48,29 @@ fn line<T: Debug>(alloc: Global, value: &T) -> Result<String, Fail> {
 }
 
 /// Takes a step, and writes out what is answered, as a line.
-fn answer<D: Disk>(alloc: Global, host: &mut Host<D>, step: Step) -> Result<String, Fail> {
+fn answer<D: Disk>(alloc: Global, host: &mut Host<D>, step: HostStep) -> Result<String, Fail> {
     match step {
-        Step::Load => line_of(alloc, load(host, SOURCE)),
-        Step::Call(number) => line_of(alloc, add(host, number)),
-        Step::CallIn(module) => line_of(alloc, call_in(host, module, &[])),
-        Step::Discard => line_of(alloc, discard(host)),
-        Step::Snapshot => line_of(alloc, snapshot(host)),
-        Step::Global(name) => line_of(alloc, global(host, name)),
-        Step::Seq => line(alloc, &seq(host)),
-        Step::State => line(alloc, &state(host)),
-        Step::LoadAs(module, source) => line_of(alloc, load_as(host, module, source)),
-        Step::DiscardOf(module) => line_of(alloc, discard_of(host, module)),
-        Step::Get(module, name) => line_of(alloc, get(host, module, name)),
-        Step::Object(number) => line_of(alloc, object(host, number)),
+        HostStep::Load => line_of(alloc, load(host, SOURCE)),
+        HostStep::Call(number) => line_of(alloc, add(host, number)),
+        HostStep::CallIn(module) => line_of(alloc, call_in(host, module, &[])),
+        HostStep::Discard => line_of(alloc, discard(host)),
+        HostStep::Snapshot => line_of(alloc, snapshot(host)),
+        HostStep::Global(name) => line_of(alloc, global(host, name)),
+        HostStep::Seq => line(alloc, &seq(host)),
+        HostStep::State => line(alloc, &state(host)),
+        HostStep::LoadAs(module, source) => line_of(alloc, load_as(host, module, source)),
+        HostStep::DiscardOf(module) => line_of(alloc, discard_of(host, module)),
+        HostStep::Get(module, name) => line_of(alloc, get(host, module, name)),
+        HostStep::Object(number) => line_of(alloc, object(host, number)),
     }
 }
 
 /// What is answered to each step, a line each.
-pub fn answers<D: Disk>(alloc: Global, host: &mut Host<D>, steps: &[Step]) -> Result<String, Fail> {
+pub fn answers<D: Disk>(
+    alloc: Global,
+    host: &mut Host<D>,
+    steps: &[HostStep],
+) -> Result<String, Fail> {
     let mut all = String::new(alloc);
     for step in steps {
         let answer = answer(alloc, host, *step)?;
@@ -95,7 +99,7 @@ pub enum File {
 /// The image of a host in a state, in a version. Its module has the source that steps load.
 pub fn image_of(alloc: Global, version: u8, state: State) -> Result<Vec<u8>, AllocError> {
     let (seq, global) = state;
-    let module = Module {
+    let module = ImageModule {
         name: "m",
         source: SOURCE,
         global,
@@ -171,7 +175,7 @@ pub enum Start {
 pub struct Run {
     pub what: &'static str,
     pub start: Start,
-    pub steps: &'static [Step],
+    pub steps: &'static [HostStep],
     pub answers: &'static str,
     pub is_reopened: bool,
     pub first: File,
@@ -211,7 +215,7 @@ pub fn found_answers(
     alloc: Global,
     a: MemoryDisk,
     b: MemoryDisk,
-    steps: &[Step],
+    steps: &[HostStep],
 ) -> Result<String, Fail> {
     match opened(alloc, a, b, Registry::new(alloc)) {
         Ok(mut host) => answers(alloc, &mut host, steps),
@@ -223,7 +227,7 @@ pub fn found_answers(
 pub fn lived_on_fuses(
     alloc: Global,
     calls: (u64, u64),
-    steps: &[Step],
+    steps: &[HostStep],
 ) -> Result<(String, (MemoryDisk, MemoryDisk)), Fail> {
     let (a, b) = (fuse(alloc, calls.0), fuse(alloc, calls.1));
     let mut host = created(alloc, a, b, Registry::new(alloc))?;

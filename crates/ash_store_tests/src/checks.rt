@@ -74,10 +74,10 @@ pub fn check_run(
 }
 
 /// Runs, one after the other, over disks that begin with two files.
-pub type Life = (File, File, &'static [Run]);
+pub type RunSeries = (File, File, &'static [Run]);
 
 /// Handles the runs of a life.
-pub fn check_life(rt: &impl Abort, alloc: Global, life: &Life) -> Result<(), Fail> {
+pub fn check_life(rt: &impl Abort, alloc: Global, life: &RunSeries) -> Result<(), Fail> {
     let (first, second, runs) = *life;
     let mut disks = disks_of(alloc, first, second)?;
     for run in runs {
@@ -87,7 +87,7 @@ pub fn check_life(rt: &impl Abort, alloc: Global, life: &Life) -> Result<(), Fai
 }
 
 /// Handles lives.
-pub fn check_lives(rt: &impl Abort, alloc: Global, lives: &[Life]) -> Result<(), Fail> {
+pub fn check_lives(rt: &impl Abort, alloc: Global, lives: &[RunSeries]) -> Result<(), Fail> {
     for life in lives {
         check_life(rt, alloc, life)?;
     }

@@ -11,7 +11,7 @@ use ash_store_fixtures::hosts::{
     EMPTY, SOURCE, State, add, closed, created, disk, found, found_state, fuse, image_after,
     is_done, lines_for, load, opened, seq, used,
 };
-use ash_store_fixtures::lives::{File, Step, bytes_of, lived_on_fuses};
+use ash_store_fixtures::lives::{File, HostStep, bytes_of, lived_on_fuses};
 use std::alloc::Global;
 use std::process::Abort;
 use std::test::Fail;
@@ -130,14 +130,14 @@ fn fused(
 }
 
 // What is asked of a host whose first write fails, and what is answered.
-static REFUSED: [Step; 7] = [
-    Step::Load,
-    Step::Load,
-    Step::CallIn("m"),
-    Step::Discard,
-    Step::Global("n"),
-    Step::Snapshot,
-    Step::Seq,
+static REFUSED: [HostStep; 7] = [
+    HostStep::Load,
+    HostStep::Load,
+    HostStep::CallIn("m"),
+    HostStep::Discard,
+    HostStep::Global("n"),
+    HostStep::Snapshot,
+    HostStep::Seq,
 ];
 
 const REFUSALS: &str = "refused 507 DeviceFailed\nrefused 508 Reopen\nrefused 508 Reopen\n\
@@ -185,7 +185,7 @@ fn a_first_write_that_fails(rt: HostRuntime) -> Result<(), Fail> {
 }
 
 // A host loads a module and loses the answer to a call, and then it is asked once more.
-static LOST: [Step; 3] = [Step::Load, Step::Call(5), Step::Call(5)];
+static LOST: [HostStep; 3] = [HostStep::Load, HostStep::Call(5), HostStep::Call(5)];
 
 const LOST_CALL: &str = "ok seq 1\nrefused 507 DeviceFailed\nrefused 508 Reopen\n";
 

@@ -1,6 +1,6 @@
 //! The calls of a host, each once, where memory is ample.
 
-use crate::checks::{Life, check, check_life, check_text};
+use crate::checks::{RunSeries, check, check_life, check_text};
 use ash_disk::MemoryDisk;
 use ash_durable::Host;
 use ash_plain_steps::request::Request;
@@ -8,31 +8,31 @@ use ash_steps::Argument;
 use ash_store_fixtures::hosts::{
     SOURCE, call, line_for, line_of, lines_for, load, need, new_host, seq, shown,
 };
-use ash_store_fixtures::lives::{File, Run, Start, Step};
+use ash_store_fixtures::lives::{File, HostStep, Run, Start};
 use std::alloc::Global;
 use std::process::Abort;
 use std::test::Fail;
 
-static EACH_CALL: Life = (
+static EACH_CALL: RunSeries = (
     File::Bytes(&[]),
     File::Bytes(&[]),
     &[Run {
         what: "each call",
         start: Start::Make,
         steps: &[
-            Step::Seq,
-            Step::Load,
-            Step::Call(5),
-            Step::Global("n"),
-            Step::Global("f"),
-            Step::Seq,
-            Step::Snapshot,
-            Step::Global("n"),
-            Step::Global("f"),
-            Step::Seq,
-            Step::Discard,
-            Step::Discard,
-            Step::Seq,
+            HostStep::Seq,
+            HostStep::Load,
+            HostStep::Call(5),
+            HostStep::Global("n"),
+            HostStep::Global("f"),
+            HostStep::Seq,
+            HostStep::Snapshot,
+            HostStep::Global("n"),
+            HostStep::Global("f"),
+            HostStep::Seq,
+            HostStep::Discard,
+            HostStep::Discard,
+            HostStep::Seq,
         ],
         answers: "0\nok seq 1\nok 7 seq 2\nok 7\nrefused 406 NoGlobal\n2\n\
             ok\nok 7\nrefused 406 NoGlobal\n2\nok seq 3\nrefused 401 NoModule\n3\n",
@@ -130,19 +130,19 @@ fn an_argument_that_does_not_fit(rt: HostRuntime) -> Result<(), Fail> {
 
 // A host with the module `m`, whose number is the greatest that there is, in a file whose image holds all of the state.
 // No number is given to a snapshot.
-static SPENT: Life = (
+static SPENT: RunSeries = (
     File::Written(2, (u64::MAX, Some(7)), &[], &[]),
     File::Bytes(&[0]),
     &[Run {
         what: "a number that is spent",
         start: Start::Open,
         steps: &[
-            Step::Load,
-            Step::CallIn("m"),
-            Step::Discard,
-            Step::Snapshot,
-            Step::Global("n"),
-            Step::Seq,
+            HostStep::Load,
+            HostStep::CallIn("m"),
+            HostStep::Discard,
+            HostStep::Snapshot,
+            HostStep::Global("n"),
+            HostStep::Seq,
         ],
         answers: "refused 410 SequenceSpent\nrefused 410 SequenceSpent\nrefused 410 SequenceSpent\nok\nok 7\n\
             18446744073709551615\n",

@@ -6,7 +6,7 @@ use crate::store::check_survives;
 use ash_disk::{MemoryDisk, Survives};
 use ash_registry::Registry;
 use ash_store_fixtures::hosts::{closed, crashed, opened};
-use ash_store_fixtures::lives::{File, Step, answers, disks_of};
+use ash_store_fixtures::lives::{File, HostStep, answers, disks_of};
 use std::alloc::Global;
 use std::process::Abort;
 use std::test::Fail;
@@ -14,9 +14,9 @@ use std::test::Fail;
 /// What is asked of a host until its process ends, with what is answered, and then what is asked of it where its store
 /// is opened again.
 struct Part {
-    steps: &'static [Step],
+    steps: &'static [HostStep],
     answers: &'static str,
-    looks: &'static [Step],
+    looks: &'static [HostStep],
     found: &'static str,
 }
 
@@ -26,12 +26,12 @@ type Life = (&'static str, &'static [Part]);
 const CLASSES: &[u8] = b"class Q { int w = 1; } \
     class P { Q q; Q@ r; int v = 2; P(int k) { v = v + k; @r = q; } } P@ g = P(5); int f() { return g.v; }";
 
-const LOOK_AT_CLASSES: &[Step] = &[
-    Step::Global("g"),
-    Step::Object(1),
-    Step::Object(2),
-    Step::Object(3),
-    Step::Seq,
+const LOOK_AT_CLASSES: &[HostStep] = &[
+    HostStep::Global("g"),
+    HostStep::Object(1),
+    HostStep::Object(2),
+    HostStep::Object(3),
+    HostStep::Seq,
 ];
 
 // The object 1 has a handle from the global, and the object 2 one for each of the fields `q` and `r`.
@@ -39,28 +39,28 @@ static MEMBERS: Life = (
     "members, a constructor and a handle",
     &[
         Part {
-            steps: &[Step::LoadAs("m", CLASSES)],
+            steps: &[HostStep::LoadAs("m", CLASSES)],
             answers: "ok seq 1\n",
             looks: LOOK_AT_CLASSES,
             found: "ok object 1\nok object 1 m.P count 1 q object 2 r object 2 v 7\n\
                 ok object 2 m.Q count 2 w 1\nrefused 407 NoObject\n1\n",
         },
         Part {
-            steps: &[Step::CallIn("m"), Step::Global("g")],
+            steps: &[HostStep::CallIn("m"), HostStep::Global("g")],
             answers: "ok 7 seq 2\nok object 1\n",
             looks: LOOK_AT_CLASSES,
             found: "ok object 1\nok object 1 m.P count 1 q object 2 r object 2 v 7\n\
                 ok object 2 m.Q count 2 w 1\nrefused 407 NoObject\n2\n",
         },
         Part {
-            steps: &[Step::Snapshot, Step::Object(2)],
+            steps: &[HostStep::Snapshot, HostStep::Object(2)],
             answers: "ok\nok object 2 m.Q count 2 w 1\n",
             looks: LOOK_AT_CLASSES,
             found: "ok object 1\nok object 1 m.P count 1 q object 2 r object 2 v 7\n\
                 ok object 2 m.Q count 2 w 1\nrefused 407 NoObject\n2\n",
         },
         Part {
-            steps: &[Step::Discard, Step::Discard],
+            steps: &[HostStep::Discard, HostStep::Discard],
             answers: "ok seq 3\nrefused 401 NoModule\n",
             looks: LOOK_AT_CLASSES,
             found: "refused 401 NoModule\nrefused 407 NoObject\nrefused 407 NoObject\n\
@@ -71,12 +71,12 @@ static MEMBERS: Life = (
 
 const COUNTING: &[u8] = b"class A { int v; } A@ a = A(); void f() { a.v = a.v + 1; }";
 
-const LOOK_AT_TWO: &[Step] = &[
-    Step::Get("m", "a"),
-    Step::Object(1),
-    Step::Get("k", "a"),
-    Step::Object(2),
-    Step::Object(3),
+const LOOK_AT_TWO: &[HostStep] = &[
+    HostStep::Get("m", "a"),
+    HostStep::Object(1),
+    HostStep::Get("k", "a"),
+    HostStep::Object(2),
+    HostStep::Object(3),
 ];
 
 // Objects of a module go with it, and no number is given twice.
@@ -85,11 +85,11 @@ static TWO_MODULES: Life = (
     &[
         Part {
             steps: &[
-                Step::LoadAs("m", COUNTING),
-                Step::LoadAs("k", COUNTING),
-                Step::CallIn("m"),
-                Step::CallIn("k"),
-                Step::CallIn("k"),
+                HostStep::LoadAs("m", COUNTING),
+                HostStep::LoadAs("k", COUNTING),
+                HostStep::CallIn("m"),
+                HostStep::CallIn("k"),
+                HostStep::CallIn("k"),
             ],
             answers: "ok seq 1\nok seq 2\nok seq 3\nok seq 4\nok seq 5\n",
             looks: LOOK_AT_TWO,
@@ -97,7 +97,7 @@ static TWO_MODULES: Life = (
                 refused 407 NoObject\n",
         },
         Part {
-            steps: &[Step::DiscardOf("m"), Step::DiscardOf("z")],
+            steps: &[HostStep::DiscardOf("m"), HostStep::DiscardOf("z")],
             answers: "ok seq 6\nrefused 401 NoModule\n",
             looks: LOOK_AT_TWO,
             found: "refused 401 NoModule\nrefused 407 NoObject\nok object 2\n\
@@ -105,9 +105,9 @@ static TWO_MODULES: Life = (
         },
         Part {
             steps: &[
-                Step::CallIn("m"),
-                Step::CallIn("k"),
-                Step::LoadAs("m", COUNTING),
+                HostStep::CallIn("m"),
+                HostStep::CallIn("k"),
+                HostStep::LoadAs("m", COUNTING),
             ],
             answers: "refused 401 NoModule\nok seq 7\nok seq 8\n",
             looks: LOOK_AT_TWO,
@@ -121,26 +121,26 @@ const INTERFACES: &[u8] = b"interface I { int v(); } class A : I { int k; int v(
     I@ g; array<I@> l; \
     int f(int k) { A@ a = A(); a.k = k; @g = a; l.insertLast(a); return l[0].v() * 10 + g.v(); }";
 
-const LOOK_AT_ARRAY: &[Step] = &[
-    Step::Global("g"),
-    Step::Global("l"),
-    Step::Object(1),
-    Step::Object(2),
-    Step::Object(3),
+const LOOK_AT_ARRAY: &[HostStep] = &[
+    HostStep::Global("g"),
+    HostStep::Global("l"),
+    HostStep::Object(1),
+    HostStep::Object(2),
+    HostStep::Object(3),
 ];
 
 static ARRAYS: Life = (
     "an array of handles of an interface",
     &[
         Part {
-            steps: &[Step::LoadAs("m", INTERFACES)],
+            steps: &[HostStep::LoadAs("m", INTERFACES)],
             answers: "ok seq 1\n",
             looks: LOOK_AT_ARRAY,
             found: "ok null\nok object 1\nok object 1 array count 1\nrefused 407 NoObject\n\
                 refused 407 NoObject\n",
         },
         Part {
-            steps: &[Step::Call(3), Step::Call(4)],
+            steps: &[HostStep::Call(3), HostStep::Call(4)],
             answers: "ok 33 seq 2\nok 34 seq 3\n",
             looks: LOOK_AT_ARRAY,
             found: "ok object 3\nok object 1\nok object 1 array count 1 object 2 object 3\n\
@@ -158,12 +158,12 @@ static NAMED: Life = (
     "names that are globals and parameters",
     &[Part {
         steps: &[
-            Step::LoadAs("m", NAMES),
-            Step::Global("last"),
-            Step::Call(6),
+            HostStep::LoadAs("m", NAMES),
+            HostStep::Global("last"),
+            HostStep::Call(6),
         ],
         answers: "ok seq 1\nok 0\nok 67 seq 2\n",
-        looks: &[Step::Global("last"), Step::Global("first")],
+        looks: &[HostStep::Global("last"), HostStep::Global("first")],
         found: "ok 6\nok 5\n",
     }],
 );

@@ -1,16 +1,16 @@
 //! New generations: by a snapshot, and in place of records of 16,777,216 bytes or more. What is asked of a host is
 //! data, so that each call is proved once and not in each test.
 
-use crate::checks::{Life, check, check_bytes, check_calls, check_lives, check_text};
+use crate::checks::{RunSeries, check, check_bytes, check_calls, check_lives, check_text};
 use ash_disk::{MemoryDisk, Survives};
 use ash_durable::Host;
 use ash_registry::Registry;
-use ash_store_fixtures::files::{Module, add_record, generation, image};
+use ash_store_fixtures::files::{ImageModule, add_record, generation, image};
 use ash_store_fixtures::full::{AT_THE_LIMIT, FULL_RECORD_BYTES, full_file, spaces};
 use ash_store_fixtures::hosts::{
     EMPTY, closed, discard, disk, found_state, image_after, load, need, new_host, opened,
 };
-use ash_store_fixtures::lives::{File, Run, Start, Step, answers, bytes_of, lived_on_fuses};
+use ash_store_fixtures::lives::{File, HostStep, Run, Start, answers, bytes_of, lived_on_fuses};
 use std::alloc::{AllocError, Global};
 use std::process::Abort;
 use std::test::Fail;
@@ -18,7 +18,7 @@ use std::test::Fail;
 // The file after two requests to a new store.
 const USED: File = File::Written(1, (0, None), &[(1, Some(2)), (2, Some(7))], &[]);
 
-static LIVES: [Life; 5] = [
+static LIVES: [RunSeries; 5] = [
     // The second disk is shut since the store was made. The generation is written and synced, and then its gate.
     (
         File::Bytes(&[]),
@@ -27,7 +27,12 @@ static LIVES: [Life; 5] = [
             Run {
                 what: "a snapshot",
                 start: Start::Make,
-                steps: &[Step::Load, Step::Call(5), Step::Snapshot, Step::State],
+                steps: &[
+                    HostStep::Load,
+                    HostStep::Call(5),
+                    HostStep::Snapshot,
+                    HostStep::State,
+                ],
                 answers: "ok seq 1\nok 7 seq 2\nok\n(2, Some(7))\n",
                 is_reopened: false,
                 first: USED,
@@ -37,7 +42,7 @@ static LIVES: [Life; 5] = [
             Run {
                 what: "what is opened",
                 start: Start::Open,
-                steps: &[Step::State],
+                steps: &[HostStep::State],
                 answers: "(2, Some(7))\n",
                 is_reopened: false,
                 first: USED,
@@ -53,7 +58,12 @@ static LIVES: [Life; 5] = [
             Run {
                 what: "a request after a snapshot",
                 start: Start::Make,
-                steps: &[Step::Load, Step::Call(5), Step::Snapshot, Step::Call(1)],
+                steps: &[
+                    HostStep::Load,
+                    HostStep::Call(5),
+                    HostStep::Snapshot,
+                    HostStep::Call(1),
+                ],
                 answers: "ok seq 1\nok 7 seq 2\nok\nok 8 seq 3\n",
                 is_reopened: false,
                 first: USED,
@@ -63,7 +73,7 @@ static LIVES: [Life; 5] = [
             Run {
                 what: "what is opened after it",
                 start: Start::Open,
-                steps: &[Step::State],
+                steps: &[HostStep::State],
                 answers: "(3, Some(8))\n",
                 is_reopened: false,
                 first: USED,
@@ -80,7 +90,12 @@ static LIVES: [Life; 5] = [
             Run {
                 what: "two snapshots",
                 start: Start::Make,
-                steps: &[Step::Load, Step::Call(5), Step::Snapshot, Step::Snapshot],
+                steps: &[
+                    HostStep::Load,
+                    HostStep::Call(5),
+                    HostStep::Snapshot,
+                    HostStep::Snapshot,
+                ],
                 answers: "ok seq 1\nok 7 seq 2\nok\nok\n",
                 is_reopened: false,
                 first: File::Over(3, (2, Some(7)), &[(1, Some(2)), (2, Some(7))]),
@@ -90,7 +105,7 @@ static LIVES: [Life; 5] = [
             Run {
                 what: "a third snapshot",
                 start: Start::Open,
-                steps: &[Step::State, Step::Snapshot],
+                steps: &[HostStep::State, HostStep::Snapshot],
                 answers: "(2, Some(7))\nok\n",
                 is_reopened: true,
                 first: File::Over(3, (2, Some(7)), &[(1, Some(2)), (2, Some(7))]),
@@ -105,7 +120,7 @@ static LIVES: [Life; 5] = [
         &[Run {
             what: "a snapshot of nothing",
             start: Start::Make,
-            steps: &[Step::Snapshot],
+            steps: &[HostStep::Snapshot],
             answers: "ok\n",
             is_reopened: false,
             first: File::Empty,
@@ -121,11 +136,11 @@ static LIVES: [Life; 5] = [
             what: "the last generation",
             start: Start::Open,
             steps: &[
-                Step::Snapshot,
-                Step::Snapshot,
-                Step::Load,
-                Step::State,
-                Step::Snapshot,
+                HostStep::Snapshot,
+                HostStep::Snapshot,
+                HostStep::Load,
+                HostStep::State,
+                HostStep::Snapshot,
             ],
             answers: "refused 511 GenerationSpent\nrefused 511 GenerationSpent\nok seq 1\n\
                 (1, Some(2))\nrefused 511 GenerationSpent\n",
@@ -143,13 +158,13 @@ fn snapshots_with_their_bytes_and_device_calls(rt: HostRuntime) -> Result<(), Fa
 }
 
 // A snapshot and the requests after it, on a host with a module whose second disk fails.
-static FAILED: [Step; 6] = [
-    Step::Load,
-    Step::Snapshot,
-    Step::Snapshot,
-    Step::Load,
-    Step::Discard,
-    Step::Seq,
+static FAILED: [HostStep; 6] = [
+    HostStep::Load,
+    HostStep::Snapshot,
+    HostStep::Snapshot,
+    HostStep::Load,
+    HostStep::Discard,
+    HostStep::Seq,
 ];
 
 const REFUSED: &str = "ok seq 1\nrefused 507 DeviceFailed\nrefused 508 Reopen\nrefused 508 Reopen\n\
@@ -207,7 +222,7 @@ const DISCARD: usize = 35;
 /// The file after an installation by the 512th request, a discard, before which `m` is loaded.
 fn second_file(alloc: Global) -> Result<Vec<u8>, AllocError> {
     let source = spaces(alloc, 65_536)?;
-    let module = Module {
+    let module = ImageModule {
         name: "m",
         source: &source,
         global: None,
@@ -247,7 +262,7 @@ struct Full {
     what: &'static str,
     number: u64,
     last: usize,
-    steps: &'static [Step],
+    steps: &'static [HostStep],
     answers: &'static str,
     added: usize,
     second: File,
@@ -257,7 +272,7 @@ struct Full {
 fn lived_in(
     alloc: Global,
     file: &[u8],
-    steps: &[Step],
+    steps: &[HostStep],
 ) -> Result<(String, (MemoryDisk, MemoryDisk)), Fail> {
     let (a, b) = (disk(alloc, file)?, disk(alloc, &[0])?);
     let mut host = opened(alloc, a, b, Registry::new(alloc))?;
@@ -286,7 +301,7 @@ static AT_THE_SIZE: [Full; 2] = [
         what: "at the limit",
         number: 1,
         last: AT_THE_LIMIT,
-        steps: &[Step::State, Step::Call(5)],
+        steps: &[HostStep::State, HostStep::Call(5)],
         answers: "(17, Some(2))\nok 7 seq 18\n",
         added: 0,
         second: File::Written(2, (17, Some(2)), &[(18, Some(7))], &[]),
@@ -295,7 +310,7 @@ static AT_THE_SIZE: [Full; 2] = [
         what: "a byte less",
         number: 1,
         last: AT_THE_LIMIT - 1,
-        steps: &[Step::State, Step::Call(5)],
+        steps: &[HostStep::State, HostStep::Call(5)],
         answers: "(17, Some(2))\nok 7 seq 18\n",
         added: 93,
         second: File::Bytes(&[0]),
@@ -322,7 +337,11 @@ static REFUSED_REQUESTS: Full = Full {
     what: "a refused request installs too",
     number: 1,
     last: AT_THE_LIMIT,
-    steps: &[Step::CallIn("z"), Step::CallIn("y"), Step::State],
+    steps: &[
+        HostStep::CallIn("z"),
+        HostStep::CallIn("y"),
+        HostStep::State,
+    ],
     answers: "refused 401 NoModule\nrefused 401 NoModule\n(17, Some(2))\n",
     added: 0,
     second: File::Written(2, (17, Some(2)), &[], &[]),
@@ -338,12 +357,12 @@ static NO_ROOM: Full = Full {
     number: u64::MAX,
     last: AT_THE_LIMIT,
     steps: &[
-        Step::Load,
-        Step::Call(1),
-        Step::Discard,
-        Step::Snapshot,
-        Step::CallIn("z"),
-        Step::State,
+        HostStep::Load,
+        HostStep::Call(1),
+        HostStep::Discard,
+        HostStep::Snapshot,
+        HostStep::CallIn("z"),
+        HostStep::State,
     ],
     answers: "refused 511 GenerationSpent\nrefused 511 GenerationSpent\nrefused 511 GenerationSpent\n\
         refused 511 GenerationSpent\nrefused 511 GenerationSpent\n(17, Some(2))\n",

@@ -1,16 +1,16 @@
 //! Stores on two disks: their bytes, and crashes between requests. What is asked of a host is data, so that each call
 //! is proved once and not in each test.
 
-use crate::checks::{Life, check, check_bytes, check_lives, check_run, check_text};
+use crate::checks::{RunSeries, check, check_bytes, check_lives, check_run, check_text};
 use ash_disk::{MemoryDisk, Survives};
 use ash_durable::{OpenFault, StoreFault};
 use ash_store_fixtures::hosts::{closed, crashed, found, second_generation, with_modules};
-use ash_store_fixtures::lives::{File, Run, Start, Step, disks_of, found_answers};
+use ash_store_fixtures::lives::{File, HostStep, Run, Start, disks_of, found_answers};
 use std::alloc::Global;
 use std::process::Abort;
 use std::test::Fail;
 
-static LIVES: [Life; 6] = [
+static LIVES: [RunSeries; 6] = [
     // The first gate of each is shut and synced. Then the generation is written and synced, and its gate.
     (
         File::Bytes(&[]),
@@ -72,7 +72,7 @@ static LIVES: [Life; 6] = [
             Run {
                 what: "that store",
                 start: Start::Open,
-                steps: &[Step::Seq],
+                steps: &[HostStep::Seq],
                 answers: "0\n",
                 is_reopened: false,
                 first: File::Written(1, (0, None), &[], &[2; 9]),
@@ -90,7 +90,12 @@ static LIVES: [Life; 6] = [
             Run {
                 what: "two requests, and a second load",
                 start: Start::Make,
-                steps: &[Step::Load, Step::Call(5), Step::Global("n"), Step::Load],
+                steps: &[
+                    HostStep::Load,
+                    HostStep::Call(5),
+                    HostStep::Global("n"),
+                    HostStep::Load,
+                ],
                 answers: "ok seq 1\nok 7 seq 2\nok 7\nrefused 402 ModuleTaken\n",
                 is_reopened: false,
                 first: File::Written(1, (0, None), &[(1, Some(2)), (2, Some(7))], &[]),
@@ -118,7 +123,7 @@ static LIVES: [Life; 6] = [
             Run {
                 what: "a store in one image",
                 start: Start::Open,
-                steps: &[Step::State, Step::Call(1)],
+                steps: &[HostStep::State, HostStep::Call(1)],
                 answers: "(2, Some(7))\nok 8 seq 3\n",
                 is_reopened: false,
                 first: File::Written(1, (2, Some(7)), &[(3, Some(8))], &[]),
@@ -128,7 +133,7 @@ static LIVES: [Life; 6] = [
             Run {
                 what: "the state after a request",
                 start: Start::Open,
-                steps: &[Step::State],
+                steps: &[HostStep::State],
                 answers: "(3, Some(8))\n",
                 is_reopened: false,
                 first: File::Written(1, (2, Some(7)), &[(3, Some(8))], &[]),
@@ -191,14 +196,14 @@ static SURVIVES: [Survives; 5] = [
 ];
 
 /// What is asked of a store that is opened again, and what is answered.
-pub type Look = (&'static [Step], &'static str);
+pub type Look = (&'static [HostStep], &'static str);
 
 /// What a store answers that is opened where a crash leaves such parts of two disks.
 fn found_after_crash(
     alloc: Global,
     disks: &(MemoryDisk, MemoryDisk),
     survives: Survives,
-    looks: &[Step],
+    looks: &[HostStep],
 ) -> Result<String, Fail> {
     let a = crashed(alloc, &disks.0, survives)?;
     let b = crashed(alloc, &disks.1, survives)?;
@@ -240,7 +245,7 @@ static CRASHES: [(Run, &str); 4] = [
         Run {
             what: "a load",
             start: Start::Open,
-            steps: &[Step::Load],
+            steps: &[HostStep::Load],
             answers: "ok seq 1\n",
             is_reopened: false,
             first: File::Written(1, (0, None), &[(1, Some(2))], &[]),
@@ -253,7 +258,7 @@ static CRASHES: [(Run, &str); 4] = [
         Run {
             what: "a call",
             start: Start::Open,
-            steps: &[Step::Call(-9)],
+            steps: &[HostStep::Call(-9)],
             answers: "ok -7 seq 2\n",
             is_reopened: true,
             first: File::Written(1, (0, None), &[(1, Some(2)), (2, Some(-7))], &[]),
@@ -266,7 +271,7 @@ static CRASHES: [(Run, &str); 4] = [
         Run {
             what: "a discard",
             start: Start::Open,
-            steps: &[Step::Discard],
+            steps: &[HostStep::Discard],
             answers: "ok seq 3\n",
             is_reopened: false,
             first: File::Written(1, (0, None), &[(1, Some(2)), (2, Some(-7)), (3, None)], &[]),
@@ -277,7 +282,7 @@ static CRASHES: [(Run, &str); 4] = [
     ),
 ];
 
-const LOOKS: &[Step] = &[Step::Seq, Step::Global("n")];
+const LOOKS: &[HostStep] = &[HostStep::Seq, HostStep::Global("n")];
 
 #[test]
 fn crashes_between_requests(rt: HostRuntime) -> Result<(), Fail> {

@@ -1,14 +1,14 @@
 //! Stores of version 1, as they were written before there were arrays. They are by hand. An opening moves them to
 //! version 2.
 
-use crate::checks::{Life, check, check_lives};
+use crate::checks::{RunSeries, check, check_lives};
 use crate::damage::changed;
 use ash_durable::{Host, OpenFault, StoreFault};
 use ash_registry::Registry;
 use ash_store_fixtures::hosts::{
     EMPTY, State, add, closed, disk, found, found_state, need, opened,
 };
-use ash_store_fixtures::lives::{File, Run, Start, Step, bytes_of};
+use ash_store_fixtures::lives::{File, HostStep, Run, Start, bytes_of};
 use std::alloc::Global;
 use std::process::Abort;
 use std::test::Fail;
@@ -151,14 +151,14 @@ const LOADED_IN_TWO: &[u8] = &[
 
 // An opening installs a generation of version 2 with the same state in the other file, by two writes and two syncs. The
 // file of version 1 stays as it is, and so does a store of version 2.
-static LIVES: [Life; 4] = [
+static LIVES: [RunSeries; 4] = [
     (
         File::Older(1, (0, None), &[]),
         File::Bytes(&[0]),
         &[Run {
             what: "an empty store of version 1",
             start: Start::Open,
-            steps: &[Step::State],
+            steps: &[HostStep::State],
             answers: "(0, None)\n",
             is_reopened: false,
             first: File::Older(1, (0, None), &[]),
@@ -172,7 +172,7 @@ static LIVES: [Life; 4] = [
         &[Run {
             what: "a store of version 1 with the record of a load",
             start: Start::Open,
-            steps: &[Step::Seq],
+            steps: &[HostStep::Seq],
             answers: "1\n",
             is_reopened: false,
             first: File::Bytes(LOADED_IN_ONE),
@@ -187,7 +187,7 @@ static LIVES: [Life; 4] = [
             Run {
                 what: "a store of version 1 with records",
                 start: Start::Open,
-                steps: &[Step::State],
+                steps: &[HostStep::State],
                 answers: "(2, Some(7))\n",
                 is_reopened: false,
                 first: File::Older(1, (0, None), &[(1, Some(2)), (2, Some(7))]),
@@ -197,7 +197,7 @@ static LIVES: [Life; 4] = [
             Run {
                 what: "a request after that",
                 start: Start::Open,
-                steps: &[Step::Call(1)],
+                steps: &[HostStep::Call(1)],
                 answers: "ok 8 seq 3\n",
                 is_reopened: true,
                 first: File::Older(1, (0, None), &[(1, Some(2)), (2, Some(7))]),
@@ -212,7 +212,7 @@ static LIVES: [Life; 4] = [
         &[Run {
             what: "a store of version 1 in the second file",
             start: Start::Open,
-            steps: &[Step::State],
+            steps: &[HostStep::State],
             answers: "(3, None)\n",
             is_reopened: false,
             first: File::Written(4, (3, None), &[], &[]),

@@ -5,7 +5,7 @@ use ash_disk::{MemoryDisk, Survives};
 use ash_registry::Registry;
 use ash_serve::RunFault;
 use ash_serve::program::check::run_check;
-use ash_serve::program::fault::Fault;
+use ash_serve::program::fault::ProgramFault;
 use ash_serve::program::service::{Service, ServiceEnd, serve_stored};
 use std::alloc::Global;
 use std::io;
@@ -226,7 +226,7 @@ fn a_check_whose_file_or_line_fails(rt: HostRuntime) -> Result<(), Fail> {
     };
     let mut written = Vec::new(rt.alloc());
     let end = run_check(rt.alloc(), &registry, unread, &mut written);
-    assert!(rt; matches!(end.fault, Some(Fault::Run(RunFault::Read))));
+    assert!(rt; matches!(end.fault, Some(ProgramFault::Run(RunFault::Read))));
     assert_eq!(rt; end.status, 1);
     assert!(rt; written.is_empty());
     let mut refusing = Refusing {
@@ -239,7 +239,7 @@ fn a_check_whose_file_or_line_fails(rt: HostRuntime) -> Result<(), Fail> {
         b"int n = 2;".as_slice(),
         &mut refusing,
     );
-    assert!(rt; matches!(end.fault, Some(Fault::Run(RunFault::Write))));
+    assert!(rt; matches!(end.fault, Some(ProgramFault::Run(RunFault::Write))));
     assert_eq!(rt; end.status, 1);
     assert_eq!(rt; refusing.bytes.as_slice(), b"ok".as_slice());
     Ok(())
@@ -250,7 +250,7 @@ fn each_fault_has_its_number_and_a_sentence(rt: HostRuntime) -> Result<(), Fail>
     for (fault, wanted) in &NUMBERED {
         check_text(&rt, fault.code(), wanted, "the code of a fault");
     }
-    let sentence = format!(in rt.alloc(); "{}", Fault::Run(RunFault::Truncated))?;
+    let sentence = format!(in rt.alloc(); "{}", ProgramFault::Run(RunFault::Truncated))?;
     check_text(
         &rt,
         &sentence,

@@ -4,7 +4,7 @@ use Rattle.std.specs.declared.boxed.Box.{Box}
 use Rattle.std.specs.declared.vec.Vec.{Vec}
 use Rattle.std.specs.declared.string.String.{String}
 use Rattle.std.specs.declared.alloc.Global.{Global}
-use Rattle.ash_tree.specs.declared.tree.places.Place.{Place}
+use Rattle.ash_tree.specs.declared.tree.places.Position.{Position}
 use Rattle.ash_tree.specs.declared.tree.expressions.ExprKind.{Row_of-Expr, end_of-Expr, more_of-Expr}
 use Rattle.ash_tree.specs.declared.tree.expressions.ExprKind.{items-the_row-Expr, Row_of-Suffix, end_of-Suffix}
 use Rattle.ash_tree.specs.declared.tree.expressions.ExprKind.{more_of-Suffix, items-the_row-Suffix, Row_of-Link}
@@ -24,10 +24,10 @@ use Rattle.ash_tree.specs.declared.tree.statements.StmtKind.TheViews as stmt_vie
 use Rattle.ash_tree.specs.declared.tree.statements.Stmt as code_stmt
 use Rattle.ash_tree.specs.declared.tree.statements.Case as code_case
 use Rattle.ash_tree.specs.Tree.{Block, Switch, stmt, stmts, next_case, cases, Expr, Call, NewArray, Method, Binary}
-use Rattle.ash_tree.specs.Tree.{Postfix, Suffix, Operation, expr, exprs, suffix, suffixes, link, links, chained}
+use Rattle.ash_tree.specs.Tree.{Postfix, Suffix, OperatorLink, expr, exprs, suffix, suffixes, link, links, chained}
 use Rattle.ash_tree.specs.Tree.{suffixed, place_of, place_of_type}
-use Rattle.ash_tree.specs.Views.{element_of, type_at, expr_at, expr_of, exprs_of, suffix_of, suffixes_of, links_of}
-use Rattle.ash_tree.specs.Views.{operation_of, stmt_at, stmt_of, stmts_of, case_of, cases_of}
+use Rattle.ash_tree.specs.TreeViews.{element_of, type_at, expr_at, expr_of, exprs_of, suffix_of, suffixes_of, links_of}
+use Rattle.ash_tree.specs.TreeViews.{operation_of, stmt_at, stmt_of, stmts_of, case_of, cases_of}
 
 pub exprs_of-row : {n : _} (row : Row_of-Expr n) → exprs_of row ≡ exprs (map expr_of (items-the_row-Expr n row))
 exprs_of-row end_of-Expr = refl
@@ -42,28 +42,28 @@ pub links_of-row : {n : _} (row : Row_of-Link n) → links_of row ≡ links (map
 links_of-row end_of-Link = refl
 links_of-row (more_of-Link o p k rest) = ap (link o (expr_at p k)) (links_of-row rest)
 
-pub call_is : (p : Place) (name : String Global) (es : Vec code_expr.Expr Global)
+pub call_is : (p : Position) (name : String Global) (es : Vec code_expr.Expr Global)
     → expr_at p (kinds.Call name es) ≡ Call p (string_bytes name) (exprs (map expr_of es.items))
 call_is p name es = search (rules, kinds.the_lemmas, exprs_of-row)
 
-pub new_array_is : (p : Place) (of : Box code_element.Element Global) (es : Vec code_expr.Expr Global)
+pub new_array_is : (p : Position) (of : Box code_element.Element Global) (es : Vec code_expr.Expr Global)
     → expr_at p (kinds.NewArray of es) ≡ NewArray p (element_of of.value) (exprs (map expr_of es.items))
 new_array_is p of es = search (rules, kinds.the_lemmas, exprs_of-row)
 
-pub method_is : (p : Place) (name : String Global) (es : Vec code_expr.Expr Global)
+pub method_is : (p : Position) (name : String Global) (es : Vec code_expr.Expr Global)
     → suffix_of (kinds.Method p name es) ≡ Method p (string_bytes name) (exprs (map expr_of es.items))
 method_is p name es = search (rules, kinds.the_lemmas, exprs_of-row)
 
-pub binary_is : (p : Place) (first : Box code_expr.Expr Global) (ls : Vec code_link.Link Global)
+pub binary_is : (p : Position) (first : Box code_expr.Expr Global) (ls : Vec code_link.Link Global)
     → expr_at p (kinds.Binary first ls) ≡ Binary p (expr_of first.value) (links (map operation_of ls.items))
 binary_is p first ls = search (rules, kinds.the_lemmas, links_of-row)
 
-pub postfix_is : (p : Place) (operand : Box code_expr.Expr Global) (ss : Vec code_suffix.Suffix Global)
+pub postfix_is : (p : Position) (operand : Box code_expr.Expr Global) (ss : Vec code_suffix.Suffix Global)
     → expr_at p (kinds.Postfix operand ss) ≡ Postfix p (expr_of operand.value) (suffixes (map suffix_of ss.items))
 postfix_is p operand ss = search (rules, kinds.the_lemmas, suffixes_of-row)
 
 -- an operand with something after it is a node of its own
-pub chained-some : (first : Expr) (more : List Operation) → 0 < length more
+pub chained-some : (first : Expr) (more : List OperatorLink) → 0 < length more
     → chained first more ≡ Binary (place_of first) first (links more)
 chained-some first [] h = absurd (omega arith)
 chained-some first (x ∷ more) h = refl
@@ -81,16 +81,16 @@ pub cases_of-row : {n : _} (row : Row_of-Case n) → cases_of row ≡ cases (map
 cases_of-row end_of-Case = refl
 cases_of-row (more_of-Case c rest) = ap (next_case (case_of c)) (cases_of-row rest)
 
-pub block_is : (p : Place) (ss : Vec code_stmt.Stmt Global)
+pub block_is : (p : Position) (ss : Vec code_stmt.Stmt Global)
     → stmt_at p (stmt_views.Block ss) ≡ Block p (stmts (map stmt_of ss.items))
 block_is p ss = search (rules, stmt_views.the_lemmas, stmts_of-row)
 
-pub switch_is : (p : Place) (e : code_expr.Expr) (cs : Vec code_case.Case Global)
+pub switch_is : (p : Position) (e : code_expr.Expr) (cs : Vec code_case.Case Global)
     → stmt_at p (stmt_views.Switch e cs) ≡ Switch p (expr_of e) (cases (map case_of cs.items))
 switch_is p e cs = search (rules, stmt_views.the_lemmas, cases_of-row)
 
 -- an expression is at the place that it has
-pub place_is : (p : Place) (k : code_kind.ExprKind) → place_of (expr_at p k) ≡ p
+pub place_is : (p : Position) (k : code_kind.ExprKind) → place_of (expr_at p k) ≡ p
 place_is p (kind_cases.Number n) = refl
 place_is p (kind_cases.Bool b) = refl
 place_is p kind_cases.Null = refl
@@ -107,7 +107,7 @@ place_is p (kind_cases.Binary' a q k shape ls) = refl
 place_is p (kind_cases.Conditional' a q k b r l c s m) = refl
 place_is p (kind_cases.Assign' a q k o b r l) = refl
 
-pub type_place_is : (p : Place) (k : type_kind.TypeKind) → place_of_type (type_at p k) ≡ p
+pub type_place_is : (p : Position) (k : type_kind.TypeKind) → place_of_type (type_at p k) ≡ p
 type_place_is p (type_cases.Primitive k) = refl
 type_place_is p (type_cases.Object t) = refl
 type_place_is p (type_cases.Handle t) = refl

@@ -19,15 +19,15 @@ use Rattle.std.specs.Prelude.{◌≡◌, ℕ, zero, suc, ◌<◌, ◌≤◌, tru
 use Rattle.ash_lex.specs.Tokens.{Meaning, name, number, sign, reserved}
 use Rattle.ash_lex.specs.declared.signs.Sign.TheVariants as signs
 use Rattle.ash_lex.specs.declared.words.ReservedWord.TheVariants as words
-use Rattle.ash_tree.specs.declared.tree.places.Place.{Place}
+use Rattle.ash_tree.specs.declared.tree.places.Position.{Position}
 use Rattle.ash_tree.specs.declared.tree.types.Primitive.{Primitive}
 use Rattle.ash_tree.specs.declared.tree.operators.UnaryOp.{UnaryOp}
 use Rattle.ash_tree.specs.declared.tree.operators.BinaryOp.{BinaryOp}
 use Rattle.ash_tree.specs.declared.tree.operators.AssignOp.{AssignOp}
 use Rattle.ash_tree.specs.Tree.{Element, Expr, Number, Truth, Null, This, Name, Call, Brackets, Convert, NewArray, Cast}
 use Rattle.ash_tree.specs.Tree.{Unary, Conditional, Assign, Suffix, Field, Method, Index, Increment, Decrement}
-use Rattle.ash_tree.specs.Tree.{Operation, place_of, exprs, chained, suffixed}
-use Rattle.ash_tree.specs.Tokens.{Tokens}
+use Rattle.ash_tree.specs.Tree.{OperatorLink, place_of, exprs, chained, suffixed}
+use Rattle.ash_tree.specs.GrammarTokens.{Tokens}
 use Rattle.ash_tree.specs.Types.{IsElement}
 use Rattle.ash_tree.specs.Operators.{primitive, unary_operator, binary_operator, level, max_level, assign_operator}
 
@@ -55,13 +55,13 @@ mutual
   -- { "," assign }
   pub data AreMoreExprs : ℕ → ℕ → Tokens → List Expr → Tokens → Type 0 where
     no_more_exprs : {free depth : ℕ} {left : Tokens} → AreMoreExprs free depth left [] left
-    more_exprs : {free depth : ℕ} {p : Place} {from after left : Tokens} {e : Expr} {es : List Expr}
+    more_exprs : {free depth : ℕ} {p : Position} {from after left : Tokens} {e : Expr} {es : List Expr}
         → IsInner free depth from e after → AreMoreExprs free depth after es left
         → AreMoreExprs free depth ((sign signs.Comma, p) ∷ from) (e ∷ es) left
 
   -- args = "(" [ assign { "," assign } ] ")"
   pub data IsArgs : ℕ → ℕ → Tokens → List Expr → Tokens → Type 0 where
-    args : {free depth : ℕ} {p q : Place} {from left : Tokens} {es : List Expr}
+    args : {free depth : ℕ} {p q : Position} {from left : Tokens} {es : List Expr}
         → AreExprs free depth from es ((sign signs.CloseParenthesis, q) ∷ left)
         → IsArgs free depth ((sign signs.OpenParenthesis, p) ∷ from) es left
 
@@ -69,7 +69,7 @@ mutual
   pub data IsAssign : ℕ → ℕ → Tokens → Expr → Tokens → Type 0 where
     no_assign : {free depth : ℕ} {from left : Tokens} {e : Expr} → IsCond free depth from e left
         → IsAssign free depth from e left
-    assign : {free depth : ℕ} {m : Meaning} {p : Place} {from after left : Tokens} {target value : Expr}
+    assign : {free depth : ℕ} {m : Meaning} {p : Position} {from after left : Tokens} {target value : Expr}
         {operator : AssignOp} → IsBinary free depth max_level from target ((m, p) ∷ after)
         → assign_operator m ≡ Some operator → IsInner free depth after value left
         → IsAssign free depth from (Assign (place_of target) target operator value) left
@@ -78,7 +78,7 @@ mutual
   pub data IsCond : ℕ → ℕ → Tokens → Expr → Tokens → Type 0 where
     no_branch : {free depth : ℕ} {from left : Tokens} {e : Expr} → IsBinary free depth max_level from e left
         → IsCond free depth from e left
-    branches : {free depth : ℕ} {p q : Place} {from first second left : Tokens} {c a b : Expr}
+    branches : {free depth : ℕ} {p q : Position} {from first second left : Tokens} {c a b : Expr}
         → IsBinary free depth max_level from c ((sign signs.Question, p) ∷ first)
         → IsInner free depth first a ((sign signs.Colon, q) ∷ second) → IsInner free depth second b left
         → IsCond free depth from (Conditional (place_of c) c a b) left
@@ -87,21 +87,21 @@ mutual
   pub data IsBinary : ℕ → ℕ → ℕ → Tokens → Expr → Tokens → Type 0 where
     operand : {free depth : ℕ} {from left : Tokens} {e : Expr} → IsUnary free depth from e left
         → IsBinary free depth zero from e left
-    joined : {free depth n : ℕ} {from after left : Tokens} {first : Expr} {more : List Operation}
+    joined : {free depth n : ℕ} {from after left : Tokens} {first : Expr} {more : List OperatorLink}
         → IsBinary free depth n from first after → AreLinks free depth n after more left
         → IsBinary free depth (suc n) from (chained first more) left
 
   -- the operators of a level, each with its right operand
-  pub data AreLinks : ℕ → ℕ → ℕ → Tokens → List Operation → Tokens → Type 0 where
+  pub data AreLinks : ℕ → ℕ → ℕ → Tokens → List OperatorLink → Tokens → Type 0 where
     no_links : {free depth n : ℕ} {left : Tokens} → AreLinks free depth n left [] left
-    more_links : {free depth n : ℕ} {m : Meaning} {p : Place} {from after left : Tokens} {operator : BinaryOp}
-        {operand : Expr} {more : List Operation} → binary_operator m ≡ Some operator → level operator ≡ suc n
+    more_links : {free depth n : ℕ} {m : Meaning} {p : Position} {from after left : Tokens} {operator : BinaryOp}
+        {operand : Expr} {more : List OperatorLink} → binary_operator m ≡ Some operator → level operator ≡ suc n
         → IsBinary free depth n from operand after → AreLinks free depth n after more left
         → AreLinks free depth n ((m, p) ∷ from) (record { operator = operator; operand = operand } ∷ more) left
 
   -- unary = ( + - ! ~ ++ -- @ ) unary | postfix
   pub data IsUnary : ℕ → ℕ → Tokens → Expr → Tokens → Type 0 where
-    applied : {free depth : ℕ} {m : Meaning} {p : Place} {from left : Tokens} {operator : UnaryOp} {e : Expr}
+    applied : {free depth : ℕ} {m : Meaning} {p : Position} {from left : Tokens} {operator : UnaryOp} {e : Expr}
         → unary_operator m ≡ Some operator → Within free (suc depth) from → IsUnary free (suc depth) from e left
         → IsUnary free depth ((m, p) ∷ from) (Unary p operator e) left
     postfix : {free depth : ℕ} {from after left : Tokens} {e : Expr} {more : List Suffix}
@@ -116,46 +116,46 @@ mutual
         → AreSuffixes free depth from (s ∷ more) left
 
   pub data IsSuffix : ℕ → ℕ → Tokens → Suffix → Tokens → Type 0 where
-    field : {free depth : ℕ} {p q : Place} {text : List ℕ} {left : Tokens}
+    field : {free depth : ℕ} {p q : Position} {text : List ℕ} {left : Tokens}
         → IsSuffix free depth ((sign signs.Dot, p) ∷ (name text, q) ∷ left) (Field q text) left
-    method : {free depth : ℕ} {p q : Place} {text : List ℕ} {from left : Tokens} {es : List Expr}
+    method : {free depth : ℕ} {p q : Position} {text : List ℕ} {from left : Tokens} {es : List Expr}
         → IsArgs free depth from es left → IsSuffix free depth ((sign signs.Dot, p) ∷ (name text, q) ∷ from)
         (Method q text (exprs es)) left
-    index : {free depth : ℕ} {p q : Place} {from left : Tokens} {e : Expr}
+    index : {free depth : ℕ} {p q : Position} {from left : Tokens} {e : Expr}
         → IsInner free depth from e ((sign signs.CloseBracket, q) ∷ left)
         → IsSuffix free depth ((sign signs.OpenBracket, p) ∷ from) (Index e) left
-    increment : {free depth : ℕ} {p : Place} {left : Tokens}
+    increment : {free depth : ℕ} {p : Position} {left : Tokens}
         → IsSuffix free depth ((sign signs.Increment, p) ∷ left) Increment left
-    decrement : {free depth : ℕ} {p : Place} {left : Tokens}
+    decrement : {free depth : ℕ} {p : Position} {left : Tokens}
         → IsSuffix free depth ((sign signs.Decrement, p) ∷ left) Decrement left
 
   -- primary = NUMBER | "true" | "false" | "null" | "this" | NAME [args] | "(" assign ")" | prim "(" assign ")"
   --         | "array" "<" elem ">" args | "cast" "<" NAME ">" "(" assign ")"
   pub data IsPrimary : ℕ → ℕ → Tokens → Expr → Tokens → Type 0 where
-    numeral : {free depth n : ℕ} {p : Place} {left : Tokens}
+    numeral : {free depth n : ℕ} {p : Position} {left : Tokens}
         → IsPrimary free depth ((number n, p) ∷ left) (Number p n) left
-    yes : {free depth : ℕ} {p : Place} {left : Tokens}
+    yes : {free depth : ℕ} {p : Position} {left : Tokens}
         → IsPrimary free depth ((reserved words.True, p) ∷ left) (Truth p true) left
-    no : {free depth : ℕ} {p : Place} {left : Tokens}
+    no : {free depth : ℕ} {p : Position} {left : Tokens}
         → IsPrimary free depth ((reserved words.False, p) ∷ left) (Truth p false) left
-    null : {free depth : ℕ} {p : Place} {left : Tokens}
+    null : {free depth : ℕ} {p : Position} {left : Tokens}
         → IsPrimary free depth ((reserved words.Null, p) ∷ left) (Null p) left
-    this : {free depth : ℕ} {p : Place} {left : Tokens}
+    this : {free depth : ℕ} {p : Position} {left : Tokens}
         → IsPrimary free depth ((reserved words.This, p) ∷ left) (This p) left
-    named : {free depth : ℕ} {p : Place} {text : List ℕ} {left : Tokens}
+    named : {free depth : ℕ} {p : Position} {text : List ℕ} {left : Tokens}
         → IsPrimary free depth ((name text, p) ∷ left) (Name p text) left
-    call : {free depth : ℕ} {p : Place} {text : List ℕ} {from left : Tokens} {es : List Expr}
+    call : {free depth : ℕ} {p : Position} {text : List ℕ} {from left : Tokens} {es : List Expr}
         → IsArgs free depth from es left → IsPrimary free depth ((name text, p) ∷ from) (Call p text (exprs es)) left
-    brackets : {free depth : ℕ} {p q : Place} {from left : Tokens} {e : Expr}
+    brackets : {free depth : ℕ} {p q : Position} {from left : Tokens} {e : Expr}
         → IsInner free depth from e ((sign signs.CloseParenthesis, q) ∷ left)
         → IsPrimary free depth ((sign signs.OpenParenthesis, p) ∷ from) (Brackets p e) left
-    convert : {free depth : ℕ} {m : Meaning} {p q r : Place} {to : Primitive} {from left : Tokens} {e : Expr}
+    convert : {free depth : ℕ} {m : Meaning} {p q r : Position} {to : Primitive} {from left : Tokens} {e : Expr}
         → primitive m ≡ Some to → IsInner free depth from e ((sign signs.CloseParenthesis, r) ∷ left)
         → IsPrimary free depth ((m, p) ∷ (sign signs.OpenParenthesis, q) ∷ from) (Convert p to e) left
-    new_array : {free depth : ℕ} {p : Place} {of : Element} {from after left : Tokens} {es : List Expr}
+    new_array : {free depth : ℕ} {p : Position} {of : Element} {from after left : Tokens} {es : List Expr}
         → IsElement from of after → IsArgs free depth after es left
         → IsPrimary free depth ((reserved words.Array, p) ∷ from) (NewArray p of (exprs es)) left
-    cast : {free depth : ℕ} {p o q r s z : Place} {text : List ℕ} {from left : Tokens} {e : Expr}
+    cast : {free depth : ℕ} {p o q r s z : Position} {text : List ℕ} {from left : Tokens} {e : Expr}
         → IsInner free depth from e ((sign signs.CloseParenthesis, z) ∷ left)
         → IsPrimary free depth ((reserved words.Cast, p) ∷ (sign signs.Less, o) ∷ (name text, q)
         ∷ (sign signs.Greater, r) ∷ (sign signs.OpenParenthesis, s) ∷ from)

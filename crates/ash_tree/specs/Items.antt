@@ -1,7 +1,7 @@
 -- These definitions say what the items of a module and the members of a class are by kind, in source order, and what
 -- their names are.
 use Rattle.std.specs.Prelude.{◌+◌, ℕ, List, [], ◌∷◌, ◌++◌, map}
-use Rattle.ash_tree.specs.declared.tree.places.Place.{Place}
+use Rattle.ash_tree.specs.declared.tree.places.Position.{Position}
 use Rattle.ash_tree.specs.Tree.{Decl, Vars, Stmt, Parameter, Function, Constructor, Member, AMethod, AField}
 use Rattle.ash_tree.specs.Tree.{AConstructor, Class, Interface, Item, AClass, AnInterface, AFunction, AGlobal}
 
@@ -79,7 +79,7 @@ parameter_name p = p.name
 
 -- A routine is a function, a method or a constructor, as it is written after its result.
 pub record Routine : Type 0 where
-  pub place : Place
+  pub place : Position
   pub name : List ℕ
   pub parameters : List Parameter
   pub body : List Stmt

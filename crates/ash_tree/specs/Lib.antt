@@ -1,7 +1,7 @@
 pub mod Tree
 pub mod Items
-pub mod Views
-pub mod Tokens
+pub mod TreeViews
+pub mod GrammarTokens
 pub mod Operators
 pub mod Types
 pub mod Expressions

@@ -1,6 +1,6 @@
 -- These definitions say what the trees of scripts are, without where their parts lie in memory. Each node has a place.
 use Rattle.std.specs.Prelude.{ℕ, Bool, List, [], ◌∷◌, Option}
-use Rattle.ash_tree.specs.declared.tree.places.Place.{Place}
+use Rattle.ash_tree.specs.declared.tree.places.Position.{Position}
 use Rattle.ash_tree.specs.declared.tree.types.Primitive.{Primitive}
 use Rattle.ash_tree.specs.declared.tree.operators.UnaryOp.{UnaryOp}
 use Rattle.ash_tree.specs.declared.tree.operators.BinaryOp.{BinaryOp}
@@ -9,40 +9,40 @@ use Rattle.ash_tree.specs.declared.tree.statements.Label.{Label}
 
 -- The type of an array's elements is a primitive, or a handle of an object type.
 pub data Element : Type 0 where
-  PrimElement : Place → Primitive → Element
-  HandleElement : Place → List ℕ → Element
+  PrimElement : Position → Primitive → Element
+  HandleElement : Position → List ℕ → Element
 
 -- A type, as it is written, is a primitive, an object type, a handle of one, an array, or a handle of one.
 pub data Named : Type 0 where
-  Prim : Place → Primitive → Named
-  Object : Place → List ℕ → Named
-  Handle : Place → List ℕ → Named
-  Array : Place → Element → Named
-  ArrayHandle : Place → Element → Named
+  Prim : Position → Primitive → Named
+  Object : Position → List ℕ → Named
+  Handle : Position → List ℕ → Named
+  Array : Position → Element → Named
+  ArrayHandle : Position → Element → Named
 
 -- A type name is the name of a class or an interface where it is referred to.
 pub record TypeName : Type 0 where
-  pub place : Place
+  pub place : Position
   pub name : List ℕ
 
 -- The arguments of a call, the suffixes of an operand and the operators of one level are lists in an expression.
 mutual
   pub data Expr : Type 0 where
-    Number : Place → ℕ → Expr
-    Truth : Place → Bool → Expr
-    Null : Place → Expr
-    This : Place → Expr
-    Name : Place → List ℕ → Expr
-    Call : Place → List ℕ → Exprs → Expr
-    Brackets : Place → Expr → Expr
-    Convert : Place → Primitive → Expr → Expr
-    NewArray : Place → Element → Exprs → Expr
-    Cast : Place → TypeName → Expr → Expr
-    Postfix : Place → Expr → Suffixes → Expr
-    Unary : Place → UnaryOp → Expr → Expr
-    Binary : Place → Expr → Links → Expr
-    Conditional : Place → Expr → Expr → Expr → Expr
-    Assign : Place → Expr → AssignOp → Expr → Expr
+    Number : Position → ℕ → Expr
+    Truth : Position → Bool → Expr
+    Null : Position → Expr
+    This : Position → Expr
+    Name : Position → List ℕ → Expr
+    Call : Position → List ℕ → Exprs → Expr
+    Brackets : Position → Expr → Expr
+    Convert : Position → Primitive → Expr → Expr
+    NewArray : Position → Element → Exprs → Expr
+    Cast : Position → TypeName → Expr → Expr
+    Postfix : Position → Expr → Suffixes → Expr
+    Unary : Position → UnaryOp → Expr → Expr
+    Binary : Position → Expr → Links → Expr
+    Conditional : Position → Expr → Expr → Expr → Expr
+    Assign : Position → Expr → AssignOp → Expr → Expr
 
   pub data Exprs : Type 0 where
     no_expr : Exprs
@@ -50,8 +50,8 @@ mutual
 
   -- A suffix follows an operand.
   pub data Suffix : Type 0 where
-    Field : Place → List ℕ → Suffix
-    Method : Place → List ℕ → Exprs → Suffix
+    Field : Position → List ℕ → Suffix
+    Method : Position → List ℕ → Exprs → Suffix
     Index : Expr → Suffix
     Increment : Suffix
     Decrement : Suffix
@@ -72,7 +72,7 @@ pub data Initializer : Type 0 where
   Arguments : List Expr → Initializer
 
 pub record Decl : Type 0 where
-  pub place : Place
+  pub place : Position
   pub name : List ℕ
   pub initializer : Initializer
 
@@ -84,19 +84,19 @@ pub record Vars : Type 0 where
 -- A statement may also be the declaration of variables in a block.
 mutual
   pub data Stmt : Type 0 where
-    Empty : Place → Stmt
-    Declare : Place → Vars → Stmt
-    Evaluate : Place → Expr → Stmt
-    Block : Place → Stmts → Stmt
-    If : Place → Expr → Stmt → Stmt
-    IfElse : Place → Expr → Stmt → Stmt → Stmt
-    While : Place → Expr → Stmt → Stmt
-    DoWhile : Place → Stmt → Expr → Stmt
-    For : Place → Stmt → Option Expr → List Expr → Stmt → Stmt
-    Switch : Place → Expr → Cases → Stmt
-    Break : Place → Stmt
-    Continue : Place → Stmt
-    Return : Place → Option Expr → Stmt
+    Empty : Position → Stmt
+    Declare : Position → Vars → Stmt
+    Evaluate : Position → Expr → Stmt
+    Block : Position → Stmts → Stmt
+    If : Position → Expr → Stmt → Stmt
+    IfElse : Position → Expr → Stmt → Stmt → Stmt
+    While : Position → Expr → Stmt → Stmt
+    DoWhile : Position → Stmt → Expr → Stmt
+    For : Position → Stmt → Option Expr → List Expr → Stmt → Stmt
+    Switch : Position → Expr → Cases → Stmt
+    Break : Position → Stmt
+    Continue : Position → Stmt
+    Return : Position → Option Expr → Stmt
 
   pub data Stmts : Type 0 where
     no_stmt : Stmts
@@ -104,7 +104,7 @@ mutual
 
   -- A case is a label of a switch, with the statements after it.
   pub data Case : Type 0 where
-    labelled : Place → Label → Stmts → Case
+    labelled : Position → Label → Stmts → Case
 
   pub data Cases : Type 0 where
     no_case : Cases
@@ -112,19 +112,19 @@ mutual
 
 pub record Parameter : Type 0 where
   pub of : Named
-  pub place : Place
+  pub place : Position
   pub name : List ℕ
 
 -- A function is void without a result.
 pub record Function : Type 0 where
-  pub place : Place
+  pub place : Position
   pub result : Option Named
   pub name : List ℕ
   pub parameters : List Parameter
   pub body : List Stmt
 
 pub record Constructor : Type 0 where
-  pub place : Place
+  pub place : Position
   pub name : List ℕ
   pub parameters : List Parameter
   pub body : List Stmt
@@ -137,20 +137,20 @@ pub data Member : Type 0 where
 
 -- A class has the interfaces that it lists.
 pub record Class : Type 0 where
-  pub place : Place
+  pub place : Position
   pub name : List ℕ
   pub interfaces : List TypeName
   pub members : List Member
 
 -- A method that an interface declares is void without a result.
 pub record InterfaceMethod : Type 0 where
-  pub place : Place
+  pub place : Position
   pub result : Option Named
   pub name : List ℕ
   pub parameters : List Parameter
 
 pub record Interface : Type 0 where
-  pub place : Place
+  pub place : Position
   pub name : List ℕ
   pub methods : List InterfaceMethod
 
@@ -163,13 +163,13 @@ pub data Item : Type 0 where
 
 -- A signature is a function without a body.
 pub record Signature : Type 0 where
-  pub place : Place
+  pub place : Position
   pub result : Option Named
   pub name : List ℕ
   pub parameters : List Named
 
 pub record Property : Type 0 where
-  pub place : Place
+  pub place : Position
   pub of : Named
   pub name : List ℕ
 
@@ -179,7 +179,7 @@ pub data Declaration : Type 0 where
   AProperty : Property → Declaration
 
 -- `place_of e` is the place of an expression: its first token.
-abbrev pub place_of : Expr → Place
+abbrev pub place_of : Expr → Position
 place_of (Number p n) = p
 place_of (Truth p b) = p
 place_of (Null p) = p
@@ -196,7 +196,7 @@ place_of (Binary p e ls) = p
 place_of (Conditional p c a b) = p
 place_of (Assign p e o v) = p
 
-abbrev pub place_of_type : Named → Place
+abbrev pub place_of_type : Named → Position
 place_of_type (Prim p k) = p
 place_of_type (Object p t) = p
 place_of_type (Handle p t) = p
@@ -213,11 +213,11 @@ suffixes [] = no_suffix
 suffixes (s ∷ ss) = suffix s (suffixes ss)
 
 -- An operation is an operator with its right operand.
-pub record Operation : Type 0 where
+pub record OperatorLink : Type 0 where
   pub operator : BinaryOp
   pub operand : Expr
 
-abbrev pub links : List Operation → Links
+abbrev pub links : List OperatorLink → Links
 links [] = no_link
 links (l ∷ ls) = link l.operator l.operand (links ls)
 
@@ -230,7 +230,7 @@ cases [] = no_case
 cases (c ∷ cs) = next_case c (cases cs)
 
 -- `chained first more` is the operand itself without operators, and one node with all of them where there are any.
-abbrev pub chained : Expr → List Operation → Expr
+abbrev pub chained : Expr → List OperatorLink → Expr
 chained first [] = first
 chained first (l ∷ ls) = Binary (place_of first) first (links (l ∷ ls))
 

@@ -19,6 +19,6 @@ pub use tree::items::{
     Parameter, Property, Signature,
 };
 pub use tree::operators::{AssignOp, BinaryOp, UnaryOp};
-pub use tree::places::Place;
+pub use tree::places::Position;
 pub use tree::statements::{Case, Decl, Initializer, Label, Stmt, StmtKind, Vars};
 pub use tree::types::{Element, ElementKind, Primitive, Type, TypeKind, TypeName};

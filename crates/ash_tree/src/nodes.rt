@@ -6,18 +6,18 @@ ghost use Rattle.ash_tree.specs.Tree.{Unary, Assign, Method, Index};
 ghost use Rattle.ash_tree.specs.Tree.{Evaluate, Declare, Block, Switch};
 ghost use Rattle.ash_tree.specs.Tree.{For, place_of, place_of_type};
 ghost use Rattle.ash_tree.specs.Tree.{exprs, chained, suffixed, stmts, labelled, cases};
-ghost use Rattle.ash_tree.specs.Views.{expr_of, suffix_of, operation_of, stmt_of, case_of, vars_of};
-ghost use Rattle.ash_tree.specs.Views.{type_of, element_of, type_name_of};
+ghost use Rattle.ash_tree.specs.TreeViews.{expr_of, suffix_of, operation_of, stmt_of, case_of, vars_of};
+ghost use Rattle.ash_tree.specs.TreeViews.{type_of, element_of, type_name_of};
 
 use crate::tree::expressions::{Expr, ExprKind, Link, Suffix};
 use crate::tree::operators::{AssignOp, UnaryOp};
-use crate::tree::places::Place;
+use crate::tree::places::Position;
 use crate::tree::statements::{Case, Label, Stmt, StmtKind, Vars};
 use crate::tree::types::{Element, Primitive, TypeName};
 use std::alloc::{AllocError, Global};
 
 /// `name(arguments)`
-pub fn call(place: Place, name: String, arguments: Vec<Expr>) -> Expr
+pub fn call(place: Position, name: String, arguments: Vec<Expr>) -> Expr
     ensures { expr_of result
         ≡ Call place (string_bytes name) (exprs (map expr_of arguments.items)) }
 {
@@ -28,7 +28,7 @@ pub fn call(place: Place, name: String, arguments: Vec<Expr>) -> Expr
 }
 
 /// `.name(arguments)`
-pub fn method(place: Place, name: String, arguments: Vec<Expr>) -> Suffix
+pub fn method(place: Position, name: String, arguments: Vec<Expr>) -> Suffix
     ensures { suffix_of result
         ≡ Method place (string_bytes name) (exprs (map expr_of arguments.items)) }
 {
@@ -42,7 +42,7 @@ pub fn method(place: Place, name: String, arguments: Vec<Expr>) -> Suffix
 /// `array<of>(arguments)`
 pub fn new_array(
     alloc: Global,
-    place: Place,
+    place: Position,
     of: Element,
     arguments: Vec<Expr>,
 ) -> Result<Expr, AllocError>
@@ -91,7 +91,7 @@ pub fn postfix(alloc: Global, operand: Expr, suffixes: Vec<Suffix>) -> Result<Ex
 }
 
 /// `{ body }`
-pub fn block(place: Place, body: Vec<Stmt>) -> Stmt
+pub fn block(place: Position, body: Vec<Stmt>) -> Stmt
     ensures { stmt_of result ≡ Block place (stmts (map stmt_of body.items)) }
 {
     Stmt {
@@ -101,7 +101,7 @@ pub fn block(place: Place, body: Vec<Stmt>) -> Stmt
 }
 
 /// `switch (value) { labels }`
-pub fn switch(place: Place, value: Expr, labels: Vec<Case>) -> Stmt
+pub fn switch(place: Position, value: Expr, labels: Vec<Case>) -> Stmt
     ensures { stmt_of result ≡ Switch place (expr_of value) (cases (map case_of labels.items)) }
 {
     Stmt {
@@ -114,14 +114,14 @@ pub fn switch(place: Place, value: Expr, labels: Vec<Case>) -> Stmt
 }
 
 /// A label of a `switch`, with the statements after it.
-pub fn case(place: Place, label: Label, body: Vec<Stmt>) -> Case
+pub fn case(place: Position, label: Label, body: Vec<Stmt>) -> Case
     ensures { case_of result ≡ labelled place label (stmts (map stmt_of body.items)) }
 {
     Case { place, label, body }
 }
 
 /// `(inner)`
-pub fn brackets(alloc: Global, place: Place, inner: Expr) -> Result<Expr, AllocError>
+pub fn brackets(alloc: Global, place: Position, inner: Expr) -> Result<Expr, AllocError>
     ensures { IfOk result (λ e. expr_of e ≡ Brackets place (expr_of inner)) }
 {
     let kind = ExprKind::Brackets(Box::new(alloc, inner)?);
@@ -129,7 +129,12 @@ pub fn brackets(alloc: Global, place: Place, inner: Expr) -> Result<Expr, AllocE
 }
 
 /// `to(value)`
-pub fn convert(alloc: Global, place: Place, to: Primitive, value: Expr) -> Result<Expr, AllocError>
+pub fn convert(
+    alloc: Global,
+    place: Position,
+    to: Primitive,
+    value: Expr,
+) -> Result<Expr, AllocError>
     ensures { IfOk result (λ e. expr_of e ≡ Convert place to (expr_of value)) }
 {
     let value = Box::new(alloc, value)?;
@@ -140,7 +145,7 @@ pub fn convert(alloc: Global, place: Place, to: Primitive, value: Expr) -> Resul
 }
 
 /// `cast<to>(value)`
-pub fn cast(alloc: Global, place: Place, to: TypeName, value: Expr) -> Result<Expr, AllocError>
+pub fn cast(alloc: Global, place: Position, to: TypeName, value: Expr) -> Result<Expr, AllocError>
     ensures { IfOk result (λ e. expr_of e ≡ Cast place (type_name_of to) (expr_of value)) }
 {
     let value = Box::new(alloc, value)?;
@@ -160,7 +165,7 @@ pub fn index(alloc: Global, value: Expr) -> Result<Suffix, AllocError>
 /// `operator operand`
 pub fn unary(
     alloc: Global,
-    place: Place,
+    place: Position,
     operator: UnaryOp,
     operand: Expr,
 ) -> Result<Expr, AllocError>
@@ -243,7 +248,12 @@ pub struct ForHead {
 }
 
 /// `for (head) body`
-pub fn for_loop(alloc: Global, place: Place, head: ForHead, body: Stmt) -> Result<Stmt, AllocError>
+pub fn for_loop(
+    alloc: Global,
+    place: Position,
+    head: ForHead,
+    body: Stmt,
+) -> Result<Stmt, AllocError>
     ensures { IfOk result (λ s. stmt_of s
         ≡ For place (stmt_of head.first) (option_map expr_of head.condition)
         (map expr_of head.steps.items) (stmt_of body)) }

@@ -13,11 +13,11 @@ use Rattle.ash_typed.specs.declared.tree.expressions.Link as link
 use Rattle.ash_typed.specs.declared.tree.expressions.Operand as operand
 use Rattle.ash_typed.specs.declared.types.VarType.{VarType}
 use Rattle.ash_typed.specs.declared.tree.operations.Lazy.{Lazy}
-use Rattle.ash_typed.specs.declared.tree.operations.Target.{Target}
+use Rattle.ash_typed.specs.declared.tree.operations.CallTarget.{CallTarget}
 use Rattle.ash_typed.specs.declared.tree.operations.Method.{Method}
-use Rattle.ash_typed.specs.Tree.{Expr, Call, Invoke, expr, exprs, converted, Operate, Lazily, place_in}
-use Rattle.ash_typed.specs.Views.{expr_of, exprs_of, linked, linked_by, chained, chained_by, lazies_by, all_linked}
-use Rattle.ash_typed.specs.Views.{all_chained, all_lazies}
+use Rattle.ash_typed.specs.TypedTree.{Expr, Call, Invoke, expr, exprs, converted, Operate, Lazily, place_in}
+use Rattle.ash_typed.specs.TypedTreeViews.{expr_of, exprs_of, linked, linked_by, chained, chained_by, lazies_by, all_linked}
+use Rattle.ash_typed.specs.TypedTreeViews.{all_chained, all_lazies}
 
 pub exprs_of-row : {n : _} (row : Row_of-Expr n) → exprs_of row ≡ exprs (map expr_of (items-the_row-Expr n row))
 exprs_of-row end_of-Expr = refl
@@ -38,7 +38,7 @@ pub lazies_by-row : {n : _} (op : Lazy) (e : Expr) (row : Row_of-Expr n)
 lazies_by-row op e end_of-Expr = refl
 lazies_by-row op e (more_of-Expr x rest) = lazies_by-row op (Lazily op e (expr_of x)) rest
 
-pub call_is : (target : Target) (ps : Vec VarType Global) (es : Vec code.Expr Global)
+pub call_is : (target : CallTarget) (ps : Vec VarType Global) (es : Vec code.Expr Global)
     → expr_of (views.Call target ps es) ≡ Call target ps.items (exprs (map expr_of es.items))
 call_is target ps es = search (rules, views.the_lemmas, exprs_of-row)
 

@@ -11,7 +11,7 @@ use Rattle.ash_typed.specs.declared.tree.statements.Stmt as code_stmt
 use Rattle.ash_typed.specs.declared.tree.statements.Case as code_case
 use Rattle.ash_typed.specs.declared.tree.expressions.Expr as code_expr
 use Rattle.ash_typed.specs.StatementTree.{Block, Switch, stmt, stmts, next_case, cases}
-use Rattle.ash_typed.specs.Views.{expr_of}
+use Rattle.ash_typed.specs.TypedTreeViews.{expr_of}
 use Rattle.ash_typed.specs.BodyViews.{stmt_at, stmt_of, stmts_of, case_of, cases_of, body_of}
 
 pub stmts_of-row : {n : _} (row : Row_of-Stmt n) → stmts_of row ≡ stmts (map stmt_of (items-the_row-Stmt n row))

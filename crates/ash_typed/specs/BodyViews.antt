@@ -12,7 +12,7 @@ use Rattle.ash_typed.specs.StatementTree.{Initialization, Stmt, Empty, Declare, 
 use Rattle.ash_typed.specs.StatementTree.{branch, Head, no_head, declared_head, evaluated_head, Repeat, For, Loop}
 use Rattle.ash_typed.specs.StatementTree.{repeated, Switch, Break, Continue, Return, Stmts, no_stmt, stmt, stmts, Case}
 use Rattle.ash_typed.specs.StatementTree.{labelled, Cases, no_case, next_case}
-use Rattle.ash_typed.specs.Views.{expr_of}
+use Rattle.ash_typed.specs.TypedTreeViews.{expr_of}
 
 -- `value_of v` is the variable that the code's represents.
 abbrev pub value_of : initialization_code.Initialization → Initialization

@@ -25,7 +25,7 @@ pub record HostSignature : Type 0 where
 
 -- The host has kinds of objects, what a kind is constructed of, the methods and properties that a kind has by a number,
 -- and the functions that a service has by a number.
-pub record Host : Type 0 where
+pub record HostSignatures : Type 0 where
   pub kinds : List ℕ
   pub factories : ℕ → List (List Primitive)
   pub methods : ℕ → ℕ → List HostSignature
@@ -43,17 +43,17 @@ type_of_primitive primitives.Uint64 = vars.Integer ints.Uint64
 
 -- A class has the interfaces that it lists, the types of its fields, the parameters of its construction, and its
 -- methods.
-pub record ClassSignature : Type 0 where
+pub record ClassTypes : Type 0 where
   pub interfaces : List ℕ
   pub fields : List VarType
   pub parameters : List VarType
   pub methods : List Signature
 
 -- A module has each interface by its methods, and everything by its place.
-pub record Signatures : Type 0 where
-  pub host : Host
+pub record ModuleSignatures : Type 0 where
+  pub host : HostSignatures
   pub interfaces : List (List Signature)
-  pub classes : List ClassSignature
+  pub classes : List ClassTypes
   pub functions : List Signature
   pub globals : List VarType
 
@@ -71,7 +71,7 @@ abbrev pub parameters_of : Option Function → List VarType
 parameters_of None = []
 parameters_of (Some f) = f.parameters
 
-abbrev pub signature_of_class : Class → ClassSignature
+abbrev pub signature_of_class : Class → ClassTypes
 signature_of_class c = record {
   interfaces = map place_of_interface c.interfaces;
   fields = map type_declared c.fields;
@@ -87,7 +87,7 @@ types_of_globals [] = []
 types_of_globals (v ∷ vs) = map type_declared v.values ++ types_of_globals vs
 
 -- `signatures_of host m` is what the items of a module see.
-abbrev pub signatures_of : Host → Module → Signatures
+abbrev pub signatures_of : HostSignatures → Module → ModuleSignatures
 signatures_of host m = record {
   host = host;
   interfaces = map methods_of_interface m.interfaces;
@@ -98,46 +98,46 @@ signatures_of host m = record {
 
 -- types whose places are in range
 
-pub data IsElement (s : Signatures) : Element → Type 0 where
-  truths : IsElement s elements.Bool
-  integers : {int_type : IntType} → IsElement s (elements.Integer int_type)
-  of_class : {class : ℕ} → class < length s.classes → IsElement s (elements.Class class)
-  of_interface : {interface : ℕ} → interface < length s.interfaces → IsElement s (elements.Interface interface)
-  of_host : {kind : ℕ} → Contains s.host.kinds kind → IsElement s (elements.Host kind)
+pub data IsElementType (s : ModuleSignatures) : Element → Type 0 where
+  truths : IsElementType s elements.Bool
+  integers : {int_type : IntType} → IsElementType s (elements.Integer int_type)
+  of_class : {class : ℕ} → class < length s.classes → IsElementType s (elements.Class class)
+  of_interface : {interface : ℕ} → interface < length s.interfaces → IsElementType s (elements.Interface interface)
+  of_host : {kind : ℕ} → Contains s.host.kinds kind → IsElementType s (elements.Host kind)
 
-pub data IsObjectType (s : Signatures) : ObjectType → Type 0 where
+pub data IsObjectType (s : ModuleSignatures) : ObjectType → Type 0 where
   class : {class : ℕ} → class < length s.classes → IsObjectType s (objects.Class class)
   interface : {interface : ℕ} → interface < length s.interfaces → IsObjectType s (objects.Interface interface)
   host : {kind : ℕ} → Contains s.host.kinds kind → IsObjectType s (objects.Host kind)
-  array : {of : Element} → IsElement s of → IsObjectType s (objects.Array of)
+  array : {of : Element} → IsElementType s of → IsObjectType s (objects.Array of)
 
 abbrev pub IsNoInterface : ObjectType → Type 0
 IsNoInterface (objects.Interface _) = ⊥
 IsNoInterface _ = Unit {0}
 
 -- A variable may be of this type: none has an object of an interface.
-pub data IsVariableType (s : Signatures) : VarType → Type 0 where
-  truth : IsVariableType s vars.Bool
-  integer : {int_type : IntType} → IsVariableType s (vars.Integer int_type)
-  object : {o : ObjectType} → IsObjectType s o → IsNoInterface o → IsVariableType s (vars.Object o)
-  handle : {o : ObjectType} → IsObjectType s o → IsVariableType s (vars.Handle o)
+pub data IsTypeInModule (s : ModuleSignatures) : VarType → Type 0 where
+  truth : IsTypeInModule s vars.Bool
+  integer : {int_type : IntType} → IsTypeInModule s (vars.Integer int_type)
+  object : {o : ObjectType} → IsObjectType s o → IsNoInterface o → IsTypeInModule s (vars.Object o)
+  handle : {o : ObjectType} → IsObjectType s o → IsTypeInModule s (vars.Handle o)
 
 -- A parameter or a result may be of this type: objects are passed by handles.
-pub data IsPassedType (s : Signatures) : VarType → Type 0 where
+pub data IsPassedType (s : ModuleSignatures) : VarType → Type 0 where
   passed_truth : IsPassedType s vars.Bool
   passed_integer : {int_type : IntType} → IsPassedType s (vars.Integer int_type)
   passed_handle : {o : ObjectType} → IsObjectType s o → IsPassedType s (vars.Handle o)
 
-abbrev pub IsResultType : Signatures → Option VarType → Type 0
-IsResultType s None = Unit {0}
-IsResultType s (Some of) = IsPassedType s of
+abbrev pub IsResultInModule : ModuleSignatures → Option VarType → Type 0
+IsResultInModule s None = Unit {0}
+IsResultInModule s (Some of) = IsPassedType s of
 
 -- A value of the first type may be where one of the second is awaited: null where there may be any object, and an
 -- object of a class where there is one of an interface that it lists.
-pub data IsSubtype (s : Signatures) : ValueType → ValueType → Type 0 where
+pub data IsSubtype (s : ModuleSignatures) : ValueType → ValueType → Type 0 where
   same : {of : ValueType} → IsSubtype s of of
   null : {o : ObjectType} → IsSubtype s null_value (value (vars.Handle o))
-  listed : {class interface : ℕ} {c : ClassSignature}
+  listed : {class interface : ℕ} {c : ClassTypes}
       → slice_get s.classes class ≡ Some c
       → Contains c.interfaces interface
       → IsSubtype s (value (vars.Handle (objects.Class class))) (value (vars.Handle (objects.Interface interface)))

@@ -12,9 +12,9 @@ use Rattle.ash_typed.specs.declared.types.ObjectType.TheVariants as objects
 use Rattle.ash_typed.specs.declared.types.VarType.{VarType}
 use Rattle.ash_typed.specs.declared.types.VarType.TheVariants as vars
 use Rattle.ash_typed.specs.declared.tree.operations.Variable.TheVariants as variables
-use Rattle.ash_typed.specs.declared.tree.operations.Member.{Member}
+use Rattle.ash_typed.specs.declared.tree.operations.ObjectMember.{ObjectMember}
 use Rattle.ash_typed.specs.declared.tree.operations.Method.{Method}
-use Rattle.ash_typed.specs.declared.tree.operations.Target.{Target}
+use Rattle.ash_typed.specs.declared.tree.operations.CallTarget.{CallTarget}
 use Rattle.ash_typed.specs.declared.tree.operations.Calculator.{Calculator}
 use Rattle.ash_typed.specs.declared.tree.operations.Comparator.{Comparator}
 use Rattle.ash_typed.specs.declared.tree.operations.Operands.{Operands}
@@ -22,22 +22,24 @@ use Rattle.ash_typed.specs.declared.tree.operations.Operation.TheVariants as ope
 use Rattle.ash_typed.specs.declared.tree.operations.Lazy.{Lazy}
 use Rattle.ash_typed.specs.declared.tree.operations.Change.{Change}
 use Rattle.ash_typed.specs.declared.tree.operations.IncrementOp.{IncrementOp}
-use Rattle.ash_typed.specs.Tree.{Expr, Number, Truth, Null, This, Read, Invoke, Convert, Cast, Alter, Operate, Lazily}
-use Rattle.ash_typed.specs.Tree.{Conditional, Assign, Update, Count, Call, Place, Stored, Held, Indexed, Exprs, no_expr}
-use Rattle.ash_typed.specs.Tree.{expr}
+use Rattle.ash_typed.specs.TypedTree.{Expr, Number, Truth, Null, This, Read, Invoke, Convert, Cast, Alter, Operate}
+use Rattle.ash_typed.specs.TypedTree.{Lazily}
+use Rattle.ash_typed.specs.TypedTree.{Conditional, Assign, Update, Count, Call, Place, Stored, Held, Indexed, Exprs}
+use Rattle.ash_typed.specs.TypedTree.{no_expr}
+use Rattle.ash_typed.specs.TypedTree.{expr}
 use Rattle.ash_typed.specs.TypeOf.{ValueType, null_value, value, as_value, value_of_result, type_of_element}
-use Rattle.ash_typed.specs.Signatures.{Signatures, IsSubtype}
-use Rattle.ash_typed.specs.SoundOperations.{IsWithin, IsMember, IsMethod, IsTarget, IsShift, Compares, IsOperand}
-use Rattle.ash_typed.specs.SoundOperations.{IsChange, IsCastType, IsAssigned}
+use Rattle.ash_typed.specs.Signatures.{ModuleSignatures, IsSubtype}
+use Rattle.ash_typed.specs.SoundOperations.{IsWithin, IsSoundMember, IsMethod, IsTarget, IsShift, Compares, IsOperand}
+use Rattle.ash_typed.specs.SoundOperations.{IsSoundChange, IsSoundCast, IsAssigned}
 
 -- An expression sees what the module declares, the class of the object that runs, and the types of the locals.
-pub record Environment : Type 0 where
-  pub signatures : Signatures
+pub record TypedEnvironment : Type 0 where
+  pub signatures : ModuleSignatures
   pub this : Option ℕ
   pub locals : List VarType
 
 mutual
-  pub data IsWellTyped (env : Environment) : Expr → ValueType → Type 0 where
+  pub data IsWellTyped (env : TypedEnvironment) : Expr → ValueType → Type 0 where
     number : {int_type : IntType} {n : ℕ} → IsWithin int_type n
         → IsWellTyped env (Number int_type n) (value (vars.Integer int_type))
     truth : {b : Bool} → IsWellTyped env (Truth b) (value vars.Bool)
@@ -52,17 +54,17 @@ mutual
         {es : Exprs}
         → IsWellTyped env object (value (vars.Handle o))
         → IsMethod env.signatures o method parameters result
-        → AreArguments env parameters es
+        → AreSoundArguments env parameters es
         → IsWellTyped env (Invoke object method parameters es) (value_of_result result)
     convert : {from to : IntType} {e : Expr}
         → IsWellTyped env e (value (vars.Integer from))
         → IsWellTyped env (Convert (record { from = from; to = to }) e) (value (vars.Integer to))
     cast : {to from : ObjectType} {e : Expr}
-        → IsCastType env.signatures to
+        → IsSoundCast env.signatures to
         → IsWellTyped env e (value (vars.Handle from))
         → IsWellTyped env (Cast to e) (value (vars.Handle to))
     alter : {change : Change} {of : VarType} {e : Expr}
-        → IsChange change of
+        → IsSoundChange change of
         → IsWellTyped env e (value of)
         → IsWellTyped env (Alter change e) (value of)
     calculate : {operator : Calculator} {of : IntType} {a b : Expr}
@@ -122,22 +124,22 @@ mutual
     count : {place : Place} {int_type : IntType} {step : IncrementOp}
         → HasPlace env place (vars.Integer int_type)
         → IsWellTyped env (Count place int_type step) (value (vars.Integer int_type))
-    call : {target : Target} {parameters : List VarType} {result : Option VarType} {es : Exprs}
+    call : {target : CallTarget} {parameters : List VarType} {result : Option VarType} {es : Exprs}
         → IsTarget env.signatures target parameters result
-        → AreArguments env parameters es
+        → AreSoundArguments env parameters es
         → IsWellTyped env (Call target parameters es) (value_of_result result)
 
   -- The place is of this type.
-  pub data HasPlace (env : Environment) : Place → VarType → Type 0 where
+  pub data HasPlace (env : TypedEnvironment) : Place → VarType → Type 0 where
     local : {slot : ℕ} {of : VarType}
         → slice_get env.locals slot ≡ Some of
         → HasPlace env (Stored (variables.Local slot of)) of
     global : {place : ℕ} {of : VarType}
         → slice_get env.signatures.globals place ≡ Some of
         → HasPlace env (Stored (variables.Global place of)) of
-    member : {object : Expr} {o : ObjectType} {held : Member} {of : VarType}
+    member : {object : Expr} {o : ObjectType} {held : ObjectMember} {of : VarType}
         → IsWellTyped env object (value (vars.Handle o))
-        → IsMember env.signatures o held of
+        → IsSoundMember env.signatures o held of
         → HasPlace env (Held object held) of
     element : {array index : Expr} {of : Element}
         → IsWellTyped env array (value (vars.Handle (objects.Array of)))
@@ -145,16 +147,16 @@ mutual
         → HasPlace env (Indexed array index of) (type_of_element of)
 
   -- What the expression gives may be stored in a variable of the type.
-  pub data Fits (env : Environment) : VarType → Expr → Type 0 where
+  pub data Fits (env : TypedEnvironment) : VarType → Expr → Type 0 where
     fits : {of : VarType} {actual : ValueType} {e : Expr}
         → IsWellTyped env e actual
         → IsSubtype env.signatures actual (value (as_value of))
         → Fits env of e
 
   -- There are as many arguments as parameters, and each fits its parameter.
-  pub data AreArguments (env : Environment) : List VarType → Exprs → Type 0 where
-    no_arguments : AreArguments env [] no_expr
+  pub data AreSoundArguments (env : TypedEnvironment) : List VarType → Exprs → Type 0 where
+    no_arguments : AreSoundArguments env [] no_expr
     argument : {of : VarType} {parameters : List VarType} {e : Expr} {es : Exprs}
         → Fits env of e
-        → AreArguments env parameters es
-        → AreArguments env (of ∷ parameters) (expr e es)
+        → AreSoundArguments env parameters es
+        → AreSoundArguments env (of ∷ parameters) (expr e es)

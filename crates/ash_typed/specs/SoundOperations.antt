@@ -10,14 +10,14 @@ use Rattle.ash_typed.specs.declared.types.ObjectType.{ObjectType}
 use Rattle.ash_typed.specs.declared.types.ObjectType.TheVariants as objects
 use Rattle.ash_typed.specs.declared.types.VarType.{VarType}
 use Rattle.ash_typed.specs.declared.types.VarType.TheVariants as vars
-use Rattle.ash_typed.specs.declared.tree.operations.Member.{Member}
-use Rattle.ash_typed.specs.declared.tree.operations.Member.TheVariants as members
+use Rattle.ash_typed.specs.declared.tree.operations.ObjectMember.{ObjectMember}
+use Rattle.ash_typed.specs.declared.tree.operations.ObjectMember.TheVariants as members
 use Rattle.ash_typed.specs.declared.tree.operations.Method.{Method}
 use Rattle.ash_typed.specs.declared.tree.operations.Method.TheVariants as methods
 use Rattle.ash_typed.specs.declared.tree.operations.ArrayMethod.{ArrayMethod}
 use Rattle.ash_typed.specs.declared.tree.operations.ArrayMethod.TheVariants as arrays
-use Rattle.ash_typed.specs.declared.tree.operations.Target.{Target}
-use Rattle.ash_typed.specs.declared.tree.operations.Target.TheVariants as targets
+use Rattle.ash_typed.specs.declared.tree.operations.CallTarget.{CallTarget}
+use Rattle.ash_typed.specs.declared.tree.operations.CallTarget.TheVariants as targets
 use Rattle.ash_typed.specs.declared.tree.operations.Calculator.{Calculator}
 use Rattle.ash_typed.specs.declared.tree.operations.Calculator.TheVariants as calculators
 use Rattle.ash_typed.specs.declared.tree.operations.Comparator.{Comparator}
@@ -28,7 +28,7 @@ use Rattle.ash_typed.specs.declared.tree.operations.Change.{Change}
 use Rattle.ash_typed.specs.declared.tree.operations.Change.TheVariants as changes
 use Rattle.ash_typed.specs.TypeOf.{ValueType, null_value, value, type_of_element, result_of_array_method}
 use Rattle.ash_typed.specs.Modules.{Signature}
-use Rattle.ash_typed.specs.Signatures.{HostSignature, type_of_primitive, ClassSignature, Signatures, IsElement}
+use Rattle.ash_typed.specs.Signatures.{HostSignature, type_of_primitive, ClassTypes, ModuleSignatures, IsElementType}
 use Rattle.ash_typed.specs.Signatures.{IsObjectType}
 
 -- The type holds this number, which is not negative: each number of a tree has 64 bits.
@@ -41,14 +41,14 @@ IsWithin ints.Uint64 n = Unit {0}
 -- members and methods
 
 -- An object of the type holds what the member names, of this type.
-pub data IsMember (s : Signatures) : ObjectType → Member → VarType → Type 0 where
-  field : {class place : ℕ} {of : VarType} {c : ClassSignature}
+pub data IsSoundMember (s : ModuleSignatures) : ObjectType → ObjectMember → VarType → Type 0 where
+  field : {class place : ℕ} {of : VarType} {c : ClassTypes}
       → slice_get s.classes class ≡ Some c
       → slice_get c.fields place ≡ Some of
-      → IsMember s (objects.Class class) (members.Field class place of) of
+      → IsSoundMember s (objects.Class class) (members.Field class place of) of
   property : {kind id : ℕ} {of : Primitive}
       → Contains (s.host.properties kind id) of
-      → IsMember s (objects.Host kind) (members.Property id (type_of_primitive of)) (type_of_primitive of)
+      → IsSoundMember s (objects.Host kind) (members.Property id (type_of_primitive of)) (type_of_primitive of)
 
 -- `parameters_of_array_method of method` is what a method of arrays takes.
 abbrev pub parameters_of_array_method : Element → ArrayMethod → List VarType
@@ -59,8 +59,8 @@ parameters_of_array_method of arrays.RemoveLast = []
 parameters_of_array_method of arrays.IsEmpty = []
 
 -- An object of the type has the method, which takes these parameters and gives this.
-pub data IsMethod (s : Signatures) : ObjectType → Method → List VarType → Option VarType → Type 0 where
-  of_class : {class method : ℕ} {c : ClassSignature} {name : List ℕ} {result : Option VarType}
+pub data IsMethod (s : ModuleSignatures) : ObjectType → Method → List VarType → Option VarType → Type 0 where
+  of_class : {class method : ℕ} {c : ClassTypes} {name : List ℕ} {result : Option VarType}
       {parameters : List VarType}
       → slice_get s.classes class ≡ Some c
       → slice_get c.methods method ≡ Some (record { name = name; result = result; parameters = parameters })
@@ -79,7 +79,7 @@ pub data IsMethod (s : Signatures) : ObjectType → Method → List VarType → 
       (result_of_array_method method)
 
 -- What is called takes these parameters and gives this; a construction gives a handle.
-pub data IsTarget (s : Signatures) : Target → List VarType → Option VarType → Type 0 where
+pub data IsTarget (s : ModuleSignatures) : CallTarget → List VarType → Option VarType → Type 0 where
   function : {function : ℕ} {name : List ℕ} {result : Option VarType} {parameters : List VarType}
       → slice_get s.functions function ≡ Some (record { name = name; result = result; parameters = parameters })
       → IsTarget s (targets.Function function result) parameters result
@@ -87,17 +87,17 @@ pub data IsTarget (s : Signatures) : Target → List VarType → Option VarType 
       → Contains (s.host.functions service id) offered
       → IsTarget s (targets.Service service id (option_map type_of_primitive offered.result))
       (map type_of_primitive offered.parameters) (option_map type_of_primitive offered.result)
-  class : {class : ℕ} {c : ClassSignature}
+  class : {class : ℕ} {c : ClassTypes}
       → slice_get s.classes class ≡ Some c
       → IsTarget s (targets.Class class) c.parameters (Some (vars.Handle (objects.Class class)))
   host : {kind : ℕ} {parameters : List Primitive}
       → Contains (s.host.factories kind) parameters
       → IsTarget s (targets.Host kind) (map type_of_primitive parameters) (Some (vars.Handle (objects.Host kind)))
   empty_array : {of : Element}
-      → IsElement s of
+      → IsElementType s of
       → IsTarget s (targets.Array of) [] (Some (vars.Handle (objects.Array of)))
   sized_array : {of : Element}
-      → IsElement s of
+      → IsElementType s of
       → IsTarget s (targets.Array of) (vars.Integer ints.Uint ∷ []) (Some (vars.Handle (objects.Array of)))
 
 -- operators
@@ -135,16 +135,16 @@ pub data IsSigned : IntType → Type 0 where
   int64 : IsSigned ints.Int64
 
 -- An operator before its operand takes the first type and gives the second.
-pub data IsChange : Change → VarType → Type 0 where
-  negate : {int_type : IntType} → IsSigned int_type → IsChange (changes.Negate int_type) (vars.Integer int_type)
-  complement : {int_type : IntType} → IsChange (changes.Complement int_type) (vars.Integer int_type)
-  not : IsChange changes.Not vars.Bool
+pub data IsSoundChange : Change → VarType → Type 0 where
+  negate : {int_type : IntType} → IsSigned int_type → IsSoundChange (changes.Negate int_type) (vars.Integer int_type)
+  complement : {int_type : IntType} → IsSoundChange (changes.Complement int_type) (vars.Integer int_type)
+  not : IsSoundChange changes.Not vars.Bool
 
 -- An object is cast to a class or to an interface.
-pub data IsCastType (s : Signatures) : ObjectType → Type 0 where
-  to_class : {class : ℕ} → IsObjectType s (objects.Class class) → IsCastType s (objects.Class class)
+pub data IsSoundCast (s : ModuleSignatures) : ObjectType → Type 0 where
+  to_class : {class : ℕ} → IsObjectType s (objects.Class class) → IsSoundCast s (objects.Class class)
   to_interface : {interface : ℕ} → IsObjectType s (objects.Interface interface)
-      → IsCastType s (objects.Interface interface)
+      → IsSoundCast s (objects.Interface interface)
 
 -- A place of the type is assigned to: it is one of primitives or of handles, since objects are not assigned.
 pub data IsAssigned : VarType → Type 0 where

@@ -1,8 +1,9 @@
 -- Sound statements, by the typed tree alone: each of their expressions gives what is asked for, each local is declared
 -- in the slot that follows those in scope, and a jump is within what it leaves. One case for each node.
 --
--- `IsStmt scope s`: the statement `s` is sound in this scope, and declares no variable that is seen after it.
--- `AreStmts scope ss`: so are the statements of a block, each of which sees the variables that those before it declare.
+-- `IsSoundStmt scope s`: the statement `s` is sound in this scope, and declares no variable that is seen after it.
+-- `AreSoundStmts scope ss`: so are the statements of a block, each of which sees the variables that those before it
+-- declare.
 use Rattle.std.specs.Prelude.{◌≡◌, ◌≢◌, ◌<◌, ◌≤◌, ◌^◌, ℕ, zero, suc, ℤ, pos, negsuc, Bool, true, false, List, [], ◌∷◌}
 use Rattle.std.specs.Prelude.{◌++◌, Option, Some, None}
 use Rattle.std.specs.List.{AllByRecursion}
@@ -15,31 +16,31 @@ use Rattle.ash_typed.specs.declared.types.ObjectType.{ObjectType}
 use Rattle.ash_typed.specs.declared.types.ObjectType.TheVariants as objects
 use Rattle.ash_typed.specs.declared.types.VarType.{VarType}
 use Rattle.ash_typed.specs.declared.types.VarType.TheVariants as vars
-use Rattle.ash_typed.specs.declared.tree.operations.Target.{Target}
-use Rattle.ash_typed.specs.declared.tree.operations.Target.TheVariants as targets
+use Rattle.ash_typed.specs.declared.tree.operations.CallTarget.{CallTarget}
+use Rattle.ash_typed.specs.declared.tree.operations.CallTarget.TheVariants as targets
 use Rattle.ash_typed.specs.declared.tree.statements.Test.{Test}
-use Rattle.ash_typed.specs.Tree.{Expr, Call, Exprs}
+use Rattle.ash_typed.specs.TypedTree.{Expr, Call, Exprs}
 use Rattle.ash_typed.specs.StatementTree.{Initialization, Stmt, Empty, Declare, Evaluate, Block, If, no_branch, branch}
 use Rattle.ash_typed.specs.StatementTree.{Head, no_head, declared_head, evaluated_head, Repeat, For, Loop, repeated}
 use Rattle.ash_typed.specs.StatementTree.{Switch, Break, Continue, Return, Stmts, no_stmt, stmt, labelled, Cases}
 use Rattle.ash_typed.specs.StatementTree.{no_case, next_case}
 use Rattle.ash_typed.specs.TypeOf.{ValueType, value}
-use Rattle.ash_typed.specs.Signatures.{IsVariableType}
+use Rattle.ash_typed.specs.Signatures.{IsTypeInModule}
 use Rattle.ash_typed.specs.SoundOperations.{IsWithin}
-use Rattle.ash_typed.specs.SoundExpressions.{Environment, IsWellTyped, Fits}
+use Rattle.ash_typed.specs.SoundExpressions.{TypedEnvironment, IsWellTyped, Fits}
 
 -- A statement sees what its function gives, and whether it may break out of a loop or a `switch`, and go on with the
 -- next turn of a loop.
-pub record Scope : Type 0 where
-  pub env : Environment
+pub record TypedScope : Type 0 where
+  pub env : TypedEnvironment
   pub result : Option VarType
   pub may_break : Bool
   pub may_continue : Bool
 
-abbrev pub with_locals : Environment → List VarType → Environment
+abbrev pub with_locals : TypedEnvironment → List VarType → TypedEnvironment
 with_locals env types = record { signatures = env.signatures; this = env.this; locals = env.locals ++ types }
 
-abbrev pub declaring : Scope → List VarType → Scope
+abbrev pub declaring : TypedScope → List VarType → TypedScope
 declaring scope types = record {
   env = with_locals scope.env types;
   result = scope.result;
@@ -47,16 +48,16 @@ declaring scope types = record {
   may_continue = scope.may_continue;
 }
 
-abbrev pub in_loop : Scope → Scope
+abbrev pub in_loop : TypedScope → TypedScope
 in_loop scope = record { env = scope.env; result = scope.result; may_break = true; may_continue = true }
 
-abbrev pub in_switch : Scope → Scope
+abbrev pub in_switch : TypedScope → TypedScope
 in_switch scope = record { env = scope.env; result = scope.result; may_break = true; may_continue = scope.may_continue }
 
 -- variables
 
 -- The expression constructs an object for a variable of this type.
-pub data Constructs : Target → ObjectType → Type 0 where
+pub data Constructs : CallTarget → ObjectType → Type 0 where
   class : {class : ℕ} → Constructs (targets.Class class) (objects.Class class)
   host : {kind : ℕ} → Constructs (targets.Host kind) (objects.Host kind)
   array : {of : Element} → Constructs (targets.Array of) (objects.Array of)
@@ -66,47 +67,47 @@ IsNoObject (vars.Object _) = ⊥
 IsNoObject _ = Unit {0}
 
 -- A variable begins with this: with an object of its own where it has an object.
-pub data BeginsWith (env : Environment) : VarType → Option Expr → Type 0 where
-  default : {of : VarType} → IsNoObject of → BeginsWith env of None
-  stored : {of : VarType} {e : Expr} → IsNoObject of → Fits env of e → BeginsWith env of (Some e)
-  constructed : {o : ObjectType} {target : Target} {parameters : List VarType} {es : Exprs}
+pub data IsSoundBeginning (env : TypedEnvironment) : VarType → Option Expr → Type 0 where
+  default : {of : VarType} → IsNoObject of → IsSoundBeginning env of None
+  stored : {of : VarType} {e : Expr} → IsNoObject of → Fits env of e → IsSoundBeginning env of (Some e)
+  constructed : {o : ObjectType} {target : CallTarget} {parameters : List VarType} {es : Exprs}
       → Constructs target o
       → IsWellTyped env (Call target parameters es) (value (vars.Handle o))
-      → BeginsWith env (vars.Object o) (Some (Call target parameters es))
+      → IsSoundBeginning env (vars.Object o) (Some (Call target parameters es))
 
-pub record IsInitialized (env : Environment) (v : Initialization) : Type 0 where
-  pub type : IsVariableType env.signatures v.of
-  pub value : BeginsWith env v.of v.value
+pub record IsInitialized (env : TypedEnvironment) (v : Initialization) : Type 0 where
+  pub type : IsTypeInModule env.signatures v.of
+  pub value : IsSoundBeginning env v.of v.value
 
 -- These variables have these types, and each is seen from the end of its own on.
-pub data AreDeclared : Environment → List Initialization → List VarType → Type 0 where
-  none_declared : {env : Environment} → AreDeclared env [] []
-  and_declared : {env : Environment} {v : Initialization} {vs : List Initialization} {types : List VarType}
+pub data AreSoundDeclarations : TypedEnvironment → List Initialization → List VarType → Type 0 where
+  none_declared : {env : TypedEnvironment} → AreSoundDeclarations env [] []
+  and_declared : {env : TypedEnvironment} {v : Initialization} {vs : List Initialization} {types : List VarType}
       → IsInitialized env v
-      → AreDeclared (with_locals env (v.of ∷ [])) vs types
-      → AreDeclared env (v ∷ vs) (v.of ∷ types)
+      → AreSoundDeclarations (with_locals env (v.of ∷ [])) vs types
+      → AreSoundDeclarations env (v ∷ vs) (v.of ∷ types)
 
 -- expressions of statements
 
-abbrev pub IsEvaluated : Environment → Expr → Type 0
+abbrev pub IsEvaluated : TypedEnvironment → Expr → Type 0
 IsEvaluated env e = (of : ValueType) × IsWellTyped env e of
 
-abbrev pub IsCondition : Environment → Expr → Type 0
-IsCondition env e = IsWellTyped env e (value vars.Bool)
+abbrev pub IsSoundCondition : TypedEnvironment → Expr → Type 0
+IsSoundCondition env e = IsWellTyped env e (value vars.Bool)
 
-abbrev pub MayBeCondition : Environment → Option Expr → Type 0
-MayBeCondition env None = Unit {0}
-MayBeCondition env (Some e) = IsCondition env e
+abbrev pub MayBeSoundCondition : TypedEnvironment → Option Expr → Type 0
+MayBeSoundCondition env None = Unit {0}
+MayBeSoundCondition env (Some e) = IsSoundCondition env e
 
 -- The head of a `for` declares variables of these types.
-pub data IsHead (env : Environment) : Head → List VarType → Type 0 where
-  head_is_empty : IsHead env no_head []
+pub data IsSoundHead (env : TypedEnvironment) : Head → List VarType → Type 0 where
+  head_is_empty : IsSoundHead env no_head []
   head_declares : {vs : List Initialization} {types : List VarType}
-      → AreDeclared env vs types
-      → IsHead env (declared_head vs) types
+      → AreSoundDeclarations env vs types
+      → IsSoundHead env (declared_head vs) types
   head_evaluates : {e : Expr}
       → IsEvaluated env e
-      → IsHead env (evaluated_head e) []
+      → IsSoundHead env (evaluated_head e) []
 
 -- labels
 
@@ -136,90 +137,91 @@ Differs l other = constant_of l ≢ constant_of other
 
 -- The constant of a label after these is of the type, and no label before it has the constant; `default` is the last
 -- one.
-pub data IsLabel (int_type : IntType) : List Label → Label → Cases → Type 0 where
+pub data IsSoundLabel (int_type : IntType) : List Label → Label → Cases → Type 0 where
   constant : {before : List Label} {l : Label} {after : Cases}
       → IsConstant int_type l
       → AllByRecursion (Differs l) before
-      → IsLabel int_type before l after
-  otherwise : {before : List Label} → IsLabel int_type before labels.Default no_case
+      → IsSoundLabel int_type before l after
+  otherwise : {before : List Label} → IsSoundLabel int_type before labels.Default no_case
 
 -- statements
 
 mutual
-  pub data IsStmt : Scope → Stmt → Type 0 where
-    empty : {scope : Scope} {line : ℕ} → IsStmt scope (Empty line)
-    evaluate : {scope : Scope} {line : ℕ} {e : Expr}
+  pub data IsSoundStmt : TypedScope → Stmt → Type 0 where
+    empty : {scope : TypedScope} {line : ℕ} → IsSoundStmt scope (Empty line)
+    evaluate : {scope : TypedScope} {line : ℕ} {e : Expr}
         → IsEvaluated scope.env e
-        → IsStmt scope (Evaluate line e)
-    block : {scope : Scope} {line : ℕ} {ss : Stmts}
-        → AreStmts scope ss
-        → IsStmt scope (Block line ss)
-    if_only : {scope : Scope} {line : ℕ} {c : Expr} {s : Stmt}
-        → IsCondition scope.env c
-        → IsStmt scope s
-        → IsStmt scope (If line c s no_branch)
-    if_else : {scope : Scope} {line : ℕ} {c : Expr} {s t : Stmt}
-        → IsCondition scope.env c
-        → IsStmt scope s
-        → IsStmt scope t
-        → IsStmt scope (If line c s (branch t))
-    repeat : {scope : Scope} {line : ℕ} {inside : Loop}
+        → IsSoundStmt scope (Evaluate line e)
+    block : {scope : TypedScope} {line : ℕ} {ss : Stmts}
+        → AreSoundStmts scope ss
+        → IsSoundStmt scope (Block line ss)
+    if_only : {scope : TypedScope} {line : ℕ} {c : Expr} {s : Stmt}
+        → IsSoundCondition scope.env c
+        → IsSoundStmt scope s
+        → IsSoundStmt scope (If line c s no_branch)
+    if_else : {scope : TypedScope} {line : ℕ} {c : Expr} {s t : Stmt}
+        → IsSoundCondition scope.env c
+        → IsSoundStmt scope s
+        → IsSoundStmt scope t
+        → IsSoundStmt scope (If line c s (branch t))
+    repeat : {scope : TypedScope} {line : ℕ} {inside : Loop}
         → IsLoop scope inside
-        → IsStmt scope (Repeat line inside)
+        → IsSoundStmt scope (Repeat line inside)
     -- the loop sees what the head declares
-    for : {scope : Scope} {line : ℕ} {head : Head} {types : List VarType} {inside : Loop}
-        → IsHead scope.env head types
+    for : {scope : TypedScope} {line : ℕ} {head : Head} {types : List VarType} {inside : Loop}
+        → IsSoundHead scope.env head types
         → IsLoop (declaring scope types) inside
-        → IsStmt scope (For line head inside)
-    switch : {scope : Scope} {line : ℕ} {int_type : IntType} {e : Expr} {cs : Cases}
+        → IsSoundStmt scope (For line head inside)
+    switch : {scope : TypedScope} {line : ℕ} {int_type : IntType} {e : Expr} {cs : Cases}
         → IsWellTyped scope.env e (value (vars.Integer int_type))
-        → AreCases (in_switch scope) int_type [] cs
-        → IsStmt scope (Switch line int_type e cs)
-    break_out : {scope : Scope} {line : ℕ}
+        → AreSoundCases (in_switch scope) int_type [] cs
+        → IsSoundStmt scope (Switch line int_type e cs)
+    break_out : {scope : TypedScope} {line : ℕ}
         → scope.may_break ≡ true
-        → IsStmt scope (Break line)
-    continue_on : {scope : Scope} {line : ℕ}
+        → IsSoundStmt scope (Break line)
+    continue_on : {scope : TypedScope} {line : ℕ}
         → scope.may_continue ≡ true
-        → IsStmt scope (Continue line)
-    return_nothing : {scope : Scope} {line : ℕ}
+        → IsSoundStmt scope (Continue line)
+    return_nothing : {scope : TypedScope} {line : ℕ}
         → scope.result ≡ None
-        → IsStmt scope (Return line None)
-    return_value : {scope : Scope} {line : ℕ} {of : VarType} {e : Expr}
+        → IsSoundStmt scope (Return line None)
+    return_value : {scope : TypedScope} {line : ℕ} {of : VarType} {e : Expr}
         → scope.result ≡ Some of
         → Fits scope.env of e
-        → IsStmt scope (Return line (Some e))
+        → IsSoundStmt scope (Return line (Some e))
 
-  pub data IsLoop : Scope → Loop → Type 0 where
-    loop : {scope : Scope} {test : Test} {c : Option Expr} {steps : List Expr} {s : Stmt}
-        → MayBeCondition scope.env c
+  pub data IsLoop : TypedScope → Loop → Type 0 where
+    loop : {scope : TypedScope} {test : Test} {c : Option Expr} {steps : List Expr} {s : Stmt}
+        → MayBeSoundCondition scope.env c
         → AllByRecursion (IsEvaluated scope.env) steps
-        → IsStmt (in_loop scope) s
+        → IsSoundStmt (in_loop scope) s
         → IsLoop scope (repeated test c steps s)
 
   -- These are the statements of a block.
-  pub data AreStmts : Scope → Stmts → Type 0 where
-    no_stmts : {scope : Scope} → AreStmts scope no_stmt
-    declare : {scope : Scope} {line : ℕ} {vs : List Initialization} {types : List VarType} {ss : Stmts}
-        → AreDeclared scope.env vs types
-        → AreStmts (declaring scope types) ss
-        → AreStmts scope (stmt (Declare line vs) ss)
-    more_stmts : {scope : Scope} {s : Stmt} {ss : Stmts}
-        → IsStmt scope s
-        → AreStmts scope ss
-        → AreStmts scope (stmt s ss)
+  pub data AreSoundStmts : TypedScope → Stmts → Type 0 where
+    no_stmts : {scope : TypedScope} → AreSoundStmts scope no_stmt
+    declare : {scope : TypedScope} {line : ℕ} {vs : List Initialization} {types : List VarType} {ss : Stmts}
+        → AreSoundDeclarations scope.env vs types
+        → AreSoundStmts (declaring scope types) ss
+        → AreSoundStmts scope (stmt (Declare line vs) ss)
+    more_stmts : {scope : TypedScope} {s : Stmt} {ss : Stmts}
+        → IsSoundStmt scope s
+        → AreSoundStmts scope ss
+        → AreSoundStmts scope (stmt s ss)
 
   -- Labels come after those before them, with the statements after each, none of which declares variables.
-  pub data AreCases : Scope → IntType → List Label → Cases → Type 0 where
-    no_cases : {scope : Scope} {int_type : IntType} {before : List Label} → AreCases scope int_type before no_case
-    more_cases : {scope : Scope} {int_type : IntType} {before : List Label} {l : Label} {ss : Stmts} {cs : Cases}
-        → IsLabel int_type before l cs
+  pub data AreSoundCases : TypedScope → IntType → List Label → Cases → Type 0 where
+    no_cases : {scope : TypedScope} {int_type : IntType} {before : List Label}
+        → AreSoundCases scope int_type before no_case
+    more_cases : {scope : TypedScope} {int_type : IntType} {before : List Label} {l : Label} {ss : Stmts} {cs : Cases}
+        → IsSoundLabel int_type before l cs
         → AreLabelled scope ss
-        → AreCases scope int_type (before ++ l ∷ []) cs
-        → AreCases scope int_type before (next_case (labelled l ss) cs)
+        → AreSoundCases scope int_type (before ++ l ∷ []) cs
+        → AreSoundCases scope int_type before (next_case (labelled l ss) cs)
 
-  pub data AreLabelled : Scope → Stmts → Type 0 where
-    none_labelled : {scope : Scope} → AreLabelled scope no_stmt
-    and_labelled : {scope : Scope} {s : Stmt} {ss : Stmts}
-        → IsStmt scope s
+  pub data AreLabelled : TypedScope → Stmts → Type 0 where
+    none_labelled : {scope : TypedScope} → AreLabelled scope no_stmt
+    and_labelled : {scope : TypedScope} {s : Stmt} {ss : Stmts}
+        → IsSoundStmt scope s
         → AreLabelled scope ss
         → AreLabelled scope (stmt s ss)

@@ -5,7 +5,7 @@ use Rattle.ash_tree.specs.declared.tree.statements.Label.{Label}
 use Rattle.ash_integers.specs.declared.int_type.IntType.{IntType}
 use Rattle.ash_typed.specs.declared.types.VarType.{VarType}
 use Rattle.ash_typed.specs.declared.tree.statements.Test.{Test}
-use Rattle.ash_typed.specs.Tree.{Expr}
+use Rattle.ash_typed.specs.TypedTree.{Expr}
 
 -- A variable that is declared has a name, a type, and what it begins with; where nothing is written, it begins with
 -- zero, `false` or null.

@@ -8,26 +8,27 @@ use Rattle.ash_typed.specs.declared.types.VarType.{VarType}
 use Rattle.ash_typed.specs.declared.types.VarType.TheVariants as vars
 use Rattle.ash_typed.specs.declared.tree.operations.Variable.{Variable}
 use Rattle.ash_typed.specs.declared.tree.operations.Variable.TheVariants as variables
-use Rattle.ash_typed.specs.declared.tree.operations.Member.{Member}
-use Rattle.ash_typed.specs.declared.tree.operations.Member.TheVariants as members
+use Rattle.ash_typed.specs.declared.tree.operations.ObjectMember.{ObjectMember}
+use Rattle.ash_typed.specs.declared.tree.operations.ObjectMember.TheVariants as members
 use Rattle.ash_typed.specs.declared.tree.operations.Method.{Method}
 use Rattle.ash_typed.specs.declared.tree.operations.Method.TheVariants as methods
 use Rattle.ash_typed.specs.declared.tree.operations.ArrayMethod.{ArrayMethod}
 use Rattle.ash_typed.specs.declared.tree.operations.ArrayMethod.TheVariants as arrays
-use Rattle.ash_typed.specs.declared.tree.operations.Target.{Target}
-use Rattle.ash_typed.specs.declared.tree.operations.Target.TheVariants as targets
+use Rattle.ash_typed.specs.declared.tree.operations.CallTarget.{CallTarget}
+use Rattle.ash_typed.specs.declared.tree.operations.CallTarget.TheVariants as targets
 use Rattle.ash_typed.specs.declared.tree.operations.Operation.{Operation}
 use Rattle.ash_typed.specs.declared.tree.operations.Operation.TheVariants as operations
 use Rattle.ash_typed.specs.declared.tree.operations.Change.{Change}
 use Rattle.ash_typed.specs.declared.tree.operations.Change.TheVariants as changes
-use Rattle.ash_typed.specs.Tree.{Expr, Number, Truth, Null, This, Read, Invoke, Convert, Cast, Alter, Operate, Lazily}
-use Rattle.ash_typed.specs.Tree.{Conditional, Assign, Update, Count, Call, Place, Stored, Held, Indexed}
+use Rattle.ash_typed.specs.TypedTree.{Expr, Number, Truth, Null, This, Read, Invoke, Convert, Cast, Alter, Operate}
+use Rattle.ash_typed.specs.TypedTree.{Lazily}
+use Rattle.ash_typed.specs.TypedTree.{Conditional, Assign, Update, Count, Call, Place, Stored, Held, Indexed}
 
 abbrev pub type_of_variable : Variable → VarType
 type_of_variable (variables.Local slot of) = of
 type_of_variable (variables.Global place of) = of
 
-abbrev pub type_of_member : Member → VarType
+abbrev pub type_of_member : ObjectMember → VarType
 type_of_member (members.Field class place of) = of
 type_of_member (members.Property id of) = of
 
@@ -59,7 +60,7 @@ result_of_method (methods.Host id result) = result
 result_of_method (methods.Array method) = result_of_array_method method
 
 -- `result_of_target target` is what a call gives: a construction gives a handle.
-abbrev pub result_of_target : Target → Option VarType
+abbrev pub result_of_target : CallTarget → Option VarType
 result_of_target (targets.Function function result) = result
 result_of_target (targets.Service service id result) = result
 result_of_target (targets.Class class) = Some (vars.Handle (objects.Class class))

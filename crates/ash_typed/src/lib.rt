@@ -24,8 +24,8 @@ pub use soundness::types_of_expressions;
 pub use tree::expressions::{Expr, Link, Operand, Place};
 pub use tree::items::{Class, Function, Implementation, Interface, Module, Signature, Variables};
 pub use tree::operations::{
-    ArrayMethod, Calculation, Calculator, Change, Comparator, Conversion, IncrementOp, Lazy,
-    Member, Method, Operands, Operation, Target, Variable,
+    ArrayMethod, Calculation, Calculator, CallTarget, Change, Comparator, Conversion, IncrementOp,
+    Lazy, Method, ObjectMember, Operands, Operation, Variable,
 };
 pub use tree::statements::{Case, Head, Initialization, Loop, Stmt, StmtKind, Test};
 pub use types::{Element, ObjectType, VarType};

@@ -3,19 +3,19 @@
 ghost use Rattle.std.specs.Prelude.{◌≡◌, [], ◌∷◌, ◌++◌, map, option_map, IfOk, Box, box_value};
 ghost use Rattle.std.specs.declared.alloc.Global.{Global};
 ghost use Rattle.ash_typed.specs.declared.tree.expressions.Expr.{Expr as IndexExpr};
-ghost use Rattle.ash_typed.specs.Tree.{Read, Held, Indexed, Invoke, Cast, Alter};
-ghost use Rattle.ash_typed.specs.Tree.{Lazily, Conditional, Assign, Update};
-ghost use Rattle.ash_typed.specs.Tree.{Count, Call, exprs, converted};
+ghost use Rattle.ash_typed.specs.TypedTree.{Read, Held, Indexed, Invoke, Cast, Alter};
+ghost use Rattle.ash_typed.specs.TypedTree.{Lazily, Conditional, Assign, Update};
+ghost use Rattle.ash_typed.specs.TypedTree.{Count, Call, exprs, converted};
 ghost use Rattle.ash_typed.specs.StatementTree.{Block, Repeat, For, repeated};
 ghost use Rattle.ash_typed.specs.StatementTree.{Switch, labelled, cases};
-ghost use Rattle.ash_typed.specs.Views.{expr_of, place_of, linked, chained};
+ghost use Rattle.ash_typed.specs.TypedTreeViews.{expr_of, place_of, linked, chained};
 ghost use Rattle.ash_typed.specs.BodyViews.{stmt_of, head_of, loop_of, case_of, body_of};
 ghost use Rattle.ash_typed.specs.Flat.{base_of, links_of, first_of, operands_of, others_of};
 
 pub use crate::places::place;
 use crate::tree::expressions::{Expr, Link, Operand, Place};
 use crate::tree::operations::{
-    Calculation, Change, Conversion, IncrementOp, Lazy, Member, Method, Target,
+    Calculation, CallTarget, Change, Conversion, IncrementOp, Lazy, Method, ObjectMember,
 };
 use crate::tree::statements::{Case, Head, Loop, Stmt, StmtKind, Test};
 use crate::types::{Element, ObjectType, VarType};
@@ -25,7 +25,7 @@ use std::alloc::{AllocError, Global};
 
 /// A call of what is named as its target, with the types of its parameters.
 #[tactic(auto, using(crate::proofs::Rows::call_is))]
-pub fn call(target: Target, parameters: Vec<VarType>, arguments: Vec<Expr>) -> Expr
+pub fn call(target: CallTarget, parameters: Vec<VarType>, arguments: Vec<Expr>) -> Expr
     ensures calls_target { expr_of result
         ≡ Call target parameters.items (exprs (map expr_of arguments.items)) }
 {
@@ -66,7 +66,7 @@ fn first_link(alloc: Global, base: Expr, next: Link) -> Result<Expr, AllocError>
 }
 
 /// What an object holds.
-pub fn member(alloc: Global, object: Expr, member: Member) -> Result<Expr, AllocError>
+pub fn member(alloc: Global, object: Expr, member: ObjectMember) -> Result<Expr, AllocError>
     ensures value { IfOk result (λ e. expr_of e ≡ Read (Held (expr_of object) member)) }
     ensures same_base { IfOk result (λ e. base_of e ≡ base_of object) }
     ensures one_path { IfOk result (λ e. links_of e ≡ links_of object ++ Link.Member member ∷ []) }

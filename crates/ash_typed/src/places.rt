@@ -1,8 +1,8 @@
 //! Places in typed expressions.
 
 ghost use Rattle.std.specs.Prelude.{◌≡◌, option_map, IfOk};
-ghost use Rattle.ash_typed.specs.Tree.{place_in};
-ghost use Rattle.ash_typed.specs.Views.{expr_of, place_of, all_linked, all_chained, all_lazies};
+ghost use Rattle.ash_typed.specs.TypedTree.{place_in};
+ghost use Rattle.ash_typed.specs.TypedTreeViews.{expr_of, place_of, all_linked, all_chained, all_lazies};
 
 use crate::tree::expressions::{Expr, Link, Operand, Place};
 use crate::tree::operations::Lazy;

@@ -4,10 +4,10 @@ use Rattle.std.specs.List.{AllByRecursion}
 use Rattle.ash_lex.specs.Tokens.{sign, reserved}
 use Rattle.ash_lex.specs.declared.signs.Sign.TheVariants as signs
 use Rattle.ash_lex.specs.declared.words.ReservedWord.TheVariants as words
-use Rattle.ash_tree.specs.declared.tree.places.Place.{Place}
+use Rattle.ash_tree.specs.declared.tree.places.Position.{Position}
 use Rattle.ash_tree.specs.declared.tree.statements.Label.{Label}
 use Rattle.ash_tree.specs.Tree as written
-use Rattle.ash_tree.specs.Tokens.{Tokens}
+use Rattle.ash_tree.specs.GrammarTokens.{Tokens}
 use Rattle.ash_tree.specs.Statements.{IsDecl, bare, valued, made, AreMoreDecls, no_more_decls, more_decls, IsVars, vars}
 use Rattle.ash_tree.specs.Statements.{IsFirst, no_first, first_vars, first_expr, IsTest, no_test, test, IsResult}
 use Rattle.ash_tree.specs.Statements.{no_result, value, IsLabel, case, case_minus, default, IsNested, nested, AreLocals}
@@ -61,7 +61,7 @@ result_in : (script : Tokens) {free depth : ℕ} {from left : Tokens} {c : Optio
 result_in script no_result h = (tt, h.1)
 result_in script (value a) h = let x = assign_in script a h in (x.0, x.1.1)
 
-label_in : (script : Tokens) {from left : Tokens} {p : Place} {l : Label} → IsLabel from p l left → AreIn script from
+label_in : (script : Tokens) {from left : Tokens} {p : Position} {l : Label} → IsLabel from p l left → AreIn script from
     → LabelIn script p l × AreIn script left
 label_in script case h = (h.1.0, h.1.1.1)
 label_in script case_minus h = (h.1.0, h.1.1.1.1)

@@ -7,7 +7,7 @@ use Rattle.ash_tree.specs.Tree as written
 use Rattle.ash_tree.specs.declared.tree.types.Primitive.{Primitive}
 use Rattle.ash_tree.specs.declared.tree.operators.UnaryOp.{UnaryOp}
 use Rattle.ash_tree.specs.Operators.{primitive, unary_operator}
-use Rattle.ash_tree.specs.Tokens.{Tokens}
+use Rattle.ash_tree.specs.GrammarTokens.{Tokens}
 use Rattle.ash_tree.specs.Types.{IsElement, prim_element, handle_element, IsType, prim, object, handle, array}
 use Rattle.ash_tree.specs.Types.{array_handle}
 use Rattle.ash_tree.specs.Expressions.{IsInner, inner, AreExprs, no_exprs, some_exprs, AreMoreExprs, no_more_exprs}
@@ -55,7 +55,7 @@ type_in script (array_handle e) h = let x = element_in script e h.1 in ((h.0, x.
 
 -- expressions
 
-chained_in : (script : Tokens) (e : written.Expr) (more : List written.Operation) → ExprIn script e
+chained_in : (script : Tokens) (e : written.Expr) (more : List written.OperatorLink) → ExprIn script e
     → LinksIn script (written.links more) → ExprIn script (written.chained e more)
 chained_in script e [] h k = h
 chained_in script e (l ∷ ls) h k = (place_start script e h, h, k)
@@ -104,7 +104,7 @@ mutual
   binary_in script (joined {first = e} {more = more} a b) h = let x = binary_in script a h in let y =
       links_in script b x.1 in (chained_in script e more x.0 y.0, y.1)
 
-  pub links_in : (script : Tokens) {free depth n : ℕ} {from left : Tokens} {more : List written.Operation}
+  pub links_in : (script : Tokens) {free depth n : ℕ} {from left : Tokens} {more : List written.OperatorLink}
       → AreLinks free depth n from more left → AreIn script from
       → LinksIn script (written.links more) × AreIn script left
   links_in script no_links h = (tt, h)

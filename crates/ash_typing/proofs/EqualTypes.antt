@@ -5,7 +5,7 @@ use Rattle.ash_typed.specs.declared.types.Element.{Element}
 use Rattle.ash_typed.specs.declared.types.Element.TheVariants as elements
 use Rattle.ash_typed.specs.declared.types.ObjectType.{ObjectType}
 use Rattle.ash_typed.specs.declared.types.ObjectType.TheVariants as objects
-use Rattle.ash_typing.specs.Types.{is_same_element, is_same_object}
+use Rattle.ash_typing.specs.TypeRules.{is_same_element, is_same_object}
 use Rattle.ash_typing.proofs.TypingTypes.{equal_integer_types}
 
 equal_elements : (e f : Element) → is_same_element e f ≡ true → e ≡ f

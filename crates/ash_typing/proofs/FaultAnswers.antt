@@ -3,7 +3,7 @@ use Rattle.std.proofs.Common.{◌≡◌, ℕ, Bool, true, false, List, Option, S
 use Rattle.std.specs.Prelude.{◌||◌, if◌then◌else◌}
 use Rattle.ash_lex.specs.Tokens.{Meaning, name}
 use Rattle.ash_registrations.specs.Registrations.{Registration}
-use Rattle.ash_tree.specs.Tokens.{Tokens}
+use Rattle.ash_tree.specs.GrammarTokens.{Tokens}
 use Rattle.ash_tree.specs.Tree.{Named, Item}
 use Rattle.ash_typed.specs.declared.types.ObjectType.{ObjectType}
 use Rattle.ash_typing.specs.declared.fault.Rule.{Rule}
@@ -11,7 +11,7 @@ use Rattle.ash_typing.specs.declared.fault.Rule.TheVariants as rules
 use Rattle.ash_typing.specs.declared.fault.Fault.{Fault}
 use Rattle.ash_typing.specs.TypingResult.{TypingResult, ◌>>=◌, broken}
 use Rattle.ash_typing.specs.Environment.{Environment}
-use Rattle.ash_typing.specs.Expressions.{TypedExpr}
+use Rattle.ash_typing.specs.ExpressionRules.{TypedExpr}
 use Rattle.ash_typing.specs.ModuleDeclarations.{declarations, object_named, ty_named, ty_in}
 use Rattle.ash_typing.specs.Declarations.{at_type, at_type_name}
 use Rattle.ash_typing.specs.declared.types.Ty.TheVariants.{Object}

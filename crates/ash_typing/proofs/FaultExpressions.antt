@@ -7,7 +7,7 @@ use Rattle.ash_registrations.specs.Registrations as host
 use Rattle.ash_lex.specs.Tokens.{name, number, reserved}
 use Rattle.ash_lex.specs.declared.words.ReservedWord.TheVariants as words
 use Rattle.ash_tree.specs.Tree as written
-use Rattle.ash_tree.specs.declared.tree.places.Place as place
+use Rattle.ash_tree.specs.declared.tree.places.Position as place
 use Rattle.ash_tree.specs.declared.tree.operators.AssignOp.{AssignOp}
 use Rattle.ash_typed.specs.declared.types.Element.{Element}
 use Rattle.ash_typed.specs.declared.types.Element.TheVariants as elements
@@ -16,18 +16,18 @@ use Rattle.ash_typed.specs.declared.types.ObjectType.TheVariants as objects
 use Rattle.ash_typing.specs.declared.fault.Rule.TheVariants as rules
 use Rattle.ash_typing.specs.declared.types.Ty.{Ty}
 use Rattle.ash_typing.specs.declared.types.Ty.TheVariants as ty
-use Rattle.ash_typed.specs.declared.tree.operations.Member.{Member}
+use Rattle.ash_typed.specs.declared.tree.operations.ObjectMember.{ObjectMember}
 use Rattle.ash_typed.specs.declared.tree.operations.IncrementOp.TheVariants as steps
-use Rattle.ash_typing.specs.Types.{object_of, ty_of_element}
+use Rattle.ash_typing.specs.TypeRules.{object_of, ty_of_element}
 use Rattle.ash_typing.specs.ModuleDeclarations.{host_object, object_named, element_named, element_by}
 use Rattle.ash_typing.specs.Environment as head
-use Rattle.ash_typing.specs.Environment.{Environment, first_from, is_class, is_interface_named, Class, Invoked}
+use Rattle.ash_typing.specs.Environment.{Environment, first_from, is_class, is_interface_named, ClassSignature, Invoked}
 use Rattle.ash_typing.specs.Environment.{variable_in, member_in, method_in, array_built}
 use Rattle.ash_typing.specs.Terms.{assignable, operator_of, array_parameters}
-use Rattle.ash_typing.specs.Expressions.{TypedExpr, is_assign, member_at, field_of, invoked_at, method_of, invoked}
-use Rattle.ash_typing.specs.Expressions.{check_invocation, index_in, indexed_at, indexed_object, indexed, at_element}
-use Rattle.ash_typing.specs.Expressions.{known_element, check_array, cast_type, cast_at, check_expr, check_exprs, check_links}
-use Rattle.ash_typing.specs.Expressions.{check_suffixes, check_suffix}
+use Rattle.ash_typing.specs.ExpressionRules.{TypedExpr, is_assign, member_at, field_of, invoked_at, method_of, invoked}
+use Rattle.ash_typing.specs.ExpressionRules.{check_invocation, index_in, indexed_at, indexed_object, indexed, at_element}
+use Rattle.ash_typing.specs.ExpressionRules.{known_element, check_array, cast_type, cast_at, check_expr, check_exprs, check_links}
+use Rattle.ash_typing.specs.ExpressionRules.{check_suffixes, check_suffix}
 use Rattle.ash_typing.proofs.FaultTokens.{HasToken, HasStart, ElementIn, ExprIn, ExprsIn, LinksIn, SuffixesIn, SuffixIn}
 use Rattle.ash_typing.specs.Phrases as phrases
 use Rattle.ash_typing.specs.Mismatches as mismatches
@@ -44,21 +44,21 @@ use Rattle.ash_typing.proofs.FaultOperations.{known_in, operate_in, this_in, una
 -- suffixes
 
 -- a field and a method after what is typed so
-abbrev pub AtField : Script → Environment → TypedExpr → place.Place → List ℕ → written.Suffixes → Type 0
+abbrev pub AtField : Script → Environment → TypedExpr → place.Position → List ℕ → written.Suffixes → Type 0
 AtField script env t p text ss = OccursIn script (phrases.Suffixes env t (written.suffix (written.Field p text) ss))
 
-abbrev pub AtMethod : Script → Environment → TypedExpr → place.Place → List ℕ → written.Exprs → written.Suffixes → Type 0
+abbrev pub AtMethod : Script → Environment → TypedExpr → place.Position → List ℕ → written.Exprs → written.Suffixes → Type 0
 AtMethod script env t p text es ss =
     OccursIn script (phrases.Suffixes env t (written.suffix (written.Method p text es) ss))
 
-member_at_in : (script : Script) (env : Environment) (t : TypedExpr) (p : place.Place) (text : List ℕ)
-    (ss : written.Suffixes) (o : ObjectType) (found : Option (Member × Ty)) → HasToken script.tokens (name text) p.at
+member_at_in : (script : Script) (env : Environment) (t : TypedExpr) (p : place.Position) (text : List ℕ)
+    (ss : written.Suffixes) (o : ObjectType) (found : Option (ObjectMember × Ty)) → HasToken script.tokens (name text) p.at
     → HasStart script.tokens t.at → AtField script env t p text ss → object_of t.ty ≡ Some o
     → member_in env o text ≡ found → At script (member_at t p.at found)
 member_at_in script env t p text ss o None h k r q e = faulty (name text, h, refl, meaning.no_member r q e)
 member_at_in script env t p text ss o (Some found) h k r q e = fine k
 
-field_in : (script : Script) (env : Environment) (t : TypedExpr) (of : Ty) (p : place.Place) (text : List ℕ)
+field_in : (script : Script) (env : Environment) (t : TypedExpr) (of : Ty) (p : place.Position) (text : List ℕ)
     (ss : written.Suffixes) → HasToken script.tokens (name text) p.at → HasStart script.tokens t.at
     → AtField script env t p text ss → t.ty ≡ of → At script (field_of env t of p.at text)
 unfolding field_of
@@ -74,14 +74,14 @@ abbrev pub IsInvoked : Environment → TypedExpr → List ℕ → Option Invoked
 IsInvoked env t text None = Unit {0}
 IsInvoked env t text (Some m) = (o : ObjectType) × (object_of t.ty ≡ Some o) × (method_in env o text ≡ Some m)
 
-invoked_at_in : (script : Script) (env : Environment) (t : TypedExpr) (p : place.Place) (text : List ℕ) (es : written.Exprs)
+invoked_at_in : (script : Script) (env : Environment) (t : TypedExpr) (p : place.Position) (text : List ℕ) (es : written.Exprs)
     (ss : written.Suffixes) (o : ObjectType) (found : Option Invoked) → HasToken script.tokens (name text) p.at
     → AtMethod script env t p text es ss → object_of t.ty ≡ Some o → method_in env o text ≡ found
     → Answers script (IsInvoked env t text) (invoked_at p.at found)
 invoked_at_in script env t p text es ss o None h r q e = faulty (name text, h, refl, meaning.no_method r q e)
 invoked_at_in script env t p text es ss o (Some m) h r q e = fine (o, q, e)
 
-method_of_in : (script : Script) (env : Environment) (t : TypedExpr) (of : Ty) (p : place.Place) (text : List ℕ)
+method_of_in : (script : Script) (env : Environment) (t : TypedExpr) (of : Ty) (p : place.Position) (text : List ℕ)
     (es : written.Exprs) (ss : written.Suffixes) → HasToken script.tokens (name text) p.at → HasStart script.tokens t.at
     → AtMethod script env t p text es ss → t.ty ≡ of
     → Answers script (IsInvoked env t text) (method_of env t of p.at text)
@@ -93,7 +93,7 @@ method_of_in script env t (ty.Handle o) p text es ss h k r q =
 method_of_in script env t ty.Unknown p text es ss h k r q = fine tt
 method_of_in script env t _ p text es ss h k r q = mismatch k (mismatches.no_object r refl (ap may_be_object q))
 
-invoked_in : (script : Script) (env : Environment) (t : TypedExpr) (p : place.Place) (text : List ℕ) (es : written.Exprs)
+invoked_in : (script : Script) (env : Environment) (t : TypedExpr) (p : place.Position) (text : List ℕ) (es : written.Exprs)
     (ss : written.Suffixes) (ts : List TypedExpr) (m : Option Invoked) → HasToken script.tokens (name text) p.at
     → HasStart script.tokens t.at → AtMethod script env t p text es ss → AllAt script.tokens ts
     → length ts ≡ argument_count es → check_exprs env es ≡ Ok ts → IsInvoked env t text m
@@ -106,7 +106,7 @@ invoked_in script env t p text es ss ts (Some m) h k r all c a q =
     (λ at b. mismatches.of_method r q.1 q.2 a b))
     (λ trees u. fine k)
 
-invocation_in : (script : Script) (env : Environment) (t : TypedExpr) (p : place.Place) (text : List ℕ) (es : written.Exprs)
+invocation_in : (script : Script) (env : Environment) (t : TypedExpr) (p : place.Position) (text : List ℕ) (es : written.Exprs)
     (ss : written.Suffixes) → HasToken script.tokens (name text) p.at → HasStart script.tokens t.at
     → AtMethod script env t p text es ss → ListAt script (argument_count es) (check_exprs env es)
     → At script (check_invocation env t p.at text (check_exprs env es))
@@ -118,13 +118,13 @@ invocation_in script env t p text es ss h k r all =
 
 -- no type of objects that has a name is one of arrays
 
-no_element : (a : Option (ℕ × head.Class)) (b : Option (ℕ × head.Interface)) (c : Option host.Registration)
+no_element : (a : Option (ℕ × head.ClassSignature)) (b : Option (ℕ × head.InterfaceSignature)) (c : Option host.Registration)
     → option_and_then element_by
-    (option_or (option_map (λ (found : ℕ × head.Class). objects.Class found.0) a)
-    (option_or (option_map (λ (found : ℕ × head.Interface). objects.Interface found.0) b)
+    (option_or (option_map (λ (found : ℕ × head.ClassSignature). objects.Class found.0) a)
+    (option_or (option_map (λ (found : ℕ × head.InterfaceSignature). objects.Interface found.0) b)
     (option_and_then host_object c))) ≡ None → option_or (option_map
-    (λ (found : ℕ × head.Class). objects.Class found.0) a)
-    (option_or (option_map (λ (found : ℕ × head.Interface). objects.Interface found.0) b)
+    (λ (found : ℕ × head.ClassSignature). objects.Class found.0) a)
+    (option_or (option_map (λ (found : ℕ × head.InterfaceSignature). objects.Interface found.0) b)
     (option_and_then host_object c)) ≡ None
 no_element (Some a) b c h = absurd (cc)
 no_element None (Some b) c h = absurd (cc)
@@ -150,7 +150,7 @@ element_by_in : (script : Script) (env : Environment) (at : ℕ) (text : List �
 element_by_in script env at text None h e w = faulty (name text, h, refl, w (element_unnamed env text e))
 element_by_in script env at text (Some x) h e w = fine tt
 
-known_element_in : (script : Script) (env : Environment) (p : place.Place) (of : written.Element) (es : written.Exprs)
+known_element_in : (script : Script) (env : Environment) (p : place.Position) (of : written.Element) (es : written.Exprs)
     → ElementIn script.tokens of → OccursIn script (phrases.Expression env (written.NewArray p of es))
     → Fine script (known_element (at_element of) (element_named env.registered env.declarations of))
 unfolding element_named
@@ -159,7 +159,7 @@ known_element_in script env p (written.HandleElement at text) es h r =
     element_by_in script env at.at text (option_and_then element_by (type_named env text)) h refl (λ n.
     meaning.no_element_type r (unnamed script env text (sees r) n))
 
-array_in : (script : Script) (env : Environment) (p : place.Place) (of : written.Element) (es : written.Exprs)
+array_in : (script : Script) (env : Environment) (p : place.Position) (of : written.Element) (es : written.Exprs)
     → HasToken script.tokens (reserved words.Array) p.at → ElementIn script.tokens of
     → OccursIn script (phrases.Expression env (written.NewArray p of es))
     → ListAt script (argument_count es) (check_exprs env es) → At script (check_array env p.at of (check_exprs env es))
@@ -217,7 +217,7 @@ one_more : (a b : ℕ) → a ≡ b → suc a ≡ b + 1
 one_more a b h = omega (arith, h)
 
 -- what is wrong with an assignment
-unassigned : (script : Script) (env : Environment) (p : place.Place) (e : written.Expr) (op : AssignOp)
+unassigned : (script : Script) (env : Environment) (p : place.Position) (e : written.Expr) (op : AssignOp)
     (v : written.Expr) (t u : TypedExpr) → OccursIn script (phrases.Expression env (written.Assign p e op v))
     → check_expr env (is_assign op) e ≡ Ok t → check_expr env false v ≡ Ok u
     → Unassigned script env.declarations.classes t u (operator_of op)

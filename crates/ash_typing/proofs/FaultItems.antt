@@ -10,15 +10,15 @@ use Rattle.ash_typed.specs.declared.types.ObjectType.{ObjectType}
 use Rattle.ash_typed.specs.declared.types.ObjectType.TheVariants as objects
 use Rattle.ash_typing.specs.declared.fault.Rule.TheVariants as rules
 use Rattle.ash_typing.specs.declared.types.Ty.TheVariants as ty
-use Rattle.ash_typed.specs.Limits.{max_module_types}
+use Rattle.ash_typed.specs.ModuleLimits.{max_module_types}
 use Rattle.ash_typed.specs.Modules.{Module}
 use Rattle.ash_typing.specs.Environment.{Environment, inside, module_environment}
 use Rattle.ash_typing.specs.ModuleDeclarations.{declarations}
 use Rattle.ash_tree.specs.Items.{constructing, Routine, routine_of, classes_of, interfaces_of}
 use Rattle.ash_typing.specs.Declarations.{at_type}
-use Rattle.ash_typing.specs.Items.{listed_at, implemented_at, Listed, check_listed, all_listed, none_listed, Members}
-use Rattle.ash_typing.specs.Items.{constructor_named, check_member, check_members, no_members, check_class, Walked}
-use Rattle.ash_typing.specs.Items.{room_for_type, check_item, check_items, nothing, module_by, check_module}
+use Rattle.ash_typing.specs.ItemRules.{listed_at, implemented_at, Listed, check_listed, all_listed, none_listed, Members}
+use Rattle.ash_typing.specs.ItemRules.{constructor_named, check_member, check_members, no_members, check_class, Walked}
+use Rattle.ash_typing.specs.ItemRules.{room_for_type, check_item, check_items, nothing, module_by, check_module}
 use Rattle.ash_typing.specs.Implementations.{implemented}
 use Rattle.ash_typing.proofs.FaultTokens.{HasToken, TypeNameIn, RoutineIn, MemberIn, ClassIn, ItemIn}
 use Rattle.ash_typing.specs.Phrases as phrases

@@ -3,12 +3,12 @@ use Rattle.std.proofs.Common.{◌≡◌, ℕ, suc, List, [], ◌∷◌, true, Er
 use Rattle.std.specs.List.{Any}
 use Rattle.ash_lex.specs.Tokens.{Meaning}
 use Rattle.ash_registrations.specs.Registrations.{Registration}
-use Rattle.ash_tree.specs.declared.tree.places.Place.{Place}
+use Rattle.ash_tree.specs.declared.tree.places.Position.{Position}
 use Rattle.ash_tree.specs.Grammar.{Derives}
-use Rattle.ash_tree.specs.Tokens.{Tokens}
+use Rattle.ash_tree.specs.GrammarTokens.{Tokens}
 use Rattle.ash_tree.specs.Tree.{Item}
 use Rattle.ash_typing.specs.declared.fault.Fault.{Fault}
-use Rattle.ash_typing.specs.Items.{check_module}
+use Rattle.ash_typing.specs.ItemRules.{check_module}
 use Rattle.ash_typing.specs.FaultPlaces.{breaks_at, IsTokenOf, IsFaultOf}
 use Rattle.ash_typing.specs.FaultMeaning.{IsWrong, IsBrokenAt}
 use Rattle.ash_typing.proofs.FaultTokens.{HasToken, AreIn}
@@ -29,20 +29,20 @@ any_map P Q xs go h = (h.0, h.1, h.2, h.3, go h.1 h.4)
 
 -- each token of the script is one of it
 
-abbrev pub Has : Tokens → Meaning × Place → Type 0
+abbrev pub Has : Tokens → Meaning × Position → Type 0
 Has script t = HasToken script t.0 t.1.at
 
-further : (t u : Meaning × Place) (ts : Tokens) → Has ts u → Has (t ∷ ts) u
-further t u ts h = record { token = any_after (λ (x : Meaning × Place). (x.0 ≡ u.0) × (x.1.at ≡ u.1.at)) t ts h.token }
+further : (t u : Meaning × Position) (ts : Tokens) → Has ts u → Has (t ∷ ts) u
+further t u ts h = record { token = any_after (λ (x : Meaning × Position). (x.0 ≡ u.0) × (x.1.at ≡ u.1.at)) t ts h.token }
 
-all_further : (t : Meaning × Place) (ts us : Tokens) → AreIn ts us → AreIn (t ∷ ts) us
+all_further : (t : Meaning × Position) (ts us : Tokens) → AreIn ts us → AreIn (t ∷ ts) us
 all_further t ts [] h = tt
 all_further t ts (u ∷ us) h = (further t u ts h.0, all_further t ts us h.1)
 
 all_in : (ts : Tokens) → AreIn ts ts
 all_in [] = tt
 all_in (t ∷ ts) = (
-  record { token = any_here (λ (x : Meaning × Place). (x.0 ≡ t.0) × (x.1.at ≡ t.1.at)) t ts (refl, refl) },
+  record { token = any_here (λ (x : Meaning × Position). (x.0 ≡ t.0) × (x.1.at ≡ t.1.at)) t ts (refl, refl) },
   all_further t ts ts (all_in ts),
 )
 
@@ -53,8 +53,8 @@ pub fault_broken : (registrations : List Registration) (free : ℕ) (tokens : To
 fault_broken registrations free tokens is fault d h =
     let script : Script = record { tokens = tokens; registrations = registrations; items = is } in
     let found : IsIn script fault = is_in (module_in script (items_in tokens d (all_in tokens))) fault h in
-    any_map (λ (t : Meaning × Place). (t.0 ≡ found.0) × (t.1.at ≡ fault.at))
-    (λ (t : Meaning × Place). (t.1.at ≡ fault.at) × (breaks_at fault.rule t.0 ≡ true)
+    any_map (λ (t : Meaning × Position). (t.0 ≡ found.0) × (t.1.at ≡ fault.at))
+    (λ (t : Meaning × Position). (t.1.at ≡ fault.at) × (breaks_at fault.rule t.0 ≡ true)
     × IsWrong registrations is fault.rule fault.at t.0) tokens
     (λ t k. (
       k.1,
@@ -65,13 +65,13 @@ fault_broken registrations free tokens is fault d h =
 pub fault_at : (registrations : List Registration) (free : ℕ) (tokens : Tokens) (is : List Item) (fault : Fault)
     → Derives free tokens is → check_module registrations is ≡ Err fault → IsFaultOf tokens fault
 fault_at registrations free tokens is fault d h =
-    any_map (λ (t : Meaning × Place). (t.1.at ≡ fault.at) × (breaks_at fault.rule t.0 ≡ true)
+    any_map (λ (t : Meaning × Position). (t.1.at ≡ fault.at) × (breaks_at fault.rule t.0 ≡ true)
     × IsWrong registrations is fault.rule fault.at t.0)
-    (λ (t : Meaning × Place). (t.1.at ≡ fault.at) × (breaks_at fault.rule t.0 ≡ true)) tokens
+    (λ (t : Meaning × Position). (t.1.at ≡ fault.at) × (breaks_at fault.rule t.0 ≡ true)) tokens
     (λ t k. (k.0, k.1)) (fault_broken registrations free tokens is fault d h)
 
 pub fault_token : (registrations : List Registration) (free : ℕ) (tokens : Tokens) (is : List Item) (fault : Fault)
     → Derives free tokens is → check_module registrations is ≡ Err fault → IsTokenOf tokens fault.at
 fault_token registrations free tokens is fault d h =
-    any_map (λ (t : Meaning × Place). (t.1.at ≡ fault.at) × (breaks_at fault.rule t.0 ≡ true))
-    (λ (t : Meaning × Place). t.1.at ≡ fault.at) tokens (λ t k. k.0) (fault_at registrations free tokens is fault d h)
+    any_map (λ (t : Meaning × Position). (t.1.at ≡ fault.at) × (breaks_at fault.rule t.0 ≡ true))
+    (λ (t : Meaning × Position). t.1.at ≡ fault.at) tokens (λ t k. k.0) (fault_at registrations free tokens is fault d h)

@@ -3,8 +3,8 @@ use Rattle.std.proofs.Common.{◌≡◌, ℕ, suc, ◌+◌, ◌-◌, List, [], �
 use Rattle.std.proofs.lemmas.List.{append_assoc, append-nil, length-append, length-map}
 use Rattle.ash_registrations.specs.Registrations.{Registration}
 use Rattle.ash_tree.specs.Tree as written
-use Rattle.ash_typed.specs.Limits.{max_globals, max_class_members}
-use Rattle.ash_typing.specs.Items.{Names}
+use Rattle.ash_typed.specs.ModuleLimits.{max_globals, max_class_members}
+use Rattle.ash_typing.specs.ItemRules.{Names}
 use Rattle.ash_tree.specs.Items.{classes_of, interfaces_of, globals_of, decl_name, names_of, variable_names}
 use Rattle.ash_tree.specs.Items.{member_names, item_names}
 use Rattle.ash_typing.specs.TypedModules.{signature_name, listed_name}

@@ -6,8 +6,8 @@ use Rattle.std.specs.List.{AllByRecursion}
 use Rattle.ash_lex.specs.Tokens.{Meaning, name, reserved}
 use Rattle.ash_lex.specs.declared.words.ReservedWord.TheVariants as words
 use Rattle.ash_tree.specs.Tree as written
-use Rattle.ash_tree.specs.Tokens.{Tokens}
-use Rattle.ash_tree.specs.declared.tree.places.Place as place
+use Rattle.ash_tree.specs.GrammarTokens.{Tokens}
+use Rattle.ash_tree.specs.declared.tree.places.Position as place
 use Rattle.ash_tree.specs.declared.tree.types.Primitive.{Primitive}
 use Rattle.ash_tree.specs.declared.tree.operators.UnaryOp.{UnaryOp}
 use Rattle.ash_tree.specs.declared.tree.operators.UnaryOp.TheVariants as unary
@@ -22,17 +22,17 @@ use Rattle.ash_typed.specs.declared.tree.operations.Calculator.{Calculator}
 use Rattle.ash_typed.specs.declared.tree.operations.Operands.{Operands}
 use Rattle.ash_typed.specs.declared.tree.operations.IncrementOp.{IncrementOp}
 use Rattle.ash_typed.specs.declared.tree.operations.IncrementOp.TheVariants as steps
-use Rattle.ash_typed.specs.Tree.{Null, Place}
+use Rattle.ash_typed.specs.TypedTree.{Null, Place}
 use Rattle.ash_typing.specs.TypingResult.{TypingResult, broken}
-use Rattle.ash_typing.specs.Types.{common, takes, assumed_type, common_operands, operator_class_of, binary_of, ty_of}
+use Rattle.ash_typing.specs.TypeRules.{common, takes, assumed_type, common_operands, operator_class_of, binary_of, ty_of}
 use Rattle.ash_typing.specs.Coercions.{fits}
-use Rattle.ash_typing.specs.Environment.{Environment, Class, Known, Callee, variable_in, callee_in}
+use Rattle.ash_typing.specs.Environment.{Environment, ClassSignature, Known, Callee, variable_in, callee_in}
 use Rattle.ash_typing.specs.Terms.{assignable, operator_of, is_stored}
-use Rattle.ash_typing.specs.Expressions.{TypedExpr, UnifiedOperands, term_at, coerced_for_assignment, integer_of, bool_of}
-use Rattle.ash_typing.specs.Expressions.{handle_of, adapted, unified_as, unify_operands}
-use Rattle.ash_typing.specs.Expressions.{operate, counted, handle_at, unary_at, converting, convert_at, is_void, chosen}
-use Rattle.ash_typing.specs.Expressions.{choice, updated, stored, assigned_to, assigned, all_coerced, arguments_at}
-use Rattle.ash_typing.specs.Expressions.{called, callee_at, known_at, this_at, check_call, check_exprs}
+use Rattle.ash_typing.specs.ExpressionRules.{TypedExpr, UnifiedOperands, term_at, coerced_for_assignment, integer_of, bool_of}
+use Rattle.ash_typing.specs.ExpressionRules.{handle_of, adapted, unified_as, unify_operands}
+use Rattle.ash_typing.specs.ExpressionRules.{operate, counted, handle_at, unary_at, converting, convert_at, is_void, chosen}
+use Rattle.ash_typing.specs.ExpressionRules.{choice, updated, stored, assigned_to, assigned, all_coerced, arguments_at}
+use Rattle.ash_typing.specs.ExpressionRules.{called, callee_at, known_at, this_at, check_call, check_exprs}
 use Rattle.ash_typing.specs.FaultPlaces.{begins_call, begins_expression}
 use Rattle.ash_typing.proofs.FaultTokens.{HasToken, HasStart}
 use Rattle.ash_typing.specs.Phrases as phrases
@@ -53,7 +53,7 @@ ListAt script count r = Answers script (λ (ts : List TypedExpr). AllAt script.t
 
 -- what an operand has to be
 
-pub coerced_for_assignment_in : (script : Script) (classes : List Class) (of : Ty) (t : TypedExpr)
+pub coerced_for_assignment_in : (script : Script) (classes : List ClassSignature) (of : Ty) (t : TypedExpr)
     → HasStart script.tokens t.at
     → (fits classes of t.ty ≡ false → Mismatch script t.at) → Fine script (coerced_for_assignment classes of t)
 unfolding coerced_for_assignment
@@ -170,7 +170,7 @@ choice_in script c a b h k l y z =
     bind (bool_in script c.at c.ty h y) (λ yes u. chosen_in script c a b (common a.ty b.ty) h k l z)
 
 -- what is assigned to a typed place does not fit
-pub record Unassigned (script : Script) (classes : List Class) (t v : TypedExpr) (c : Option Calculator) : Type 0 where
+pub record Unassigned (script : Script) (classes : List ClassSignature) (t v : TypedExpr) (c : Option Calculator) : Type 0 where
   pub unfit : c ≡ None → fits classes t.ty v.ty ≡ false → Mismatch script v.at
   pub not_unified : (by : Calculator) → c ≡ Some by → NotUnified script (binary_of by) (term_at t.at t.ty Null) v
   pub uncounted : (by : Calculator) → c ≡ Some by → may_be_integer t.ty ≡ false → Mismatch script t.at
@@ -182,7 +182,7 @@ updated_in script at of p c v h k y z =
     bind (unified_in script (binary_of c) (term_at at of Null) v h k y) (λ m left.
     bind (integer_in script at of h z) (λ int_type u. fine h))
 
-stored_in : (script : Script) (classes : List Class) (t : TypedExpr) (p : Place) (c : Option Calculator) (v : TypedExpr)
+stored_in : (script : Script) (classes : List ClassSignature) (t : TypedExpr) (p : Place) (c : Option Calculator) (v : TypedExpr)
     → HasStart script.tokens t.at → HasStart script.tokens v.at → Unassigned script classes t v c
     → At script (stored classes t.at t.ty p c v)
 unfolding stored
@@ -191,7 +191,7 @@ stored_in script classes t p None v h k z =
 stored_in script classes t p (Some c) v h k z =
     updated_in script t.at t.ty p c v h k (z.not_unified c refl) (z.uncounted c refl)
 
-assigned_to_in : (script : Script) (classes : List Class) (t : TypedExpr) (op : AssignOp) (v : TypedExpr) (p : Option Place)
+assigned_to_in : (script : Script) (classes : List ClassSignature) (t : TypedExpr) (op : AssignOp) (v : TypedExpr) (p : Option Place)
     → HasStart script.tokens t.at → HasStart script.tokens v.at → assignable t.form t.tree ≡ p
     → (takes_value t ≡ false → (m : Meaning) → Wrong script rules.NotAssignable t.at m)
     → Unassigned script classes t v (operator_of op) → At script (assigned_to classes t op v p)
@@ -200,7 +200,7 @@ assigned_to_in script classes t op v (Some p) h k q w z =
     either (is_stored t.form t.ty) (λ b. stored_in script classes t p (operator_of op) v h k z)
     (λ b. no_place h (w (rw (q, b) refl)))
 
-pub assigned_in : (script : Script) (classes : List Class) (t : TypedExpr) (op : AssignOp) (v : TypedExpr)
+pub assigned_in : (script : Script) (classes : List ClassSignature) (t : TypedExpr) (op : AssignOp) (v : TypedExpr)
     → HasStart script.tokens t.at → HasStart script.tokens v.at
     → (takes_value t ≡ false → (m : Meaning) → Wrong script rules.NotAssignable t.at m)
     → Unassigned script classes t v (operator_of op) → At script (assigned classes t op v)
@@ -210,10 +210,10 @@ assigned_in script classes t op v h k w z = assigned_to_in script classes t op v
 -- calls
 
 -- an argument does not fit its parameter
-abbrev pub Unfit : Script → List Class → List Ty → List TypedExpr → Type 0
+abbrev pub Unfit : Script → List ClassSignature → List Ty → List TypedExpr → Type 0
 Unfit script classes ps ts = (at : ℕ) → IsUnfit classes ps ts at → Mismatch script at
 
-all_coerced_in : (script : Script) (classes : List Class) (ps : List Ty) (ts : List TypedExpr) → AllAt script.tokens ts
+all_coerced_in : (script : Script) (classes : List ClassSignature) (ps : List Ty) (ts : List TypedExpr) → AllAt script.tokens ts
     → Unfit script classes ps ts → Fine script (all_coerced classes ps ts)
 all_coerced_in script classes [] ts h z = fine tt
 all_coerced_in script classes (p ∷ ps) [] h z = fine tt
@@ -222,7 +222,7 @@ all_coerced_in script classes (p ∷ ps) (t ∷ ts) h z =
     bind (all_coerced_in script classes ps ts h.1 (λ at b. z at (mismatches.later_one b))) (λ es v. fine tt))
 
 -- another number than there are parameters
-pub arguments_in : (script : Script) (classes : List Class) (at : ℕ) (m : Meaning) (ps : List Ty) (ts : List TypedExpr)
+pub arguments_in : (script : Script) (classes : List ClassSignature) (at : ℕ) (m : Meaning) (ps : List Ty) (ts : List TypedExpr)
     → HasToken script.tokens m at → begins_call m ≡ true → AllAt script.tokens ts
     → (nat_eq (length ps) (length ts) ≡ false → Wrong script rules.WrongArgumentCount at m) → Unfit script classes ps ts
     → Fine script (arguments_at classes at ps ts)
@@ -232,7 +232,7 @@ arguments_in script classes at m ps ts h registrations k other z =
     (λ b. faulty (m, h, registrations, other b))
 
 -- what is called takes these parameters
-pub called_with_in : (script : Script) (classes : List Class) (at : ℕ) (m : Meaning) (callee : Callee) (ts : List TypedExpr)
+pub called_with_in : (script : Script) (classes : List ClassSignature) (at : ℕ) (m : Meaning) (callee : Callee) (ts : List TypedExpr)
     (ps : List Ty) → HasToken script.tokens m at → begins_call m ≡ true → begins_expression m ≡ true
     → AllAt script.tokens ts → (nat_eq (length ps) (length ts) ≡ false → Wrong script rules.WrongArgumentCount at m)
     → Unfit script classes ps ts → At script (called classes at callee ts (Some ps))
@@ -241,14 +241,14 @@ called_with_in script classes at m callee ts ps h registrations begins k other z
     bind (arguments_in script classes at m ps ts h registrations k other z) (λ es u. fine (m, h, begins))
 
 -- what is wrong with these arguments of what takes these parameters, where they are known
-pub record Miscalls (script : Script) (classes : List Class) (at : ℕ) (m : Meaning) (ps : Option (List Ty))
+pub record Miscalls (script : Script) (classes : List ClassSignature) (at : ℕ) (m : Meaning) (ps : Option (List Ty))
     (ts : List TypedExpr) : Type 0 where
   pub none : ps ≡ None → Wrong script rules.NoFactory at m
   pub other : (parameters : List Ty) → ps ≡ Some parameters → nat_eq (length parameters) (length ts) ≡ false
       → Wrong script rules.WrongArgumentCount at m
   pub unfit : (parameters : List Ty) → ps ≡ Some parameters → Unfit script classes parameters ts
 
-pub called_in : (script : Script) (classes : List Class) (at : ℕ) (text : List ℕ) (callee : Callee) (ts : List TypedExpr)
+pub called_in : (script : Script) (classes : List ClassSignature) (at : ℕ) (text : List ℕ) (callee : Callee) (ts : List TypedExpr)
     (ps : Option (List Ty)) → HasToken script.tokens (name text) at → AllAt script.tokens ts
     → Miscalls script classes at (name text) ps ts → At script (called classes at callee ts ps)
 unfolding called
@@ -256,14 +256,14 @@ called_in script classes at text callee ts None h k w = faulty (name text, h, re
 called_in script classes at text callee ts (Some ps) h k w =
     called_with_in script classes at (name text) callee ts ps h refl refl k (w.other ps refl) (w.unfit ps refl)
 
-callee_at_in : (script : Script) (env : Environment) (p : place.Place) (text : List ℕ) (es : written.Exprs)
+callee_at_in : (script : Script) (env : Environment) (p : place.Position) (text : List ℕ) (es : written.Exprs)
     (found : Option Callee) → HasToken script.tokens (name text) p.at
     → OccursIn script (phrases.Expression env (written.Call p text es)) → callee_in env text ≡ found
     → Answers script (λ (callee : Callee). callee_in env text ≡ Some callee) (callee_at p.at found)
 callee_at_in script env p text es None h r e = faulty (name text, h, refl, meaning.no_callee r e)
 callee_at_in script env p text es (Some callee) h r e = fine e
 
-miscalled : (script : Script) (env : Environment) (p : place.Place) (text : List ℕ) (es : written.Exprs)
+miscalled : (script : Script) (env : Environment) (p : place.Position) (text : List ℕ) (es : written.Exprs)
     (callee : Callee) (ts : List TypedExpr) → OccursIn script (phrases.Expression env (written.Call p text es))
     → callee_in env text ≡ Some callee → length ts ≡ argument_count es → check_exprs env es ≡ Ok ts
     → Miscalls script env.declarations.classes p.at (name text) callee.parameters ts
@@ -273,7 +273,7 @@ miscalled script env p text es callee ts r e c a = record {
   unfit = λ ps q at b. mismatches.of_call r e q a b;
 }
 
-pub call_in : (script : Script) (env : Environment) (p : place.Place) (text : List ℕ) (es : written.Exprs)
+pub call_in : (script : Script) (env : Environment) (p : place.Position) (text : List ℕ) (es : written.Exprs)
     → HasToken script.tokens (name text) p.at → OccursIn script (phrases.Expression env (written.Call p text es))
     → ListAt script (argument_count es) (check_exprs env es) → At script (check_call env p.at text (check_exprs env es))
 call_in script env p text es h r k =
@@ -283,13 +283,13 @@ call_in script env p text es h r k =
 
 -- names
 
-pub known_in : (script : Script) (env : Environment) (p : place.Place) (text : List ℕ) (found : Option Known)
+pub known_in : (script : Script) (env : Environment) (p : place.Position) (text : List ℕ) (found : Option Known)
     → HasToken script.tokens (name text) p.at → OccursIn script (phrases.Expression env (written.Name p text))
     → variable_in env text ≡ found → At script (known_at p.at found)
 known_in script env p text None h r e = faulty (name text, h, refl, meaning.no_variable r e)
 known_in script env p text (Some known) h r e = fine (name text, h, refl)
 
-pub this_in : (script : Script) (env : Environment) (p : place.Place) (class : Option ℕ)
+pub this_in : (script : Script) (env : Environment) (p : place.Position) (class : Option ℕ)
     → HasToken script.tokens (reserved words.This) p.at → OccursIn script (phrases.Expression env (written.This p))
     → env.this ≡ class → At script (this_at p.at class)
 this_in script env p None h r e = faulty (reserved words.This, h, refl, meaning.no_object r e)

@@ -12,18 +12,18 @@ use Rattle.ash_typing.specs.declared.fault.Rule.TheVariants as rules
 use Rattle.ash_typing.specs.declared.types.Ty.{Ty}
 use Rattle.ash_typing.specs.declared.types.Ty.TheVariants as ty
 use Rattle.ash_typing.specs.Environment.{Environment, Declared, declares, with_locals}
-use Rattle.ash_typing.specs.Expressions.{is_void}
+use Rattle.ash_typing.specs.ExpressionRules.{is_void}
 use Rattle.ash_typing.specs.ModuleDeclarations.{ty_in}
 use Rattle.ash_typed.specs.StatementTree.{Body}
 use Rattle.ash_typing.specs.Scopes.{body_scope}
-use Rattle.ash_typing.specs.Statements.{check_body}
+use Rattle.ash_typing.specs.StatementRules.{check_body}
 use Rattle.ash_typing.specs.Returning.{returns_in}
 use Rattle.ash_tree.specs.Items.{Routine}
 use Rattle.ash_typing.specs.Declarations.{at_type, at_type_name, known_ty}
-use Rattle.ash_typing.specs.Items.{Names, is_taken, untaken, one_more, placed, passed_ty, check_result, Row}
-use Rattle.ash_typing.specs.Items.{with_variable, check_decls, no_variables, check_vars, check_parameters, returning}
-use Rattle.ash_typing.specs.Items.{check_routine, Signatures, check_signature, check_signatures, no_signatures}
-use Rattle.ash_typing.specs.Items.{check_interface}
+use Rattle.ash_typing.specs.ItemRules.{Names, is_taken, untaken, one_more, placed, passed_ty, check_result, Row}
+use Rattle.ash_typing.specs.ItemRules.{with_variable, check_decls, no_variables, check_vars, check_parameters, returning}
+use Rattle.ash_typing.specs.ItemRules.{check_routine, InterfaceMembers, check_signature, check_signatures, no_signatures}
+use Rattle.ash_typing.specs.ItemRules.{check_interface}
 use Rattle.ash_typing.proofs.FaultTokens.{HasToken, NamedIn, DeclIn, VarsIn, StmtsIn, ParameterIn, ResultIn, RoutineIn}
 use Rattle.ash_typing.proofs.FaultTokens.{InterfaceMethodIn, InterfaceIn}
 use Rattle.ash_typing.specs.Phrases as phrases
@@ -170,11 +170,11 @@ routine_in script env of c h r =
 
 -- interfaces
 
-signature_in : (script : Script) (env : Environment) (before : List written.InterfaceMethod) (ss : Signatures)
+signature_in : (script : Script) (env : Environment) (before : List written.InterfaceMethod) (ss : InterfaceMembers)
     (m : written.InterfaceMethod) (ms : List written.InterfaceMethod) → InterfaceMethodIn script.tokens m
     → ss.names ≡ names_of_methods before → OccursIn script (phrases.Methods env before (m ∷ ms))
     → Answers script
-    (λ (next : Signatures). next.names ≡ names_of_methods (before ++ m ∷ [])) (check_signature env ss m)
+    (λ (next : InterfaceMembers). next.names ≡ names_of_methods (before ++ m ∷ [])) (check_signature env ss m)
 unfolding check_signature
 signature_in script env before ss m ms h n r =
     let x = phrases.Methods env before (m ∷ ms) in
@@ -183,7 +183,7 @@ signature_in script env before ss m ms h n r =
     (bind (parameters_in script env [] m.parameters h.2 (phrases.method_parameters r)) (λ parameters w.
     fine (ap (λ names. with_one names m.name) n ∙ names_after_signature before m))))
 
-signatures_in : (script : Script) (env : Environment) (before : List written.InterfaceMethod) (ss : Signatures)
+signatures_in : (script : Script) (env : Environment) (before : List written.InterfaceMethod) (ss : InterfaceMembers)
     (ms : List written.InterfaceMethod) → AllByRecursion (InterfaceMethodIn script.tokens) ms
     → ss.names ≡ names_of_methods before → OccursIn script (phrases.Methods env before ms)
     → Fine script (check_signatures env ss ms)

@@ -6,22 +6,22 @@ use Rattle.ash_lex.specs.Tokens.{Meaning, number, sign, reserved}
 use Rattle.ash_lex.specs.declared.signs.Sign.TheVariants as signs
 use Rattle.ash_lex.specs.declared.words.ReservedWord.TheVariants as words
 use Rattle.ash_tree.specs.Tree as written
-use Rattle.ash_tree.specs.Tokens.{Tokens}
-use Rattle.ash_tree.specs.declared.tree.places.Place as place
+use Rattle.ash_tree.specs.GrammarTokens.{Tokens}
+use Rattle.ash_tree.specs.declared.tree.places.Position as place
 use Rattle.ash_tree.specs.declared.tree.statements.Label.{Label}
 use Rattle.ash_tree.specs.declared.tree.statements.Label.TheVariants as labels
 use Rattle.ash_integers.specs.declared.int_type.IntType.{IntType}
 use Rattle.ash_typing.specs.declared.types.Ty.{Ty}
 use Rattle.ash_typed.specs.StatementTree.{Stmt, Head}
 use Rattle.ash_typing.specs.TypingResult.{TypingResult}
-use Rattle.ash_typing.specs.Environment.{Environment, Class}
-use Rattle.ash_typing.specs.Expressions.{TypedExpr, check_expr, check_exprs, is_void}
+use Rattle.ash_typing.specs.Environment.{Environment, ClassSignature}
+use Rattle.ash_typing.specs.ExpressionRules.{TypedExpr, check_expr, check_exprs, is_void}
 use Rattle.ash_typing.specs.Switches.{integer_type_in, is_within, check_constant, check_label}
 use Rattle.ash_typing.specs.Labels.{is_same_constant, is_last}
 use Rattle.ash_typing.specs.Scopes.{Scope, block_of, loop_of, switch_of, after}
-use Rattle.ash_typing.specs.Statements.{check_head, condition_is, check_if, check_if_else, check_while, check_do_while}
-use Rattle.ash_typing.specs.Statements.{check_optional, maybe_condition_is, check_for, check_break, check_continue}
-use Rattle.ash_typing.specs.Statements.{gives_nothing, returned, check_return, check_stmt, check_stmts, check_cases}
+use Rattle.ash_typing.specs.StatementRules.{check_head, condition_is, check_if, check_if_else, check_while, check_do_while}
+use Rattle.ash_typing.specs.StatementRules.{check_optional, maybe_condition_is, check_for, check_break, check_continue}
+use Rattle.ash_typing.specs.StatementRules.{gives_nothing, returned, check_return, check_stmt, check_stmts, check_cases}
 use Rattle.ash_typing.specs.FaultPlaces.{begins_constant}
 use Rattle.ash_typing.specs.Coercions.{fits}
 use Rattle.ash_typing.proofs.Bindings.{bind_ok}
@@ -110,7 +110,7 @@ for_in script line count head condition steps body f h k l z =
     bind (maybe_condition_in script c at (λ t e b. z t (a ∙ ap (λ (m : Option TypedExpr). Ok m) e) b)) (λ yes w.
     fine tt)))))
 
-break_in : (script : Script) (scope : Scope) (p : place.Place) → HasToken script.tokens (reserved words.Break) p.at
+break_in : (script : Script) (scope : Scope) (p : place.Position) → HasToken script.tokens (reserved words.Break) p.at
     → OccursIn script (phrases.Statement scope (written.Break p))
     → Fine script (check_break (scope.in_loop || scope.in_switch) p)
 unfolding check_break
@@ -118,14 +118,14 @@ break_in script scope p h r =
     either (scope.in_loop || scope.in_switch) (λ b. fine tt)
     (λ b. faulty (reserved words.Break, h, refl, meaning.no_loop_to_leave r b))
 
-continue_in : (script : Script) (scope : Scope) (p : place.Place)
+continue_in : (script : Script) (scope : Scope) (p : place.Position)
     → HasToken script.tokens (reserved words.Continue) p.at
     → OccursIn script (phrases.Statement scope (written.Continue p)) → Fine script (check_continue scope.in_loop p)
 unfolding check_continue
 continue_in script scope p h r =
     either scope.in_loop (λ b. fine tt) (λ b. faulty (reserved words.Continue, h, refl, meaning.no_loop r b))
 
-returned_in : (script : Script) (classes : List Class) (of : Ty) (at : ℕ) (t : TypedExpr)
+returned_in : (script : Script) (classes : List ClassSignature) (of : Ty) (at : ℕ) (t : TypedExpr)
     → HasToken script.tokens (reserved words.Return) at → HasStart script.tokens t.at
     → (is_void of ≡ true → Mismatch script at) → (fits classes of t.ty ≡ false → Mismatch script t.at)
     → Fine script (returned classes of at t)
@@ -134,7 +134,7 @@ returned_in script classes of at t h k y z =
     either (is_void of) (λ b. faulty (reserved words.Return, h, refl, meaning.mismatch (y b)))
     (λ b. coerced_for_assignment_in script classes of t k z)
 
-return_in : (script : Script) (scope : Scope) (p : place.Place) (e : Option written.Expr)
+return_in : (script : Script) (scope : Scope) (p : place.Position) (e : Option written.Expr)
     → HasToken script.tokens (reserved words.Return) p.at → MaybeIn script.tokens e
     → OccursIn script (phrases.Statement scope (written.Return p e)) → Fine script (check_return scope p e)
 unfolding check_return
@@ -148,12 +148,12 @@ return_in script scope p (Some e) h k r =
     (λ value u. fine tt))
 
 -- labels, each with the statements after it and the other labels
-abbrev pub AtLabel : Script → Scope → Option IntType → List Label → place.Place → Label → written.Stmts → written.Cases
+abbrev pub AtLabel : Script → Scope → Option IntType → List Label → place.Position → Label → written.Stmts → written.Cases
     → Type 0
 AtLabel script scope int_type before p l ss cs =
     OccursIn script (phrases.Cases scope int_type before (written.next_case (written.labelled p l ss) cs))
 
-constant_in : (script : Script) (scope : Scope) (int_type : Option IntType) (before : List Label) (p : place.Place)
+constant_in : (script : Script) (scope : Scope) (int_type : Option IntType) (before : List Label) (p : place.Position)
     (l : Label) (ss : written.Stmts) (cs : written.Cases) (m : Meaning) → HasToken script.tokens m p.at
     → begins_constant m ≡ true → AtLabel script scope int_type before p l ss cs
     → Fine script (check_constant int_type before p.at l)
@@ -163,7 +163,7 @@ constant_in script scope int_type before p l ss cs m h k r =
     (λ a. either (list_any (is_same_constant l) before) (λ b. faulty (m, h, k, meaning.duplicate r b)) (λ b. fine tt))
     (λ a. faulty (m, h, k, meaning.out_of_range r a))
 
-label_in : (script : Script) (scope : Scope) (int_type : Option IntType) (before : List Label) (p : place.Place)
+label_in : (script : Script) (scope : Scope) (int_type : Option IntType) (before : List Label) (p : place.Position)
     (l : Label) (ss : written.Stmts) (cs : written.Cases) → LabelIn script.tokens p l
     → AtLabel script scope int_type before p l ss cs
     → Fine script (check_label int_type before (is_last cs) p.at l)
@@ -176,7 +176,7 @@ label_in script scope int_type before p labels.Default ss cs h r =
     either (is_last cs) (λ b. fine tt) (λ b. faulty (reserved words.Default, h, refl, meaning.early_default r b))
 
 -- the condition of a `for`, where it has one
-for_condition : (script : Script) (scope : Scope) (p : place.Place) (f s : written.Stmt) (c : Option written.Expr)
+for_condition : (script : Script) (scope : Scope) (p : place.Position) (f s : written.Stmt) (c : Option written.Expr)
     (es : List written.Expr) → OccursIn script (phrases.Statement scope (written.For p f c es s)) → (e : written.Expr)
     → c ≡ Some e → OccursIn script (phrases.Expression (after (block_of scope) f).env e)
 for_condition script scope p f s c es r e q =
@@ -198,7 +198,7 @@ typed_by env (Some e) t h =
     let u = bind_ok (check_expr env false e) (λ (x : TypedExpr). Ok (Some x)) (Some t) h in
     (e, refl, u.1 ∙ ap (λ (x : TypedExpr). Ok x) (same_tree u.0 t u.2))
 
-for_unconditional : (script : Script) (scope : Scope) (p : place.Place) (f s : written.Stmt) (c : Option written.Expr)
+for_unconditional : (script : Script) (scope : Scope) (p : place.Position) (f s : written.Stmt) (c : Option written.Expr)
     (es : List written.Expr) (t : TypedExpr) → OccursIn script (phrases.Statement scope (written.For p f c es s))
     → TypedBy (after (block_of scope) f).env c t → may_be_bool t.ty ≡ false → Mismatch script t.at
 for_unconditional script scope p f s c es t r h b =

@@ -4,16 +4,16 @@ use Rattle.std.specs.List.{Any, AllByRecursion}
 use Rattle.ash_lex.specs.Tokens.{Meaning, name, number, sign, reserved}
 use Rattle.ash_lex.specs.declared.signs.Sign.TheVariants as signs
 use Rattle.ash_lex.specs.declared.words.ReservedWord.TheVariants as words
-use Rattle.ash_tree.specs.declared.tree.places.Place.{Place}
+use Rattle.ash_tree.specs.declared.tree.places.Position.{Position}
 use Rattle.ash_tree.specs.declared.tree.statements.Label.{Label}
 use Rattle.ash_tree.specs.declared.tree.statements.Label.TheVariants as labels
-use Rattle.ash_tree.specs.Tokens.{Tokens}
+use Rattle.ash_tree.specs.GrammarTokens.{Tokens}
 use Rattle.ash_tree.specs.Tree as written
 use Rattle.ash_typing.specs.FaultPlaces.{begins_expression}
 
 -- a token of the script that means this has its first byte at this offset
 pub record HasToken (script : Tokens) (m : Meaning) (at : ℕ) : Type 0 where
-  pub token : Any (λ (t : Meaning × Place). (t.0 ≡ m) × (t.1.at ≡ at)) script
+  pub token : Any (λ (t : Meaning × Position). (t.0 ≡ m) × (t.1.at ≡ at)) script
 
 -- some token has
 abbrev pub HasAny : Tokens → ℕ → Type 0
@@ -25,7 +25,7 @@ HasStart script at = (m : Meaning) × HasToken script m at × (begins_expression
 
 -- each of these tokens is one of the script
 abbrev pub AreIn : Tokens → Tokens → Type 0
-AreIn script tokens = AllByRecursion (λ (t : Meaning × Place). HasToken script t.0 t.1.at) tokens
+AreIn script tokens = AllByRecursion (λ (t : Meaning × Position). HasToken script t.0 t.1.at) tokens
 
 -- types
 
@@ -139,7 +139,7 @@ IsHeadForm (written.Declare p v) = Unit {0}
 IsHeadForm (written.Evaluate p e) = Unit {0}
 IsHeadForm _ = ⊥
 
-abbrev pub LabelIn : Tokens → Place → Label → Type 0
+abbrev pub LabelIn : Tokens → Position → Label → Type 0
 LabelIn script p (labels.Case n) = HasToken script (number n) p.at
 LabelIn script p (labels.CaseMinus n) = HasToken script (sign signs.Minus) p.at
 LabelIn script p labels.Default = HasToken script (reserved words.Default) p.at
@@ -183,7 +183,7 @@ ResultIn script None = Unit {0}
 ResultIn script (Some of) = NamedIn script of
 
 -- what is written after a result
-abbrev pub RoutineIn : Tokens → Place → List ℕ → List written.Parameter → List written.Stmt → Type 0
+abbrev pub RoutineIn : Tokens → Position → List ℕ → List written.Parameter → List written.Stmt → Type 0
 RoutineIn script p text parameters body =
     HasToken script (name text) p.at × AllByRecursion (ParameterIn script) parameters
     × StmtsIn script (written.stmts body)

@@ -7,7 +7,7 @@ use Rattle.std.specs.Option.{is_some, option_and_then}
 use Rattle.ash_lex.specs.Tokens.{Meaning, name, reserved}
 use Rattle.ash_lex.specs.declared.words.ReservedWord.TheVariants as words
 use Rattle.ash_tree.specs.Tree as written
-use Rattle.ash_tree.specs.declared.tree.places.Place as place
+use Rattle.ash_tree.specs.declared.tree.places.Position as place
 use Rattle.ash_tree.specs.declared.tree.types.Primitive.{Primitive}
 use Rattle.ash_tree.specs.declared.tree.types.Primitive.TheVariants as primitives
 use Rattle.ash_typed.specs.declared.types.Element.{Element}
@@ -16,9 +16,9 @@ use Rattle.ash_typed.specs.declared.types.ObjectType.TheVariants as objects
 use Rattle.ash_typing.specs.declared.fault.Rule.TheVariants as rules
 use Rattle.ash_typing.specs.declared.types.Ty.{Ty}
 use Rattle.ash_typing.specs.declared.types.Ty.TheVariants as ty
-use Rattle.ash_typing.specs.Types.{ty_of}
-use Rattle.ash_typing.specs.Environment.{Environment, Declared, Class, Callee, array_built, construction}
-use Rattle.ash_typing.specs.Expressions.{TypedExpr, check_exprs, at_element}
+use Rattle.ash_typing.specs.TypeRules.{ty_of}
+use Rattle.ash_typing.specs.Environment.{Environment, Declared, ClassSignature, Callee, array_built, construction}
+use Rattle.ash_typing.specs.ExpressionRules.{TypedExpr, check_exprs, at_element}
 use Rattle.ash_typing.specs.Terms.{array_parameters}
 use Rattle.ash_typing.specs.ModuleDeclarations.{declared, element_by, element_named, array_named, object_ty, handle_ty}
 use Rattle.ash_typing.specs.ModuleDeclarations.{ty_named}
@@ -26,7 +26,7 @@ use Rattle.ash_typing.specs.ModuleDeclarations.{ty_in}
 use Rattle.ash_typing.specs.Declarations.{at_type, at_type_name, known_ty, constructed, begun, stored_first, begun_with}
 use Rattle.ash_typing.specs.Declarations.{begun_by_one, begun_by, initialized, check_decl}
 use Rattle.ash_typing.specs.Scopes.{Scope, with_variables, is_taken}
-use Rattle.ash_typing.specs.Statements.{fresh, check_decls, check_vars}
+use Rattle.ash_typing.specs.StatementRules.{fresh, check_decls, check_vars}
 use Rattle.std.proofs.lemmas.Bool.Decides.{nat_tests}
 use Rattle.ash_typing.specs.Coercions.{fits}
 use Rattle.ash_typing.proofs.FaultTokens.{HasToken, HasStart, ElementIn, NamedIn, InitializerIn, DeclIn, VarsIn}
@@ -185,7 +185,7 @@ variables_ty_in script env of h w =
 -- variables
 
 -- what is wrong with the construction of an object at an offset
-pub record Misbuilds (script : Script) (classes : List Class) (at : ℕ) (found : Option Callee)
+pub record Misbuilds (script : Script) (classes : List ClassSignature) (at : ℕ) (found : Option Callee)
     (ts : List TypedExpr) : Type 0 where
   pub none : (m : Meaning) → is_constructible found ≡ false → Wrong script rules.NoFactory at m
   pub other : (m : Meaning) (callee : Callee) (parameters : List Ty) → found ≡ Some callee
@@ -211,7 +211,7 @@ misbuilds script env of_at at o i ts r c z = record {
   unfit = z;
 }
 
-miscalls : (script : Script) (classes : List Class) (at : ℕ) (m : Meaning) (callee : Callee) (ts : List TypedExpr)
+miscalls : (script : Script) (classes : List ClassSignature) (at : ℕ) (m : Meaning) (callee : Callee) (ts : List TypedExpr)
     → Misbuilds script classes at (Some callee) ts → Miscalls script classes at m callee.parameters ts
 miscalls script classes at m callee ts w = record {
   none = λ e. w.none m (ap is_some e);
@@ -219,7 +219,7 @@ miscalls script classes at m callee ts w = record {
   unfit = λ parameters q. w.unfit callee parameters refl q;
 }
 
-constructed_in : (script : Script) (classes : List Class) (at : ℕ) (ts : List TypedExpr) (found : Option Callee)
+constructed_in : (script : Script) (classes : List ClassSignature) (at : ℕ) (ts : List TypedExpr) (found : Option Callee)
     → IsNameAt script at → AllAt script.tokens ts → Misbuilds script classes at found ts
     → Fine script (constructed classes at ts found)
 unfolding constructed
@@ -230,7 +230,7 @@ constructed_in script classes at ts (Some callee) h k w =
     (λ t u. fine tt)
 
 -- an array, which is constructed at its word or at a name
-array_in : (script : Script) (classes : List Class) (at : ℕ) (ts : List TypedExpr) (e : Element) (count : ℕ)
+array_in : (script : Script) (classes : List ClassSignature) (at : ℕ) (ts : List TypedExpr) (e : Element) (count : ℕ)
     → HasToken script.tokens (reserved words.Array) at ⊎ IsNameAt script at → AllAt script.tokens ts
     → Misbuilds script classes at (Some (array_built e count)) ts
     → Fine script (constructed classes at ts (Some (array_built e count)))
@@ -262,7 +262,7 @@ abbrev pub HasOne : List TypedExpr → Type 0
 HasOne [] = ⊥
 HasOne (t ∷ ts) = Unit {0}
 
-unfit_one : (classes : List Class) (ps : List Ty) (ts : List TypedExpr) (at : ℕ) → IsUnfit classes ps ts at → HasOne ts
+unfit_one : (classes : List ClassSignature) (ps : List Ty) (ts : List TypedExpr) (at : ℕ) → IsUnfit classes ps ts at → HasOne ts
 unfit_one classes (p ∷ ps) (t ∷ ts) at b = tt
 unfit_one classes [] (t ∷ ts) at b = tt
 unfit_one classes [] [] at b = elim b [ ]
@@ -280,11 +280,11 @@ begun_in script env of_at at _ h r = fine tt
 not_one : (n : ℕ) → nat_eq (suc (suc n)) 1 ≡ false
 not_one n = grind (arith, nat_tests)
 
-stored_first_in : (script : Script) (classes : List Class) (of : Ty) (t : TypedExpr) → HasStart script.tokens t.at
+stored_first_in : (script : Script) (classes : List ClassSignature) (of : Ty) (t : TypedExpr) → HasStart script.tokens t.at
     → (fits classes of t.ty ≡ false → Mismatch script t.at) → Fine script (stored_first classes of t)
 stored_first_in script classes of t h z = bind (coerced_for_assignment_in script classes of t h z) (λ e u. fine tt)
 
-begun_with_in : (script : Script) (classes : List Class) (at : ℕ) (text : List ℕ) (of : Ty) (t : TypedExpr)
+begun_with_in : (script : Script) (classes : List ClassSignature) (at : ℕ) (text : List ℕ) (of : Ty) (t : TypedExpr)
     → HasToken script.tokens (name text) at → HasStart script.tokens t.at
     → ((o : ObjectType) → of ≡ ty.Object o → Wrong script rules.NotAssignable at (name text))
     → (fits classes of t.ty ≡ false → Mismatch script t.at) → Fine script (begun_with classes at of t)
@@ -292,7 +292,7 @@ unfolding begun_with
 begun_with_in script classes at text (ty.Object o) t h k w z = faulty (name text, h, refl, w o refl)
 begun_with_in script classes at text of t h k w z = stored_first_in script classes of t k z
 
-begun_by_one_in : (script : Script) (classes : List Class) (at : ℕ) (text : List ℕ) (of : Ty) (ts : List TypedExpr)
+begun_by_one_in : (script : Script) (classes : List ClassSignature) (at : ℕ) (text : List ℕ) (of : Ty) (ts : List TypedExpr)
     → HasToken script.tokens (name text) at → AllAt script.tokens ts
     → (nat_eq (length ts) 1 ≡ false → Mismatch script at)
     → ((t : TypedExpr) → ts ≡ t ∷ [] → fits classes of t.ty ≡ false → Mismatch script t.at)
@@ -362,7 +362,7 @@ decls_in script scope at of (d ∷ ds) w h r =
     (phrases.other_locals r))
     (λ values u. fine tt)))
 
-pub vars_in : (script : Script) (scope : Scope) (p : place.Place) (v : written.Vars) → VarsIn script.tokens v
+pub vars_in : (script : Script) (scope : Scope) (p : place.Position) (v : written.Vars) → VarsIn script.tokens v
     → OccursIn script (phrases.Statement scope (written.Declare p v)) → Fine script (check_vars scope v)
 unfolding check_vars
 vars_in script scope p v h r =

@@ -7,22 +7,22 @@ use Rattle.ash_registrations.specs.Registrations as host
 use Rattle.ash_tree.specs.Tree as written
 use Rattle.ash_typing.specs.declared.types.Ty.{Ty}
 use Rattle.ash_typing.specs.declared.types.Ty.TheVariants as ty
-use Rattle.ash_typing.specs.Environment.{Environment, ModuleDeclarations, Interface, Class}
+use Rattle.ash_typing.specs.Environment.{Environment, ModuleDeclarations, InterfaceSignature, ClassSignature}
 use Rattle.ash_typing.specs.Environment.{inside}
 use Rattle.ash_typing.specs.ModuleDeclarations.{ty_named, result_named, variables, parameter_ty}
 use Rattle.ash_typing.specs.ModuleDeclarations.{function_declaration, signature_declaration, names_in, declarations}
 use Rattle.ash_typing.specs.ModuleDeclarations.{ty_in, interface_declaration, class_declaration}
 use Rattle.ash_typing.specs.ModuleDeclarations.{all_variables, constructed_by}
 use Rattle.ash_typing.specs.Declarations.{Initialization, known_ty}
-use Rattle.ash_typing.specs.Typing.{IsKnown, IsVariableType, IsResultType, IsKnownVariable, IsKnownFunction}
+use Rattle.ash_typing.specs.Typing.{IsKnown, IsVariableType, IsTypeOfResult, IsKnownVariable, IsKnownFunction}
 use Rattle.ash_typing.specs.Typing.{IsKnownInterface, IsKnownClass}
 use Rattle.ash_typed.specs.Modules as modules
-use Rattle.ash_typing.specs.Items.{Names, Row, check_vars, check_result, check_parameters, check_routine, placed}
-use Rattle.ash_typing.specs.Items.{untaken, Members, constructor_named, check_member, check_members, no_members}
-use Rattle.ash_typing.specs.Items.{all_listed, none_listed, check_class, check_interface, room_for_type, Walked}
-use Rattle.ash_typing.specs.Items.{check_item, check_items}
-use Rattle.ash_typing.specs.TypedModules.{IsPassedParameter, IsResult, AreVariables, AreFields, IsRoutine, IsFunction}
-use Rattle.ash_typing.specs.TypedModules.{IsSignature, IsInterface, AreInterfaces, HasConstructor, IsClass, AreClasses}
+use Rattle.ash_typing.specs.ItemRules.{Names, Row, check_vars, check_result, check_parameters, check_routine, placed}
+use Rattle.ash_typing.specs.ItemRules.{untaken, Members, constructor_named, check_member, check_members, no_members}
+use Rattle.ash_typing.specs.ItemRules.{all_listed, none_listed, check_class, check_interface, room_for_type, Walked}
+use Rattle.ash_typing.specs.ItemRules.{check_item, check_items}
+use Rattle.ash_typing.specs.TypedModules.{IsPassedParameter, IsTypedResult, AreTypedVariables, AreFields, IsRoutine, IsTypedFunction}
+use Rattle.ash_typing.specs.TypedModules.{IsTypedSignature, IsTypedInterface, AreTypedInterfaces, HasConstructor, IsTypedClass, AreTypedClasses}
 use Rattle.ash_typing.specs.TypedModules.{environment}
 use Rattle.ash_typing.proofs.Bindings.{bind_ok}
 use Rattle.ash_typing.proofs.TakenNames.{all_append}
@@ -93,7 +93,7 @@ passed_are_known : (env : Environment) (ps : List written.Parameter) → AllByRe
 passed_are_known env [] h = tt
 passed_are_known env (p ∷ ps) h = (passed_variable (ty_in env p.of) h.0, passed_are_known env ps h.1)
 
-result_is_known : (env : Environment) (of : Option written.Named) → IsResult env of → KnownResult (ty_in env) of
+result_is_known : (env : Environment) (of : Option written.Named) → IsTypedResult env of → KnownResult (ty_in env) of
 result_is_known env None h = tt
 result_is_known env (Some of) h = passed_variable (ty_in env of) h
 
@@ -150,13 +150,13 @@ class_known env place c t h =
     members_known (inside env place) c.members (no_members c l.0.interfaces) m.0 m.1
 
 signatures_known : (env : Environment) (ms : List written.InterfaceMethod) (ts : List modules.Signature)
-    → AllZip (IsSignature env) ms ts → AllByRecursion (KnownSignature (ty_in env)) ms
+    → AllZip (IsTypedSignature env) ms ts → AllByRecursion (KnownSignature (ty_in env)) ms
 signatures_known env ms ts h =
-    zip_known (IsSignature env) (KnownSignature (ty_in env))
+    zip_known (IsTypedSignature env) (KnownSignature (ty_in env))
     (λ m t is. (result_is_known env m.result is.passed_result, passed_are_known env m.parameters is.passed)) ms ts h
 
 interface_known : (env : Environment) (classes : ℕ) (i : written.Interface) (t : modules.Interface)
-    → IsInterface env i classes t → KnownInterface (ty_in env) i
+    → IsTypedInterface env i classes t → KnownInterface (ty_in env) i
 interface_known env classes i t is = signatures_known env i.methods t.methods is.methods
 
 pub items_known : (env : Environment) (is : List written.Item) (w after : Walked) → check_items env w is ≡ Ok after
@@ -192,9 +192,9 @@ items_known env (written.AGlobal v ∷ is) w after h =
 
 -- of all that has a typed tree by the rules
 
-rule_vars : (env : Environment) (vs : List written.Vars) (ts : List modules.Variables) → AllZip (AreVariables env) vs ts
+rule_vars : (env : Environment) (vs : List written.Vars) (ts : List modules.Variables) → AllZip (AreTypedVariables env) vs ts
     → AllByRecursion (KnownVars (ty_in env)) vs
-rule_vars env vs ts h = zip_known (AreVariables env) (KnownVars (ty_in env)) (λ v t is. is.variable) vs ts h
+rule_vars env vs ts h = zip_known (AreTypedVariables env) (KnownVars (ty_in env)) (λ v t is. is.variable) vs ts h
 
 rule_fields : (env : Environment) (vs : List written.Vars) (ts : List Initialization) → AreFields env vs ts
     → AllByRecursion (KnownVars (ty_in env)) vs
@@ -206,9 +206,9 @@ rule_routine : (env : Environment) (of : Ty) (r : Routine) (t : modules.Function
 rule_routine env of r t is = passed_are_known env r.parameters is.passed
 
 rule_functions : (env : Environment) (fs : List written.Function) (ts : List modules.Function)
-    → AllZip (IsFunction env) fs ts → AllByRecursion (KnownFunction (ty_in env)) fs
+    → AllZip (IsTypedFunction env) fs ts → AllByRecursion (KnownFunction (ty_in env)) fs
 rule_functions env fs ts h =
-    zip_known (IsFunction env) (KnownFunction (ty_in env))
+    zip_known (IsTypedFunction env) (KnownFunction (ty_in env))
     (λ f t is. (result_is_known env f.result is.passed, rule_routine env _ (routine_of f) t is.routine)) fs ts h
 
 rule_constructors : (env : Environment) (class : List ℕ) (cs : List written.Constructor) (t : Option modules.Function)
@@ -218,7 +218,7 @@ rule_constructors env class (c ∷ []) (Some t) h = (rule_routine env ty.Void (c
 rule_constructors env class (c ∷ []) None h = absurd h
 rule_constructors env class (c ∷ (d ∷ cs)) t h = absurd h
 
-rule_class : (env : Environment) (place : ℕ) (c : written.Class) (t : modules.Class) → IsClass env place c t
+rule_class : (env : Environment) (place : ℕ) (c : written.Class) (t : modules.Class) → IsTypedClass env place c t
     → KnownClass (ty_in env) c
 rule_class env place c t is = (
   rule_fields (inside env place) (fields_of c.members) t.fields is.fields,
@@ -227,22 +227,22 @@ rule_class env place c t is = (
 )
 
 rule_classes : (env : Environment) (place : ℕ) (cs : List written.Class) (ts : List modules.Class)
-    → AreClasses env place cs ts → AllByRecursion (KnownClass (ty_in env)) cs
+    → AreTypedClasses env place cs ts → AllByRecursion (KnownClass (ty_in env)) cs
 rule_classes env place [] ts h = tt
 rule_classes env place (c ∷ cs) [] h = absurd h
 rule_classes env place (c ∷ cs) (t ∷ ts) h = (rule_class env place c t h.0, rule_classes env (place + 1) cs ts h.1)
 
 rule_interfaces : (env : Environment) (is : List written.Interface) (ns : List ℕ) (ts : List modules.Interface)
-    → AreInterfaces env is ns ts → AllByRecursion (KnownInterface (ty_in env)) is
+    → AreTypedInterfaces env is ns ts → AllByRecursion (KnownInterface (ty_in env)) is
 rule_interfaces env [] ns ts h = tt
 rule_interfaces env (i ∷ is) [] ts h = absurd h
 rule_interfaces env (i ∷ is) (n ∷ ns) [] h = absurd h
 rule_interfaces env (i ∷ is) (n ∷ ns) (t ∷ ts) h = (interface_known env n i t h.0, rule_interfaces env is ns ts h.1)
 
 pub rules_known : (env : Environment) (is : List written.Item) (m : modules.Module)
-    → AreInterfaces env (interfaces_of is) (classes_before 0 is) m.interfaces
-    → AreClasses env 0 (classes_of is) m.classes → AllZip (IsFunction env) (functions_of is) m.functions
-    → AllZip (AreVariables env) (globals_of is) m.globals → KnownItems (ty_in env) is
+    → AreTypedInterfaces env (interfaces_of is) (classes_before 0 is) m.interfaces
+    → AreTypedClasses env 0 (classes_of is) m.classes → AllZip (IsTypedFunction env) (functions_of is) m.functions
+    → AllZip (AreTypedVariables env) (globals_of is) m.globals → KnownItems (ty_in env) is
 rules_known env is m ts cs fs vs = (
   rule_interfaces env (interfaces_of is) (classes_before 0 is) m.interfaces ts,
   rule_classes env 0 (classes_of is) m.classes cs,
@@ -259,7 +259,7 @@ types_known registrations named [] h = tt
 types_known registrations named (p ∷ ps) h = (h.0, types_known registrations named ps h.1)
 
 result_known : (registrations : List host.Registration) (named : ModuleDeclarations) (of : Option written.Named)
-    → KnownResult (ty_named registrations named) of → IsResultType (result_named registrations named of)
+    → KnownResult (ty_named registrations named) of → IsTypeOfResult (result_named registrations named of)
 result_known registrations named None h = refl
 result_known registrations named (Some of) h = variable_is_result (ty_named registrations named of) h
 

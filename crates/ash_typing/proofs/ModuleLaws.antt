@@ -4,7 +4,7 @@ use Rattle.std.specs.List.{IsDistinct}
 use Rattle.ash_registrations.specs.Registrations.{Registration}
 use Rattle.ash_tree.specs.Tree.{Item}
 use Rattle.ash_typing.specs.Typing.{IsKnown}
-use Rattle.ash_typing.specs.Items.{nothing, module_walked, check_items, check_module}
+use Rattle.ash_typing.specs.ItemRules.{nothing, module_walked, check_items, check_module}
 use Rattle.ash_typed.specs.Modules.{Module}
 use Rattle.ash_typing.specs.TypedModules.{environment, IsTyped}
 use Rattle.ash_typing.proofs.Bindings.{ok_is, bind_ok, bind_is}

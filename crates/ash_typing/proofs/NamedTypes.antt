@@ -7,7 +7,7 @@ use Rattle.ash_tree.specs.Tree as written
 use Rattle.ash_typed.specs.declared.types.ObjectType.{ObjectType}
 use Rattle.ash_typed.specs.declared.types.ObjectType.TheVariants.{Class as OfClass, Interface as OfInterface}
 use Rattle.ash_typed.specs.declared.types.ObjectType.TheVariants.{Array as OfArray}
-use Rattle.ash_typing.specs.Environment.{ModuleDeclarations, Interface, Class, first_from, is_class}
+use Rattle.ash_typing.specs.Environment.{ModuleDeclarations, InterfaceSignature, ClassSignature, first_from, is_class}
 use Rattle.ash_typing.specs.Environment.{is_interface_named}
 use Rattle.ash_typing.specs.ModuleDeclarations.{object_named, element_by, element_named, array_named, object_ty}
 use Rattle.ash_typing.specs.ModuleDeclarations.{handle_ty, ty_named}
@@ -27,10 +27,10 @@ same_first : {A : Type 0} (of_place : ℕ → ObjectType) (i : ℕ) (b : Bool) (
 same_first of_place i true c d x y h = refl
 same_first of_place i false c d x y h = h
 
-abbrev class_from : List ℕ → ℕ → List Class → Option ObjectType
+abbrev class_from : List ℕ → ℕ → List ClassSignature → Option ObjectType
 class_from name i cs = object_at OfClass (first_from (is_class name) i cs)
 
-abbrev interface_from : List ℕ → ℕ → List Interface → Option ObjectType
+abbrev interface_from : List ℕ → ℕ → List InterfaceSignature → Option ObjectType
 interface_from name i ts = object_at OfInterface (first_from (is_interface_named name) i ts)
 
 same_class : (registrations : List host.Registration) (named : ModuleDeclarations) (name : List ℕ) (i : ℕ) (cs : List written.Class)

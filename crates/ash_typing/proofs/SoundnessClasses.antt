@@ -15,15 +15,15 @@ use Rattle.ash_typed.specs.Signatures as signatures
 use Rattle.ash_typed.specs.SoundModules as sound
 use Rattle.ash_typing.specs.declared.types.Ty.{Ty}
 use Rattle.ash_typing.specs.declared.types.Ty.TheVariants as ty
-use Rattle.ash_typing.specs.Types.{is_same, var_type, result_type}
-use Rattle.ash_typing.specs.Environment.{Environment, Function, Interface, Class, first_from, is_called, inside}
+use Rattle.ash_typing.specs.TypeRules.{is_same, var_type, result_type}
+use Rattle.ash_typing.specs.Environment.{Environment, FunctionSignature, InterfaceSignature, ClassSignature, first_from, is_called, inside}
 use Rattle.ash_typing.specs.ModuleDeclarations.{object_named, ty_in}
 use Rattle.ash_typing.specs.Typing.{IsKnown, IsVariableType, IsKnownFunction, IsKnownInterface, IsKnownClass, is_known}
-use Rattle.ash_typing.specs.Typing.{IsDeclared}
+use Rattle.ash_typing.specs.Typing.{IsDeclaredType}
 use Rattle.ash_tree.specs.Items.{constructing, member_names, fields_of, methods_of, constructors_of}
 use Rattle.ash_typing.specs.Implementations.{are_same, has_types_of, matching, method_for, with_first, methods_for}
 use Rattle.ash_typing.specs.Implementations.{methods_of_class, methods_of_interface, implemented}
-use Rattle.ash_typing.specs.TypedModules.{AreFields, IsFunction, IsListed, HasConstructor, IsClass, AreClasses}
+use Rattle.ash_typing.specs.TypedModules.{AreFields, IsTypedFunction, IsListed, HasConstructor, IsTypedClass, AreTypedClasses}
 use Rattle.ash_typing.specs.Nesting.{ConstructorDeclaresInBlocks, ClassDeclaresInBlocks}
 use Rattle.ash_typing.specs.Soundness.{signature_of, signatures_of_interface, signature_of_class, seen_in}
 use Rattle.ash_typing.proofs.TypingTypes.{equal_integer_types}
@@ -75,7 +75,7 @@ first_passes {A} test i (x ∷ xs) = go (test x) refl (first_passes test (i + 1)
     go false e rest = rest
 
 -- the method has the signature of the one that is declared
-same_signature : (f g : Function) → IsKnownFunction f → IsKnownFunction g → bytes_eq f.name g.name ≡ true
+same_signature : (f g : FunctionSignature) → IsKnownFunction f → IsKnownFunction g → bytes_eq f.name g.name ≡ true
     → has_types_of f g ≡ true → signature_of g ≡ signature_of f
 same_signature f g h k name types =
     let parts = and_parts (is_same f.result g.result) (are_same f.parameters g.parameters) types in
@@ -89,7 +89,7 @@ same_signature f g h k name types =
       parameters = map var_type (sym parameters i);
     }
 
-method_found : (methods : List Function) (f : Function) (place : ℕ) → AllByRecursion IsKnownFunction methods
+method_found : (methods : List FunctionSignature) (f : FunctionSignature) (place : ℕ) → AllByRecursion IsKnownFunction methods
     → IsKnownFunction f → method_for methods f ≡ Some place
     → slice_get (map signature_of methods) place ≡ Some (signature_of f)
 unfolding method_for
@@ -97,7 +97,7 @@ method_found methods f place known is h =
     go (first_from (is_called f.name) 0 methods) (first_place (is_called f.name) methods)
     (first_passes (is_called f.name) 0 methods) (if_first IsKnownFunction (is_called f.name) 0 methods known) h
   where
-    go : (found : Option (ℕ × Function)) → IfSome found (λ m. slice_get methods m.0 ≡ Some m.1)
+    go : (found : Option (ℕ × FunctionSignature)) → IfSome found (λ m. slice_get methods m.0 ≡ Some m.1)
         → IfSome found (λ m. is_called f.name m.1 ≡ true) → IfSome found (λ m. IsKnownFunction m.1)
         → matching f found ≡ Some place → slice_get (map signature_of methods) place ≡ Some (signature_of f)
     go None at called k e = absurd (none-some place e)
@@ -115,7 +115,7 @@ both_found (Some place) (Some rest) places h = (place, rest, refl, refl, same_So
 both_found None os places h = absurd (none-some places h)
 both_found (Some place) None places h = absurd (none-some places h)
 
-methods_found : (methods fs : List Function) (places : List ℕ) → AllByRecursion IsKnownFunction methods
+methods_found : (methods fs : List FunctionSignature) (places : List ℕ) → AllByRecursion IsKnownFunction methods
     → AllByRecursion IsKnownFunction fs → methods_for methods fs ≡ Some places
     → AllZip (IsAt (map signature_of methods)) (map signature_of fs) places
 methods_found methods [] places known is h =
@@ -136,7 +136,7 @@ unmapped {A} {B} f xs k y h = go (slice_get xs k) refl (sym (slice_get-map f xs 
 
 implement : (methods : List modules.Function) (declared : List modules.Signature) (places : List ℕ)
     → AllZip (IsAt (map signatures.signature_of methods)) declared places
-    → AllZip (sound.Implements methods) declared places
+    → AllZip (sound.ImplementsDeclared methods) declared places
 implement methods [] [] h = tt
 implement methods [] (p ∷ ps) h = absurd h
 implement methods (s ∷ ss) [] h = absurd h
@@ -152,7 +152,7 @@ within_map {A} f xs k h =
     (λ i. let past = i.0 in let long = length-map xs f in absurd (omega arith)) (slice_get_cases xs k).1
 
 implementation_by : (env : Environment) (place : ℕ) (i : modules.Implementation) (t : modules.Class)
-    (declaring : Interface) (c : Class) → IsKnown env → slice_get env.declarations.interfaces i.interface ≡ Some declaring
+    (declaring : InterfaceSignature) (c : ClassSignature) → IsKnown env → slice_get env.declarations.interfaces i.interface ≡ Some declaring
     → slice_get env.declarations.classes place ≡ Some c → signature_of_class c ≡ signatures.signature_of_class t
     → implemented env place i.interface ≡ Some i.methods → sound.IsImplementation (seen_in env).signatures t.methods i
 unfolding implemented
@@ -164,19 +164,19 @@ implementation_by env place i t declaring c known at_interface at_class same h =
     at_some IsKnownClass (slice_get env.declarations.classes place) c
     (if_get IsKnownClass env.declarations.classes place known.classes) at_class in
     let found : methods_for c.methods declaring.methods ≡ Some i.methods =
-    subst₂ (λ (one : Option Class) (other : Option Interface).
+    subst₂ (λ (one : Option ClassSignature) (other : Option InterfaceSignature).
     methods_for (option_map_or methods_of_class one []) (option_map_or methods_of_interface other [])
     ≡ Some i.methods) at_class at_interface h in
     let are = methods_found c.methods declaring.methods i.methods of_class.methods of_interface.methods found in
     let methods : map signature_of c.methods ≡ map signatures.signature_of t.methods =
-    ap (λ (s : signatures.ClassSignature). s.methods) same in (
+    ap (λ (s : signatures.ClassTypes). s.methods) same in (
       signatures_of_interface declaring,
       mapped signatures_of_interface env.declarations.interfaces i.interface declaring at_interface,
       implement t.methods (map signature_of declaring.methods) i.methods
           (subst (λ all. AllZip (IsAt all) (map signature_of declaring.methods) i.methods) methods are),
     )
 
-interface_within : (s : signatures.Signatures) (interface : ℕ) → signatures.IsObjectType s (objects.Interface interface)
+interface_within : (s : signatures.ModuleSignatures) (interface : ℕ) → signatures.IsObjectType s (objects.Interface interface)
     → interface < length s.interfaces
 interface_within s interface (signatures.interface h) = h
 
@@ -206,7 +206,7 @@ implementations_sound env place (n ∷ ns) (i ∷ is) t known at h =
 
 constructor_sound : (env : Environment) (class : List ℕ) (cs : List written.Constructor) (t : Option modules.Function)
     → IsKnown env → AllByRecursion ConstructorDeclaresInBlocks cs → HasConstructor env class cs t
-    → IfSome t (sound.IsConstructor (seen_in env) class)
+    → IfSome t (sound.IsSoundConstructor (seen_in env) class)
 constructor_sound env class cs None known nest h = tt
 constructor_sound env class [] (Some t) known nest h = absurd h
 constructor_sound env class (c ∷ []) (Some t) known nest h = record {
@@ -235,23 +235,23 @@ unfolding decl_count
 fields_count env [] ts h = ap length h
 fields_count env (v ∷ vs) ts h =
     ap length h.5 ∙ length-append h.0 h.1
-    ∙ ap₂ (λ a b. a + b) (zip_length (IsDeclared env (ty_in env v.of)) v.decls h.0 h.3) (fields_count env vs h.1 h.4)
+    ∙ ap₂ (λ a b. a + b) (zip_length (IsDeclaredType env (ty_in env v.of)) v.decls h.0 h.3) (fields_count env vs h.1 h.4)
 
 class_sound : (env : Environment) (place : ℕ) (c : written.Class) (t : modules.Class) → IsKnown env
     → IsKnown (inside env place)
     → slice_get (seen_in env).signatures.classes place ≡ Some (signatures.signature_of_class t)
-    → ClassDeclaresInBlocks c → IsClass env place c t → sound.IsClass (seen_in env).signatures place t
+    → ClassDeclaresInBlocks c → IsTypedClass env place c t → sound.IsSoundClass (seen_in env).signatures place t
 class_sound env place c t known inner at nest is =
     let all = members_count c.members in
     let fields = fields_count (inside env place) (fields_of c.members) t.fields is.fields in
-    let methods = zip_length (IsFunction (inside env place)) (methods_of c.members) t.methods is.methods in
+    let methods = zip_length (IsTypedFunction (inside env place)) (methods_of c.members) t.methods is.methods in
     let few = is.few in
     record {
       few = omega arith;
       interfaces = implementations_sound env place c.interfaces t.interfaces t known at is.interfaces;
       fields = fields_sound (inside env place) (fields_of c.members) t.fields inner is.fields;
       constructor =
-          subst (λ name. IfSome t.constructor (sound.IsConstructor (seen_in (inside env place)) name)) (sym is.name)
+          subst (λ name. IfSome t.constructor (sound.IsSoundConstructor (seen_in (inside env place)) name)) (sym is.name)
           (constructor_sound (inside env place) c.name (constructors_of c.members) t.constructor inner nest.constructors
           is.constructor);
       methods = functions_sound (inside env place) (methods_of c.members) t.methods inner nest.methods is.methods;
@@ -261,8 +261,8 @@ class_sound env place c t known inner at nest is =
 pub classes_sound : (env : Environment) (place : ℕ) (cs : List written.Class) (ts : List modules.Class) → IsKnown env
     → ((k : ℕ) (t : modules.Class) → slice_get ts k ≡ Some t
     → slice_get (seen_in env).signatures.classes (place + k) ≡ Some (signatures.signature_of_class t))
-    → AllByRecursion ClassDeclaresInBlocks cs → AreClasses env place cs ts
-    → sound.AreClasses (seen_in env).signatures place ts
+    → AllByRecursion ClassDeclaresInBlocks cs → AreTypedClasses env place cs ts
+    → sound.AreSoundClasses (seen_in env).signatures place ts
 classes_sound env place cs [] known at nest h = tt
 classes_sound env place [] (t ∷ ts) known at nest h = absurd h
 classes_sound env place (c ∷ cs) (t ∷ ts) known at nest h =
@@ -285,7 +285,7 @@ classes_sound env place (c ∷ cs) (t ∷ ts) known at nest h =
     )
 
 pub classes_length : (env : Environment) (place : ℕ) (cs : List written.Class) (ts : List modules.Class)
-    → AreClasses env place cs ts → length ts ≡ length cs
+    → AreTypedClasses env place cs ts → length ts ≡ length cs
 classes_length env place [] [] h = refl
 classes_length env place [] (t ∷ ts) h = absurd h
 classes_length env place (c ∷ cs) [] h = absurd h

@@ -18,12 +18,12 @@ use Rattle.ash_typed.specs.declared.tree.operations.Operands.{Operands}
 use Rattle.ash_typed.specs.declared.tree.operations.Operands.TheVariants as operands
 use Rattle.ash_typed.specs.declared.tree.operations.Change.TheVariants as changes
 use Rattle.ash_typed.specs.declared.tree.operations.IncrementOp.TheVariants as steps
-use Rattle.ash_typed.specs.declared.tree.operations.Target.TheVariants as targets
-use Rattle.ash_typed.specs.declared.tree.operations.Member.{Member}
-use Rattle.ash_typed.specs.Tree.{Expr, Exprs, Truth, Null, This, Read, Invoke, Cast, Alter, Conditional, Assign, Update}
-use Rattle.ash_typed.specs.Tree.{Count, Call, Place, Held, Indexed, place_in, converted}
+use Rattle.ash_typed.specs.declared.tree.operations.CallTarget.TheVariants as targets
+use Rattle.ash_typed.specs.declared.tree.operations.ObjectMember.{ObjectMember}
+use Rattle.ash_typed.specs.TypedTree.{Expr, Exprs, Truth, Null, This, Read, Invoke, Cast, Alter, Conditional, Assign, Update}
+use Rattle.ash_typed.specs.TypedTree.{Count, Call, Place, Held, Indexed, place_in, converted}
 use Rattle.ash_typed.specs.TypeOf.{value_of_result, as_value, value}
-use Rattle.ash_typed.specs.Signatures.{IsElement, IsObjectType}
+use Rattle.ash_typed.specs.Signatures.{IsElementType, IsObjectType}
 use Rattle.ash_typed.specs.SoundOperations as operations
 use Rattle.ash_typed.specs.SoundExpressions as sound
 use Rattle.ash_typing.specs.declared.types.Ty.{Ty}
@@ -33,16 +33,16 @@ use Rattle.ash_typing.specs.declared.forms.Callable.TheVariants as callables
 use Rattle.ash_typing.specs.declared.forms.Form.{Form}
 use Rattle.ash_typing.specs.declared.forms.Form.TheVariants as form
 use Rattle.ash_typing.specs.declared.forms.OperatorClass.TheVariants as operator_class
-use Rattle.ash_typing.specs.Types.{signed, object_of, result_type, operator_class_of, binary_of, common_operands, operator_result}
-use Rattle.ash_typing.specs.Types.{ty_of_element}
-use Rattle.ash_typing.specs.Types.{var_type}
+use Rattle.ash_typing.specs.TypeRules.{signed, object_of, result_type, operator_class_of, binary_of, common_operands, operator_result}
+use Rattle.ash_typing.specs.TypeRules.{ty_of_element}
+use Rattle.ash_typing.specs.TypeRules.{var_type}
 use Rattle.ash_typing.specs.Environment.{Environment, Known, Callee, Invoked, variable_in, callee_in, member_in}
 use Rattle.ash_typing.specs.Environment.{method_in}
 use Rattle.ash_typing.specs.ModuleDeclarations.{object_named, element_named}
 use Rattle.ash_typing.specs.Terms.{conversion, applied, is_stored, call_of, assignable, bracketed, handle_form}
 use Rattle.ash_typing.specs.Terms.{array_parameters, Term, term, read_term, adapted_to, right_by, converted_to}
-use Rattle.ash_typing.specs.Typing.{IsKnown, IsKnownType, IsVariableType, IsResultType, is_known, left_of, right_of}
-use Rattle.ash_typing.specs.Typing.{AreArguments, no_arguments, argument, IsCastType, to_class, to_interface, HasType}
+use Rattle.ash_typing.specs.Typing.{IsKnown, IsKnownType, IsVariableType, IsTypeOfResult, is_known, left_of, right_of}
+use Rattle.ash_typing.specs.Typing.{AreTypedArguments, no_arguments, argument, IsCastType, to_class, to_interface, HasType}
 use Rattle.ash_typing.specs.Typing.{AllHaveType, LinksHaveType, SuffixesHaveType, SuffixHasType, number, truth, null}
 use Rattle.ash_typing.specs.Typing.{this, name, call, brackets, to_integer, to_bool, new_array, cast, postfix, plus}
 use Rattle.ash_typing.specs.Typing.{minus, complement, not, increment, decrement, handle, handle_written}
@@ -138,15 +138,15 @@ abbrev pub IsArgument : Environment → Term → Type 0
 IsArgument env t = GivesType env t.tree t.ty × IsKnownType t.ty
 
 pub arguments_sound : (env : Environment) {parameters : List Ty} {ts : List Term} {trees : Exprs}
-    → AreArguments env.declarations.classes parameters ts trees → AllByRecursion IsVariableType parameters
-    → AllByRecursion (IsArgument env) ts → sound.AreArguments (seen_in env) (map var_type parameters) trees
+    → AreTypedArguments env.declarations.classes parameters ts trees → AllByRecursion IsVariableType parameters
+    → AllByRecursion (IsArgument env) ts → sound.AreSoundArguments (seen_in env) (map var_type parameters) trees
 arguments_sound env no_arguments known h = sound.no_arguments
 arguments_sound env (argument {of = of} {t = t} e rest) known h =
     sound.argument (fits_sound env of t (variable_is_known of known.0) h.0.1 h.0.0 e)
     (arguments_sound env rest known.1 h.1)
 
 called_sound : (env : Environment) (target : Callable) (parameters : List VarType) (returned : Option VarType)
-    (trees : Exprs) → IsCalled env target parameters returned → sound.AreArguments (seen_in env) parameters trees
+    (trees : Exprs) → IsCalled env target parameters returned → sound.AreSoundArguments (seen_in env) parameters trees
     → sound.IsWellTyped (seen_in env) (call_of target parameters trees) (value_of_result returned)
 called_sound env (callables.OwnMethod class place result) parameters returned trees h args =
     sound.invoke (sound.this h.0) h.1 args
@@ -154,15 +154,15 @@ called_sound env (callables.Target target) parameters returned trees h args = so
 
 -- a call of what takes these parameters
 pub call_sound : (env : Environment) (callee : Callee) (parameters : List Ty) (trees : Exprs)
-    → IsResultType callee.result → IsCalledWith env callee parameters
-    → sound.AreArguments (seen_in env) (map var_type parameters) trees
+    → IsTypeOfResult callee.result → IsCalledWith env callee parameters
+    → sound.AreSoundArguments (seen_in env) (map var_type parameters) trees
     → GivesType env (call_of callee.target (map var_type parameters) trees) callee.result
 call_sound env callee parameters trees r takes args =
     subst (sound.IsWellTyped (seen_in env) (call_of callee.target (map var_type parameters) trees))
     (result_value callee.result r)
     (called_sound env callee.target (map var_type parameters) (result_type callee.result) trees takes.0 args)
 
-array_if : (env : Environment) (of : Element) (b : Bool) → IsElement (seen_in env).signatures of
+array_if : (env : Environment) (of : Element) (b : Bool) → IsElementType (seen_in env).signatures of
     → operations.IsTarget (seen_in env).signatures (targets.Array of)
     (map var_type (cond b [] (ty.Integer ints.Uint ∷ []))) (Some (vars.Handle (objects.Array of)))
     × AllByRecursion IsVariableType (cond b [] (ty.Integer ints.Uint ∷ []))
@@ -170,13 +170,13 @@ array_if env of true h = (operations.empty_array h, tt)
 array_if env of false h = (operations.sized_array h, (refl, tt))
 
 -- what the construction of an array takes
-pub array_takes : (env : Environment) (of : Element) (count : ℕ) → IsElement (seen_in env).signatures of
+pub array_takes : (env : Environment) (of : Element) (count : ℕ) → IsElementType (seen_in env).signatures of
     → operations.IsTarget (seen_in env).signatures (targets.Array of) (map var_type (array_parameters count))
     (Some (vars.Handle (objects.Array of))) × AllByRecursion IsVariableType (array_parameters count)
 array_takes env of count h = array_if env of (nat_eq count 0) h
 
 cast_is : (env : Environment) (o : ObjectType) → IsCastType o → IsObjectType (seen_in env).signatures o
-    → operations.IsCastType (seen_in env).signatures o
+    → operations.IsSoundCast (seen_in env).signatures o
 cast_is env o to_class h = operations.to_class h
 cast_is env o to_interface h = operations.to_interface h
 
@@ -242,7 +242,7 @@ callee_takes env text callee parameters known c q =
     at_some (IsCalledWith env callee) callee.parameters parameters
     (at_some (IsSoundCallee env) (callee_in env text) callee (callee_sound env text known) c) q
 
-member_place : (env : Environment) (t : Term) (o : ObjectType) (text : List ℕ) (found : Member × Ty) → IsKnown env
+member_place : (env : Environment) (t : Term) (o : ObjectType) (text : List ℕ) (found : ObjectMember × Ty) → IsKnown env
     → sound.IsWellTyped (seen_in env) t.tree (value (vars.Handle o)) → member_in env o text ≡ Some found
     → IsSound env (read_term found.1 (Read (Held t.tree found.0)))
 member_place env t o text found known h i =
@@ -251,18 +251,18 @@ member_place env t o text found known h i =
       _,
       refl,
       sound.member h
-          (at_some (λ found. operations.IsMember (seen_in env).signatures o found.0 (var_type found.1))
+          (at_some (λ found. operations.IsSoundMember (seen_in env).signatures o found.0 (var_type found.1))
           (member_in env o text) found (member_sound env o text) i),
     )
 
 invoked_sound : (env : Environment) (t : Term) (o : ObjectType) (text : List ℕ) (m : Invoked) (trees : Exprs)
     → IsKnown env → sound.IsWellTyped (seen_in env) t.tree (value (vars.Handle o)) → method_in env o text ≡ Some m
-    → sound.AreArguments (seen_in env) (map var_type m.parameters) trees
+    → sound.AreSoundArguments (seen_in env) (map var_type m.parameters) trees
     → GivesType env (Invoke t.tree m.method (map var_type m.parameters) trees) m.result
 invoked_sound env t o text m trees known h i args =
     subst (sound.IsWellTyped (seen_in env) (Invoke t.tree m.method (map var_type m.parameters) trees))
     (result_value m.result
-    (at_some (λ m. IsResultType m.result) (method_in env o text) m (method_known env o text known) i))
+    (at_some (λ m. IsTypeOfResult m.result) (method_in env o text) m (method_known env o text known) i))
     (sound.invoke h (at_some (IsSoundMethod env o) (method_in env o text) m (method_sound env o text known) i).0 args)
 
 element_place : (env : Environment) (t u : Term) (of : Element) (k : IntType) → object_of t.ty ≡ Some (objects.Array of)
@@ -293,7 +293,7 @@ mutual
       let takes = callee_takes env text callee parameters known c q in
       plain env callee.result (call_of callee.target (map var_type parameters) trees)
       (call_sound env callee parameters trees
-      (at_some (λ callee. IsResultType callee.result) (callee_in env text) callee (callee_known env text known) c)
+      (at_some (λ callee. IsTypeOfResult callee.result) (callee_in env text) callee (callee_known env text known) c)
       takes (arguments_sound env args takes.1 (terms_sound all known)))
   term_sound {env} (brackets {t = t} h) known = let s = term_sound h known in
       record { gives = s.gives; place = bracketed_place env t.form t.tree t.ty s.place }
@@ -303,7 +303,7 @@ mutual
       plain env ty.Bool t.tree (of_type env t.tree t.ty ty.Bool l (term_sound h known).gives)
   term_sound {env} (new_array {of = of} {elements = elements} {ts = ts} {trees = trees} e all args) known =
       let takes = array_takes env elements (length ts)
-      (at_some (IsElement (seen_in env).signatures) (element_named env.registered env.declarations of) elements
+      (at_some (IsElementType (seen_in env).signatures) (element_named env.registered env.declarations of) elements
       (element_sound env.registered env.declarations of) e) in
       plain env (ty.Handle (objects.Array elements))
       (Call (targets.Array elements) (map var_type (array_parameters (length ts))) trees)

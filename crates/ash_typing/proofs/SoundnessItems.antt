@@ -4,26 +4,26 @@ use Rattle.std.proofs.Common.{◌≡◌, ◌≤◌, ◌+◌, ◌⊎◌, inl, inr
 use Rattle.std.proofs.Common.{Some, None, refl, sym, ap, subst, subst₂, ◌∙◌, arith}
 use Rattle.ash_tree.specs.Tree as written
 use Rattle.ash_typed.specs.declared.types.VarType.{VarType}
-use Rattle.ash_typed.specs.Limits.{max_class_members}
+use Rattle.ash_typed.specs.ModuleLimits.{max_class_members}
 use Rattle.ash_typed.specs.StatementTree.{Initialization}
 use Rattle.ash_typed.specs.Modules as modules
-use Rattle.ash_typed.specs.Returning.{AnyReturns}
+use Rattle.ash_typed.specs.TypedReturning.{AnyReturns}
 use Rattle.ash_typed.specs.Signatures as signatures
 use Rattle.ash_typed.specs.SoundStatements as sound_statements
 use Rattle.ash_typed.specs.SoundModules as sound
 use Rattle.ash_typed.specs.SoundModules.{AreInOrder}
 use Rattle.ash_typing.specs.declared.types.Ty.{Ty}
 use Rattle.ash_typing.specs.declared.types.Ty.TheVariants as ty
-use Rattle.ash_typing.specs.Types.{var_type, result_type}
+use Rattle.ash_typing.specs.TypeRules.{var_type, result_type}
 use Rattle.ash_typing.specs.Environment.{Environment, with_locals}
 use Rattle.ash_typing.specs.ModuleDeclarations.{ty_in, result_in}
 use Rattle.ash_typing.specs.Scopes.{body_scope}
-use Rattle.ash_typing.specs.Typing.{IsKnown, IsKnownType, IsVariableType, IsKnownVariable, IsDeclared}
+use Rattle.ash_typing.specs.Typing.{IsKnown, IsKnownType, IsVariableType, IsKnownVariable, IsDeclaredType}
 use Rattle.ash_typing.specs.TypedStatements.{IsKnownScope}
 use Rattle.ash_typing.specs.Returning.{returns_in}
-use Rattle.ash_typing.specs.TypedModules.{IsPassed, IsPassedParameter, type_of_parameter, parameter_of, IsResult}
-use Rattle.ash_typing.specs.TypedModules.{AreVariables, AreFields, IsRoutine, IsFunction, IsSignature, IsInterface}
-use Rattle.ash_typing.specs.TypedModules.{AreInterfaces}
+use Rattle.ash_typing.specs.TypedModules.{IsPassed, IsPassedParameter, type_of_parameter, parameter_of, IsTypedResult}
+use Rattle.ash_typing.specs.TypedModules.{AreTypedVariables, AreFields, IsRoutine, IsTypedFunction, IsTypedSignature, IsTypedInterface}
+use Rattle.ash_typing.specs.TypedModules.{AreTypedInterfaces}
 use Rattle.ash_typing.specs.Nesting.{BodyDeclaresInBlocks, FunctionDeclaresInBlocks}
 use Rattle.ash_typing.specs.Soundness.{seen_in}
 use Rattle.ash_typing.proofs.TakenNames.{all_append}
@@ -31,12 +31,12 @@ use Rattle.ash_typing.proofs.TypingKnown.{variable_is_known}
 use Rattle.ash_typing.proofs.TypedRoutines.{passed_known, passed_variable, types_of}
 use Rattle.ash_typing.proofs.SoundnessVariables.{type_sound, declared_sound}
 use Rattle.ash_typing.proofs.SoundnessStatements.{stmts_sound}
-use Rattle.ash_typing.proofs.SoundnessReturning.{any_return_kept}
+use Rattle.ash_typing.proofs.SoundnessReturning.{any_tree_returns}
 use Rattle.ash_tree.specs.Items.{Routine, routine_of, classes_of, interfaces_of, classes_before}
 
 -- parameters and results
 
-passed_type : (s : signatures.Signatures) (of : Ty) → IsPassed of → signatures.IsVariableType s (var_type of)
+passed_type : (s : signatures.ModuleSignatures) (of : Ty) → IsPassed of → signatures.IsTypeInModule s (var_type of)
     → signatures.IsPassedType s (var_type of)
 passed_type s ty.Bool h v = signatures.passed_truth
 passed_type s (ty.Integer k) h v = signatures.passed_integer
@@ -62,17 +62,17 @@ parameters_known : (env : Environment) (ps : List written.Parameter) → AllByRe
 parameters_known env [] h = tt
 parameters_known env (p ∷ ps) h = (passed_variable (ty_in env p.of) h.0, parameters_known env ps h.1)
 
-some_result : (s : signatures.Signatures) (of : Ty) → IsPassed of → signatures.IsPassedType s (var_type of)
-    → signatures.IsResultType s (result_type of)
+some_result : (s : signatures.ModuleSignatures) (of : Ty) → IsPassed of → signatures.IsPassedType s (var_type of)
+    → signatures.IsResultInModule s (result_type of)
 some_result s ty.Void h v = tt
 some_result s _ h v = v
 
-result_passed : (env : Environment) (of : Option written.Named) → IsResult env of
-    → signatures.IsResultType (seen_in env).signatures (result_type (result_in env of))
+result_passed : (env : Environment) (of : Option written.Named) → IsTypedResult env of
+    → signatures.IsResultInModule (seen_in env).signatures (result_type (result_in env of))
 result_passed env None h = tt
 result_passed env (Some of) h = some_result (seen_in env).signatures (ty_in env of) h (named_passed env of h)
 
-result_known : (env : Environment) (of : Option written.Named) → IsResult env of → IsKnownType (result_in env of)
+result_known : (env : Environment) (of : Option written.Named) → IsTypedResult env of → IsKnownType (result_in env of)
 result_known env None h = refl
 result_known env (Some of) h = passed_known (ty_in env of) h
 
@@ -85,11 +85,11 @@ body_returns env of r t is = go is.returns
   where
     go : (of ≡ ty.Void) ⊎ (returns_in r.body ≡ true) → (t.result ≡ None) ⊎ AnyReturns t.body
     go (inl e) = inl (is.result ∙ ap result_type e)
-    go (inr e) = inr (any_return_kept is.body e)
+    go (inr e) = inr (any_tree_returns is.body e)
 
 pub routine_sound : (env : Environment) (of : Ty) (r : Routine) (t : modules.Function) → IsKnown env → IsKnownType of
-    → signatures.IsResultType (seen_in env).signatures (result_type of) → BodyDeclaresInBlocks r.body
-    → IsRoutine env of r t → sound.IsFunction (seen_in env) t
+    → signatures.IsResultInModule (seen_in env).signatures (result_type of) → BodyDeclaresInBlocks r.body
+    → IsRoutine env of r t → sound.IsSoundFunction (seen_in env) t
 routine_sound env of r t known known_of result nest is =
     let locals = parameters_known env r.parameters is.passed in
     let scope : IsKnownScope (body_scope (with_locals env (map (parameter_of env) r.parameters)) of) = record {
@@ -106,10 +106,10 @@ routine_sound env of r t known known_of result nest is =
       parameters =
           subst (AllByRecursion (signatures.IsPassedType (seen_in env).signatures)) (sym is.parameters)
           (parameters_passed env r.parameters is.passed);
-      result = subst (signatures.IsResultType (seen_in env).signatures) (sym is.result) result;
+      result = subst (signatures.IsResultInModule (seen_in env).signatures) (sym is.result) result;
       body = subst₂
           (λ (locals : List VarType) (returned : Option VarType).
-          sound_statements.AreStmts
+          sound_statements.AreSoundStmts
           (record {
             env = record { signatures = (seen_in env).signatures; this = env.this; locals = locals };
             result = returned;
@@ -120,14 +120,14 @@ routine_sound env of r t known known_of result nest is =
     }
 
 function_sound : (env : Environment) (f : written.Function) (t : modules.Function) → IsKnown env
-    → FunctionDeclaresInBlocks f → IsFunction env f t → sound.IsFunction (seen_in env) t
+    → FunctionDeclaresInBlocks f → IsTypedFunction env f t → sound.IsSoundFunction (seen_in env) t
 function_sound env f t known nest is =
     routine_sound env (result_in env f.result) (routine_of f) t known (result_known env f.result is.passed)
     (result_passed env f.result is.passed) nest is.routine
 
 pub functions_sound : (env : Environment) (fs : List written.Function) (ts : List modules.Function) → IsKnown env
-    → AllByRecursion FunctionDeclaresInBlocks fs → AllZip (IsFunction env) fs ts
-    → AllByRecursion (sound.IsFunction (seen_in env)) ts
+    → AllByRecursion FunctionDeclaresInBlocks fs → AllZip (IsTypedFunction env) fs ts
+    → AllByRecursion (sound.IsSoundFunction (seen_in env)) ts
 functions_sound env fs [] known nest h = tt
 functions_sound env [] (t ∷ ts) known nest h = absurd h
 functions_sound env (f ∷ fs) (t ∷ ts) known nest h =
@@ -142,33 +142,33 @@ zip_length R [] (y ∷ ys) h = absurd h
 zip_length R (x ∷ xs) [] h = absurd h
 zip_length R (x ∷ xs) (y ∷ ys) h = ap suc (zip_length R xs ys h.1)
 
-signature_sound : (env : Environment) (m : written.InterfaceMethod) (t : modules.Signature) → IsSignature env m t
-    → sound.IsSignature (seen_in env).signatures t
+signature_sound : (env : Environment) (m : written.InterfaceMethod) (t : modules.Signature) → IsTypedSignature env m t
+    → sound.IsSoundSignature (seen_in env).signatures t
 signature_sound env m t is = record {
   parameters =
       subst (AllByRecursion (signatures.IsPassedType (seen_in env).signatures)) (sym is.parameters)
       (parameters_passed env m.parameters is.passed);
-  result = subst (signatures.IsResultType (seen_in env).signatures) (sym is.result)
+  result = subst (signatures.IsResultInModule (seen_in env).signatures) (sym is.result)
       (result_passed env m.result is.passed_result);
 }
 
 signatures_sound : (env : Environment) (ms : List written.InterfaceMethod) (ts : List modules.Signature)
-    → AllZip (IsSignature env) ms ts → AllByRecursion (sound.IsSignature (seen_in env).signatures) ts
+    → AllZip (IsTypedSignature env) ms ts → AllByRecursion (sound.IsSoundSignature (seen_in env).signatures) ts
 signatures_sound env ms [] h = tt
 signatures_sound env [] (t ∷ ts) h = absurd h
 signatures_sound env (m ∷ ms) (t ∷ ts) h = (signature_sound env m t h.0, signatures_sound env ms ts h.1)
 
 interface_sound : (env : Environment) (i : written.Interface) (n total : ℕ) (t : modules.Interface) → n ≤ total
-    → IsInterface env i n t → sound.IsInterface (seen_in env).signatures total t
+    → IsTypedInterface env i n t → sound.IsSoundInterface (seen_in env).signatures total t
 interface_sound env i n total t few is = record {
   before = subst (λ k. k ≤ total) (sym is.before) few;
-  few = subst (λ k. k ≤ max_class_members) (sym (zip_length (IsSignature env) i.methods t.methods is.methods)) is.few;
+  few = subst (λ k. k ≤ max_class_members) (sym (zip_length (IsTypedSignature env) i.methods t.methods is.methods)) is.few;
   methods = signatures_sound env i.methods t.methods is.methods;
 }
 
 pub interfaces_sound : (env : Environment) (is : List written.Interface) (ns : List ℕ) (total : ℕ)
-    (ts : List modules.Interface) → AllByRecursion (λ n. n ≤ total) ns → AreInterfaces env is ns ts
-    → AllByRecursion (sound.IsInterface (seen_in env).signatures total) ts
+    (ts : List modules.Interface) → AllByRecursion (λ n. n ≤ total) ns → AreTypedInterfaces env is ns ts
+    → AllByRecursion (sound.IsSoundInterface (seen_in env).signatures total) ts
 interfaces_sound env is ns total [] few h = tt
 interfaces_sound env [] [] total (t ∷ ts) few h = absurd h
 interfaces_sound env [] (n ∷ ns) total (t ∷ ts) few h = absurd h
@@ -177,7 +177,7 @@ interfaces_sound env (i ∷ is) (n ∷ ns) total (t ∷ ts) few h =
     (interface_sound env i n total t few.0 h.0, interfaces_sound env is ns total ts few.1 h.1)
 
 pub interfaces_length : (env : Environment) (is : List written.Interface) (ns : List ℕ) (ts : List modules.Interface)
-    → AreInterfaces env is ns ts → length ts ≡ length is
+    → AreTypedInterfaces env is ns ts → length ts ≡ length is
 interfaces_length env [] [] [] h = refl
 interfaces_length env [] [] (t ∷ ts) h = absurd h
 interfaces_length env [] (n ∷ ns) ts h = absurd h
@@ -198,7 +198,7 @@ before_within count (written.AGlobal v ∷ is) = before_within count is
 
 -- interfaces are in the order of the source
 pub interfaces_in_order : (env : Environment) (least count : ℕ) (is : List written.Item) (ts : List modules.Interface)
-    → least ≤ count → AreInterfaces env (interfaces_of is) (classes_before count is) ts → AreInOrder least ts
+    → least ≤ count → AreTypedInterfaces env (interfaces_of is) (classes_before count is) ts → AreInOrder least ts
 interfaces_in_order env least count [] [] few h = tt
 interfaces_in_order env least count [] (t ∷ ts) few h = absurd h
 interfaces_in_order env least count (written.AnInterface i ∷ is) [] few h = absurd h
@@ -214,15 +214,15 @@ interfaces_in_order env least count (written.AGlobal v ∷ is) ts few h = interf
 -- variables
 
 initialized : (env : Environment) (of : Ty) (ds : List written.Decl) (vs : List Initialization) → IsKnown env
-    → IsKnownType of → signatures.IsVariableType (seen_in env).signatures (var_type of)
-    → AllZip (IsDeclared env of) ds vs → AllByRecursion (sound_statements.IsInitialized (seen_in env)) vs
+    → IsKnownType of → signatures.IsTypeInModule (seen_in env).signatures (var_type of)
+    → AllZip (IsDeclaredType env of) ds vs → AllByRecursion (sound_statements.IsInitialized (seen_in env)) vs
 initialized env of ds [] known k type h = tt
 initialized env of [] (v ∷ vs) known k type h = absurd h
 initialized env of (d ∷ ds) (v ∷ vs) known k type h =
     (declared_sound h.0 known k type, initialized env of ds vs known k type h.1)
 
 vars_sound : (env : Environment) (v : written.Vars) (vs : List Initialization) → IsKnown env
-    → IsVariableType (ty_in env v.of) → AllZip (IsDeclared env (ty_in env v.of)) v.decls vs
+    → IsVariableType (ty_in env v.of) → AllZip (IsDeclaredType env (ty_in env v.of)) v.decls vs
     → AllByRecursion (sound_statements.IsInitialized (seen_in env)) vs
 vars_sound env v vs known is h =
     initialized env (ty_in env v.of) v.decls vs known (variable_is_known (ty_in env v.of) is)
@@ -237,7 +237,7 @@ fields_sound env (v ∷ vs) ts known h =
     (fields_sound env vs h.1 known h.4))
 
 pub globals_sound : (env : Environment) (vs : List written.Vars) (ts : List modules.Variables) → IsKnown env
-    → AllZip (AreVariables env) vs ts → AllByRecursion (sound.AreVariables (seen_in env)) ts
+    → AllZip (AreTypedVariables env) vs ts → AllByRecursion (sound.AreSoundVariables (seen_in env)) ts
 globals_sound env vs [] known h = tt
 globals_sound env [] (t ∷ ts) known h = absurd h
 globals_sound env (v ∷ vs) (t ∷ ts) known h =

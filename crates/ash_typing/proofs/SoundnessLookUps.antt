@@ -16,18 +16,18 @@ use Rattle.ash_typed.specs.declared.types.ObjectType.TheVariants.{Host as OfHost
 use Rattle.ash_typed.specs.declared.types.Element.{Element}
 use Rattle.ash_typed.specs.declared.types.Element.TheVariants as elements
 use Rattle.ash_typed.specs.declared.tree.operations.Variable.TheVariants as variables
-use Rattle.ash_typed.specs.declared.tree.operations.Member.{Member}
-use Rattle.ash_typed.specs.declared.tree.operations.Member.TheVariants.{Field, Property}
+use Rattle.ash_typed.specs.declared.tree.operations.ObjectMember.{ObjectMember}
+use Rattle.ash_typed.specs.declared.tree.operations.ObjectMember.TheVariants.{Field, Property}
 use Rattle.ash_typed.specs.declared.tree.operations.ArrayMethod.{ArrayMethod}
 use Rattle.ash_typed.specs.declared.tree.operations.ArrayMethod.TheVariants as arrays
-use Rattle.ash_typed.specs.Tree.{Expr, This, Read, Place, Stored, Held}
+use Rattle.ash_typed.specs.TypedTree.{Expr, This, Read, Place, Stored, Held}
 use Rattle.ash_typed.specs.TypeOf.{type_of_element}
-use Rattle.ash_typed.specs.Signatures.{Signatures, type_of_primitive}
+use Rattle.ash_typed.specs.Signatures.{ModuleSignatures, type_of_primitive}
 use Rattle.ash_typed.specs.SoundOperations as operations
 use Rattle.ash_typed.specs.SoundExpressions as sound
 use Rattle.ash_typing.specs.declared.types.Ty.{Ty}
-use Rattle.ash_typing.specs.Types.{var_type, result_type, ty_of, ty_of_element}
-use Rattle.ash_typing.specs.Environment.{Environment, Declared, Class, Known, Invoked, first_from, last_named, declares}
+use Rattle.ash_typing.specs.TypeRules.{var_type, result_type, ty_of, ty_of_element}
+use Rattle.ash_typing.specs.Environment.{Environment, Declared, ClassSignature, Known, Invoked, first_from, last_named, declares}
 use Rattle.ash_typing.specs.Environment.{this_class, result_of, property, field_in, local_in, own_field_in, global_in}
 use Rattle.ash_typing.specs.Environment.{variable_in, member_in, array_method_of, host_member_in, name_of_kind}
 use Rattle.ash_typing.specs.Environment.{type_declared}
@@ -160,24 +160,24 @@ same_number n = eq-eqb n n refl
 abbrev pub IsPlaceOf : Environment → Expr → Ty → Type 0
 IsPlaceOf env tree of = (place : Place) × (tree ≡ Read place) × sound.HasPlace (seen_in env) place (var_type of)
 
-abbrev with_class : List Class → ℕ → Option (ℕ × Class)
-with_class classes i = option_map (λ (c : Class). (i, c)) (slice_get classes i)
+abbrev with_class : List ClassSignature → ℕ → Option (ℕ × ClassSignature)
+with_class classes i = option_map (λ (c : ClassSignature). (i, c)) (slice_get classes i)
 
-pub this_is : (classes : List Class) (o : Option ℕ)
+pub this_is : (classes : List ClassSignature) (o : Option ℕ)
     → IfSome (option_and_then (with_class classes) o) (λ c. (o ≡ Some c.0) × (slice_get classes c.0 ≡ Some c.1))
 this_is classes None = tt
 this_is classes (Some i) = go (slice_get classes i) refl
   where
-    go : (found : Option Class) → slice_get classes i ≡ found
-        → IfSome (option_map (λ (c : Class). (i, c)) found) (λ (c : ℕ × Class). (Some i ≡ Some c.0)
+    go : (found : Option ClassSignature) → slice_get classes i ≡ found
+        → IfSome (option_map (λ (c : ClassSignature). (i, c)) found) (λ (c : ℕ × ClassSignature). (Some i ≡ Some c.0)
         × (slice_get classes c.0 ≡ Some c.1))
     go None e = tt
     go (Some c) e = (refl, e)
 
-abbrev IsSoundMember : Environment → ObjectType → Member × Ty → Type 0
-IsSoundMember env o found = operations.IsMember (seen_in env).signatures o found.0 (var_type found.1)
+abbrev IsSoundMember : Environment → ObjectType → ObjectMember × Ty → Type 0
+IsSoundMember env o found = operations.IsSoundMember (seen_in env).signatures o found.0 (var_type found.1)
 
-field_sound : (env : Environment) (class : ℕ) (c : Class) (text : List ℕ)
+field_sound : (env : Environment) (class : ℕ) (c : ClassSignature) (text : List ℕ)
     → slice_get env.declarations.classes class ≡ Some c
     → IfSome (field_in class c text) (IsSoundMember env (OfClass class))
 field_sound env class c text h =
@@ -202,12 +202,12 @@ variable_sound env text =
     (λ (found : ℕ × Ty). (Read (Stored (variables.Local found.0 (var_type found.1))), found.1))
     (last_named text 0 None env.locals)
     (if_weaker (last_named text 0 None env.locals) (λ found h. (_, refl, sound.local h)) locals) in
-    let own = if_then (λ (c : ℕ × Class). (env.this ≡ Some c.0) × (slice_get env.declarations.classes c.0 ≡ Some c.1)) Q
-    (λ (c : ℕ × Class).
-    option_map (λ (found : Member × Ty). (Read (Held (This c.0) found.0), found.1)) (field_in c.0 c.1 text))
+    let own = if_then (λ (c : ℕ × ClassSignature). (env.this ≡ Some c.0) × (slice_get env.declarations.classes c.0 ≡ Some c.1)) Q
+    (λ (c : ℕ × ClassSignature).
+    option_map (λ (found : ObjectMember × Ty). (Read (Held (This c.0) found.0), found.1)) (field_in c.0 c.1 text))
     (this_class env)
     (λ c h. if_map Q
-    (λ (found : Member × Ty). (Read (Held (This c.0) found.0), found.1)) (field_in c.0 c.1 text)
+    (λ (found : ObjectMember × Ty). (Read (Held (This c.0) found.0), found.1)) (field_in c.0 c.1 text)
     (if_weaker (field_in c.0 c.1 text)
     (λ found k. (_, refl, sound.member (sound.this h.0) k)) (field_sound env c.0 c.1 text h.1)))
     (this_is env.declarations.classes env.this) in
@@ -230,17 +230,17 @@ property_found env kind text (host.PropertyRegistration other id of name) e amon
     let of_type = both (bytes_eq (name_of_kind env.registered kind) other) (bytes_eq text name) e in
     let at : property_at (name_of_kind env.registered kind) id (host.PropertyRegistration other id of name) ≡ Some of =
     rw (of_type.0, same_number id) refl in
-    subst (λ type. operations.IsMember (seen_in env).signatures (OfHost kind) (Property id type) type)
+    subst (λ type. operations.IsSoundMember (seen_in env).signatures (OfHost kind) (Property id type) type)
     (sym (primitive_type of)) (operations.property (among id of at))
 property_found env kind text _ e among = tt
 
 pub member_sound : (env : Environment) (o : ObjectType) (text : List ℕ)
-    → IfSome (member_in env o text) (λ found. operations.IsMember (seen_in env).signatures o found.0 (var_type found.1))
+    → IfSome (member_in env o text) (λ found. operations.IsSoundMember (seen_in env).signatures o found.0 (var_type found.1))
 unfolding member_in host_member_in
 member_sound env (OfClass i) text = go (slice_get env.declarations.classes i) refl
   where
-    go : (c : Option Class) → slice_get env.declarations.classes i ≡ c
-        → IfSome (option_and_then (λ (c : Class). field_in i c text) c) (IsSoundMember env (OfClass i))
+    go : (c : Option ClassSignature) → slice_get env.declarations.classes i ≡ c
+        → IfSome (option_and_then (λ (c : ClassSignature). field_in i c text) c) (IsSoundMember env (OfClass i))
     go None e = tt
     go (Some c) e = field_sound env i c text e
 member_sound env (OfInterface i) text = tt
@@ -277,7 +277,7 @@ array_known of arrays.InsertLast = (element_known of, tt)
 array_known of arrays.RemoveLast = tt
 array_known of arrays.IsEmpty = tt
 
-array_method_is : (s : Signatures) (of : Element) (m : ArrayMethod)
+array_method_is : (s : ModuleSignatures) (of : Element) (m : ArrayMethod)
     → operations.IsMethod s (OfArray of) (array_method_of of m).method (operations.parameters_of_array_method of m)
     (result_type (array_method_of of m).result)
 array_method_is s of arrays.Length = operations.of_array

@@ -4,15 +4,15 @@ use Rattle.std.proofs.Common.{◌≡◌, ◌≤◌, ◌+◌, ℕ, suc, length, l
 use Rattle.std.proofs.Common.{sym, ap, ap₂, subst, ◌∙◌, arith}
 use Rattle.ash_registrations.specs.Registrations as host
 use Rattle.ash_tree.specs.Tree as written
-use Rattle.ash_typed.specs.Limits.{max_globals}
+use Rattle.ash_typed.specs.ModuleLimits.{max_globals}
 use Rattle.ash_typed.specs.Modules as modules
 use Rattle.ash_typed.specs.Signatures as signatures
 use Rattle.ash_typed.specs.SoundModules as sound
 use Rattle.ash_typing.specs.Environment.{Environment}
 use Rattle.ash_tree.specs.Items.{classes_of, interfaces_of, classes_before, functions_of, globals_of, variable_names}
 use Rattle.ash_typing.specs.ModuleDeclarations.{declarations, ty_in}
-use Rattle.ash_typing.specs.Typing.{IsDeclared}
-use Rattle.ash_typing.specs.TypedModules.{AreVariables, environment, IsTyped}
+use Rattle.ash_typing.specs.Typing.{IsDeclaredType}
+use Rattle.ash_typing.specs.TypedModules.{AreTypedVariables, environment, IsTyped}
 use Rattle.ash_typing.specs.Nesting.{ItemsDeclareInBlocks}
 use Rattle.ash_typing.specs.Offered.{offered}
 use Rattle.ash_typing.specs.Soundness.{signatures_in}
@@ -31,7 +31,7 @@ length-mapped f [] = refl
 length-mapped f (x ∷ xs) = ap suc (length-mapped f xs)
 
 globals_length : (env : Environment) (vs : List written.Vars) (ts : List modules.Variables)
-    → AllZip (AreVariables env) vs ts → length (signatures.types_of_globals ts) ≡ length (variable_names vs)
+    → AllZip (AreTypedVariables env) vs ts → length (signatures.types_of_globals ts) ≡ length (variable_names vs)
 globals_length env [] [] h = refl
 globals_length env [] (t ∷ ts) h = absurd h
 globals_length env (v ∷ vs) [] h = absurd h
@@ -39,7 +39,7 @@ globals_length env (v ∷ vs) (t ∷ ts) h =
     length-append (map signatures.type_declared t.values) (signatures.types_of_globals ts)
     ∙ ap₂ (λ a b. a + b)
     (length-mapped signatures.type_declared t.values
-    ∙ zip_length (IsDeclared env (ty_in env v.of)) v.decls t.values h.0.values) (globals_length env vs ts h.1)
+    ∙ zip_length (IsDeclaredType env (ty_in env v.of)) v.decls t.values h.0.values) (globals_length env vs ts h.1)
     ∙ sym (count_names v (variable_names vs))
 
 pub module_sound : (registrations : List host.Registration) (is : List written.Item) (m : modules.Module)
@@ -62,18 +62,18 @@ module_sound registrations is m nest typed =
       functions_differ = functions_differ env is m.functions typed.differ typed.functions;
       globals_differ = globals_differ env is m.globals typed.differ typed.globals;
       interfaces =
-          subst (λ s. AllByRecursion (sound.IsInterface s (length m.classes)) m.interfaces) same
+          subst (λ s. AllByRecursion (sound.IsSoundInterface s (length m.classes)) m.interfaces) same
           (interfaces_sound env (interfaces_of is) (classes_before 0 is) (length m.classes) m.interfaces
           (subst (λ k. AllByRecursion (λ n. n ≤ k) (classes_before 0 is)) most within) typed.interfaces);
       interfaces_in_order = interfaces_in_order env 0 0 is m.interfaces (omega arith) typed.interfaces;
       classes = subst
-          (λ s. sound.AreClasses s 0 m.classes) same
+          (λ s. sound.AreSoundClasses s 0 m.classes) same
           (classes_sound env 0 (classes_of is) m.classes known (at m same) nest.classes typed.classes);
       functions = subst
-          (λ s. AllByRecursion (sound.IsFunction (sound.outside s)) m.functions) same
+          (λ s. AllByRecursion (sound.IsSoundFunction (sound.outside s)) m.functions) same
           (functions_sound env (functions_of is) m.functions known nest.functions typed.functions);
       globals = subst
-          (λ s. AllByRecursion (sound.AreVariables (sound.outside s)) m.globals) same
+          (λ s. AllByRecursion (sound.AreSoundVariables (sound.outside s)) m.globals) same
           (globals_sound env (globals_of is) m.globals known typed.globals);
     }
   where
@@ -84,5 +84,5 @@ module_sound registrations is m nest typed =
         let here : k ≡ 0 + k = omega arith in
         subst (λ n. slice_get (signatures_in registrations (declarations registrations is)).classes n ≡ Some (signatures.signature_of_class t))
         here
-        (subst (λ (s : signatures.Signatures). slice_get s.classes k ≡ Some (signatures.signature_of_class t))
+        (subst (λ (s : signatures.ModuleSignatures). slice_get s.classes k ≡ Some (signatures.signature_of_class t))
         (sym same) (mapped signatures.signature_of_class m.classes k t h))

@@ -14,8 +14,8 @@ use Rattle.ash_typed.specs.declared.types.ObjectType.TheVariants.{Host as OfHost
 use Rattle.ash_typed.specs.declared.types.VarType.{VarType}
 use Rattle.ash_typed.specs.declared.tree.operations.ArrayMethod.TheVariants as arrays
 use Rattle.ash_typed.specs.declared.tree.operations.Method.TheVariants as methods
-use Rattle.ash_typed.specs.declared.tree.operations.Target.TheVariants as targets
-use Rattle.ash_typed.specs.Signatures.{HostSignature, Signatures, IsElement, truths, integers}
+use Rattle.ash_typed.specs.declared.tree.operations.CallTarget.TheVariants as targets
+use Rattle.ash_typed.specs.Signatures.{HostSignature, ModuleSignatures, IsElementType, truths, integers}
 use Rattle.ash_typed.specs.Signatures.{of_class as element_class, of_interface as element_interface}
 use Rattle.ash_typed.specs.Signatures.{of_host as element_host, IsObjectType, class as object_class}
 use Rattle.ash_typed.specs.Signatures.{interface as object_interface, host as object_host}
@@ -24,8 +24,8 @@ use Rattle.ash_typing.specs.declared.types.Ty.{Ty}
 use Rattle.ash_typing.specs.declared.types.Ty.TheVariants as ty
 use Rattle.ash_typing.specs.declared.forms.Callable.{Callable}
 use Rattle.ash_typing.specs.declared.forms.Callable.TheVariants as callables
-use Rattle.ash_typing.specs.Types.{var_type, result_type}
-use Rattle.ash_typing.specs.Environment.{Environment, Function, Interface, Class, ModuleDeclarations, Callee}
+use Rattle.ash_typing.specs.TypeRules.{var_type, result_type}
+use Rattle.ash_typing.specs.Environment.{Environment, FunctionSignature, InterfaceSignature, ClassSignature, ModuleDeclarations, Callee}
 use Rattle.ash_typing.specs.Environment.{first_from, is_called}
 use Rattle.ash_typing.specs.Environment.{is_class, is_interface_named, this_class, service_function, host_type}
 use Rattle.ash_typing.specs.Environment.{factory_in, factory_parameters, host_method, named_in, own_method_in, class_in}
@@ -45,13 +45,13 @@ use Rattle.ash_typing.proofs.SoundnessLookUps.{primitive_result, primitive_types
 use Rattle.ash_typing.proofs.SoundnessLookUps.{this_is}
 
 -- a method of the first list that passes, and the places of the list's owner and its own
-functions_found : (test : Function → Bool) (fs : List Function) → AllByRecursion IsKnownFunction fs
+functions_found : (test : FunctionSignature → Bool) (fs : List FunctionSignature) → AllByRecursion IsKnownFunction fs
     → IfSome (first_from test 0 fs) (λ found. (slice_get (map signature_of fs) found.0 ≡ Some (signature_of found.1))
     × AllByRecursion IsVariableType found.1.parameters)
 functions_found test fs known =
     go (first_from test 0 fs) (first_place test fs) (if_first IsKnownFunction test 0 fs known)
   where
-    go : (found : Option (ℕ × Function)) → IfSome found (λ f. slice_get fs f.0 ≡ Some f.1)
+    go : (found : Option (ℕ × FunctionSignature)) → IfSome found (λ f. slice_get fs f.0 ≡ Some f.1)
         → IfSome found (λ f. IsKnownFunction f.1)
         → IfSome found (λ f. (slice_get (map signature_of fs) f.0 ≡ Some (signature_of f.1))
         × AllByRecursion IsVariableType f.1.parameters)
@@ -82,12 +82,12 @@ unfolding method_in method_of_class method_of_interface method_of_array method_o
 method_sound env (OfClass i) text known =
     go (slice_get env.declarations.classes i) refl (if_get IsKnownClass env.declarations.classes i known.classes)
   where
-    go : (c : Option Class) → slice_get env.declarations.classes i ≡ c → IfSome c IsKnownClass
+    go : (c : Option ClassSignature) → slice_get env.declarations.classes i ≡ c → IfSome c IsKnownClass
         → IfSome (option_and_then (class_method i text) c) (IsSoundMethod env (OfClass i))
     go None e k = tt
     go (Some c) e k =
         if_map (IsSoundMethod env (OfClass i))
-        (λ (found : ℕ × Function).
+        (λ (found : ℕ × FunctionSignature).
         record {
           method = methods.Script i found.0 (result_type found.1.result);
           result = found.1.result;
@@ -101,12 +101,12 @@ method_sound env (OfClass i) text known =
 method_sound env (OfInterface i) text known =
     go (slice_get env.declarations.interfaces i) refl (if_get IsKnownInterface env.declarations.interfaces i known.interfaces)
   where
-    go : (of : Option Interface) → slice_get env.declarations.interfaces i ≡ of → IfSome of IsKnownInterface
+    go : (of : Option InterfaceSignature) → slice_get env.declarations.interfaces i ≡ of → IfSome of IsKnownInterface
         → IfSome (option_and_then (interface_method i text) of) (IsSoundMethod env (OfInterface i))
     go None e k = tt
     go (Some of) e k =
         if_map (IsSoundMethod env (OfInterface i))
-        (λ (found : ℕ × Function).
+        (λ (found : ℕ × FunctionSignature).
         record {
           method = methods.Interface i found.0 (result_type found.1.result);
           result = found.1.result;
@@ -145,7 +145,7 @@ IsCalledWith env callee parameters =
 abbrev pub IsSoundCallee : Environment → Callee → Type 0
 IsSoundCallee env callee = IfSome callee.parameters (IsCalledWith env callee)
 
-pub class_takes : (env : Environment) (class : ℕ) (c : Class) → IsKnown env
+pub class_takes : (env : Environment) (class : ℕ) (c : ClassSignature) → IsKnown env
     → slice_get env.declarations.classes class ≡ Some c
     → operations.IsTarget (seen_in env).signatures (targets.Class class) (map var_type c.parameters)
     (result_type (ty.Handle (OfClass class))) × AllByRecursion IsVariableType c.parameters
@@ -206,7 +206,7 @@ pub host_found : (env : Environment) (call : host.Registration)
 host_found env (host.TypeRegistration name kind) among = factory_found env name kind among
 host_found env _ among = tt
 
-own_found : (env : Environment) (text : List ℕ) (class : ℕ) (c : Class) → IsKnown env → env.this ≡ Some class
+own_found : (env : Environment) (text : List ℕ) (class : ℕ) (c : ClassSignature) → IsKnown env → env.this ≡ Some class
     → slice_get env.declarations.classes class ≡ Some c
     → IfSome (first_from (is_called text) 0 c.methods) (λ found.
     IsSoundCallee env (record {
@@ -231,16 +231,16 @@ pub callee_sound : (env : Environment) (text : List ℕ) → IsKnown env → IfS
 unfolding callee_in
 callee_sound env text known =
     let Q = IsSoundCallee env in
-    let own = if_then (λ (c : ℕ × Class). (env.this ≡ Some c.0) × (slice_get env.declarations.classes c.0 ≡ Some c.1)) Q
-    (λ (c : ℕ × Class).
-    option_map (λ (found : ℕ × Function).
+    let own = if_then (λ (c : ℕ × ClassSignature). (env.this ≡ Some c.0) × (slice_get env.declarations.classes c.0 ≡ Some c.1)) Q
+    (λ (c : ℕ × ClassSignature).
+    option_map (λ (found : ℕ × FunctionSignature).
     record {
       target = callables.OwnMethod c.0 found.0 (result_type found.1.result);
       result = found.1.result;
       parameters = Some found.1.parameters;
     }) (first_from (is_called text) 0 c.1.methods)) (this_class env)
     (λ c h. if_map Q
-    (λ (found : ℕ × Function).
+    (λ (found : ℕ × FunctionSignature).
     record {
       target = callables.OwnMethod c.0 found.0 (result_type found.1.result);
       result = found.1.result;
@@ -248,7 +248,7 @@ callee_sound env text known =
     }) (first_from (is_called text) 0 c.1.methods) (own_found env text c.0 c.1 known h.0 h.1))
     (this_is env.declarations.classes env.this) in
     let function =
-    if_map Q (λ (found : ℕ × Function).
+    if_map Q (λ (found : ℕ × FunctionSignature).
     record {
       target = callables.Target (targets.Function found.0 (result_type found.1.result));
       result = found.1.result;
@@ -263,7 +263,7 @@ callee_sound env text known =
     → Contains (filter_map (function_by key) env.registered) of)) Q service_function (named_in env.registered text)
     (λ call h. service_found env call h.1) (found_with (host.takes_name text) function_by env.registered) in
     let class = if_map Q
-    (λ (found : ℕ × Class).
+    (λ (found : ℕ × ClassSignature).
     record {
       target = callables.Target (targets.Class found.0);
       result = ty.Handle (OfClass found.0);
@@ -300,13 +300,13 @@ object_sound registrations declarations name =
     let s = signatures_in registrations declarations in
     let Q = IsObjectType s in
     let class = if_map Q
-    (λ (found : ℕ × Class). OfClass found.0) (first_from (is_class name) 0 declarations.classes)
+    (λ (found : ℕ × ClassSignature). OfClass found.0) (first_from (is_class name) 0 declarations.classes)
     (if_weaker (first_from (is_class name) 0 declarations.classes)
     (λ found h. object_class
     (slice_get_within s.classes found.0 (signature_of_class found.1)
     (mapped signature_of_class declarations.classes found.0 found.1 h))) (first_place (is_class name) declarations.classes)) in
     let interface =
-    if_map Q (λ (found : ℕ × Interface). OfInterface found.0)
+    if_map Q (λ (found : ℕ × InterfaceSignature). OfInterface found.0)
     (first_from (is_interface_named name) 0 declarations.interfaces)
     (if_weaker (first_from (is_interface_named name) 0 declarations.interfaces)
     (λ found h. object_interface
@@ -325,24 +325,24 @@ object_sound registrations declarations name =
     (if_or Q (interface_type declarations.interfaces name)
     (option_and_then host_object (find (host.takes_name name) registrations)) interface kind)
 
-primitive_element : (s : Signatures) (of : Primitive) → IsElement s (element_of of)
+primitive_element : (s : ModuleSignatures) (of : Primitive) → IsElementType s (element_of of)
 primitive_element s primitives.Bool = truths
 primitive_element s primitives.Int = integers
 primitive_element s primitives.Int64 = integers
 primitive_element s primitives.Uint = integers
 primitive_element s primitives.Uint64 = integers
 
-object_element : (s : Signatures) (o : ObjectType) → IsObjectType s o → IfSome (element_by o) (IsElement s)
+object_element : (s : ModuleSignatures) (o : ObjectType) → IsObjectType s o → IfSome (element_by o) (IsElementType s)
 object_element s (OfClass class) (object_class h) = element_class h
 object_element s (OfInterface interface) (object_interface h) = element_interface h
 object_element s (OfHost kind) (object_host h) = element_host h
 object_element s (OfArray of) h = tt
 
 pub element_sound : (registrations : List host.Registration) (declarations : ModuleDeclarations) (of : written.Element)
-    → IfSome (element_named registrations declarations of) (IsElement (signatures_in registrations declarations))
+    → IfSome (element_named registrations declarations of) (IsElementType (signatures_in registrations declarations))
 unfolding element_named
 element_sound registrations declarations (written.PrimElement p primitive) =
     primitive_element (signatures_in registrations declarations) primitive
 element_sound registrations declarations (written.HandleElement p name) =
-    if_then (IsObjectType (signatures_in registrations declarations)) (IsElement (signatures_in registrations declarations)) element_by
+    if_then (IsObjectType (signatures_in registrations declarations)) (IsElementType (signatures_in registrations declarations)) element_by
     (object_named registrations declarations name) (object_element (signatures_in registrations declarations)) (object_sound registrations declarations name)

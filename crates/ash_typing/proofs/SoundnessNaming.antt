@@ -9,8 +9,8 @@ use Rattle.ash_typed.specs.SoundModules.{name_of_function, name_of_variable, nam
 use Rattle.ash_typing.specs.declared.types.Ty.{Ty}
 use Rattle.ash_typing.specs.Environment.{Environment}
 use Rattle.ash_typing.specs.ModuleDeclarations.{ty_in}
-use Rattle.ash_typing.specs.Typing.{IsDeclared, declared as is_declared}
-use Rattle.ash_typing.specs.TypedModules.{AreVariables, IsFunction}
+use Rattle.ash_typing.specs.Typing.{IsDeclaredType, declared as is_declared}
+use Rattle.ash_typing.specs.TypedModules.{AreTypedVariables, IsTypedFunction}
 use Rattle.ash_typing.proofs.TakenNames.{all_append, all_prefix, all_rest}
 use Rattle.ash_tree.specs.Items.{functions_of, globals_of, decl_name, names_of, variable_names, item_names}
 
@@ -56,14 +56,14 @@ functions_distinct (written.AnInterface i ∷ is) h = functions_distinct is h.1
 functions_distinct (written.AGlobal v ∷ is) h = functions_distinct is (distinct_rest (names_of v) (item_names is) h)
 
 function_names : (env : Environment) (fs : List written.Function) (ts : List modules.Function)
-    → AllZip (IsFunction env) fs ts → map name_of_function ts ≡ map name_of fs
+    → AllZip (IsTypedFunction env) fs ts → map name_of_function ts ≡ map name_of fs
 function_names env [] [] h = refl
 function_names env [] (t ∷ ts) h = absurd h
 function_names env (f ∷ fs) [] h = absurd h
 function_names env (f ∷ fs) (t ∷ ts) h = ap₂ (λ x xs. x ∷ xs) h.0.routine.name (function_names env fs ts h.1)
 
 pub functions_differ : (env : Environment) (is : List written.Item) (ts : List modules.Function)
-    → Distinct (item_names is) → AllZip (IsFunction env) (functions_of is) ts → Distinct (map name_of_function ts)
+    → Distinct (item_names is) → AllZip (IsTypedFunction env) (functions_of is) ts → Distinct (map name_of_function ts)
 functions_differ env is ts d h =
     subst Distinct (sym (function_names env (functions_of is) ts h)) (functions_distinct is d)
 
@@ -89,19 +89,19 @@ globals_distinct (written.AFunction f ∷ is) h = globals_distinct is h.1
 globals_distinct (written.AClass c ∷ is) h = globals_distinct is h.1
 globals_distinct (written.AnInterface i ∷ is) h = globals_distinct is h.1
 
-variable_name : {env : Environment} {of : Ty} {d : written.Decl} {v : Initialization} → IsDeclared env of d v
+variable_name : {env : Environment} {of : Ty} {d : written.Decl} {v : Initialization} → IsDeclaredType env of d v
     → v.name ≡ d.name
 variable_name (is_declared h) = refl
 
 value_names : (env : Environment) (of : Ty) (ds : List written.Decl) (vs : List Initialization)
-    → AllZip (IsDeclared env of) ds vs → map name_of_variable vs ≡ map decl_name ds
+    → AllZip (IsDeclaredType env of) ds vs → map name_of_variable vs ≡ map decl_name ds
 value_names env of [] [] h = refl
 value_names env of [] (v ∷ vs) h = absurd h
 value_names env of (d ∷ ds) [] h = absurd h
 value_names env of (d ∷ ds) (v ∷ vs) h = ap₂ (λ x xs. x ∷ xs) (variable_name h.0) (value_names env of ds vs h.1)
 
 global_names : (env : Environment) (vs : List written.Vars) (ts : List modules.Variables)
-    → AllZip (AreVariables env) vs ts → names_of_globals ts ≡ variable_names vs
+    → AllZip (AreTypedVariables env) vs ts → names_of_globals ts ≡ variable_names vs
 global_names env [] [] h = refl
 global_names env [] (t ∷ ts) h = absurd h
 global_names env (v ∷ vs) [] h = absurd h
@@ -109,5 +109,5 @@ global_names env (v ∷ vs) (t ∷ ts) h =
     ap₂ (λ xs ys. xs ++ ys) (value_names env (ty_in env v.of) v.decls t.values h.0.values) (global_names env vs ts h.1)
 
 pub globals_differ : (env : Environment) (is : List written.Item) (ts : List modules.Variables)
-    → Distinct (item_names is) → AllZip (AreVariables env) (globals_of is) ts → Distinct (names_of_globals ts)
+    → Distinct (item_names is) → AllZip (AreTypedVariables env) (globals_of is) ts → Distinct (names_of_globals ts)
 globals_differ env is ts d h = subst Distinct (sym (global_names env (globals_of is) ts h)) (globals_distinct is d)

@@ -2,7 +2,7 @@
 use Rattle.std.specs.List.{AllByRecursion}
 use Rattle.std.proofs.Common.{ℕ, List}
 use Rattle.ash_tree.specs.Tree.{Stmt, stmts, Case, cases, Function, Member, Class, Item}
-use Rattle.ash_tree.specs.Tokens.{Tokens}
+use Rattle.ash_tree.specs.GrammarTokens.{Tokens}
 use Rattle.ash_tree.specs.Statements.{IsNested, nested, AreLocals, no_locals, local_vars, local_stmt, IsBlock, block}
 use Rattle.ash_tree.specs.Statements.{IsStmt, inner_block, empty, evaluate, if_only, if_else, while, do_while, for}
 use Rattle.ash_tree.specs.Statements.{switch, break, continue, return, AreCases, no_cases, more_cases, AreStmts}

@@ -8,7 +8,7 @@ use Rattle.ash_typed.specs.StatementTree.{Initialization}
 use Rattle.ash_typed.specs.Modules as modules
 use Rattle.ash_typed.specs.Signatures as signatures
 use Rattle.ash_typing.specs.declared.types.Ty.{Ty}
-use Rattle.ash_typing.specs.Types.{var_type, result_type}
+use Rattle.ash_typing.specs.TypeRules.{var_type, result_type}
 use Rattle.ash_typing.specs.Environment.{Environment, ModuleDeclarations, inside, type_declared}
 use Rattle.ash_typing.specs.ModuleDeclarations.{object_named, ty_named, result_named, declared, variables, parameter_ty}
 use Rattle.ash_typing.specs.ModuleDeclarations.{function_declaration, signature_declaration, interface_declaration, class_declaration}
@@ -18,9 +18,9 @@ use Rattle.ash_typing.specs.ModuleDeclarations.{all_variables}
 use Rattle.ash_typing.specs.ModuleDeclarations.{constructed_by}
 use Rattle.ash_tree.specs.Items.{classes_of, interfaces_of, classes_before, functions_of, globals_of, fields_of}
 use Rattle.ash_tree.specs.Items.{methods_of, constructors_of}
-use Rattle.ash_typing.specs.Typing.{IsDeclared, declared as is_declared}
-use Rattle.ash_typing.specs.TypedModules.{type_of_parameter, AreVariables, AreFields, IsFunction, IsSignature}
-use Rattle.ash_typing.specs.TypedModules.{IsInterface, AreInterfaces, IsListed, HasConstructor, IsClass, AreClasses}
+use Rattle.ash_typing.specs.Typing.{IsDeclaredType, declared as is_declared}
+use Rattle.ash_typing.specs.TypedModules.{type_of_parameter, AreTypedVariables, AreFields, IsTypedFunction, IsTypedSignature}
+use Rattle.ash_typing.specs.TypedModules.{IsTypedInterface, AreTypedInterfaces, IsListed, HasConstructor, IsTypedClass, AreTypedClasses}
 use Rattle.ash_typing.specs.TypedModules.{environment, IsTyped}
 use Rattle.ash_typing.specs.Offered.{offered}
 use Rattle.ash_typing.specs.Soundness.{signature_of, signatures_of_interface, signature_of_class, signatures_in}
@@ -70,7 +70,7 @@ same_parameters agree (p ∷ ps) = ap₂ (λ of rest. var_type of ∷ rest) (agr
 
 same_function : {env : Environment} {registrations : List host.Registration} {named : ModuleDeclarations}
     → NamesAgree env registrations named
-    → (f : written.Function) (t : modules.Function) → IsFunction env f t
+    → (f : written.Function) (t : modules.Function) → IsTypedFunction env f t
     → signatures.signature_of t ≡ signature_of (function_declaration registrations named f)
 same_function agree f t is = λ i. record {
   name = is.routine.name i;
@@ -80,7 +80,7 @@ same_function agree f t is = λ i. record {
 
 same_signature : {env : Environment} {registrations : List host.Registration} {named : ModuleDeclarations}
     → NamesAgree env registrations named
-    → (m : written.InterfaceMethod) (t : modules.Signature) → IsSignature env m t
+    → (m : written.InterfaceMethod) (t : modules.Signature) → IsTypedSignature env m t
     → t ≡ signature_of (signature_declaration registrations named m)
 same_signature agree m t is = λ i. record {
   name = is.name i;
@@ -90,28 +90,28 @@ same_signature agree m t is = λ i. record {
 
 same_methods : {env : Environment} {registrations : List host.Registration} {named : ModuleDeclarations}
     → NamesAgree env registrations named
-    → (fs : List written.Function) (ts : List modules.Function) → AllZip (IsFunction env) fs ts
+    → (fs : List written.Function) (ts : List modules.Function) → AllZip (IsTypedFunction env) fs ts
     → map signatures.signature_of ts ≡ map signature_of (map (function_declaration registrations named) fs)
 same_methods {env} {registrations} {named} agree fs ts h =
-    zip_same (IsFunction env) signatures.signature_of
+    zip_same (IsTypedFunction env) signatures.signature_of
     (λ f. signature_of (function_declaration registrations named f)) (same_function agree) fs ts h
     ∙ sym (map-map signature_of (function_declaration registrations named) fs)
 
 -- variables
 
 same_variables : (env : Environment) (of : Ty) (ds : List written.Decl) (vs : List Initialization)
-    → AllZip (IsDeclared env of) ds vs → map signatures.type_declared vs ≡ map type_declared (map (declared of) ds)
+    → AllZip (IsDeclaredType env of) ds vs → map signatures.type_declared vs ≡ map type_declared (map (declared of) ds)
 same_variables env of ds vs h =
-    zip_same (IsDeclared env of) signatures.type_declared (λ d. type_declared (declared of d)) one ds vs h
+    zip_same (IsDeclaredType env of) signatures.type_declared (λ d. type_declared (declared of d)) one ds vs h
     ∙ sym (map-map type_declared (declared of) ds)
   where
-    one : (d : written.Decl) (v : Initialization) → IsDeclared env of d v
+    one : (d : written.Decl) (v : Initialization) → IsDeclaredType env of d v
         → signatures.type_declared v ≡ type_declared (declared of d)
     one d v (is_declared i) = refl
 
 same_decls : {env : Environment} {registrations : List host.Registration} {named : ModuleDeclarations}
     → NamesAgree env registrations named
-    → (v : written.Vars) (vs : List Initialization) → AllZip (IsDeclared env (ty_in env v.of)) v.decls vs
+    → (v : written.Vars) (vs : List Initialization) → AllZip (IsDeclaredType env (ty_in env v.of)) v.decls vs
     → map signatures.type_declared vs ≡ map type_declared (variables registrations named v)
 same_decls {env} agree v vs h =
     same_variables env (ty_in env v.of) v.decls vs h
@@ -153,7 +153,7 @@ same_listed {env} {registrations} {named} agree place (n ∷ ns) (i ∷ is) h =
 
 same_class : {env : Environment} {registrations : List host.Registration} {named : ModuleDeclarations}
     → NamesAgree env registrations named
-    → (place : ℕ) (c : written.Class) (t : modules.Class) → IsClass env place c t
+    → (place : ℕ) (c : written.Class) (t : modules.Class) → IsTypedClass env place c t
     → signatures.signature_of_class t ≡ signature_of_class (class_declaration registrations named c)
 same_class {env} {registrations} {named} agree place c t is =
     let inner = within_class agree place in
@@ -167,11 +167,11 @@ same_class {env} {registrations} {named} agree place c t is =
 
 same_interface : {env : Environment} {registrations : List host.Registration} {named : ModuleDeclarations}
     → NamesAgree env registrations named
-    → (i : written.Interface) (classes : ℕ) (t : modules.Interface) → IsInterface env i classes t
+    → (i : written.Interface) (classes : ℕ) (t : modules.Interface) → IsTypedInterface env i classes t
     → signatures.methods_of_interface t ≡ signatures_of_interface (interface_declaration registrations named i)
 same_interface {env} {registrations} {named} agree i classes t is =
     sym (map-itself t.methods)
-    ∙ zip_same (IsSignature env) (λ m. m)
+    ∙ zip_same (IsTypedSignature env) (λ m. m)
     (λ m. signature_of (signature_declaration registrations named m)) (same_signature agree) i.methods t.methods is.methods
     ∙ sym (map-map signature_of (signature_declaration registrations named) i.methods)
   where
@@ -181,7 +181,7 @@ same_interface {env} {registrations} {named} agree i classes t is =
 
 same_interfaces : {env : Environment} {registrations : List host.Registration} {named : ModuleDeclarations}
     → NamesAgree env registrations named
-    → (is : List written.Interface) (ns : List ℕ) (ts : List modules.Interface) → AreInterfaces env is ns ts
+    → (is : List written.Interface) (ns : List ℕ) (ts : List modules.Interface) → AreTypedInterfaces env is ns ts
     → map signatures.methods_of_interface ts ≡ map signatures_of_interface (map (interface_declaration registrations named) is)
 same_interfaces agree [] [] [] h = refl
 same_interfaces agree [] [] (t ∷ ts) h = absurd h
@@ -193,7 +193,7 @@ same_interfaces agree (i ∷ is) (n ∷ ns) (t ∷ ts) h =
 
 same_classes : {env : Environment} {registrations : List host.Registration} {named : ModuleDeclarations}
     → NamesAgree env registrations named
-    → (place : ℕ) (cs : List written.Class) (ts : List modules.Class) → AreClasses env place cs ts
+    → (place : ℕ) (cs : List written.Class) (ts : List modules.Class) → AreTypedClasses env place cs ts
     → map signatures.signature_of_class ts ≡ map signature_of_class (map (class_declaration registrations named) cs)
 same_classes agree place [] [] h = refl
 same_classes agree place [] (t ∷ ts) h = absurd h
@@ -203,7 +203,7 @@ same_classes agree place (c ∷ cs) (t ∷ ts) h =
 
 same_globals : {env : Environment} {registrations : List host.Registration} {named : ModuleDeclarations}
     → NamesAgree env registrations named
-    → (vs : List written.Vars) (ts : List modules.Variables) → AllZip (AreVariables env) vs ts
+    → (vs : List written.Vars) (ts : List modules.Variables) → AllZip (AreTypedVariables env) vs ts
     → signatures.types_of_globals ts ≡ map type_declared (all_variables registrations named vs)
 same_globals agree [] [] h = refl
 same_globals agree [] (t ∷ ts) h = absurd h

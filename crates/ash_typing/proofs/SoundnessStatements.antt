@@ -12,26 +12,26 @@ use Rattle.ash_integers.specs.declared.int_type.IntType.{IntType}
 use Rattle.ash_integers.specs.declared.int_type.IntType.TheVariants as ints
 use Rattle.ash_typed.specs.declared.types.VarType.{VarType}
 use Rattle.ash_typed.specs.declared.tree.statements.Test.TheVariants.{First, Last}
-use Rattle.ash_typed.specs.Tree.{Expr}
+use Rattle.ash_typed.specs.TypedTree.{Expr}
 use Rattle.ash_typed.specs.StatementTree.{Stmt, Empty, Evaluate, Block, If, no_branch, branch, Head, Repeat, For}
 use Rattle.ash_typed.specs.StatementTree.{repeated, Switch, Break, Continue, Return, Stmts, stmt, Cases, no_case}
 use Rattle.ash_typed.specs.SoundStatements as sound_statements
 use Rattle.ash_typing.specs.declared.types.Ty.{Ty}
 use Rattle.ash_typing.specs.declared.types.Ty.TheVariants as ty
-use Rattle.ash_typing.specs.Types.{var_type, result_type}
-use Rattle.ash_typing.specs.Environment.{Environment, Class, type_declared}
+use Rattle.ash_typing.specs.TypeRules.{var_type, result_type}
+use Rattle.ash_typing.specs.Environment.{Environment, ClassSignature, type_declared}
 use Rattle.ash_typing.specs.Coercions.{fits}
 use Rattle.ash_typing.specs.ModuleDeclarations.{ty_in}
 use Rattle.ash_typing.specs.Returning.{is_default}
 use Rattle.ash_typing.specs.Labels.{holds_minus, holds_label, is_same_constant, is_last}
 use Rattle.ash_typing.specs.Typing.{IsKnown, AllHaveType, none_left, each}
 use Rattle.ash_typing.specs.Terms.{Term, converted_to}
-use Rattle.ash_typing.specs.TypedStatements.{IsKnownScope, IsCondition, condition, MayBeCondition, endless, until}
-use Rattle.ash_typing.specs.TypedStatements.{IsHead, head_is_empty, head_declares, head_evaluates, IsLabel, constant}
-use Rattle.ash_typing.specs.TypedStatements.{otherwise, tree_of_term, IsStmt, empty, declare, evaluate, block, if_only}
+use Rattle.ash_typing.specs.TypedStatements.{IsKnownScope, IsTypedCondition, condition, MayBeTypedCondition, endless, until}
+use Rattle.ash_typing.specs.TypedStatements.{IsTypedHead, head_is_empty, head_declares, head_evaluates, IsTypedLabel, constant}
+use Rattle.ash_typing.specs.TypedStatements.{otherwise, tree_of_term, IsTypedStmt, empty, declare, evaluate, block, if_only}
 use Rattle.ash_typing.specs.TypedStatements.{if_else, while_loop, do_loop, for_loop, switch, break_out, continue_on}
-use Rattle.ash_typing.specs.TypedStatements.{return_nothing, return_value, AreStmts, no_more_stmts, more_stmts}
-use Rattle.ash_typing.specs.TypedStatements.{AreCases, no_more_cases, more_cases}
+use Rattle.ash_typing.specs.TypedStatements.{return_nothing, return_value, AreTypedStmts, no_more_stmts, more_stmts}
+use Rattle.ash_typing.specs.TypedStatements.{AreTypedCases, no_more_cases, more_cases}
 use Rattle.ash_typing.specs.Nesting.{IsNoDeclaration, DeclaresInBlocks, AllDeclareInBlocks, CasesDeclareInBlocks}
 use Rattle.ash_typing.specs.Nesting.{LabelledDeclareInBlocks}
 use Rattle.ash_typing.specs.Soundness.{seen_in, seen_at}
@@ -65,7 +65,7 @@ declaring_is scope v =
       may_continue = scope.in_loop;
     }) (seen_with scope.env (declared_in scope v))
 
-nothing_declared : (scope : sound_statements.Scope) → scope ≡ sound_statements.declaring scope []
+nothing_declared : (scope : sound_statements.TypedScope) → scope ≡ sound_statements.declaring scope []
 nothing_declared scope =
     ap (λ locals.
     record {
@@ -90,12 +90,12 @@ switch_is scope =
 
 -- expressions of statements
 
-condition_sound : {env : Environment} {e : written.Expr} {tree : Expr} → IsCondition env e tree → IsKnown env
-    → sound_statements.IsCondition (seen_in env) tree
+condition_sound : {env : Environment} {e : written.Expr} {tree : Expr} → IsTypedCondition env e tree → IsKnown env
+    → sound_statements.IsSoundCondition (seen_in env) tree
 condition_sound {env} (condition {t = t} h i) known = of_type env t.tree t.ty ty.Bool i (term_sound h known).gives
 
-maybe_sound : {env : Environment} {e : Option written.Expr} {tree : Option Expr} → MayBeCondition env e tree
-    → IsKnown env → sound_statements.MayBeCondition (seen_in env) tree
+maybe_sound : {env : Environment} {e : Option written.Expr} {tree : Option Expr} → MayBeTypedCondition env e tree
+    → IsKnown env → sound_statements.MayBeSoundCondition (seen_in env) tree
 maybe_sound endless known = tt
 maybe_sound (until h) known = condition_sound h known
 
@@ -107,11 +107,11 @@ steps_sound (each h rest) known = ((_, (term_sound h known).gives), steps_sound 
 -- the head of a `for`, and what is seen after it
 record IsSoundHead (scope : Scope) (f : written.Stmt) (h : Head) : Type 0 where
   types : List VarType
-  head : sound_statements.IsHead (seen_in scope.env) h types
+  head : sound_statements.IsSoundHead (seen_in scope.env) h types
   known : IsKnownScope (after scope f)
   seen : seen_at (after scope f) ≡ sound_statements.declaring (seen_at scope) types
 
-head_sound : {scope : Scope} {f : written.Stmt} {h : Head} → IsHead scope f h → IsKnownScope scope
+head_sound : {scope : Scope} {f : written.Stmt} {h : Head} → IsTypedHead scope f h → IsKnownScope scope
     → IsSoundHead scope f h
 head_sound {scope} head_is_empty known =
     record { types = []; head = sound_statements.head_is_empty; known = known; seen = nothing_declared (seen_at scope) }
@@ -186,15 +186,15 @@ all_differ l (other ∷ before) d h =
     let no = or_false (is_same_constant l other) (list_any (is_same_constant l) before) h in
     (λ same. let yes = same_constant l other d same in let never = no.0 in absurd (cc), all_differ l before d no.1)
 
-label_sound : {k : IntType} {before : List Label} {last : Bool} {l : Label} → IsLabel k before last l → (rows : Cases)
-    → (last ≡ true → rows ≡ no_case) → sound_statements.IsLabel k before l rows
+label_sound : {k : IntType} {before : List Label} {last : Bool} {l : Label} → IsTypedLabel k before last l → (rows : Cases)
+    → (last ≡ true → rows ≡ no_case) → sound_statements.IsSoundLabel k before l rows
 label_sound {k} (constant {before = before} {l = l} d h i) rows last =
     sound_statements.constant (constant_within k l d h) (all_differ l before d i)
 label_sound {k} (otherwise {before = before}) rows last =
-    subst (sound_statements.IsLabel k before labels.Default) (sym (last refl)) sound_statements.otherwise
+    subst (sound_statements.IsSoundLabel k before labels.Default) (sym (last refl)) sound_statements.otherwise
 
 no_rows : {scope : Scope} {k : IntType} {before : List Label} {cs : written.Cases} {rows : Cases}
-    → AreCases scope k before cs rows → is_last cs ≡ true → rows ≡ no_case
+    → AreTypedCases scope k before cs rows → is_last cs ≡ true → rows ≡ no_case
 no_rows no_more_cases h = refl
 no_rows (more_cases l ss rest) h = absurd (cc)
 
@@ -202,17 +202,17 @@ no_rows (more_cases l ss rest) h = absurd (cc)
 
 -- a statement, by itself and with what follows it in its block
 record IsSoundStmt (scope : Scope) (s : written.Stmt) (t : Stmt) : Type 0 where
-  by_itself : IsNoDeclaration s → sound_statements.IsStmt (seen_at scope) t
-  followed : (ts : Stmts) → sound_statements.AreStmts (seen_at (after scope s)) ts
-      → sound_statements.AreStmts (seen_at scope) (stmt t ts)
+  by_itself : IsNoDeclaration s → sound_statements.IsSoundStmt (seen_at scope) t
+  followed : (ts : Stmts) → sound_statements.AreSoundStmts (seen_at (after scope s)) ts
+      → sound_statements.AreSoundStmts (seen_at scope) (stmt t ts)
   known : IsKnownScope (after scope s)
 
 plain : (scope : Scope) (s : written.Stmt) (t : Stmt) → after scope s ≡ scope → IsKnownScope scope
-    → sound_statements.IsStmt (seen_at scope) t → IsSoundStmt scope s t
+    → sound_statements.IsSoundStmt (seen_at scope) t → IsSoundStmt scope s t
 plain scope s t e known h = record {
   by_itself = λ n. h;
   followed = λ ts more.
-      sound_statements.more_stmts h (subst (λ next. sound_statements.AreStmts (seen_at next) ts) e more);
+      sound_statements.more_stmts h (subst (λ next. sound_statements.AreSoundStmts (seen_at next) ts) e more);
   known = subst IsKnownScope (sym e) known;
 }
 
@@ -221,12 +221,12 @@ same_after : (scope : Scope) (s : written.Stmt) → IsNoDeclaration s → after 
 same_after scope (written.Declare p v) h = absurd h
 same_after scope _ h = refl
 
-returned_type : (classes : List Class) (of t : Ty) → fits classes of t ≡ true → result_type of ≡ Some (var_type of)
+returned_type : (classes : List ClassSignature) (of t : Ty) → fits classes of t ≡ true → result_type of ≡ Some (var_type of)
 returned_type classes ty.Void t h = absurd (cc)
 returned_type classes _ t h = refl
 
 mutual
-  stmt_sound : {scope : Scope} {s : written.Stmt} {t : Stmt} → IsStmt scope s t → IsKnownScope scope
+  stmt_sound : {scope : Scope} {s : written.Stmt} {t : Stmt} → IsTypedStmt scope s t → IsKnownScope scope
       → DeclaresInBlocks s → IsSoundStmt scope s t
   stmt_sound {scope} (empty {p = p}) known nest =
       plain scope (written.Empty p) (Empty p.line) refl known sound_statements.empty
@@ -236,7 +236,7 @@ mutual
         sound_statements.declare
         (variables_sound are known is (variable_is_known (ty_in scope.env v.of) is)
         (type_sound scope.env.registered scope.env.declarations v.of is))
-        (subst (λ next. sound_statements.AreStmts next ts) (declaring_is scope v) more);
+        (subst (λ next. sound_statements.AreSoundStmts next ts) (declaring_is scope v) more);
     known = more_known scope (declared_in scope v) known (decls_known (ty_in scope.env v.of) v.decls is);
   }
   stmt_sound {scope} (evaluate {p = p} {e = e} {t = t} h) known nest =
@@ -275,7 +275,7 @@ mutual
   stmt_sound {scope} (switch {p = p} {e = e} {cs = cs} {t = t} {k = k} {rows = rows} h i are) known nest =
       plain scope (written.Switch p e cs) (Switch p.line k t.tree rows) refl known
       (sound_statements.switch (of_type scope.env t.tree t.ty (ty.Integer k) i (term_sound h known.env).gives)
-      (subst (λ next. sound_statements.AreCases next k [] rows) (switch_is scope)
+      (subst (λ next. sound_statements.AreSoundCases next k [] rows) (switch_is scope)
       (cases_sound are (switch_known scope known) nest)))
   stmt_sound {scope} (break_out {p = p} h) known nest =
       plain scope (written.Break p) (Break p.line) refl known (sound_statements.break_out h)
@@ -289,22 +289,22 @@ mutual
       (sound_statements.return_value (returned_type scope.env.declarations.classes scope.result t.ty i)
       (fits_sound scope.env scope.result t known.result (known_type h known.env) (term_sound h known.env).gives i))
 
-  pub stmts_sound : {scope : Scope} {ss : written.Stmts} {ts : Stmts} → AreStmts scope ss ts → IsKnownScope scope
-      → AllDeclareInBlocks ss → sound_statements.AreStmts (seen_at scope) ts
+  pub stmts_sound : {scope : Scope} {ss : written.Stmts} {ts : Stmts} → AreTypedStmts scope ss ts → IsKnownScope scope
+      → AllDeclareInBlocks ss → sound_statements.AreSoundStmts (seen_at scope) ts
   stmts_sound no_more_stmts known nest = sound_statements.no_stmts
   stmts_sound (more_stmts {ts = ts} h rest) known nest =
       let s = stmt_sound h known nest.0 in
       s.followed ts (stmts_sound rest s.known nest.1)
 
   cases_sound : {scope : Scope} {k : IntType} {before : List Label} {cs : written.Cases} {rows : Cases}
-      → AreCases scope k before cs rows → IsKnownScope scope → CasesDeclareInBlocks cs
-      → sound_statements.AreCases (seen_at scope) k before rows
+      → AreTypedCases scope k before cs rows → IsKnownScope scope → CasesDeclareInBlocks cs
+      → sound_statements.AreSoundCases (seen_at scope) k before rows
   cases_sound no_more_cases known nest = sound_statements.no_cases
   cases_sound (more_cases {rows = rows} l ss rest) known nest =
       sound_statements.more_cases (label_sound l rows (no_rows rest)) (labelled_sound ss known nest.0)
       (cases_sound rest known nest.1)
 
-  labelled_sound : {scope : Scope} {ss : written.Stmts} {ts : Stmts} → AreStmts scope ss ts → IsKnownScope scope
+  labelled_sound : {scope : Scope} {ss : written.Stmts} {ts : Stmts} → AreTypedStmts scope ss ts → IsKnownScope scope
       → LabelledDeclareInBlocks ss → sound_statements.AreLabelled (seen_at scope) ts
   labelled_sound no_more_stmts known nest = sound_statements.none_labelled
   labelled_sound {scope} (more_stmts {s = s} {ts = ts} h rest) known nest =

@@ -13,7 +13,7 @@ use Rattle.ash_typed.specs.declared.types.ObjectType.TheVariants as objects
 use Rattle.ash_typed.specs.declared.types.VarType.TheVariants as vars
 use Rattle.ash_typed.specs.declared.tree.operations.Operands.{Operands}
 use Rattle.ash_typed.specs.declared.tree.operations.Operands.TheVariants as operands
-use Rattle.ash_typed.specs.Tree.{Expr, Number, Conditional, converted}
+use Rattle.ash_typed.specs.TypedTree.{Expr, Number, Conditional, converted}
 use Rattle.ash_typed.specs.TypeOf.{ValueType, value}
 use Rattle.ash_typed.specs.Signatures.{IsSubtype, same, null, listed}
 use Rattle.ash_typed.specs.SoundOperations as operations
@@ -24,10 +24,10 @@ use Rattle.ash_typing.specs.declared.forms.OperatorClass.{OperatorClass}
 use Rattle.ash_typing.specs.declared.forms.OperatorClass.TheVariants as operator_class
 use Rattle.ash_typing.specs.declared.forms.Form.{Form}
 use Rattle.ash_typing.specs.declared.forms.Form.TheVariants as form
-use Rattle.ash_typing.specs.Types.{is_same_integer_type, is_same_object, holds, number_type}
-use Rattle.ash_typing.specs.Types.{common_integer_type, common, gives_object, agrees, operator_class_of}
-use Rattle.ash_typing.specs.Types.{common_operands, operator_result, var_type, value_type}
-use Rattle.ash_typing.specs.Environment.{Environment, Class}
+use Rattle.ash_typing.specs.TypeRules.{is_same_integer_type, is_same_object, holds, number_type}
+use Rattle.ash_typing.specs.TypeRules.{common_integer_type, common, gives_object, agrees, operator_class_of}
+use Rattle.ash_typing.specs.TypeRules.{common_operands, operator_result, var_type, value_type}
+use Rattle.ash_typing.specs.Environment.{Environment, ClassSignature}
 use Rattle.ash_typing.specs.Coercions.{has_interface, lists, is_of, fits}
 use Rattle.ash_typing.specs.Terms.{conversion, operand_type, applied, Term, converted_to, adapted_number, adapted_to}
 use Rattle.ash_typing.specs.Terms.{right_by}
@@ -332,7 +332,7 @@ chosen_sound env c x y a b of k l h i j e = absurd (none-some of e)
 abbrev IsObjectOf : Environment → ObjectType → ObjectType → Type 0
 IsObjectOf env o p = IsSubtype (seen_in env).signatures (value (vars.Handle p)) (value (vars.Handle o))
 
-listed_in_class : (env : Environment) (interface class : ℕ) (found : Option Class)
+listed_in_class : (env : Environment) (interface class : ℕ) (found : Option ClassSignature)
     → slice_get env.declarations.classes class ≡ found → option_map_or (has_interface interface) found false ≡ true
     → IsObjectOf env (objects.Interface interface) (objects.Class class)
 listed_in_class env interface class None e h = absurd (cc)

@@ -14,9 +14,9 @@ use Rattle.ash_typed.specs.declared.types.ObjectType.TheVariants.{Class as OfCla
 use Rattle.ash_typed.specs.declared.types.ObjectType.TheVariants.{Host as OfHost, Array as OfArray}
 use Rattle.ash_typed.specs.declared.types.Element.{Element}
 use Rattle.ash_typed.specs.declared.types.VarType.TheVariants as vars
-use Rattle.ash_typed.specs.declared.tree.operations.Target.{Target}
-use Rattle.ash_typed.specs.declared.tree.operations.Target.TheVariants as targets
-use Rattle.ash_typed.specs.Tree.{Expr}
+use Rattle.ash_typed.specs.declared.tree.operations.CallTarget.{CallTarget}
+use Rattle.ash_typed.specs.declared.tree.operations.CallTarget.TheVariants as targets
+use Rattle.ash_typed.specs.TypedTree.{Expr}
 use Rattle.ash_typed.specs.StatementTree.{Initialization}
 use Rattle.ash_typed.specs.Signatures as signatures
 use Rattle.ash_typed.specs.SoundOperations as operations
@@ -25,8 +25,8 @@ use Rattle.ash_typed.specs.SoundStatements as sound_statements
 use Rattle.ash_typing.specs.declared.types.Ty.{Ty}
 use Rattle.ash_typing.specs.declared.types.Ty.TheVariants as ty
 use Rattle.ash_typing.specs.declared.forms.Callable.TheVariants as callables
-use Rattle.ash_typing.specs.Types.{is_interface, object_of, var_type, ty_of}
-use Rattle.ash_typing.specs.Environment.{Environment, Declared, Class, ModuleDeclarations, Callee, host_type}
+use Rattle.ash_typing.specs.TypeRules.{is_interface, object_of, var_type, ty_of}
+use Rattle.ash_typing.specs.Environment.{Environment, Declared, ClassSignature, ModuleDeclarations, Callee, host_type}
 use Rattle.ash_typing.specs.Environment.{with_locals}
 use Rattle.ash_typing.specs.Environment.{class_built, class_construction, kind_construction, construction}
 use Rattle.ash_typing.specs.Environment.{type_declared}
@@ -35,9 +35,9 @@ use Rattle.ash_typing.specs.ModuleDeclarations.{ty_named, declared}
 use Rattle.ash_typing.specs.Terms.{call_of, Term}
 use Rattle.ash_typing.specs.Scopes.{Scope}
 use Rattle.ash_typing.specs.Typing.{IsKnown, IsKnownType, IsVariableType, is_object, IsConstructed, construct}
-use Rattle.ash_typing.specs.Typing.{BeginsWith, empty, default, value, one, built_by, IsDeclared}
+use Rattle.ash_typing.specs.Typing.{IsTypedBeginning, empty, default, value, one, built_by, IsDeclaredType}
 use Rattle.ash_typing.specs.Typing.{declared as is_declared}
-use Rattle.ash_typing.specs.TypedStatements.{IsKnownScope, AreDeclared, none_declared, and_declared}
+use Rattle.ash_typing.specs.TypedStatements.{IsKnownScope, AreTypedDeclarations, none_declared, and_declared}
 use Rattle.ash_typing.specs.Offered.{factory_at}
 use Rattle.ash_typing.specs.Soundness.{signatures_in, seen_in}
 use Rattle.ash_typing.proofs.TypingKnown.{at_some, if_then, known_type}
@@ -49,7 +49,7 @@ use Rattle.ash_typing.proofs.SoundnessExpressions.{IsArgument, term_sound, terms
 
 -- types that are written
 
-primitive_type : (s : signatures.Signatures) (of : Primitive) → signatures.IsVariableType s (var_type (ty_of of))
+primitive_type : (s : signatures.ModuleSignatures) (of : Primitive) → signatures.IsTypeInModule s (var_type (ty_of of))
 primitive_type s primitives.Bool = signatures.truth
 primitive_type s primitives.Int = signatures.integer
 primitive_type s primitives.Int64 = signatures.integer
@@ -62,13 +62,13 @@ no_interface (OfClass i) h = tt
 no_interface (OfHost kind) h = tt
 no_interface (OfArray of) h = tt
 
-object_type : (s : signatures.Signatures) (o : Option ObjectType) → IfSome o (signatures.IsObjectType s)
-    → IsVariableType (object_ty o) → signatures.IsVariableType s (var_type (object_ty o))
+object_type : (s : signatures.ModuleSignatures) (o : Option ObjectType) → IfSome o (signatures.IsObjectType s)
+    → IsVariableType (object_ty o) → signatures.IsTypeInModule s (var_type (object_ty o))
 object_type s None h v = absurd (cc)
 object_type s (Some o) h v = signatures.object h (no_interface o v)
 
-handle_type : (s : signatures.Signatures) (o : Option ObjectType) → IfSome o (signatures.IsObjectType s)
-    → IsVariableType (handle_ty o) → signatures.IsVariableType s (var_type (handle_ty o))
+handle_type : (s : signatures.ModuleSignatures) (o : Option ObjectType) → IfSome o (signatures.IsObjectType s)
+    → IsVariableType (handle_ty o) → signatures.IsTypeInModule s (var_type (handle_ty o))
 handle_type s None h v = absurd (cc)
 handle_type s (Some o) h v = signatures.handle h
 
@@ -76,7 +76,7 @@ array_sound : (registrations : List host.Registration) (declarations : ModuleDec
     → IfSome (array_named registrations declarations of) (signatures.IsObjectType (signatures_in registrations declarations))
 array_sound registrations declarations of = go (element_named registrations declarations of) (element_sound registrations declarations of)
   where
-    go : (found : Option Element) → IfSome found (signatures.IsElement (signatures_in registrations declarations))
+    go : (found : Option Element) → IfSome found (signatures.IsElementType (signatures_in registrations declarations))
         → IfSome (option_map OfArray found) (signatures.IsObjectType (signatures_in registrations declarations))
     go None h = tt
     go (Some e) h = signatures.array h
@@ -84,7 +84,7 @@ array_sound registrations declarations of = go (element_named registrations decl
 -- a type of variables is in range
 pub type_sound : (registrations : List host.Registration) (declarations : ModuleDeclarations) (of : written.Named)
     → IsVariableType (ty_named registrations declarations of)
-    → signatures.IsVariableType (signatures_in registrations declarations) (var_type (ty_named registrations declarations of))
+    → signatures.IsTypeInModule (signatures_in registrations declarations) (var_type (ty_named registrations declarations of))
 unfolding ty_named
 type_sound registrations declarations (written.Prim p primitive) v = primitive_type (signatures_in registrations declarations) primitive
 type_sound registrations declarations (written.Object p name) v =
@@ -100,7 +100,7 @@ type_sound registrations declarations (written.ArrayHandle p of) v =
 
 -- the callee constructs an object of the type
 record Builds (env : Environment) (o : ObjectType) (callee : Callee) : Type 0 where
-  target : Target
+  target : CallTarget
   called : callee.target ≡ callables.Target target
   constructs : sound_statements.Constructs target o
   takes : IfSome callee.parameters (λ parameters.
@@ -126,7 +126,7 @@ construction_builds : (env : Environment) (o : ObjectType) (count : ℕ) → IsK
 unfolding construction class_construction kind_construction
 construction_builds env (OfClass place) count known h = go (slice_get env.declarations.classes place) refl
   where
-    go : (c : Option Class) → slice_get env.declarations.classes place ≡ c
+    go : (c : Option ClassSignature) → slice_get env.declarations.classes place ≡ c
         → IfSome (option_map (class_built place) c) (Builds env (OfClass place))
     go None e = tt
     go (Some c) e = record {
@@ -153,7 +153,7 @@ construction_builds env (OfArray of) count known (signatures.array h) = record {
 -- a constructed object
 constructed_sound : (env : Environment) (o : ObjectType) (ts : List Term) (tree : Expr) → IsKnown env
     → signatures.IsObjectType (seen_in env).signatures o → AllByRecursion (IsArgument env) ts
-    → IsConstructed env o ts tree → sound_statements.BeginsWith (seen_in env) (vars.Object o) (Some tree)
+    → IsConstructed env o ts tree → sound_statements.IsSoundBeginning (seen_in env) (vars.Object o) (Some tree)
 constructed_sound env o ts tree known h arguments
     (construct {callee = callee} {parameters = parameters} {trees = trees} c q args) =
     let builds =
@@ -164,7 +164,7 @@ constructed_sound env o ts tree known h arguments
     operations.IsTarget (seen_in env).signatures builds.target (map var_type parameters) (Some (vars.Handle o))
     × AllByRecursion IsVariableType parameters) callee.parameters parameters builds.takes q in
     subst (λ target.
-    sound_statements.BeginsWith (seen_in env) (vars.Object o)
+    sound_statements.IsSoundBeginning (seen_in env) (vars.Object o)
     (Some (call_of target (map var_type parameters) trees))) (sym builds.called)
     (sound_statements.constructed builds.constructs (sound.call takes.0 (arguments_sound env args takes.1 arguments)))
 
@@ -188,14 +188,14 @@ no_object_of ty.Null h = tt
 no_object_of ty.Void h = tt
 no_object_of ty.Unknown h = tt
 
-object_within : (s : signatures.Signatures) (o : ObjectType) → signatures.IsVariableType s (vars.Object o)
+object_within : (s : signatures.ModuleSignatures) (o : ObjectType) → signatures.IsTypeInModule s (vars.Object o)
     → signatures.IsObjectType s o
 object_within s o (signatures.object h i) = h
 
 pub begins_sound : {env : Environment} {of : Ty} {i : written.Initializer} {value : Option Expr}
-    → BeginsWith env of i value → IsKnown env → IsKnownType of
-    → signatures.IsVariableType (seen_in env).signatures (var_type of)
-    → sound_statements.BeginsWith (seen_in env) (var_type of) value
+    → IsTypedBeginning env of i value → IsKnown env → IsKnownType of
+    → signatures.IsTypeInModule (seen_in env).signatures (var_type of)
+    → sound_statements.IsSoundBeginning (seen_in env) (var_type of) value
 begins_sound (empty {of = of} h) known k type = sound_statements.default (no_object of h)
 begins_sound {env} (default {o = o} {tree = tree} h) known k type =
     constructed_sound env o [] tree known (object_within (seen_in env).signatures o type) tt h
@@ -207,8 +207,8 @@ begins_sound {env} (one {of = of} {t = t} h i e) known k type =
 begins_sound {env} (built_by {o = o} {ts = ts} {tree = tree} all h) known k type =
     constructed_sound env o ts tree known (object_within (seen_in env).signatures o type) (terms_sound all known) h
 
-pub declared_sound : {env : Environment} {of : Ty} {d : written.Decl} {v : Initialization} → IsDeclared env of d v
-    → IsKnown env → IsKnownType of → signatures.IsVariableType (seen_in env).signatures (var_type of)
+pub declared_sound : {env : Environment} {of : Ty} {d : written.Decl} {v : Initialization} → IsDeclaredType env of d v
+    → IsKnown env → IsKnownType of → signatures.IsTypeInModule (seen_in env).signatures (var_type of)
     → sound_statements.IsInitialized (seen_in env) v
 declared_sound (is_declared h) known k type = record { type = type; value = begins_sound h known k type }
 
@@ -225,25 +225,25 @@ seen_with env vs =
     ap (λ locals. record { signatures = signatures_in env.registered env.declarations; this = env.this; locals = locals })
     (map-append type_declared env.locals vs)
 
-is_of : {env : Environment} {of : Ty} {d : written.Decl} {v : Initialization} → IsDeclared env of d v
+is_of : {env : Environment} {of : Ty} {d : written.Decl} {v : Initialization} → IsDeclaredType env of d v
     → v.of ≡ var_type of
 is_of (is_declared h) = refl
 
 pub variables_sound : {scope : Scope} {of : Ty} {ds : List written.Decl} {vs : List Initialization}
-    → AreDeclared scope of ds vs → IsKnownScope scope → IsVariableType of → IsKnownType of
-    → signatures.IsVariableType (seen_in scope.env).signatures (var_type of)
-    → sound_statements.AreDeclared (seen_in scope.env) vs (map type_declared (map (declared of) ds))
+    → AreTypedDeclarations scope of ds vs → IsKnownScope scope → IsVariableType of → IsKnownType of
+    → signatures.IsTypeInModule (seen_in scope.env).signatures (var_type of)
+    → sound_statements.AreSoundDeclarations (seen_in scope.env) vs (map type_declared (map (declared of) ds))
 variables_sound none_declared known v k type = sound_statements.none_declared
 variables_sound {scope} (and_declared {of = of} {d = d} {ds = ds} {value = w} {values = ws} h i rest) known v k type =
     let first = declared_sound i known.env k type in
     let more = variables_sound rest (more_known scope (declared of d ∷ []) known (v, tt)) v k type in
     let seen = subst
-    (λ env. sound_statements.AreDeclared env ws (map type_declared (map (declared of) ds)))
+    (λ env. sound_statements.AreSoundDeclarations env ws (map type_declared (map (declared of) ds)))
     (seen_with scope.env (declared of d ∷ [])) more in
     subst (λ type.
-    sound_statements.AreDeclared (seen_in scope.env) (w ∷ ws) (type ∷ map type_declared (map (declared of) ds)))
+    sound_statements.AreSoundDeclarations (seen_in scope.env) (w ∷ ws) (type ∷ map type_declared (map (declared of) ds)))
     (is_of i)
     (sound_statements.and_declared first
     (subst (λ type.
-    sound_statements.AreDeclared (sound_statements.with_locals (seen_in scope.env) (type ∷ [])) ws
+    sound_statements.AreSoundDeclarations (sound_statements.with_locals (seen_in scope.env) (type ∷ [])) ws
     (map type_declared (map (declared of) ds))) (sym (is_of i)) seen))

@@ -3,22 +3,22 @@
 use Rattle.std.proofs.Common.{◌≡◌, ℕ, List, [], ◌∷◌, map, Bool, false, Option, Some, None, option_map}
 use Rattle.std.proofs.Common.{Ok, refl, sym, ap, subst}
 use Rattle.std.specs.List.{AllByRecursion}
-use Rattle.ash_tree.specs.declared.tree.places.Place.{Place}
+use Rattle.ash_tree.specs.declared.tree.places.Position.{Position}
 use Rattle.ash_tree.specs.Tree as written
 use Rattle.ash_integers.specs.declared.int_type.IntType.{IntType}
 use Rattle.ash_typing.specs.declared.types.Ty.{Ty}
 use Rattle.ash_typing.specs.declared.types.Ty.TheVariants as ty
 use Rattle.ash_typed.specs.StatementTree.{Initialization, Stmt, Declare, Head}
 use Rattle.ash_typing.specs.Environment.{Environment, Declared}
-use Rattle.ash_typing.specs.Expressions.{TypedExpr, check_expr, check_exprs, integer_of, bool_of}
+use Rattle.ash_typing.specs.ExpressionRules.{TypedExpr, check_expr, check_exprs, integer_of, bool_of}
 use Rattle.ash_typing.specs.ModuleDeclarations.{declared, ty_in}
 use Rattle.ash_typing.specs.Declarations.{at_type, known_ty, check_decl}
 use Rattle.ash_typing.specs.Typing.{AllHaveType, IsKnown, IsKnownType, IsVariableType, IsKnownVariable}
-use Rattle.ash_typing.specs.Statements.{fresh, check_decls, check_vars, condition_is}
-use Rattle.ash_typing.specs.Statements.{check_optional, maybe_condition_is, tree_of, check_head, check_stmt}
-use Rattle.ash_typing.specs.TypedStatements.{IsKnownScope, AreDeclared, none_declared, and_declared, IsCondition}
-use Rattle.ash_typing.specs.TypedStatements.{condition, MayBeCondition, endless, until, IsHead, head_is_empty}
-use Rattle.ash_typing.specs.TypedStatements.{head_declares, head_evaluates, IsStmt, declare}
+use Rattle.ash_typing.specs.StatementRules.{fresh, check_decls, check_vars, condition_is}
+use Rattle.ash_typing.specs.StatementRules.{check_optional, maybe_condition_is, tree_of, check_head, check_stmt}
+use Rattle.ash_typing.specs.TypedStatements.{IsKnownScope, AreTypedDeclarations, none_declared, and_declared, IsTypedCondition}
+use Rattle.ash_typing.specs.TypedStatements.{condition, MayBeTypedCondition, endless, until, IsTypedHead, head_is_empty}
+use Rattle.ash_typing.specs.TypedStatements.{head_declares, head_evaluates, IsTypedStmt, declare}
 use Rattle.ash_typing.proofs.Bindings.{no_err, ok_is, bind_ok, if_ok}
 use Rattle.ash_typing.proofs.TakenNames.{all_append}
 use Rattle.ash_typing.proofs.TypedVariables.{known_sound}
@@ -87,8 +87,8 @@ fresh_sound scope of d v h =
 
 decls_sound : (scope : Scope) → IsKnownScope scope → (at : ℕ) (of : Ty) → IsVariableType of
     → (ds : List written.Decl) (values : List Initialization) → check_decls scope at of ds ≡ Ok values
-    → AreDeclared scope of ds values
-decls_sound scope k at of known [] values h = subst (AreDeclared scope of []) (ok_is [] values h) none_declared
+    → AreTypedDeclarations scope of ds values
+decls_sound scope k at of known [] values h = subst (AreTypedDeclarations scope of []) (ok_is [] values h) none_declared
 decls_sound scope k at of known (d ∷ ds) values h =
     let f = bind_ok (fresh scope of d) _ values h in
     let v = bind_ok (check_decl scope.env at of d) _ values f.2 in
@@ -96,14 +96,14 @@ decls_sound scope k at of known (d ∷ ds) values h =
     let s = fresh_sound scope of d f.0 f.1 in
     let rest : check_decls (with_variables scope (declared of d ∷ [])) at of ds ≡ Ok r.0 =
     subst (λ (x : Declared). check_decls (with_variables scope (x ∷ [])) at of ds ≡ Ok r.0) s.1 r.1 in
-    subst (AreDeclared scope of (d ∷ ds)) (ok_is (v.0 ∷ r.0) values r.2)
+    subst (AreTypedDeclarations scope of (d ∷ ds)) (ok_is (v.0 ∷ r.0) values r.2)
     (and_declared s.0 (declared_sound scope.env k.env at of d v.0 v.1)
     (decls_sound (with_variables scope (declared of d ∷ [])) (more_known scope (declared of d ∷ []) k (known, tt))
     at of known ds r.0 rest))
 
 vars_declared : (scope : Scope) → IsKnownScope scope → (v : written.Vars) (values : List Initialization)
     → check_vars scope v ≡ Ok values
-    → IsVariableType (ty_in scope.env v.of) × AreDeclared scope (ty_in scope.env v.of) v.decls values
+    → IsVariableType (ty_in scope.env v.of) × AreTypedDeclarations scope (ty_in scope.env v.of) v.decls values
 unfolding check_vars
 vars_declared scope k v values h =
     let o = bind_ok (known_ty v.of (ty_in scope.env v.of)) _ values h in
@@ -113,24 +113,24 @@ vars_declared scope k v values h =
           (subst (λ (of : Ty). check_decls scope (at_type v.of) of v.decls ≡ Ok values) s.1 o.2),
     )
 
-pub vars_sound : (scope : Scope) → IsKnownScope scope → (p : Place) (v : written.Vars) (values : List Initialization)
-    → check_vars scope v ≡ Ok values → IsStmt scope (written.Declare p v) (Declare p.line values)
+pub vars_sound : (scope : Scope) → IsKnownScope scope → (p : Position) (v : written.Vars) (values : List Initialization)
+    → check_vars scope v ≡ Ok values → IsTypedStmt scope (written.Declare p v) (Declare p.line values)
 vars_sound scope k p v values h =
     let are = vars_declared scope k v values h in
     declare are.0 are.1
 
 -- the head of a `for`
 pub head_sound : (scope : Scope) → IsKnownScope scope → (f : written.Stmt) (g : Head) → check_head scope f ≡ Ok g
-    → IsHead scope f g
+    → IsTypedHead scope f g
 unfolding check_head
-head_sound scope k (written.Empty p) g h = subst (IsHead scope (written.Empty p)) (ok_is _ g h) head_is_empty
+head_sound scope k (written.Empty p) g h = subst (IsTypedHead scope (written.Empty p)) (ok_is _ g h) head_is_empty
 head_sound scope k (written.Declare p v) g h =
     let values = bind_ok (check_vars scope v) _ g h in
     let are = vars_declared scope k v values.0 values.1 in
-    subst (IsHead scope (written.Declare p v)) (ok_is _ g values.2) (head_declares are.0 are.1)
+    subst (IsTypedHead scope (written.Declare p v)) (ok_is _ g values.2) (head_declares are.0 are.1)
 head_sound scope k (written.Evaluate p e) g h =
     let v = bind_ok (check_expr scope.env false e) _ g h in
-    subst (IsHead scope (written.Evaluate p e)) (ok_is _ g v.2)
+    subst (IsTypedHead scope (written.Evaluate p e)) (ok_is _ g v.2)
     (head_evaluates (sound scope.env k.env false e v.0 v.1))
 head_sound scope k (written.Block p ss) g h = absurd (no_err _ g h)
 head_sound scope k (written.If p c s) g h = absurd (no_err _ g h)
@@ -164,19 +164,19 @@ integer_sound at (ty.Handle o) j k h = absurd (no_err _ j h)
 integer_sound at ty.Null j k h = absurd (no_err _ j h)
 
 pub condition_sound : (env : Environment) → IsKnown env → (e : written.Expr) (t : TypedExpr) (fit : Bool)
-    → check_expr env false e ≡ Ok t → condition_is t ≡ Ok fit → IsCondition env e t.tree
+    → check_expr env false e ≡ Ok t → condition_is t ≡ Ok fit → IsTypedCondition env e t.tree
 condition_sound env k e t fit h i =
     let has = sound env k false e t h in
     condition has (bool_sound t.at t.ty fit (known_type has k) i)
 
 pub maybe_sound : (env : Environment) → IsKnown env → (e : Option written.Expr) (t : Option TypedExpr) (fit : Bool)
-    → check_optional env e ≡ Ok t → maybe_condition_is t ≡ Ok fit → MayBeCondition env e (option_map tree_of t)
+    → check_optional env e ≡ Ok t → maybe_condition_is t ≡ Ok fit → MayBeTypedCondition env e (option_map tree_of t)
 maybe_sound env k None t fit h i =
-    subst (λ (x : Option TypedExpr). MayBeCondition env None (option_map tree_of x)) (ok_is None t h) endless
+    subst (λ (x : Option TypedExpr). MayBeTypedCondition env None (option_map tree_of x)) (ok_is None t h) endless
 maybe_sound env k (Some e) t fit h i =
     let c = bind_ok (check_expr env false e) _ t h in
     let is = ok_is (Some c.0) t c.2 in
-    subst (λ (x : Option TypedExpr). MayBeCondition env (Some e) (option_map tree_of x)) is
+    subst (λ (x : Option TypedExpr). MayBeTypedCondition env (Some e) (option_map tree_of x)) is
     (until (condition_sound env k e c.0 fit c.1
     (subst (λ (x : Option TypedExpr). maybe_condition_is x ≡ Ok fit) (sym is) i)))
 

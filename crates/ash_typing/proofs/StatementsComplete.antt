@@ -4,7 +4,7 @@ use Rattle.std.proofs.Common.{Ok, refl, sym, ◌∙◌, ap}
 use Rattle.std.specs.List.{list_any}
 use Rattle.ash_tree.specs.declared.tree.statements.Label.{Label}
 use Rattle.ash_tree.specs.declared.tree.statements.Label.TheVariants as labels
-use Rattle.ash_tree.specs.declared.tree.places.Place.{Place}
+use Rattle.ash_tree.specs.declared.tree.places.Position.{Position}
 use Rattle.ash_tree.specs.Tree as written
 use Rattle.ash_integers.specs.declared.int_type.IntType.{IntType}
 use Rattle.ash_typing.specs.declared.types.Ty.{Ty}
@@ -12,26 +12,26 @@ use Rattle.ash_typing.specs.declared.types.Ty.TheVariants as ty
 use Rattle.ash_typing.specs.Coercions.{fits}
 use Rattle.ash_typing.specs.TypingResult.{TypingResult}
 use Rattle.ash_typed.specs.declared.tree.statements.Test.TheVariants.{First, Last}
-use Rattle.ash_typed.specs.Tree.{Expr}
+use Rattle.ash_typed.specs.TypedTree.{Expr}
 use Rattle.ash_typed.specs.StatementTree.{Initialization, Stmt, If, no_branch, branch, Head, Repeat, For, repeated}
 use Rattle.ash_typed.specs.StatementTree.{Switch, Break, Continue, Return, Stmts, Cases}
-use Rattle.ash_typing.specs.Environment.{Environment, Class}
-use Rattle.ash_typing.specs.Expressions.{TypedExpr, check_expr, check_exprs, integer_of, bool_of, is_void, first_at, placed}
-use Rattle.ash_typing.specs.Expressions.{all_placed}
+use Rattle.ash_typing.specs.Environment.{Environment, ClassSignature}
+use Rattle.ash_typing.specs.ExpressionRules.{TypedExpr, check_expr, check_exprs, integer_of, bool_of, is_void, first_at, placed}
+use Rattle.ash_typing.specs.ExpressionRules.{all_placed}
 use Rattle.ash_typing.specs.ModuleDeclarations.{declared, ty_in}
 use Rattle.ash_typing.specs.Declarations.{at_type, known_ty, check_decl}
 use Rattle.ash_typing.specs.Returning.{is_default}
 use Rattle.ash_typing.specs.Switches.{integer_type_in, is_within, check_constant, check_label}
-use Rattle.ash_typing.specs.Statements.{fresh, check_decls, check_vars, condition_is, check_if, check_if_else}
-use Rattle.ash_typing.specs.Statements.{check_while, check_do_while, check_optional, maybe_condition_is, tree_of}
-use Rattle.ash_typing.specs.Statements.{check_head, check_for, check_break, check_continue, returned, check_return}
-use Rattle.ash_typing.specs.Statements.{check_stmt, check_stmts, check_cases}
-use Rattle.ash_typing.specs.TypedStatements.{AreDeclared, none_declared, and_declared, IsCondition, condition}
-use Rattle.ash_typing.specs.TypedStatements.{MayBeCondition, endless, until, IsHead, head_is_empty, head_declares}
-use Rattle.ash_typing.specs.TypedStatements.{head_evaluates, IsLabel, constant, otherwise, tree_of_term, IsStmt, empty}
+use Rattle.ash_typing.specs.StatementRules.{fresh, check_decls, check_vars, condition_is, check_if, check_if_else}
+use Rattle.ash_typing.specs.StatementRules.{check_while, check_do_while, check_optional, maybe_condition_is, tree_of}
+use Rattle.ash_typing.specs.StatementRules.{check_head, check_for, check_break, check_continue, returned, check_return}
+use Rattle.ash_typing.specs.StatementRules.{check_stmt, check_stmts, check_cases}
+use Rattle.ash_typing.specs.TypedStatements.{AreTypedDeclarations, none_declared, and_declared, IsTypedCondition, condition}
+use Rattle.ash_typing.specs.TypedStatements.{MayBeTypedCondition, endless, until, IsTypedHead, head_is_empty, head_declares}
+use Rattle.ash_typing.specs.TypedStatements.{head_evaluates, IsTypedLabel, constant, otherwise, tree_of_term, IsTypedStmt, empty}
 use Rattle.ash_typing.specs.TypedStatements.{declare, evaluate, block, if_only, if_else, while_loop, do_loop, for_loop}
-use Rattle.ash_typing.specs.TypedStatements.{switch, break_out, continue_on, return_nothing, return_value, AreStmts}
-use Rattle.ash_typing.specs.TypedStatements.{no_more_stmts, more_stmts, AreCases, no_more_cases, more_cases}
+use Rattle.ash_typing.specs.TypedStatements.{switch, break_out, continue_on, return_nothing, return_value, AreTypedStmts}
+use Rattle.ash_typing.specs.TypedStatements.{no_more_stmts, more_stmts, AreTypedCases, no_more_cases, more_cases}
 use Rattle.ash_typing.proofs.Bindings.{bind_is}
 use Rattle.ash_typing.proofs.TypedVariables.{known_complete}
 use Rattle.ash_typing.proofs.TypingComplete.{complete, all_complete, all_terms, terms, coerced_for_assignment_is}
@@ -48,7 +48,7 @@ unfolding fresh
 fresh_is scope of d h = rw h refl
 
 decls_complete : {scope : Scope} {of : Ty} {ds : List written.Decl} {values : List Initialization}
-    → AreDeclared scope of ds values → (at : ℕ) → check_decls scope at of ds ≡ Ok values
+    → AreTypedDeclarations scope of ds values → (at : ℕ) → check_decls scope at of ds ≡ Ok values
 decls_complete none_declared at = refl
 decls_complete (and_declared {scope = scope} {of = of} {d = d} {ds = ds} {value = value} {values = values} free is rest)
     at =
@@ -59,7 +59,7 @@ decls_complete (and_declared {scope = scope} {of = of} {d = d} {ds = ds} {value 
 
 vars_complete : (scope : Scope) (v : written.Vars) (values : List Initialization)
     → known_ty v.of (ty_in scope.env v.of) ≡ Ok (ty_in scope.env v.of)
-    → AreDeclared scope (ty_in scope.env v.of) v.decls values → check_vars scope v ≡ Ok values
+    → AreTypedDeclarations scope (ty_in scope.env v.of) v.decls values → check_vars scope v ≡ Ok values
 unfolding check_vars
 vars_complete scope v values known h =
     bind_is (known_ty v.of (ty_in scope.env v.of)) _ (ty_in scope.env v.of) _ known (decls_complete h (at_type v.of))
@@ -75,7 +75,7 @@ record Tested (env : Environment) (e : written.Expr) (tree : Expr) : Type 0 wher
 bool_is : (at : ℕ) (of : Ty) → of ≡ ty.Bool → bool_of at of ≡ Ok true
 bool_is at of h = rw h refl
 
-tested : {env : Environment} {e : written.Expr} {tree : Expr} → IsCondition env e tree → Tested env e tree
+tested : {env : Environment} {e : written.Expr} {tree : Expr} → IsTypedCondition env e tree → Tested env e tree
 tested (condition {e = e} {t = t} h is) = record {
   of = placed (first_at e) t;
   typed = complete h;
@@ -89,7 +89,7 @@ record MaybeTested (env : Environment) (e : Option written.Expr) (tree : Option 
   test : maybe_condition_is of ≡ Ok true
   is : option_map tree_of of ≡ tree
 
-maybe_tested : {env : Environment} {e : Option written.Expr} {tree : Option Expr} → MayBeCondition env e tree
+maybe_tested : {env : Environment} {e : Option written.Expr} {tree : Option Expr} → MayBeTypedCondition env e tree
     → MaybeTested env e tree
 maybe_tested endless = record { of = None; typed = refl; test = refl; is = refl }
 maybe_tested (until {env = env} {e = e} c) =
@@ -107,7 +107,7 @@ trees_of (t ∷ ts) = ap (λ (es : List Expr). t.tree ∷ es) (trees_of ts)
 
 -- declarations
 
-head_complete : {scope : Scope} {f : written.Stmt} {g : Head} → IsHead scope f g → check_head scope f ≡ Ok g
+head_complete : {scope : Scope} {f : written.Stmt} {g : Head} → IsTypedHead scope f g → check_head scope f ≡ Ok g
 unfolding check_head
 head_complete head_is_empty = refl
 head_complete (head_declares {scope = scope} {v = v} {values = values} known h) =
@@ -150,19 +150,19 @@ for_is : (line : ℕ) (f : TypingResult Head) (b : TypingResult Stmt) (o : Typin
 unfolding check_for
 for_is line f b o es g s c ts tree trees h i j k l m n = rw (h, i, l, n, j, sym k, sym m) refl
 
-break_is : (leaves : Bool) (p : Place) → leaves ≡ true → check_break leaves p ≡ Ok (Break p.line)
+break_is : (leaves : Bool) (p : Position) → leaves ≡ true → check_break leaves p ≡ Ok (Break p.line)
 unfolding check_break
 break_is leaves p h = rw h refl
 
-continue_is : (leaves : Bool) (p : Place) → leaves ≡ true → check_continue leaves p ≡ Ok (Continue p.line)
+continue_is : (leaves : Bool) (p : Position) → leaves ≡ true → check_continue leaves p ≡ Ok (Continue p.line)
 unfolding check_continue
 continue_is leaves p h = rw h refl
 
-nothing_is : (scope : Scope) (p : Place) → scope.result ≡ ty.Void → check_return scope p None ≡ Ok (Return p.line None)
+nothing_is : (scope : Scope) (p : Position) → scope.result ≡ ty.Void → check_return scope p None ≡ Ok (Return p.line None)
 unfolding check_return
 nothing_is scope p h = rw h refl
 
-no_void : (classes : List Class) (of t : Ty) → fits classes of t ≡ true → is_void of ≡ false
+no_void : (classes : List ClassSignature) (of t : Ty) → fits classes of t ≡ true → is_void of ≡ false
 no_void classes ty.Void t h = absurd (cc)
 no_void classes ty.Unknown t h = refl
 no_void classes ty.Bool t h = refl
@@ -171,12 +171,12 @@ no_void classes (ty.Object o) t h = refl
 no_void classes (ty.Handle o) t h = refl
 no_void classes ty.Null t h = refl
 
-returned_is : (classes : List Class) (of : Ty) (at a : ℕ) (t : Term) → fits classes of t.ty ≡ true
+returned_is : (classes : List ClassSignature) (of : Ty) (at a : ℕ) (t : Term) → fits classes of t.ty ≡ true
     → returned classes of at (placed a t) ≡ Ok (converted_to of t)
 unfolding returned
 returned_is classes of at a t h = rw (no_void classes of t.ty h) (coerced_for_assignment_is classes of a t h)
 
-value_is : (scope : Scope) (p : Place) (e : written.Expr) (t : Term)
+value_is : (scope : Scope) (p : Position) (e : written.Expr) (t : Term)
     → check_expr scope.env false e ≡ Ok (placed (first_at e) t)
     → fits scope.env.declarations.classes scope.result t.ty ≡ true
     → check_return scope p (Some e) ≡ Ok (Return p.line (Some (converted_to scope.result t)))
@@ -204,7 +204,7 @@ default_is : (k : IntType) (before : List Label) (at : ℕ)
 unfolding check_label
 default_is k before at = refl
 
-label_complete : {k : IntType} {before : List Label} {last : Bool} {l : Label} → IsLabel k before last l → (at : ℕ)
+label_complete : {k : IntType} {before : List Label} {last : Bool} {l : Label} → IsTypedLabel k before last l → (at : ℕ)
     → check_label (Some k) before last at l ≡ Ok l
 label_complete (constant {k = k} {before = before} {last = last} {l = l} d h i) at = label_is k before last at l d h i
 label_complete (otherwise {k = k} {before = before}) at = default_is k before at
@@ -216,7 +216,7 @@ integer_type_is : (of : Ty) (k : IntType) → of ≡ ty.Integer k → integer_ty
 integer_type_is of k h = rw h refl
 
 -- `switch`, of which the labels are typed
-switch_is : (scope : Scope) (p : Place) (e : written.Expr) (cs : written.Cases) (t : Term) (k : IntType) (rows : Cases)
+switch_is : (scope : Scope) (p : Position) (e : written.Expr) (cs : written.Cases) (t : Term) (k : IntType) (rows : Cases)
     → check_expr scope.env false e ≡ Ok (placed (first_at e) t) → t.ty ≡ ty.Integer k
     → check_cases (switch_of scope) (Some k) [] cs ≡ Ok rows
     → check_stmt scope (written.Switch p e cs) ≡ Ok (Switch p.line k t.tree rows)
@@ -229,7 +229,7 @@ switch_is scope p e cs t k rows h is i =
 -- statements
 
 mutual
-  pub stmt_complete : {scope : Scope} {s : written.Stmt} {t : Stmt} → IsStmt scope s t → check_stmt scope s ≡ Ok t
+  pub stmt_complete : {scope : Scope} {s : written.Stmt} {t : Stmt} → IsTypedStmt scope s t → check_stmt scope s ≡ Ok t
   stmt_complete empty = refl
   stmt_complete (declare {scope = scope} {v = v} {values = values} known h) =
       bind_is (check_vars scope v) _ values _
@@ -269,7 +269,7 @@ mutual
   stmt_complete (return_nothing {scope = scope} {p = p} h) = nothing_is scope p h
   stmt_complete (return_value {scope = scope} {p = p} {e = e} {t = t} h fit) = value_is scope p e t (complete h) fit
 
-  pub stmts_complete : {scope : Scope} {ss : written.Stmts} {ts : Stmts} → AreStmts scope ss ts
+  pub stmts_complete : {scope : Scope} {ss : written.Stmts} {ts : Stmts} → AreTypedStmts scope ss ts
       → check_stmts scope ss ≡ Ok ts
   stmts_complete no_more_stmts = refl
   stmts_complete (more_stmts {scope = scope} {s = s} {ss = ss} {t = t} {ts = ts} h i) =
@@ -277,7 +277,7 @@ mutual
       (bind_is (check_stmts (after scope s) ss) _ ts _ (stmts_complete i) refl)
 
   pub cases_complete : {scope : Scope} {k : IntType} {before : List Label} {cs : written.Cases} {rows : Cases}
-      → AreCases scope k before cs rows → check_cases scope (Some k) before cs ≡ Ok rows
+      → AreTypedCases scope k before cs rows → check_cases scope (Some k) before cs ≡ Ok rows
   cases_complete no_more_cases = refl
   cases_complete
       (more_cases {scope = scope} {k = k} {before = before} {p = p} {l = l} {ss = ss} {cs = cs} {ts = ts} {rows = rows}

@@ -8,7 +8,7 @@ use Rattle.std.proofs.lemmas.Bool.Decides.{nat_tests}
 use Rattle.std.proofs.lemmas.Cmp.{nat_list_eq_equiv}
 use Rattle.std.proofs.lemmas.Map.Keys.{IsDistinct-push}
 use Rattle.ash_typing.specs.Environment.{named_in}
-use Rattle.ash_typing.specs.Items.{Names, is_taken, untaken, one_more, placed}
+use Rattle.ash_typing.specs.ItemRules.{Names, is_taken, untaken, one_more, placed}
 use Rattle.ash_typing.specs.TypedModules.{IsFree}
 use Rattle.ash_typing.proofs.Bindings.{no_err, ok_is, bind_ok, bind_is, if_ok}
 

@@ -11,11 +11,11 @@ use Rattle.ash_typing.specs.Environment.{Environment, inside}
 use Rattle.ash_typing.specs.Typing.{IsKnown}
 use Rattle.ash_typed.specs.StatementTree.{Initialization}
 use Rattle.ash_typed.specs.Modules.{Variables, Function, Implementation, Class}
-use Rattle.ash_typing.specs.Items.{Names, placed, check_vars, check_result, check_routine, Members, constructor_named}
-use Rattle.ash_typing.specs.Items.{check_member, check_members, no_members, class_of_members, Listed, all_listed}
-use Rattle.ash_typing.specs.Items.{none_listed, check_class}
-use Rattle.ash_typing.specs.TypedModules.{listed_name, AreVariables, AreFields, IsFunction, IsConstructor}
-use Rattle.ash_typing.specs.TypedModules.{HasConstructor, IsListed, IsClass}
+use Rattle.ash_typing.specs.ItemRules.{Names, placed, check_vars, check_result, check_routine, Members, constructor_named}
+use Rattle.ash_typing.specs.ItemRules.{check_member, check_members, no_members, class_of_members, Listed, all_listed}
+use Rattle.ash_typing.specs.ItemRules.{none_listed, check_class}
+use Rattle.ash_typing.specs.TypedModules.{listed_name, AreTypedVariables, AreFields, IsTypedFunction, IsTypedConstructor}
+use Rattle.ash_typing.specs.TypedModules.{HasConstructor, IsListed, IsTypedClass}
 use Rattle.ash_typing.proofs.Bindings.{no_err, ok_is, bind_ok, bind_is, if_ok}
 use Rattle.ash_typing.proofs.TakenNames.{all_free, Distinct, grown, grown-none, grown-then, CanTake, takes_none}
 use Rattle.ash_typing.proofs.TakenNames.{takes_then, takes_first, takes_rest, placed_sound, placed_complete}
@@ -89,14 +89,14 @@ constructs_nothing env class (Some f) after h = h
 
 constructs_first : (env : Environment) (class : List ℕ) (before : Option Function) (c : written.Constructor)
     (cs : List written.Constructor) (t : Function) (after : Option Function) → before ≡ None
-    → IsConstructor env class c t → Constructs env class (Some t) cs after → Constructs env class before (c ∷ cs) after
+    → IsTypedConstructor env class c t → Constructs env class (Some t) cs after → Constructs env class before (c ∷ cs) after
 constructs_first env class None c [] t after e is h = subst (λ o. HasConstructor env class (c ∷ []) o) (sym h) is
 constructs_first env class None c (d ∷ cs) t after e is h = absurd h
 constructs_first env class (Some f) c cs t after e is h = absurd (cc)
 
 constructs_only : {P : Type 0} (env : Environment) (class : List ℕ) (before : Option Function) (c : written.Constructor)
     (cs : List written.Constructor) (after : Option Function) → Constructs env class before (c ∷ cs) after
-    → (before ≡ None → (t : Function) → IsConstructor env class c t → cs ≡ [] → after ≡ Some t → P) → P
+    → (before ≡ None → (t : Function) → IsTypedConstructor env class c t → cs ≡ [] → after ≡ Some t → P) → P
 constructs_only env class None c [] (Some t) h k = k refl t h refl refl
 constructs_only env class None c [] None h k = absurd h
 constructs_only env class None c (d ∷ cs) after h k = absurd h
@@ -130,7 +130,7 @@ record MembersWalked (env : Environment) (ms : Members) (written_members : List 
   fields : List Initialization
   are_fields : AreFields env (fields_of written_members) fields
   methods : List Function
-  are_methods : AllZip (IsFunction env) (methods_of written_members) methods
+  are_methods : AllZip (IsTypedFunction env) (methods_of written_members) methods
   constructor : Option Function
   constructs : Constructs env ms.class.name ms.class.constructor (constructors_of written_members) constructor
   is : after ≡ members_with ms (member_names written_members) (length (member_names written_members)) fields methods
@@ -212,7 +212,7 @@ members_sound env known (written.AConstructor c ∷ xs) ms after d h =
     let go = members_sound env known xs next after none.distinct
     (subst (λ (x : Members). check_members env x xs ≡ Ok after) step m.2) in
     let k = length (member_names xs) in
-    let is : IsConstructor env ms.class.name c t.0 = record {
+    let is : IsTypedConstructor env ms.class.name c t.0 = record {
       named = g.1;
       routine = routine_sound env known ty.Void refl (constructing c) t.0
           (subst (λ (r : Routine). check_routine env ty.Void r ≡ Ok t.0) g.2 t.1);
@@ -234,7 +234,7 @@ members_sound env known (written.AConstructor c ∷ xs) ms after d h =
 members_complete : (env : Environment) → IsKnown env
     → (xs : List written.Member) (ms : Members) (fs : List Initialization) (ts : List Function) (o : Option Function)
     → CanTake ms.names (member_names xs) (length (member_names xs)) → AreFields env (fields_of xs) fs
-    → AllZip (IsFunction env) (methods_of xs) ts
+    → AllZip (IsTypedFunction env) (methods_of xs) ts
     → Constructs env ms.class.name ms.class.constructor (constructors_of xs) o
     → check_members env ms xs ≡ Ok (members_with ms (member_names xs) (length (member_names xs)) fs ts o)
 unfolding check_member
@@ -248,7 +248,7 @@ members_complete env known (written.AField v ∷ xs) ms fs ts o can are_fs are_t
     let values = are_fs.0 in
     let more = are_fs.1 in
     let f : Variables = record { line = (written.place_of_type v.of).line; values = values } in
-    let are : AreVariables env v f = record { variable = are_fs.2; line = refl; values = are_fs.3 } in
+    let are : AreTypedVariables env v f = record { variable = are_fs.2; line = refl; values = are_fs.3 } in
     let j = length v.decls in
     let k = length (member_names xs) in
     let count = count_names v (member_names xs) in
@@ -309,7 +309,7 @@ within_known env place k =
     record { interfaces = k.interfaces; classes = k.classes; functions = k.functions; globals = k.globals; locals = tt }
 
 pub class_sound : (env : Environment) → IsKnown env → (place : ℕ) (c : written.Class) (typed : Class)
-    → check_class env place c ≡ Ok typed → IsClass env place c typed
+    → check_class env place c ≡ Ok typed → IsTypedClass env place c typed
 unfolding check_class IsDistinct
 class_sound env known place c typed h =
     let l = bind_ok (all_listed env place none_listed c.interfaces) _ typed h in
@@ -320,7 +320,7 @@ class_sound env known place c typed h =
     let is : typed
     ≡ (members_with (no_members c l.0.interfaces) (member_names c.members) (length (member_names c.members))
     go.fields go.methods go.constructor).class = sym (ok_is _ typed m.2) ∙ ap class_of_members go.is in
-    subst (λ (t : Class). IsClass env place c t) (sym is) (record {
+    subst (λ (t : Class). IsTypedClass env place c t) (sym is) (record {
       name = refl;
       line = refl;
       listed_once = list.can.distinct;
@@ -333,7 +333,7 @@ class_sound env known place c typed h =
     })
 
 pub class_complete : (env : Environment) → IsKnown env → (place : ℕ) (c : written.Class) (typed : Class)
-    → IsClass env place c typed → check_class env place c ≡ Ok typed
+    → IsTypedClass env place c typed → check_class env place c ≡ Ok typed
 unfolding check_class IsDistinct
 class_complete env known place c typed is =
     let n = is.name in

@@ -9,13 +9,13 @@ use Rattle.ash_typed.specs.declared.types.ObjectType.TheVariants.{Class as OfCla
 use Rattle.ash_typed.specs.declared.types.ObjectType.TheVariants.{Host as OfHost, Array as OfArray}
 use Rattle.ash_typed.specs.Modules.{Signature, Interface, Implementation}
 use Rattle.ash_typing.specs.declared.types.Ty.{Ty}
-use Rattle.ash_typing.specs.Types.{result_type}
+use Rattle.ash_typing.specs.TypeRules.{result_type}
 use Rattle.ash_typing.specs.Environment.{Environment, Declared, type_declared}
 use Rattle.ash_typing.specs.ModuleDeclarations.{object_named, result_in}
-use Rattle.ash_typing.specs.Items.{Names, untaken, placed, check_result, check_parameters, Signatures, signature_of}
-use Rattle.ash_typing.specs.Items.{check_signature, check_signatures, no_signatures, interface_of, check_interface}
-use Rattle.ash_typing.specs.Items.{listed_at, implemented_at, Listed, check_listed, all_listed}
-use Rattle.ash_typing.specs.TypedModules.{signature_name, listed_name, parameter_of, IsSignature, IsInterface, IsListed}
+use Rattle.ash_typing.specs.ItemRules.{Names, untaken, placed, check_result, check_parameters, InterfaceMembers, signature_of}
+use Rattle.ash_typing.specs.ItemRules.{check_signature, check_signatures, no_signatures, interface_of, check_interface}
+use Rattle.ash_typing.specs.ItemRules.{listed_at, implemented_at, Listed, check_listed, all_listed}
+use Rattle.ash_typing.specs.TypedModules.{signature_name, listed_name, parameter_of, IsTypedSignature, IsTypedInterface, IsListed}
 use Rattle.ash_typing.proofs.Bindings.{no_err, ok_is, bind_ok, bind_is}
 use Rattle.ash_typing.proofs.TakenNames.{all_free, Distinct, grown, grown-none, grown-then, CanTake, takes_none}
 use Rattle.ash_typing.proofs.TakenNames.{takes_then, takes_first, takes_rest, untaken_sound, untaken_complete}
@@ -26,20 +26,20 @@ use Rattle.ash_typing.specs.Implementations.{implemented}
 
 -- an interface so far
 
-abbrev signatures_of : Names → List Signature → Signatures
+abbrev signatures_of : Names → List Signature → InterfaceMembers
 signatures_of names methods = record { names = names; methods = methods }
 
-abbrev signatures_with : Signatures → List (List ℕ) → ℕ → List Signature → Signatures
+abbrev signatures_with : InterfaceMembers → List (List ℕ) → ℕ → List Signature → InterfaceMembers
 signatures_with ss names k methods = signatures_of (grown ss.names names k) (ss.methods ++ methods)
 
 same_signatures : (n m : Names) (ts us : List Signature) → n ≡ m → ts ≡ us → signatures_of n ts ≡ signatures_of m us
 same_signatures n m ts us h i = rw (h, i) refl
 
-signatures_with-none : (ss : Signatures) → signatures_with ss [] 0 [] ≡ ss
+signatures_with-none : (ss : InterfaceMembers) → signatures_with ss [] 0 [] ≡ ss
 signatures_with-none ss =
     same_signatures (grown ss.names [] 0) ss.names _ _ (grown-none ss.names) (append-nil ss.methods)
 
-signatures_with-then : (ss : Signatures) (x : List ℕ) (xs : List (List ℕ)) (k : ℕ) (t : Signature) (ts : List Signature)
+signatures_with-then : (ss : InterfaceMembers) (x : List ℕ) (xs : List (List ℕ)) (k : ℕ) (t : Signature) (ts : List Signature)
     → signatures_with (signatures_with ss (x ∷ []) 1 (t ∷ [])) xs k ts ≡ signatures_with ss (x ∷ xs) (suc k) (t ∷ ts)
 signatures_with-then ss x xs k t ts =
     same_signatures _ (grown ss.names (x ∷ xs) (suc k)) _ _ (grown-then ss.names (x ∷ []) xs 1 k (suc k) (omega arith))
@@ -53,7 +53,7 @@ signature_in env m = signature_of m.name (result_in env m.result) (map (paramete
 
 signature_sound : (env : Environment) (m : written.InterfaceMethod) (of : Ty) (parameters : List Declared)
     → check_result env m.result ≡ Ok of → check_parameters env [] m.parameters ≡ Ok parameters
-    → IsSignature env m (signature_of m.name of parameters)
+    → IsTypedSignature env m (signature_of m.name of parameters)
 unfolding IsDistinct
 signature_sound env m of parameters h k =
     let r = result_sound env m.result of h in
@@ -67,7 +67,7 @@ signature_sound env m of parameters h k =
       parameters = ap (map type_declared) s.is ∙ types_of env m.parameters;
     }
 
-signature_exact : (env : Environment) (m : written.InterfaceMethod) (t : Signature) → IsSignature env m t
+signature_exact : (env : Environment) (m : written.InterfaceMethod) (t : Signature) → IsTypedSignature env m t
     → t ≡ signature_in env m
 signature_exact env m t is =
     let n = is.name in
@@ -75,14 +75,14 @@ signature_exact env m t is =
     let p = is.parameters in
     rw (sym n, sym r, types_of env m.parameters, sym p) refl
 
-record SignaturesWalked (env : Environment) (ss : Signatures) (ms : List written.InterfaceMethod)
-    (after : Signatures) : Type 0 where
+record SignaturesWalked (env : Environment) (ss : InterfaceMembers) (ms : List written.InterfaceMethod)
+    (after : InterfaceMembers) : Type 0 where
   can : CanTake ss.names (map signature_name ms) (length ms)
   methods : List Signature
-  are : AllZip (IsSignature env) ms methods
+  are : AllZip (IsTypedSignature env) ms methods
   is : after ≡ signatures_with ss (map signature_name ms) (length ms) methods
 
-signatures_sound : (env : Environment) (ms : List written.InterfaceMethod) (ss after : Signatures)
+signatures_sound : (env : Environment) (ms : List written.InterfaceMethod) (ss after : InterfaceMembers)
     → Distinct ss.names.taken → check_signatures env ss ms ≡ Ok after → SignaturesWalked env ss ms after
 unfolding check_signature
 signatures_sound env [] ss after d h = record {
@@ -98,10 +98,10 @@ signatures_sound env (m ∷ ms) ss after d h =
     let q = bind_ok (check_parameters env [] m.parameters) _ o.0 p.2 in
     let g = placed_sound ss.names m.place.at m.name p.0 d p.1 in
     let t : Signature = signature_of m.name r.0 q.0 in
-    let next : Signatures = signatures_with ss (m.name ∷ []) 1 (t ∷ []) in
+    let next : InterfaceMembers = signatures_with ss (m.name ∷ []) 1 (t ∷ []) in
     let step : o.0 ≡ next = sym (ok_is _ o.0 q.2) ∙ same_signatures p.0 next.names _ _ g.1 refl in
     let go = signatures_sound env ms next after g.0.distinct
-    (subst (λ (x : Signatures). check_signatures env x ms ≡ Ok after) step o.2) in
+    (subst (λ (x : InterfaceMembers). check_signatures env x ms ≡ Ok after) step o.2) in
     record {
       can = takes_then ss.names (m.name ∷ []) (map signature_name ms) 1 (length ms) (suc (length ms)) (omega arith) g.0
           go.can;
@@ -110,11 +110,11 @@ signatures_sound env (m ∷ ms) ss after d h =
       is = go.is ∙ signatures_with-then ss m.name (map signature_name ms) (length ms) t go.methods;
     }
 
-signatures_complete : (env : Environment) (ms : List written.InterfaceMethod) (ss : Signatures) (ts : List Signature)
-    → CanTake ss.names (map signature_name ms) (length ms) → AllZip (IsSignature env) ms ts
+signatures_complete : (env : Environment) (ms : List written.InterfaceMethod) (ss : InterfaceMembers) (ts : List Signature)
+    → CanTake ss.names (map signature_name ms) (length ms) → AllZip (IsTypedSignature env) ms ts
     → check_signatures env ss ms ≡ Ok (signatures_with ss (map signature_name ms) (length ms) ts)
 unfolding check_signature IsDistinct
-signatures_complete env [] ss [] can are = ap (λ (x : Signatures). Ok x) (sym (signatures_with-none ss))
+signatures_complete env [] ss [] can are = ap (λ (x : InterfaceMembers). Ok x) (sym (signatures_with-none ss))
 signatures_complete env [] ss (t ∷ ts) can are = absurd are
 signatures_complete env (m ∷ ms) ss [] can are = absurd are
 signatures_complete env (m ∷ ms) ss (t ∷ ts) can are =
@@ -123,7 +123,7 @@ signatures_complete env (m ∷ ms) ss (t ∷ ts) can are =
     let k = length ms in
     let first = takes_first ss.names (m.name ∷ []) names 1 k (suc k) (omega arith) can in
     let rest = takes_rest ss.names (m.name ∷ []) names 1 k (suc k) (omega arith) can in
-    let next : Signatures = signatures_with ss (m.name ∷ []) 1 (t ∷ []) in
+    let next : InterfaceMembers = signatures_with ss (m.name ∷ []) 1 (t ∷ []) in
     bind_is (check_signature env ss m) _ next _
     (bind_is (check_result env m.result) _ (result_in env m.result) next (result_complete env m.result is.passed_result)
     (bind_is (placed ss.names m.place.at m.name) _ next.names next (placed_complete ss.names m.place.at m.name first)
@@ -131,12 +131,12 @@ signatures_complete env (m ∷ ms) ss (t ∷ ts) can are =
     (parameters_complete env m.parameters [] is.passed is.differ)
     (ap (λ (s : Signature). Ok (signatures_of next.names (ss.methods ++ s ∷ []))) (sym (signature_exact env m t is))))))
     (signatures_complete env ms next ts rest are.1
-    ∙ ap (λ (x : Signatures). Ok x) (signatures_with-then ss m.name names k t ts))
+    ∙ ap (λ (x : InterfaceMembers). Ok x) (signatures_with-then ss m.name names k t ts))
 
 -- interfaces
 
 pub interface_sound : (env : Environment) (classes : ℕ) (i : written.Interface) (typed : Interface)
-    → check_interface env classes i ≡ Ok typed → IsInterface env i classes typed
+    → check_interface env classes i ≡ Ok typed → IsTypedInterface env i classes typed
 unfolding check_interface IsDistinct
 interface_sound env classes i typed h =
     let m = bind_ok (check_signatures env no_signatures i.methods) _ typed h in
@@ -145,7 +145,7 @@ interface_sound env classes i typed h =
     ≡ interface_of i classes
     (signatures_with no_signatures (map signature_name i.methods) (length i.methods) go.methods) =
     sym (ok_is _ typed m.2) ∙ ap (interface_of i classes) go.is in
-    subst (IsInterface env i classes) (sym is) (record {
+    subst (IsTypedInterface env i classes) (sym is) (record {
       name = refl;
       line = refl;
       before = refl;
@@ -155,7 +155,7 @@ interface_sound env classes i typed h =
     })
 
 pub interface_complete : (env : Environment) (classes : ℕ) (i : written.Interface) (typed : Interface)
-    → IsInterface env i classes typed → check_interface env classes i ≡ Ok typed
+    → IsTypedInterface env i classes typed → check_interface env classes i ≡ Ok typed
 unfolding check_interface IsDistinct
 interface_complete env classes i typed is =
     let n = is.name in

@@ -7,11 +7,11 @@ use Rattle.std.proofs.lemmas.Bool.Decides.{nat_tests}
 use Rattle.ash_tree.specs.Tree as written
 use Rattle.ash_typing.specs.Environment.{Environment}
 use Rattle.ash_typing.specs.Typing.{IsKnown}
-use Rattle.ash_typed.specs.Limits.{max_module_types}
+use Rattle.ash_typed.specs.ModuleLimits.{max_module_types}
 use Rattle.ash_typed.specs.Modules.{Variables, Function, Interface, Class, Module}
-use Rattle.ash_typing.specs.Items.{Names, untaken, check_vars, check_result, check_routine, check_class}
-use Rattle.ash_typing.specs.Items.{check_interface, room_for_type, Walked, check_item, check_items}
-use Rattle.ash_typing.specs.TypedModules.{AreVariables, IsFunction, AreInterfaces, AreClasses}
+use Rattle.ash_typing.specs.ItemRules.{Names, untaken, check_vars, check_result, check_routine, check_class}
+use Rattle.ash_typing.specs.ItemRules.{check_interface, room_for_type, Walked, check_item, check_items}
+use Rattle.ash_typing.specs.TypedModules.{AreTypedVariables, IsTypedFunction, AreTypedInterfaces, AreTypedClasses}
 use Rattle.ash_typing.proofs.Bindings.{no_err, ok_is, bind_ok, bind_is, if_ok}
 use Rattle.ash_typing.proofs.TakenNames.{Distinct, grown, grown-none, grown-then, CanTake, takes_none, takes_then}
 use Rattle.ash_typing.proofs.TakenNames.{takes_first, takes_rest, untaken_sound, untaken_complete}
@@ -95,13 +95,13 @@ pub record ItemsWalked (env : Environment) (w : Walked) (is : List written.Item)
   pub can : CanTake w.names (item_names is) (length (variable_names (globals_of is)))
   pub few : types_in w.typed + types_of is ≤ max_module_types
   pub interfaces : List Interface
-  pub are_interfaces : AreInterfaces env (interfaces_of is) (classes_before (length w.typed.classes) is) interfaces
+  pub are_interfaces : AreTypedInterfaces env (interfaces_of is) (classes_before (length w.typed.classes) is) interfaces
   pub classes : List Class
-  pub are_classes : AreClasses env (length w.typed.classes) (classes_of is) classes
+  pub are_classes : AreTypedClasses env (length w.typed.classes) (classes_of is) classes
   pub functions : List Function
-  pub are_functions : AllZip (IsFunction env) (functions_of is) functions
+  pub are_functions : AllZip (IsTypedFunction env) (functions_of is) functions
   pub globals : List Variables
-  pub are_globals : AllZip (AreVariables env) (globals_of is) globals
+  pub are_globals : AllZip (AreTypedVariables env) (globals_of is) globals
   pub after_is : after
       ≡ walked_with w (item_names is) (length (variable_names (globals_of is))) interfaces classes functions globals
 
@@ -145,12 +145,12 @@ items_sound env known (written.AClass c ∷ is) w after d few h =
       few = omega arith;
       interfaces = go.interfaces;
       are_interfaces =
-          subst (λ n. AreInterfaces env (interfaces_of is) (classes_before n is) go.interfaces) places
+          subst (λ n. AreTypedInterfaces env (interfaces_of is) (classes_before n is) go.interfaces) places
           go.are_interfaces;
       classes = t.0 ∷ go.classes;
       are_classes = (
         class_sound env known (length w.typed.classes) c t.0 (subst (λ n. check_class env n c ≡ Ok t.0) q.1 t.1),
-        subst (λ n. AreClasses env n (classes_of is) go.classes) places go.are_classes,
+        subst (λ n. AreTypedClasses env n (classes_of is) go.classes) places go.are_classes,
       );
       functions = go.functions;
       are_functions = go.are_functions;
@@ -185,11 +185,11 @@ items_sound env known (written.AnInterface i ∷ is) w after d few h =
       interfaces = t.0 ∷ go.interfaces;
       are_interfaces = (
         interface_sound env (length w.typed.classes) i t.0 (subst (λ n. check_interface env n i ≡ Ok t.0) q.1 t.1),
-        subst (λ n. AreInterfaces env (interfaces_of is) (classes_before n is) go.interfaces) places
+        subst (λ n. AreTypedInterfaces env (interfaces_of is) (classes_before n is) go.interfaces) places
             go.are_interfaces,
       );
       classes = go.classes;
-      are_classes = subst (λ n. AreClasses env n (classes_of is) go.classes) places go.are_classes;
+      are_classes = subst (λ n. AreTypedClasses env n (classes_of is) go.classes) places go.are_classes;
       functions = go.functions;
       are_functions = go.are_functions;
       globals = go.globals;
@@ -220,10 +220,10 @@ items_sound env known (written.AFunction f ∷ is) w after d few h =
       few = omega arith;
       interfaces = go.interfaces;
       are_interfaces =
-          subst (λ n. AreInterfaces env (interfaces_of is) (classes_before n is) go.interfaces) places
+          subst (λ n. AreTypedInterfaces env (interfaces_of is) (classes_before n is) go.interfaces) places
           go.are_interfaces;
       classes = go.classes;
-      are_classes = subst (λ n. AreClasses env n (classes_of is) go.classes) places go.are_classes;
+      are_classes = subst (λ n. AreTypedClasses env n (classes_of is) go.classes) places go.are_classes;
       functions = t.0 ∷ go.functions;
       are_functions = (function_sound env known f o.0 t.0 o.1 t.1, go.are_functions);
       globals = go.globals;
@@ -254,10 +254,10 @@ items_sound env known (written.AGlobal v ∷ is) w after d few h =
       few = omega arith;
       interfaces = go.interfaces;
       are_interfaces =
-          subst (λ n. AreInterfaces env (interfaces_of is) (classes_before n is) go.interfaces) places
+          subst (λ n. AreTypedInterfaces env (interfaces_of is) (classes_before n is) go.interfaces) places
           go.are_interfaces;
       classes = go.classes;
-      are_classes = subst (λ n. AreClasses env n (classes_of is) go.classes) places go.are_classes;
+      are_classes = subst (λ n. AreTypedClasses env n (classes_of is) go.classes) places go.are_classes;
       functions = go.functions;
       are_functions = go.are_functions;
       globals = r.0.variables ∷ go.globals;
@@ -271,9 +271,9 @@ pub items_complete : (env : Environment) → IsKnown env
     → (is : List written.Item) (w : Walked) (ts : List Interface) (cs : List Class) (fs : List Function)
     (vs : List Variables) → CanTake w.names (item_names is) (length (variable_names (globals_of is)))
     → types_in w.typed + types_of is ≤ max_module_types
-    → AreInterfaces env (interfaces_of is) (classes_before (length w.typed.classes) is) ts
-    → AreClasses env (length w.typed.classes) (classes_of is) cs → AllZip (IsFunction env) (functions_of is) fs
-    → AllZip (AreVariables env) (globals_of is) vs
+    → AreTypedInterfaces env (interfaces_of is) (classes_before (length w.typed.classes) is) ts
+    → AreTypedClasses env (length w.typed.classes) (classes_of is) cs → AllZip (IsTypedFunction env) (functions_of is) fs
+    → AllZip (AreTypedVariables env) (globals_of is) vs
     → check_items env w is ≡ Ok (walked_with w (item_names is) (length (variable_names (globals_of is))) ts cs fs vs)
 unfolding check_item
 items_complete env known [] w [] [] [] [] can few are_ts are_cs are_fs are_vs =
@@ -299,8 +299,8 @@ items_complete env known (written.AClass c ∷ is) w ts (t ∷ cs) fs vs can few
     (same_walked next.names next.names _ _ _ _ _ _ _ _ refl (sym (append-nil w.typed.interfaces)) refl
     (sym (append-nil w.typed.functions)) (sym (append-nil w.typed.globals)))))))
     (items_complete env known is next ts cs fs vs rest (omega arith)
-    (subst (λ n. AreInterfaces env (interfaces_of is) (classes_before n is) ts) (sym places) are_ts)
-    (subst (λ n. AreClasses env n (classes_of is) cs) (sym places) are_cs.1) are_fs are_vs
+    (subst (λ n. AreTypedInterfaces env (interfaces_of is) (classes_before n is) ts) (sym places) are_ts)
+    (subst (λ n. AreTypedClasses env n (classes_of is) cs) (sym places) are_cs.1) are_fs are_vs
     ∙ ap (λ (x : Walked). Ok x)
     (walked_with-then w (c.name ∷ []) (item_names is) 0 k k [] ts (t ∷ []) cs [] fs [] vs (omega arith)))
 items_complete env known (written.AnInterface i ∷ is) w [] cs fs vs can few are_ts are_cs are_fs are_vs = absurd are_ts
@@ -320,8 +320,8 @@ items_complete env known (written.AnInterface i ∷ is) w (t ∷ ts) cs fs vs ca
     (same_walked next.names next.names _ _ _ _ _ _ _ _ refl refl (sym (append-nil w.typed.classes))
     (sym (append-nil w.typed.functions)) (sym (append-nil w.typed.globals)))))))
     (items_complete env known is next ts cs fs vs rest (omega arith)
-    (subst (λ n. AreInterfaces env (interfaces_of is) (classes_before n is) ts) (sym places) are_ts.1)
-    (subst (λ n. AreClasses env n (classes_of is) cs) (sym places) are_cs) are_fs are_vs
+    (subst (λ n. AreTypedInterfaces env (interfaces_of is) (classes_before n is) ts) (sym places) are_ts.1)
+    (subst (λ n. AreTypedClasses env n (classes_of is) cs) (sym places) are_cs) are_fs are_vs
     ∙ ap (λ (x : Walked). Ok x)
     (walked_with-then w (i.name ∷ []) (item_names is) 0 k k (t ∷ []) ts [] cs [] fs [] vs (omega arith)))
 items_complete env known (written.AFunction f ∷ is) w ts cs [] vs can few are_ts are_cs are_fs are_vs = absurd are_fs
@@ -342,8 +342,8 @@ items_complete env known (written.AFunction f ∷ is) w ts cs (t ∷ fs) vs can 
     (same_walked next.names next.names _ _ _ _ _ _ _ _ refl (sym (append-nil w.typed.interfaces))
     (sym (append-nil w.typed.classes)) refl (sym (append-nil w.typed.globals)))))))
     (items_complete env known is next ts cs fs vs rest (omega arith)
-    (subst (λ n. AreInterfaces env (interfaces_of is) (classes_before n is) ts) (sym places) are_ts)
-    (subst (λ n. AreClasses env n (classes_of is) cs) (sym places) are_cs) are_fs.1 are_vs
+    (subst (λ n. AreTypedInterfaces env (interfaces_of is) (classes_before n is) ts) (sym places) are_ts)
+    (subst (λ n. AreTypedClasses env n (classes_of is) cs) (sym places) are_cs) are_fs.1 are_vs
     ∙ ap (λ (x : Walked). Ok x)
     (walked_with-then w (f.name ∷ []) (item_names is) 0 k k [] ts [] cs (t ∷ []) fs [] vs (omega arith)))
 items_complete env known (written.AGlobal v ∷ is) w ts cs fs [] can few are_ts are_cs are_fs are_vs = absurd are_vs
@@ -362,7 +362,7 @@ items_complete env known (written.AGlobal v ∷ is) w ts cs fs (t ∷ vs) can fe
     (same_walked next.names next.names _ _ _ _ _ _ _ _ refl (sym (append-nil w.typed.interfaces))
     (sym (append-nil w.typed.classes)) (sym (append-nil w.typed.functions)) refl)))
     (items_complete env known is next ts cs fs vs rest (omega arith)
-    (subst (λ n. AreInterfaces env (interfaces_of is) (classes_before n is) ts) (sym places) are_ts)
-    (subst (λ n. AreClasses env n (classes_of is) cs) (sym places) are_cs) are_fs are_vs.1
+    (subst (λ n. AreTypedInterfaces env (interfaces_of is) (classes_before n is) ts) (sym places) are_ts)
+    (subst (λ n. AreTypedClasses env n (classes_of is) cs) (sym places) are_cs) are_fs are_vs.1
     ∙ ap (λ (x : Walked). Ok x)
     (walked_with-then w (names_of v) (item_names is) j k _ [] ts [] cs [] fs (t ∷ []) vs count))

@@ -11,19 +11,19 @@ use Rattle.ash_tree.specs.Tree as written
 use Rattle.ash_typed.specs.declared.types.ObjectType.{ObjectType}
 use Rattle.ash_typing.specs.declared.types.Ty.{Ty}
 use Rattle.ash_typing.specs.declared.types.Ty.TheVariants as ty
-use Rattle.ash_typing.specs.Types.{ty_of, var_type}
+use Rattle.ash_typing.specs.TypeRules.{ty_of, var_type}
 use Rattle.ash_typing.specs.Environment.{Environment, Declared, with_locals, declares, type_declared}
-use Rattle.ash_typing.specs.Expressions.{is_void}
+use Rattle.ash_typing.specs.ExpressionRules.{is_void}
 use Rattle.ash_typing.specs.ModuleDeclarations.{object_named, array_named, object_ty, handle_ty, ty_named, ty_in}
 use Rattle.ash_typing.specs.ModuleDeclarations.{result_in}
 use Rattle.ash_typing.specs.Typing.{IsKnown, IsKnownType, IsVariableType, IsKnownVariable}
 use Rattle.ash_typed.specs.StatementTree.{Body}
-use Rattle.ash_typing.specs.Statements.{check_body}
+use Rattle.ash_typing.specs.StatementRules.{check_body}
 use Rattle.ash_typing.specs.Scopes.{body_scope}
 use Rattle.ash_typed.specs.Modules.{Function}
-use Rattle.ash_typing.specs.Items.{passed_ty, check_result, check_parameters, returning, check_routine}
-use Rattle.ash_typing.specs.TypedModules.{IsPassed, type_of_parameter, parameter_of, IsPassedParameter, IsBody}
-use Rattle.ash_typing.specs.TypedModules.{IsRoutine, IsResult, IsFunction}
+use Rattle.ash_typing.specs.ItemRules.{passed_ty, check_result, check_parameters, returning, check_routine}
+use Rattle.ash_typing.specs.TypedModules.{IsPassed, type_of_parameter, parameter_of, IsPassedParameter, IsTypedBody}
+use Rattle.ash_typing.specs.TypedModules.{IsRoutine, IsTypedResult, IsTypedFunction}
 use Rattle.ash_typing.proofs.Bindings.{no_err, ok_is, bind_ok, bind_is, if_ok}
 use Rattle.ash_typing.proofs.StatementsSound.{stmts_sound}
 use Rattle.ash_typing.proofs.StatementsComplete.{stmts_complete}
@@ -178,12 +178,12 @@ inside_known env ps k h = record {
 -- bodies
 
 body_sound : (env : Environment) (of : Ty) (body : List written.Stmt) (typed : Body) → IsKnown env → IsKnownType of
-    → check_body env of body ≡ Ok typed → IsBody env of body typed
+    → check_body env of body ≡ Ok typed → IsTypedBody env of body typed
 unfolding check_body
 body_sound env of body typed k known_of h =
     stmts_sound (body_scope env of) (record { env = k; result = known_of }) (written.stmts body) typed h
 
-body_complete : (env : Environment) (of : Ty) (body : List written.Stmt) (typed : Body) → IsBody env of body typed
+body_complete : (env : Environment) (of : Ty) (body : List written.Stmt) (typed : Body) → IsTypedBody env of body typed
     → check_body env of body ≡ Ok typed
 unfolding check_body
 body_complete env of body typed h = stmts_complete h
@@ -225,7 +225,7 @@ routine_sound env known of known_of r typed h =
     let d = bind_ok (returning r.place.at of r.body b.0) _ typed b.2 in
     let e = returning_sound r.place.at of r.body b.0 d.0 d.1 in
     let is = ok_is _ typed d.2 in
-    let body : IsBody (with_locals env (map (parameter_of env) r.parameters)) of r.body b.0 =
+    let body : IsTypedBody (with_locals env (map (parameter_of env) r.parameters)) of r.body b.0 =
     body_sound _ of r.body b.0 (inside_known env r.parameters known s.passed) known_of
     (subst (λ locals. check_body (with_locals env locals) of r.body ≡ Ok b.0) s.is b.1) in
     record {
@@ -237,7 +237,7 @@ routine_sound env known of known_of r typed h =
       parameters =
           ap (λ (f : Function). f.parameters) (sym is) ∙ ap (map type_declared) s.is ∙ types_of env r.parameters;
       body = subst
-          (λ (t : Body). IsBody (with_locals env (map (parameter_of env) r.parameters)) of r.body t)
+          (λ (t : Body). IsTypedBody (with_locals env (map (parameter_of env) r.parameters)) of r.body t)
           (sym e.0 ∙ ap (λ (f : Function). f.body) is) body;
       returns = e.1;
     }
@@ -260,21 +260,21 @@ routine_complete env of r typed is =
     (ap (λ (f : Function). Ok f) (rw (sym n, sym l, sym t, types_of env r.parameters, sym q) refl))))
 
 pub result_sound : (env : Environment) (of : Option written.Named) (t : Ty) → check_result env of ≡ Ok t
-    → IsResult env of × (t ≡ result_in env of)
+    → IsTypedResult env of × (t ≡ result_in env of)
 result_sound env None t h = (tt, sym (ok_is _ t h))
 result_sound env (Some of) t h = passed_sound env of of t h
 
-pub result_complete : (env : Environment) (of : Option written.Named) → IsResult env of
+pub result_complete : (env : Environment) (of : Option written.Named) → IsTypedResult env of
     → check_result env of ≡ Ok (result_in env of)
 result_complete env None h = refl
 result_complete env (Some of) h = passed_complete of (ty_in env of) h
 
-result_is_known : (env : Environment) (of : Option written.Named) → IsResult env of → IsKnownType (result_in env of)
+result_is_known : (env : Environment) (of : Option written.Named) → IsTypedResult env of → IsKnownType (result_in env of)
 result_is_known env None h = refl
 result_is_known env (Some of) h = passed_known (ty_in env of) h
 
 pub function_sound : (env : Environment) → IsKnown env → (f : written.Function) (of : Ty) (typed : Function)
-    → check_result env f.result ≡ Ok of → check_routine env of (routine_of f) ≡ Ok typed → IsFunction env f typed
+    → check_result env f.result ≡ Ok of → check_routine env of (routine_of f) ≡ Ok typed → IsTypedFunction env f typed
 function_sound env known f of typed h k =
     let r = result_sound env f.result of h in
     record {

@@ -10,14 +10,14 @@ use Rattle.ash_typed.specs.declared.types.ObjectType.{ObjectType}
 use Rattle.ash_typed.specs.declared.types.ObjectType.TheVariants as objects
 use Rattle.ash_typing.specs.declared.types.Ty.{Ty}
 use Rattle.ash_typing.specs.declared.types.Ty.TheVariants as ty
-use Rattle.ash_typing.specs.Types.{ty_of}
+use Rattle.ash_typing.specs.TypeRules.{ty_of}
 use Rattle.ash_typing.specs.Environment.{Environment}
 use Rattle.ash_typing.specs.ModuleDeclarations.{object_named, array_named, object_ty, handle_ty, ty_named, ty_in}
-use Rattle.ash_typing.specs.Typing.{IsKnown, IsVariableType, IsDeclared}
+use Rattle.ash_typing.specs.Typing.{IsKnown, IsVariableType, IsDeclaredType}
 use Rattle.ash_typing.specs.Declarations.{Initialization, at_type, known_ty, check_decl}
 use Rattle.ash_typed.specs.Modules.{Variables}
-use Rattle.ash_typing.specs.Items.{Names, Row, placed, with_variable, check_decls, no_variables, check_vars}
-use Rattle.ash_typing.specs.TypedModules.{AreVariables}
+use Rattle.ash_typing.specs.ItemRules.{Names, Row, placed, with_variable, check_decls, no_variables, check_vars}
+use Rattle.ash_typing.specs.TypedModules.{AreTypedVariables}
 use Rattle.ash_typing.proofs.Bindings.{no_err, ok_is, bind_ok, bind_is}
 use Rattle.ash_typing.proofs.TakenNames.{Distinct, grown, grown-none, grown-then, CanTake, takes_none, takes_then}
 use Rattle.ash_typing.proofs.TakenNames.{takes_first, takes_rest, placed_sound, placed_complete}
@@ -118,7 +118,7 @@ row_with-then row x xs k v vs =
 record DeclsWalked (env : Environment) (of : Ty) (row : Row) (ds : List written.Decl) (after : Row) : Type 0 where
   can : CanTake row.names (map decl_name ds) (length ds)
   values : List Initialization
-  each : AllZip (IsDeclared env of) ds values
+  each : AllZip (IsDeclaredType env of) ds values
   is : after ≡ row_with row (map decl_name ds) (length ds) values
 
 decls_sound : (env : Environment) (at : ℕ) (of : Ty) → IsKnown env → IsVariableType of
@@ -150,7 +150,7 @@ decls_sound env at of known known_of (x ∷ ds) row after d h =
 
 decls_complete : (env : Environment) (at : ℕ) (of : Ty) → IsKnown env → IsVariableType of
     → (ds : List written.Decl) (values : List Initialization) (row : Row)
-    → CanTake row.names (map decl_name ds) (length ds) → AllZip (IsDeclared env of) ds values
+    → CanTake row.names (map decl_name ds) (length ds) → AllZip (IsDeclaredType env of) ds values
     → check_decls env at of row ds ≡ Ok (row_with row (map decl_name ds) (length ds) values)
 decls_complete env at of known known_of [] [] row can each = ap (λ (r : Row). Ok r) (sym (row_with-none row))
 decls_complete env at of known known_of [] (v ∷ vs) row can each = absurd each
@@ -171,7 +171,7 @@ decls_complete env at of known known_of (x ∷ ds) (v ∷ vs) row can each =
 pub record VarsWalked (env : Environment) (names : Names) (v : written.Vars) (after : Row) : Type 0 where
   pub can : CanTake names (names_of v) (length v.decls)
   pub taken : after.names ≡ grown names (names_of v) (length v.decls)
-  pub typed : AreVariables env v after.variables
+  pub typed : AreTypedVariables env v after.variables
 
 begun : Names → written.Vars → Row
 begun names v = record { names = names; variables = no_variables v.of }
@@ -192,12 +192,12 @@ vars_sound env known names v after d h =
         variable = s.0;
         line = ap (λ (r : Row). r.variables.line) go.is;
         values = subst
-            (λ (r : Row). AllZip (IsDeclared env (ty_in env v.of)) v.decls r.variables.values) (sym go.is) go.each;
+            (λ (r : Row). AllZip (IsDeclaredType env (ty_in env v.of)) v.decls r.variables.values) (sym go.is) go.each;
       };
     }
 
 pub vars_complete : (env : Environment) → IsKnown env → (names : Names) (v : written.Vars) (typed : Variables)
-    → CanTake names (names_of v) (length v.decls) → AreVariables env v typed
+    → CanTake names (names_of v) (length v.decls) → AreTypedVariables env v typed
     → check_vars env names v ≡ Ok (record { names = grown names (names_of v) (length v.decls); variables = typed })
 unfolding check_vars begun
 vars_complete env known names v typed can are =

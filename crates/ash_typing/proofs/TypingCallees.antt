@@ -12,19 +12,19 @@ use Rattle.ash_typed.specs.declared.tree.operations.ArrayMethod.TheVariants as a
 use Rattle.ash_typing.specs.declared.types.Ty.{Ty}
 use Rattle.ash_typing.specs.declared.types.Ty.TheVariants as ty
 use Rattle.ash_typed.specs.declared.tree.operations.Variable.TheVariants as variables
-use Rattle.ash_typed.specs.declared.tree.operations.Member.{Member}
-use Rattle.ash_typed.specs.declared.tree.operations.Member.TheVariants.{Field}
+use Rattle.ash_typed.specs.declared.tree.operations.ObjectMember.{ObjectMember}
+use Rattle.ash_typed.specs.declared.tree.operations.ObjectMember.TheVariants.{Field}
 use Rattle.ash_typed.specs.declared.tree.operations.Method.TheVariants as methods
-use Rattle.ash_typed.specs.declared.tree.operations.Target.TheVariants as targets
+use Rattle.ash_typed.specs.declared.tree.operations.CallTarget.TheVariants as targets
 use Rattle.ash_typing.specs.declared.forms.Callable.{Callable}
 use Rattle.ash_typing.specs.declared.forms.Callable.TheVariants as callables
-use Rattle.ash_typed.specs.Tree.{Exprs, This, Read, Stored, Held}
+use Rattle.ash_typed.specs.TypedTree.{Exprs, This, Read, Stored, Held}
 use Rattle.ash_typed.specs.TypeOf.{type_of, type_of_member, type_of_element, result_of_method, result_of_target, value}
 use Rattle.ash_typed.specs.TypeOf.{value_of_result, as_value}
 use Rattle.ash_typed.specs.declared.types.VarType.{VarType}
 use Rattle.ash_typed.specs.declared.types.VarType.TheVariants as vars
-use Rattle.ash_typing.specs.Types.{var_type, result_type, ty_of_var, value_type, ty_of_element}
-use Rattle.ash_typing.specs.Environment.{Environment, Declared, Function, Class, Known, Callee, Invoked, first_from}
+use Rattle.ash_typing.specs.TypeRules.{var_type, result_type, ty_of_var, value_type, ty_of_element}
+use Rattle.ash_typing.specs.Environment.{Environment, Declared, FunctionSignature, ClassSignature, Known, Callee, Invoked, first_from}
 use Rattle.ash_typing.specs.Environment.{last_named, declares, is_called, is_class, this_class, variable_in, callee_in}
 use Rattle.ash_typing.specs.Environment.{member_in, method_in, method_of_class, method_of_interface, method_of_array}
 use Rattle.ash_typing.specs.Environment.{method_of_kind, array_method_of, is_array_method, host_member_in}
@@ -32,7 +32,7 @@ use Rattle.ash_typing.specs.Environment.{service_function, host_type, host_metho
 use Rattle.ash_typing.specs.Environment.{class_in, function_in, field_in, local_in, own_field_in, global_in}
 use Rattle.ash_typing.specs.Environment.{callee_beside, class_method, interface_method}
 use Rattle.ash_typing.specs.Terms.{call_of}
-use Rattle.ash_typing.specs.Typing.{IsVariableType, IsResultType}
+use Rattle.ash_typing.specs.Typing.{IsVariableType, IsTypeOfResult}
 use Rattle.ash_typing.proofs.TypingKnown.{if_map, if_or, if_weaker, if_any, if_all}
 
 -- what names are
@@ -40,7 +40,7 @@ use Rattle.ash_typing.proofs.TypingKnown.{if_map, if_or, if_weaker, if_any, if_a
 abbrev pub IsTyped : Known → Type 0
 IsTyped known = type_of known.0 ≡ value (as_value (var_type known.1))
 
-abbrev pub IsTypedMember : Member × Ty → Type 0
+abbrev pub IsTypedMember : ObjectMember × Ty → Type 0
 IsTypedMember found = type_of_member found.0 ≡ var_type found.1
 
 abbrev result_of : Callable → Option VarType
@@ -53,7 +53,7 @@ IsTypedCallee callee = result_of callee.target ≡ result_type callee.result
 abbrev pub IsTypedMethod : Invoked → Type 0
 IsTypedMethod m = result_of_method m.method ≡ result_type m.result
 
-field_type : (class : ℕ) (c : Class) (text : List ℕ) → IfSome (field_in class c text) IsTypedMember
+field_type : (class : ℕ) (c : ClassSignature) (text : List ℕ) → IfSome (field_in class c text) IsTypedMember
 field_type class c text =
     if_map IsTypedMember
     (λ (found : ℕ × Declared). (Field class found.0 (var_type found.1.of), found.1.of))
@@ -66,11 +66,11 @@ variable_type env text =
     (λ (found : ℕ × Ty). (Read (Stored (variables.Local found.0 (var_type found.1))), found.1))
     (last_named text 0 None env.locals) (if_all (last_named text 0 None env.locals) (λ found. refl)) in
     let own = if_any IsTyped
-    (λ (c : ℕ × Class).
-    option_map (λ (found : Member × Ty). (Read (Held (This c.0) found.0), found.1)) (field_in c.0 c.1 text))
+    (λ (c : ℕ × ClassSignature).
+    option_map (λ (found : ObjectMember × Ty). (Read (Held (This c.0) found.0), found.1)) (field_in c.0 c.1 text))
     (this_class env)
     (λ c. if_map IsTyped
-    (λ (found : Member × Ty). (Read (Held (This c.0) found.0), found.1)) (field_in c.0 c.1 text)
+    (λ (found : ObjectMember × Ty). (Read (Held (This c.0) found.0), found.1)) (field_in c.0 c.1 text)
     (if_weaker (field_in c.0 c.1 text)
     (λ found h. ap (λ (of : VarType). value (as_value of)) h) (field_type c.0 c.1 text))) in
     let global =
@@ -101,15 +101,15 @@ pub callee_type : (env : Environment) (text : List ℕ) → IfSome (callee_in en
 unfolding callee_in
 callee_type env text =
     let own = if_any IsTypedCallee
-    (λ (c : ℕ × Class).
-    option_map (λ (found : ℕ × Function).
+    (λ (c : ℕ × ClassSignature).
+    option_map (λ (found : ℕ × FunctionSignature).
     record {
       target = callables.OwnMethod c.0 found.0 (result_type found.1.result);
       result = found.1.result;
       parameters = Some found.1.parameters;
     }) (first_from (is_called text) 0 c.1.methods)) (this_class env)
     (λ c. if_map IsTypedCallee
-    (λ (found : ℕ × Function).
+    (λ (found : ℕ × FunctionSignature).
     record {
       target = callables.OwnMethod c.0 found.0 (result_type found.1.result);
       result = found.1.result;
@@ -118,7 +118,7 @@ callee_type env text =
     (if_all (first_from (is_called text) 0 c.1.methods) (λ found. refl))) in
     let function =
     if_map IsTypedCallee
-    (λ (found : ℕ × Function).
+    (λ (found : ℕ × FunctionSignature).
     record {
       target = callables.Target (targets.Function found.0 (result_type found.1.result));
       result = found.1.result;
@@ -127,7 +127,7 @@ callee_type env text =
     (if_all (first_from (is_called text) 0 env.declarations.functions) (λ found. refl)) in
     let service = if_any IsTypedCallee service_function (named_in env.registered text) service_type in
     let class = if_map IsTypedCallee
-    (λ (found : ℕ × Class).
+    (λ (found : ℕ × ClassSignature).
     record {
       target = callables.Target (targets.Class found.0);
       result = ty.Handle (OfClass found.0);
@@ -162,7 +162,7 @@ element_type (elements.Host kind) = refl
 pub member_type : (env : Environment) (o : ObjectType) (text : List ℕ) → IfSome (member_in env o text) IsTypedMember
 unfolding member_in
 member_type env (OfClass i) text =
-    if_any IsTypedMember (λ (c : Class). field_in i c text) (slice_get env.declarations.classes i) (λ c. field_type i c text)
+    if_any IsTypedMember (λ (c : ClassSignature). field_in i c text) (slice_get env.declarations.classes i) (λ c. field_type i c text)
 member_type env (OfInterface i) text = tt
 member_type env (OfArray of) text = tt
 member_type env (OfHost i) text = if_any IsTypedMember property (host_member_in env.registered i text) property_type
@@ -172,7 +172,7 @@ unfolding method_in method_of_class method_of_interface method_of_array method_o
 method_type env (OfClass i) text =
     if_any IsTypedMethod (class_method i text) (slice_get env.declarations.classes i) (λ c.
     if_map IsTypedMethod
-    (λ (found : ℕ × Function).
+    (λ (found : ℕ × FunctionSignature).
     record {
       method = methods.Script i found.0 (result_type found.1.result);
       result = found.1.result;
@@ -181,7 +181,7 @@ method_type env (OfClass i) text =
 method_type env (OfInterface i) text =
     if_any IsTypedMethod (interface_method i text) (slice_get env.declarations.interfaces i) (λ of.
     if_map IsTypedMethod
-    (λ (found : ℕ × Function).
+    (λ (found : ℕ × FunctionSignature).
     record {
       method = methods.Interface i found.0 (result_type found.1.result);
       result = found.1.result;
@@ -207,7 +207,7 @@ variable_value ty.Null h = cc
 variable_value ty.Unknown h = cc
 variable_value _ h = refl
 
-pub result_value : (of : Ty) → IsResultType of → value_of_result (result_type of) ≡ value_type of
+pub result_value : (of : Ty) → IsTypeOfResult of → value_of_result (result_type of) ≡ value_type of
 result_value ty.Void h = refl
 result_value ty.Null h = cc
 result_value ty.Unknown h = cc

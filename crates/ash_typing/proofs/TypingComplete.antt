@@ -12,34 +12,34 @@ use Rattle.ash_tree.specs.Tree as written
 use Rattle.ash_integers.specs.declared.int_type.IntType.TheVariants as ints
 use Rattle.ash_typed.specs.declared.types.Element.{Element}
 use Rattle.ash_typed.specs.declared.types.ObjectType.TheVariants as objects
-use Rattle.ash_typed.specs.declared.tree.operations.Target.TheVariants as targets
+use Rattle.ash_typed.specs.declared.tree.operations.CallTarget.TheVariants as targets
 use Rattle.ash_integers.specs.declared.int_type.IntType.{IntType}
 use Rattle.ash_typed.specs.declared.types.ObjectType.{ObjectType}
 use Rattle.ash_typing.specs.declared.types.Ty.{Ty}
 use Rattle.ash_typing.specs.declared.types.Ty.TheVariants as ty
 use Rattle.ash_typing.specs.declared.forms.Form.{Form}
 use Rattle.ash_typed.specs.declared.tree.operations.Change.TheVariants as changes
-use Rattle.ash_typed.specs.declared.tree.operations.Member.{Member}
+use Rattle.ash_typed.specs.declared.tree.operations.ObjectMember.{ObjectMember}
 use Rattle.ash_typed.specs.declared.tree.operations.Calculator.{Calculator}
 use Rattle.ash_typed.specs.declared.tree.operations.Operands.{Operands}
 use Rattle.ash_typed.specs.declared.tree.operations.Operands.TheVariants as operands
 use Rattle.ash_typed.specs.declared.tree.operations.IncrementOp.{IncrementOp}
 use Rattle.ash_typed.specs.declared.tree.operations.IncrementOp.TheVariants as steps
-use Rattle.ash_typing.specs.Types.{var_type, signed, common, object_of, ty_of, ty_of_element, operator_class_of}
-use Rattle.ash_typing.specs.Types.{operator_result}
-use Rattle.ash_typing.specs.Types.{binary_of}
-use Rattle.ash_typed.specs.Tree.{Expr, Exprs, Null, Read, Invoke, Cast, Alter, Conditional, Assign, Update, Count, Call}
-use Rattle.ash_typed.specs.Tree.{Place, Held, Indexed, no_expr, expr}
+use Rattle.ash_typing.specs.TypeRules.{var_type, signed, common, object_of, ty_of, ty_of_element, operator_class_of}
+use Rattle.ash_typing.specs.TypeRules.{operator_result}
+use Rattle.ash_typing.specs.TypeRules.{binary_of}
+use Rattle.ash_typed.specs.TypedTree.{Expr, Exprs, Null, Read, Invoke, Cast, Alter, Conditional, Assign, Update, Count, Call}
+use Rattle.ash_typed.specs.TypedTree.{Place, Held, Indexed, no_expr, expr}
 use Rattle.ash_typing.specs.Coercions.{fits}
 use Rattle.ash_typing.specs.ModuleDeclarations.{element_named}
-use Rattle.ash_typing.specs.Environment.{Environment, Class, Callee, Invoked, callee_in, member_in, method_in}
-use Rattle.ash_typing.specs.Expressions.{TypedExpr, check_expr, check_exprs, check_links, check_suffixes, check_suffix, check_call}
-use Rattle.ash_typing.specs.Expressions.{check_invocation, called, arguments_at, all_coerced, coerced_for_assignment}
-use Rattle.ash_typing.specs.Expressions.{operate, counted}
-use Rattle.ash_typing.specs.Expressions.{unary_at, convert_at, choice, assigned, stored, is_assign, field_of, method_of}
-use Rattle.ash_typing.specs.Expressions.{invoked, term_at, read_at, indexed, check_array, cast_type, cast_at, placed}
-use Rattle.ash_typing.specs.Expressions.{all_placed, term_of, first_at}
-use Rattle.ash_typing.specs.Typing.{HasType, AllHaveType, LinksHaveType, SuffixesHaveType, SuffixHasType, AreArguments}
+use Rattle.ash_typing.specs.Environment.{Environment, ClassSignature, Callee, Invoked, callee_in, member_in, method_in}
+use Rattle.ash_typing.specs.ExpressionRules.{TypedExpr, check_expr, check_exprs, check_links, check_suffixes, check_suffix, check_call}
+use Rattle.ash_typing.specs.ExpressionRules.{check_invocation, called, arguments_at, all_coerced, coerced_for_assignment}
+use Rattle.ash_typing.specs.ExpressionRules.{operate, counted}
+use Rattle.ash_typing.specs.ExpressionRules.{unary_at, convert_at, choice, assigned, stored, is_assign, field_of, method_of}
+use Rattle.ash_typing.specs.ExpressionRules.{invoked, term_at, read_at, indexed, check_array, cast_type, cast_at, placed}
+use Rattle.ash_typing.specs.ExpressionRules.{all_placed, term_of, first_at}
+use Rattle.ash_typing.specs.Typing.{HasType, AllHaveType, LinksHaveType, SuffixesHaveType, SuffixHasType, AreTypedArguments}
 use Rattle.ash_typing.specs.Typing.{no_arguments, argument, IsCastType, to_class, to_interface, number, truth, null}
 use Rattle.ash_typing.specs.Typing.{this, name, call, brackets, to_integer, to_bool, new_array, cast, postfix, plus}
 use Rattle.ash_typing.specs.Typing.{minus, complement, not, increment, decrement, handle, handle_written, binary}
@@ -52,12 +52,12 @@ use Rattle.ash_typing.specs.Terms.{Term, term, read_term, converted_to}
 
 -- arguments
 
-length_is : {classes : List Class} {parameters : List Ty} {ts : List Term} {trees : Exprs}
-    → AreArguments classes parameters ts trees → length parameters ≡ length ts
+length_is : {classes : List ClassSignature} {parameters : List Ty} {ts : List Term} {trees : Exprs}
+    → AreTypedArguments classes parameters ts trees → length parameters ≡ length ts
 length_is no_arguments = refl
 length_is (argument h rest) = ap suc (length_is rest)
 
-pub coerced_for_assignment_is : (classes : List Class) (of : Ty) (at : ℕ) (t : Term) → fits classes of t.ty ≡ true
+pub coerced_for_assignment_is : (classes : List ClassSignature) (of : Ty) (at : ℕ) (t : Term) → fits classes of t.ty ≡ true
     → coerced_for_assignment classes of (placed at t) ≡ Ok (converted_to of t)
 unfolding coerced_for_assignment
 coerced_for_assignment_is classes of at t h = rw h refl
@@ -65,17 +65,17 @@ coerced_for_assignment_is classes of at t h = rw h refl
 abbrev pub terms : List TypedExpr → List Term
 terms = map term_of
 
-out_first : {classes : List Class} {of : Ty} {t : Term} {parameters : List Ty} {ts : List Term} {trees : Exprs}
-    → AreArguments classes (of ∷ parameters) (t ∷ ts) trees
+out_first : {classes : List ClassSignature} {of : Ty} {t : Term} {parameters : List Ty} {ts : List Term} {trees : Exprs}
+    → AreTypedArguments classes (of ∷ parameters) (t ∷ ts) trees
     → (fits classes of t.ty ≡ true)
-    × ((rest : Exprs) × AreArguments classes parameters ts rest × (expr (converted_to of t) rest ≡ trees))
+    × ((rest : Exprs) × AreTypedArguments classes parameters ts rest × (expr (converted_to of t) rest ≡ trees))
 out_first (argument h rest) = (h, (_, rest, refl))
 
-out_none : {classes : List Class} {trees : Exprs} → AreArguments classes [] [] trees → no_expr ≡ trees
+out_none : {classes : List ClassSignature} {trees : Exprs} → AreTypedArguments classes [] [] trees → no_expr ≡ trees
 out_none no_arguments = refl
 
-all_coerced_is : (classes : List Class) (parameters : List Ty) (us : List TypedExpr) (trees : Exprs)
-    → AreArguments classes parameters (terms us) trees → all_coerced classes parameters us ≡ Ok trees
+all_coerced_is : (classes : List ClassSignature) (parameters : List Ty) (us : List TypedExpr) (trees : Exprs)
+    → AreTypedArguments classes parameters (terms us) trees → all_coerced classes parameters us ≡ Ok trees
 all_coerced_is classes [] [] trees h = ap Ok (out_none h)
 all_coerced_is classes [] (u ∷ us) trees h = elim h [ ]
 all_coerced_is classes (of ∷ parameters) [] trees h = elim h [ ]
@@ -83,8 +83,8 @@ all_coerced_is classes (of ∷ parameters) (u ∷ us) trees h =
     let o = out_first h in
     rw (coerced_for_assignment_is classes of u.at (term_of u) o.0, all_coerced_is classes parameters us (o.1).0 (o.1).1, (o.1).2) refl
 
-pub arguments_is : (classes : List Class) (at : ℕ) (parameters : List Ty) (us : List TypedExpr) (trees : Exprs)
-    → AreArguments classes parameters (terms us) trees → arguments_at classes at parameters us ≡ Ok trees
+pub arguments_is : (classes : List ClassSignature) (at : ℕ) (parameters : List Ty) (us : List TypedExpr) (trees : Exprs)
+    → AreTypedArguments classes parameters (terms us) trees → arguments_at classes at parameters us ≡ Ok trees
 unfolding arguments_at
 arguments_is classes at parameters us trees h =
     rw (eq-eqb (length parameters) (length us) (length_is h ∙ length-map us term_of))
@@ -94,7 +94,7 @@ arguments_is classes at parameters us trees h =
 
 call_is : (env : Environment) (at : ℕ) (text : List ℕ) (es : written.Exprs) (callee : Callee) (parameters : List Ty)
     (us : List TypedExpr) (trees : Exprs) → callee_in env text ≡ Some callee → callee.parameters ≡ Some parameters
-    → check_exprs env es ≡ Ok us → AreArguments env.declarations.classes parameters (terms us) trees
+    → check_exprs env es ≡ Ok us → AreTypedArguments env.declarations.classes parameters (terms us) trees
     → check_call env at text (check_exprs env es)
     ≡ Ok (term_at at callee.result (call_of callee.target (map var_type parameters) trees))
 unfolding called
@@ -182,14 +182,14 @@ choice_is : (t x y : Term) (a b c : ℕ) (of : Ty) → t.ty ≡ ty.Bool → comm
 unfolding choice
 choice_is t x y a b c of h i = rw (h, i) refl
 
-assign_is : (classes : List Class) (t u : Term) (a b : ℕ) (target : Place) → assignable t.form t.tree ≡ Some target
+assign_is : (classes : List ClassSignature) (t u : Term) (a b : ℕ) (target : Place) → assignable t.form t.tree ≡ Some target
     → is_stored t.form t.ty ≡ true → fits classes t.ty u.ty ≡ true
     → assigned classes (placed a t) assigns.Assign (placed b u)
     ≡ Ok (placed a (term t.ty (Assign target (converted_to t.ty u))))
 unfolding assigned stored
 assign_is classes t u a b target p s h = rw (p, s, coerced_for_assignment_is classes t.ty b u h) refl
 
-update_is : (classes : List Class) (op : AssignOp) (c : Calculator) (t u : Term) (a b : ℕ) (target : Place)
+update_is : (classes : List ClassSignature) (op : AssignOp) (c : Calculator) (t u : Term) (a b : ℕ) (target : Place)
     (j k : IntType)
     → operator_of op ≡ Some c → assignable t.form t.tree ≡ Some target → is_stored t.form t.ty ≡ true
     → t.ty ≡ ty.Integer k → AreUnified (binary_of c) (term t.ty Null) u (operands.Integers j)
@@ -205,7 +205,7 @@ updates : (op : AssignOp) (operator : Calculator) → operator_of op ≡ Some op
 updates assigns.Assign operator h = absurd (none-some operator h)
 updates _ operator h = refl
 
-object_field : (env : Environment) (at : ℕ) (t : TypedExpr) (of : Ty) (text : List ℕ) (o : ObjectType) (found : Member × Ty)
+object_field : (env : Environment) (at : ℕ) (t : TypedExpr) (of : Ty) (text : List ℕ) (o : ObjectType) (found : ObjectMember × Ty)
     → object_of of ≡ Some o → member_in env o text ≡ Some found
     → field_of env t of at text ≡ Ok (read_at t.at found.1 (Read (Held t.tree found.0)))
 unfolding field_of
@@ -222,7 +222,7 @@ object_method env at t _ text o m h i = absurd (none-some o h)
 
 method_is : (env : Environment) (at b : ℕ) (t : Term) (text : List ℕ) (es : written.Exprs) (o : ObjectType)
     (m : Invoked) (us : List TypedExpr) (trees : Exprs) → object_of t.ty ≡ Some o → method_in env o text ≡ Some m
-    → check_exprs env es ≡ Ok us → AreArguments env.declarations.classes m.parameters (terms us) trees
+    → check_exprs env es ≡ Ok us → AreTypedArguments env.declarations.classes m.parameters (terms us) trees
     → check_invocation env (placed b t) at text (check_exprs env es)
     ≡ Ok (placed b (term m.result (Invoke t.tree m.method (map var_type m.parameters) trees)))
 unfolding invoked
@@ -238,7 +238,7 @@ method_is env at b t text es o m us trees h i e a =
 array_is : (env : Environment) (at : ℕ) (of : written.Element) (es : written.Exprs) (elements : Element)
     (us : List TypedExpr) (count : ℕ) (trees : Exprs) → element_named env.registered env.declarations of ≡ Some elements
     → check_exprs env es ≡ Ok us → length us ≡ count
-    → AreArguments env.declarations.classes (array_parameters count) (terms us) trees
+    → AreTypedArguments env.declarations.classes (array_parameters count) (terms us) trees
     → check_array env at of (check_exprs env es)
     ≡ Ok (term_at at (ty.Handle (objects.Array elements))
     (Call (targets.Array elements) (map var_type (array_parameters count)) trees))

@@ -21,27 +21,27 @@ use Rattle.ash_typing.specs.declared.forms.OperatorClass.{OperatorClass}
 use Rattle.ash_typing.specs.declared.forms.OperatorClass.TheVariants as operator_class
 use Rattle.ash_typing.specs.declared.forms.Form.{Form}
 use Rattle.ash_typing.specs.declared.forms.Form.TheVariants as form
-use Rattle.ash_typed.specs.declared.tree.operations.Member.{Member}
+use Rattle.ash_typed.specs.declared.tree.operations.ObjectMember.{ObjectMember}
 use Rattle.ash_typed.specs.declared.tree.operations.Operands.{Operands}
 use Rattle.ash_typed.specs.declared.tree.operations.Operands.TheVariants as operands
-use Rattle.ash_typing.specs.Types.{is_variable, is_result, var_type, result_type, ty_of, ty_of_element, common}
-use Rattle.ash_typing.specs.Types.{gives_object, common_integer_type, holds, operator_class_of, operator_result}
+use Rattle.ash_typing.specs.TypeRules.{is_variable, is_result, var_type, result_type, ty_of, ty_of_element, common}
+use Rattle.ash_typing.specs.TypeRules.{gives_object, common_integer_type, holds, operator_class_of, operator_result}
 use Rattle.ash_typed.specs.declared.tree.operations.Variable.TheVariants as variables
-use Rattle.ash_typed.specs.declared.tree.operations.Member.TheVariants.{Field}
+use Rattle.ash_typed.specs.declared.tree.operations.ObjectMember.TheVariants.{Field}
 use Rattle.ash_typed.specs.declared.tree.operations.Method.TheVariants as methods
-use Rattle.ash_typed.specs.declared.tree.operations.Target.TheVariants as targets
+use Rattle.ash_typed.specs.declared.tree.operations.CallTarget.TheVariants as targets
 use Rattle.ash_typing.specs.declared.forms.Callable.TheVariants as callables
 use Rattle.ash_integers.specs.declared.int_type.IntType.{IntType}
 use Rattle.std.specs.Str.{bytes_eq}
-use Rattle.ash_typed.specs.Tree.{Number, Read, Stored, Held, This}
-use Rattle.ash_typing.specs.Environment.{Environment, Declared, Function, Class, Known, Callee, Invoked, first_from}
+use Rattle.ash_typed.specs.TypedTree.{Number, Read, Stored, Held, This}
+use Rattle.ash_typing.specs.Environment.{Environment, Declared, FunctionSignature, ClassSignature, Known, Callee, Invoked, first_from}
 use Rattle.ash_typing.specs.Environment.{last_named, declares, is_called, is_class, this_class, variable_in, callee_in}
 use Rattle.ash_typing.specs.Environment.{member_in, method_in, method_of_class, method_of_interface, method_of_array}
 use Rattle.ash_typing.specs.Environment.{method_of_kind, array_method_of, is_array_method, host_member_in, result_of}
 use Rattle.ash_typing.specs.Environment.{service_function, host_type, host_method, property, named_in, own_method_in}
 use Rattle.ash_typing.specs.Environment.{class_in, function_in, field_in, local_in, own_field_in, global_in}
 use Rattle.ash_typing.specs.Environment.{callee_beside, class_method, interface_method}
-use Rattle.ash_typing.specs.Typing.{IsKnown, IsKnownType, IsVariableType, IsResultType, IsKnownVariable}
+use Rattle.ash_typing.specs.Typing.{IsKnown, IsKnownType, IsVariableType, IsTypeOfResult, IsKnownVariable}
 use Rattle.ash_typing.specs.Typing.{IsKnownFunction, IsKnownInterface, IsKnownClass, is_known, HasType, LinksHaveType}
 use Rattle.ash_typing.specs.Typing.{SuffixesHaveType, SuffixHasType, number, truth, null, this, name, call, brackets}
 use Rattle.ash_typing.specs.Typing.{to_integer, to_bool, new_array, cast, postfix, plus, minus, complement, not}
@@ -115,13 +115,13 @@ variable_is_known ty.Void h = refl
 variable_is_known ty.Null h = refl
 variable_is_known _ h = refl
 
-pub result_is_known : (of : Ty) → IsResultType of → IsKnownType of
+pub result_is_known : (of : Ty) → IsTypeOfResult of → IsKnownType of
 result_is_known ty.Unknown h = cc
 result_is_known ty.Void h = refl
 result_is_known ty.Null h = refl
 result_is_known _ h = refl
 
-pub variable_is_result : (of : Ty) → IsVariableType of → IsResultType of
+pub variable_is_result : (of : Ty) → IsVariableType of → IsTypeOfResult of
 variable_is_result ty.Void h = refl
 variable_is_result ty.Null h = cc
 variable_is_result ty.Unknown h = cc
@@ -186,15 +186,15 @@ adapted_known _ other t h = adapted_number_known other.form other.ty t.form t h
 
 class_known : (env : Environment) → IsKnown env → IfSome (this_class env) (λ c. IsKnownClass c.1)
 class_known env known =
-    if_any (λ (c : ℕ × Class). IsKnownClass c.1)
-    (λ (i : ℕ). option_map (λ (c : Class). (i, c)) (slice_get env.declarations.classes i)) env.this (λ i.
-    if_map (λ (c : ℕ × Class). IsKnownClass c.1)
-    (λ (c : Class). (i, c)) (slice_get env.declarations.classes i) (if_get IsKnownClass env.declarations.classes i known.classes))
+    if_any (λ (c : ℕ × ClassSignature). IsKnownClass c.1)
+    (λ (i : ℕ). option_map (λ (c : ClassSignature). (i, c)) (slice_get env.declarations.classes i)) env.this (λ i.
+    if_map (λ (c : ℕ × ClassSignature). IsKnownClass c.1)
+    (λ (c : ClassSignature). (i, c)) (slice_get env.declarations.classes i) (if_get IsKnownClass env.declarations.classes i known.classes))
 
-field_known : (class : ℕ) (c : Class) (text : List ℕ) → IsKnownClass c
+field_known : (class : ℕ) (c : ClassSignature) (text : List ℕ) → IsKnownClass c
     → IfSome (field_in class c text) (λ found. IsVariableType found.1)
 field_known class c text known =
-    if_map (λ (found : Member × Ty). IsVariableType found.1)
+    if_map (λ (found : ObjectMember × Ty). IsVariableType found.1)
     (λ (found : ℕ × Declared). (Field class found.0 (var_type found.1.of), found.1.of))
     (first_from (declares text) 0 c.fields) (if_first IsKnownVariable (declares text) 0 c.fields known.fields)
 
@@ -206,12 +206,12 @@ variable_known env text known =
     let local = if_map Q
     (λ (found : ℕ × Ty). (Read (Stored (variables.Local found.0 (var_type found.1))), found.1))
     (last_named text 0 None env.locals) (if_last text 0 None env.locals known.locals tt) in
-    let own = if_then (λ (c : ℕ × Class). IsKnownClass c.1) Q
-    (λ (c : ℕ × Class).
-    option_map (λ (found : Member × Ty). (Read (Held (This c.0) found.0), found.1)) (field_in c.0 c.1 text))
+    let own = if_then (λ (c : ℕ × ClassSignature). IsKnownClass c.1) Q
+    (λ (c : ℕ × ClassSignature).
+    option_map (λ (found : ObjectMember × Ty). (Read (Held (This c.0) found.0), found.1)) (field_in c.0 c.1 text))
     (this_class env)
     (λ c h. if_map Q
-    (λ (found : Member × Ty). (Read (Held (This c.0) found.0), found.1)) (field_in c.0 c.1 text)
+    (λ (found : ObjectMember × Ty). (Read (Held (This c.0) found.0), found.1)) (field_in c.0 c.1 text)
     (field_known c.0 c.1 text h)) (class_known env known) in
     let global =
     if_map Q (λ (found : ℕ × Declared).
@@ -221,18 +221,18 @@ variable_known env text known =
     if_or Q (local_in env.locals text) (option_or (own_field_in env text) (global_in env.declarations.globals text)) local
     (if_or Q (own_field_in env text) (global_in env.declarations.globals text) own global)
 
-function_known : (text : List ℕ) (fs : List Function) → AllByRecursion IsKnownFunction fs
-    → IfSome (first_from (is_called text) 0 fs) (λ found. IsResultType found.1.result)
+function_known : (text : List ℕ) (fs : List FunctionSignature) → AllByRecursion IsKnownFunction fs
+    → IfSome (first_from (is_called text) 0 fs) (λ found. IsTypeOfResult found.1.result)
 function_known text fs known =
     if_weaker (first_from (is_called text) 0 fs)
     (λ found h. h.result) (if_first IsKnownFunction (is_called text) 0 fs known)
 
-service_known : (call : host.Registration) → IfSome (service_function call) (λ callee. IsResultType callee.result)
+service_known : (call : host.Registration) → IfSome (service_function call) (λ callee. IsTypeOfResult callee.result)
 service_known (host.FunctionRegistration service id operation) = result_known operation.result
 service_known _ = tt
 
 host_known : (registrations : List host.Registration) (call : host.Registration)
-    → IfSome (host_type registrations call) (λ callee. IsResultType callee.result)
+    → IfSome (host_type registrations call) (λ callee. IsTypeOfResult callee.result)
 host_known registrations (host.TypeRegistration text kind) = refl
 host_known registrations _ = tt
 
@@ -240,25 +240,25 @@ property_known : (call : host.Registration) → IfSome (property call) (λ found
 property_known (host.PropertyRegistration of id value text) = primitive_known value
 property_known _ = tt
 
-host_method_known : (call : host.Registration) → IfSome (host_method call) (λ m. IsResultType m.result)
+host_method_known : (call : host.Registration) → IfSome (host_method call) (λ m. IsTypeOfResult m.result)
 host_method_known (host.MethodRegistration of id operation) = result_known operation.result
 host_method_known _ = tt
 
 pub callee_known : (env : Environment) (text : List ℕ) → IsKnown env
-    → IfSome (callee_in env text) (λ callee. IsResultType callee.result)
+    → IfSome (callee_in env text) (λ callee. IsTypeOfResult callee.result)
 unfolding callee_in
 callee_known env text known =
-    let Q : Callee → Type 0 = λ callee. IsResultType callee.result in
-    let own = if_then (λ (c : ℕ × Class). IsKnownClass c.1) Q
-    (λ (c : ℕ × Class).
-    option_map (λ (found : ℕ × Function).
+    let Q : Callee → Type 0 = λ callee. IsTypeOfResult callee.result in
+    let own = if_then (λ (c : ℕ × ClassSignature). IsKnownClass c.1) Q
+    (λ (c : ℕ × ClassSignature).
+    option_map (λ (found : ℕ × FunctionSignature).
     record {
       target = callables.OwnMethod c.0 found.0 (result_type found.1.result);
       result = found.1.result;
       parameters = Some found.1.parameters;
     }) (first_from (is_called text) 0 c.1.methods)) (this_class env)
     (λ c h. if_map Q
-    (λ (found : ℕ × Function).
+    (λ (found : ℕ × FunctionSignature).
     record {
       target = callables.OwnMethod c.0 found.0 (result_type found.1.result);
       result = found.1.result;
@@ -266,7 +266,7 @@ callee_known env text known =
     }) (first_from (is_called text) 0 c.1.methods) (function_known text c.1.methods h.methods))
     (class_known env known) in
     let function =
-    if_map Q (λ (found : ℕ × Function).
+    if_map Q (λ (found : ℕ × FunctionSignature).
     record {
       target = callables.Target (targets.Function found.0 (result_type found.1.result));
       result = found.1.result;
@@ -275,7 +275,7 @@ callee_known env text known =
     (function_known text env.declarations.functions known.functions) in
     let service = if_any Q service_function (named_in env.registered text) service_known in
     let class = if_map Q
-    (λ (found : ℕ × Class).
+    (λ (found : ℕ × ClassSignature).
     record {
       target = callables.Target (targets.Class found.0);
       result = ty.Handle (OfClass found.0);
@@ -291,7 +291,7 @@ callee_known env text known =
     (if_or Q (class_in env.declarations.classes text)
     (option_and_then (host_type env.registered) (named_in env.registered text)) class kind)))
 
-array_result_known : (of : Element) (m : ArrayMethod) → IsResultType (array_method_of of m).result
+array_result_known : (of : Element) (m : ArrayMethod) → IsTypeOfResult (array_method_of of m).result
 array_result_known of arrays.Length = refl
 array_result_known of arrays.Resize = refl
 array_result_known of arrays.InsertLast = refl
@@ -302,22 +302,22 @@ pub member_known : (env : Environment) (o : ObjectType) (text : List ℕ) → Is
     → IfSome (member_in env o text) (λ found. IsVariableType found.1)
 unfolding member_in
 member_known env (OfClass i) text known =
-    if_then IsKnownClass (λ (found : Member × Ty). IsVariableType found.1)
-    (λ (c : Class). field_in i c text) (slice_get env.declarations.classes i)
+    if_then IsKnownClass (λ (found : ObjectMember × Ty). IsVariableType found.1)
+    (λ (c : ClassSignature). field_in i c text) (slice_get env.declarations.classes i)
     (λ c h. field_known i c text h) (if_get IsKnownClass env.declarations.classes i known.classes)
 member_known env (OfInterface i) text known = tt
 member_known env (OfArray of) text known = tt
 member_known env (OfHost i) text known =
-    if_any (λ (found : Member × Ty). IsVariableType found.1) property (host_member_in env.registered i text)
+    if_any (λ (found : ObjectMember × Ty). IsVariableType found.1) property (host_member_in env.registered i text)
     property_known
 
 pub method_known : (env : Environment) (o : ObjectType) (text : List ℕ) → IsKnown env
-    → IfSome (method_in env o text) (λ m. IsResultType m.result)
+    → IfSome (method_in env o text) (λ m. IsTypeOfResult m.result)
 unfolding method_in method_of_class method_of_interface method_of_array method_of_kind
 method_known env (OfClass i) text known =
-    if_then IsKnownClass (λ (m : Invoked). IsResultType m.result) (class_method i text) (slice_get env.declarations.classes i)
-    (λ c h. if_map (λ (m : Invoked). IsResultType m.result)
-    (λ (found : ℕ × Function).
+    if_then IsKnownClass (λ (m : Invoked). IsTypeOfResult m.result) (class_method i text) (slice_get env.declarations.classes i)
+    (λ c h. if_map (λ (m : Invoked). IsTypeOfResult m.result)
+    (λ (found : ℕ × FunctionSignature).
     record {
       method = methods.Script i found.0 (result_type found.1.result);
       result = found.1.result;
@@ -326,9 +326,9 @@ method_known env (OfClass i) text known =
     (if_get IsKnownClass env.declarations.classes i known.classes)
 method_known env (OfInterface i) text known =
     if_then IsKnownInterface
-    (λ (m : Invoked). IsResultType m.result) (interface_method i text) (slice_get env.declarations.interfaces i)
-    (λ of h. if_map (λ (m : Invoked). IsResultType m.result)
-    (λ (found : ℕ × Function).
+    (λ (m : Invoked). IsTypeOfResult m.result) (interface_method i text) (slice_get env.declarations.interfaces i)
+    (λ of h. if_map (λ (m : Invoked). IsTypeOfResult m.result)
+    (λ (found : ℕ × FunctionSignature).
     record {
       method = methods.Interface i found.0 (result_type found.1.result);
       result = found.1.result;
@@ -338,9 +338,9 @@ method_known env (OfInterface i) text known =
 method_known env (OfArray of) text known = let found =
     find (is_array_method text)
     (arrays.Length ∷ arrays.Resize ∷ arrays.InsertLast ∷ arrays.RemoveLast ∷ arrays.IsEmpty ∷ []) in
-    if_map (λ (m : Invoked). IsResultType m.result) (array_method_of of) found (if_all found (array_result_known of))
+    if_map (λ (m : Invoked). IsTypeOfResult m.result) (array_method_of of) found (if_all found (array_result_known of))
 method_known env (OfHost i) text known =
-    if_any (λ (m : Invoked). IsResultType m.result) host_method (host_member_in env.registered i text) host_method_known
+    if_any (λ (m : Invoked). IsTypeOfResult m.result) host_method (host_member_in env.registered i text) host_method_known
 
 mutual
   pub known_type : {env : Environment} {left : Bool} {e : written.Expr} {t : Term} → HasType env left e t → IsKnown env
@@ -354,7 +354,7 @@ mutual
       (at_some (λ found. IsVariableType found.1) (variable_in env text) found (variable_known env text known) h)
   known_type {env} (call {text = text} {callee = callee} c q all args) known =
       result_is_known callee.result
-      (at_some (λ callee. IsResultType callee.result) (callee_in env text) callee (callee_known env text known) c)
+      (at_some (λ callee. IsTypeOfResult callee.result) (callee_in env text) callee (callee_known env text known) c)
   known_type (brackets h) known = known_type h known
   known_type (to_integer h i l) known = refl
   known_type (to_bool h i l) known = refl
@@ -392,7 +392,7 @@ mutual
       (at_some (λ found. IsVariableType found.1) (member_in env o text) found (member_known env o text known) i)
   suffix_known {env} (method {text = text} {o = o} {m = m} h i all args) known =
       result_is_known m.result
-      (at_some (λ m. IsResultType m.result) (method_in env o text) m (method_known env o text known) i)
+      (at_some (λ m. IsTypeOfResult m.result) (method_in env o text) m (method_known env o text known) i)
   suffix_known (index {elements = of} h d i) known = variable_is_known (ty_of_element of) (element_known of)
   suffix_known (increment_after h i) known = refl
   suffix_known (decrement_after h i) known = refl

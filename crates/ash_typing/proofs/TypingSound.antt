@@ -1,7 +1,7 @@
 -- What the walk types has that type by the rules, where all types are known.
 use Rattle.std.proofs.Common.{◌≡◌, ℕ, List, [], ◌∷◌, map, Bool, true, false, cond, Option, Some, None, Ok, refl, sym}
 use Rattle.std.proofs.Common.{subst}
-use Rattle.ash_tree.specs.declared.tree.places.Place as place
+use Rattle.ash_tree.specs.declared.tree.places.Position as place
 use Rattle.ash_tree.specs.declared.tree.operators.AssignOp.{AssignOp}
 use Rattle.ash_tree.specs.declared.tree.operators.AssignOp.TheVariants as assigns
 use Rattle.ash_tree.specs.Tree as written
@@ -9,23 +9,23 @@ use Rattle.ash_typing.specs.declared.fault.Rule.TheVariants as rules
 use Rattle.ash_typed.specs.declared.types.ObjectType.{ObjectType}
 use Rattle.ash_typing.specs.declared.types.Ty.{Ty}
 use Rattle.ash_typing.specs.declared.types.Ty.TheVariants as ty
-use Rattle.ash_typed.specs.declared.tree.operations.Member.{Member}
+use Rattle.ash_typed.specs.declared.tree.operations.ObjectMember.{ObjectMember}
 use Rattle.ash_typed.specs.declared.tree.operations.Calculator.{Calculator}
 use Rattle.ash_typed.specs.declared.tree.operations.Operands.{Operands}
 use Rattle.ash_typed.specs.declared.tree.operations.Operands.TheVariants as operands
 use Rattle.ash_typed.specs.declared.tree.operations.IncrementOp.TheVariants as steps
 use Rattle.ash_typing.specs.TypingResult.{TypingResult, ◌>>=◌, broken}
-use Rattle.ash_typing.specs.Types.{var_type, object_of, binary_of, integers_in}
-use Rattle.ash_typed.specs.Tree.{Truth, Null, Read, Invoke, Assign, Update, Place, Held}
+use Rattle.ash_typing.specs.TypeRules.{var_type, object_of, binary_of, integers_in}
+use Rattle.ash_typed.specs.TypedTree.{Truth, Null, Read, Invoke, Assign, Update, Place, Held}
 use Rattle.ash_typing.specs.ModuleDeclarations.{object_named}
-use Rattle.ash_typing.specs.Environment.{Environment, Class, Invoked, variable_in, member_in, method_in}
-use Rattle.ash_typing.specs.Expressions.{TypedExpr, UnifiedOperands, check_expr, check_exprs, check_links, check_suffixes}
-use Rattle.ash_typing.specs.Expressions.{check_suffix}
-use Rattle.ash_typing.specs.Expressions.{check_invocation, arguments_at, coerced_for_assignment, unify_operands}
-use Rattle.ash_typing.specs.Expressions.{unary_at, integer_of, convert_at}
-use Rattle.ash_typing.specs.Expressions.{choice, assigned, assigned_to, stored, updated, is_assign, field_of, member_at}
-use Rattle.ash_typing.specs.Expressions.{method_of, invoked, invoked_at, term_at, read_at, indexed, cast_type, cast_at}
-use Rattle.ash_typing.specs.Expressions.{placed, term_of}
+use Rattle.ash_typing.specs.Environment.{Environment, ClassSignature, Invoked, variable_in, member_in, method_in}
+use Rattle.ash_typing.specs.ExpressionRules.{TypedExpr, UnifiedOperands, check_expr, check_exprs, check_links, check_suffixes}
+use Rattle.ash_typing.specs.ExpressionRules.{check_suffix}
+use Rattle.ash_typing.specs.ExpressionRules.{check_invocation, arguments_at, coerced_for_assignment, unify_operands}
+use Rattle.ash_typing.specs.ExpressionRules.{unary_at, integer_of, convert_at}
+use Rattle.ash_typing.specs.ExpressionRules.{choice, assigned, assigned_to, stored, updated, is_assign, field_of, member_at}
+use Rattle.ash_typing.specs.ExpressionRules.{method_of, invoked, invoked_at, term_at, read_at, indexed, cast_type, cast_at}
+use Rattle.ash_typing.specs.ExpressionRules.{placed, term_of}
 use Rattle.ash_typing.specs.Typing.{IsKnown, is_known, HasType, AllHaveType, LinksHaveType, SuffixesHaveType}
 use Rattle.ash_typing.specs.Typing.{SuffixHasType, number, truth, null, postfix, binary, assign, update, none_left}
 use Rattle.ash_typing.specs.Typing.{each, no_more, no_suffixes, suffixed, field, method, index, increment_after}
@@ -42,7 +42,7 @@ use Rattle.ash_typing.proofs.TypingSoundOperators.{conditional_sound, counted_ok
 
 -- assignments
 
-assigned_ok : (classes : List Class) (t u : TypedExpr) (op : AssignOp) (found : Option Place) (r : TypedExpr)
+assigned_ok : (classes : List ClassSignature) (t u : TypedExpr) (op : AssignOp) (found : Option Place) (r : TypedExpr)
     → assigned_to classes t op u found ≡ Ok r
     → (target : Place) × (found ≡ Some target)
     × ((is_stored t.form t.ty ≡ true) × (stored classes t.at t.ty target (operator_of op) u ≡ Ok r))
@@ -56,7 +56,7 @@ assigned_ok classes t u op (Some target) r h = go (is_stored t.form t.ty) refl h
     go true e h = (target, refl, (e, h))
     go false e h = absurd (no_fault _ r h)
 
-plain_sound : (env : Environment) (left : Bool) (p : place.Place) (e v : written.Expr) (t u r : TypedExpr)
+plain_sound : (env : Environment) (left : Bool) (p : place.Position) (e v : written.Expr) (t u r : TypedExpr)
     → HasType env true e (term_of t) → HasType env false v (term_of u)
     → assigned env.declarations.classes t assigns.Assign u ≡ Ok r
     → HasType env left (written.Assign p e assigns.Assign v) (term_of r)
@@ -68,7 +68,7 @@ plain_sound env left p e v t u r d f h =
     at_ok (λ r. HasType env left (written.Assign p e assigns.Assign v) (term_of r)) (term_at t.at t.ty (Assign a.0 tree.0))
     r tree.2 (rw (← fit.1) (assign d a.1 ((a.2).0) f fit.0))
 
-update_sound : (env : Environment) (left : Bool) (p : place.Place) (op : AssignOp) (c : Calculator) (e v : written.Expr)
+update_sound : (env : Environment) (left : Bool) (p : place.Position) (op : AssignOp) (c : Calculator) (e v : written.Expr)
     (t u r : TypedExpr) → operator_of op ≡ Some c → HasType env false e (term_of t) → HasType env false v (term_of u)
     → is_known t.ty ≡ true → is_known u.ty ≡ true → assigned env.declarations.classes t op u ≡ Ok r
     → HasType env left (written.Assign p e op v) (term_of r)
@@ -107,7 +107,7 @@ update_sound env left p op c e v t u r is d f known as_value h =
     (term_at t.at (ty.Integer k.0)
     (Update a.0 k.0 (record { operator = c; of = integers_in (m.0).operands }) (m.0).right)) r k.2 all
 
-assign_sound : (env : Environment) (left : Bool) (p : place.Place) (op : AssignOp) (e v : written.Expr) (t u r : TypedExpr)
+assign_sound : (env : Environment) (left : Bool) (p : place.Position) (op : AssignOp) (e v : written.Expr) (t u r : TypedExpr)
     → HasType env (is_assign op) e (term_of t) → HasType env false v (term_of u) → is_known t.ty ≡ true
     → is_known u.ty ≡ true → assigned env.declarations.classes t op u ≡ Ok r
     → HasType env left (written.Assign p e op v) (term_of r)
@@ -117,15 +117,15 @@ assign_sound env left p _ e v t u r d f known as_value h =
 
 -- suffixes
 
-member_ok : (t : TypedExpr) (at : ℕ) (found : Option (Member × Ty)) (r : TypedExpr) → member_at t at found ≡ Ok r
-    → (m : Member × Ty) × (found ≡ Some m) × (read_at t.at m.1 (Read (Held t.tree m.0)) ≡ r)
+member_ok : (t : TypedExpr) (at : ℕ) (found : Option (ObjectMember × Ty)) (r : TypedExpr) → member_at t at found ≡ Ok r
+    → (m : ObjectMember × Ty) × (found ≡ Some m) × (read_at t.at m.1 (Read (Held t.tree m.0)) ≡ r)
 member_ok t at None r h = absurd (no_fault _ r h)
 member_ok t at (Some m) r h = (m, refl, same_ok _ r h)
 
 field_ok : (env : Environment) (t : TypedExpr) (of : Ty) (at : ℕ) (text : List ℕ) (r : TypedExpr) → is_known of ≡ true
     → field_of env t of at text ≡ Ok r
     → (o : ObjectType) × (object_of of ≡ Some o)
-    × ((m : Member × Ty) × (member_in env o text ≡ Some m) × (read_at t.at m.1 (Read (Held t.tree m.0)) ≡ r))
+    × ((m : ObjectMember × Ty) × (member_in env o text ≡ Some m) × (read_at t.at m.1 (Read (Held t.tree m.0)) ≡ r))
 unfolding field_of
 field_ok env t (ty.Object o) at text r known h = (o, refl, member_ok t at (member_in env o text) r h)
 field_ok env t (ty.Handle o) at text r known h = (o, refl, member_ok t at (member_in env o text) r h)
@@ -146,7 +146,7 @@ method_ok env t (ty.Handle o) at text m known h = (o, refl, invoked_ok at (metho
 method_ok env t ty.Unknown at text m known h = cc
 method_ok env t _ at text m known h = absurd (no_fault _ m h)
 
-method_sound : (env : Environment) (t : TypedExpr) (p : place.Place) (text : List ℕ) (es : written.Exprs) (r : TypedExpr)
+method_sound : (env : Environment) (t : TypedExpr) (p : place.Position) (text : List ℕ) (es : written.Exprs) (r : TypedExpr)
     → is_known t.ty ≡ true → AllSound env es → check_invocation env t p.at text (check_exprs env es) ≡ Ok r
     → SuffixHasType env (term_of t) (written.Method p text es) (term_of r)
 unfolding invoked

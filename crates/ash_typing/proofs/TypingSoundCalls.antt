@@ -3,7 +3,7 @@ use Rattle.std.proofs.lemmas.Bool.{eqb-true}
 use Rattle.std.proofs.lemmas.List.{length-map}
 use Rattle.std.proofs.Common.{◌≡◌, ℕ, pred, List, [], ◌∷◌, map, length, nat_eq, Bool, true, false, cond, Option, Some}
 use Rattle.std.proofs.Common.{None, Ok, refl, ap, ◌∙◌, subst}
-use Rattle.ash_tree.specs.declared.tree.places.Place as place
+use Rattle.ash_tree.specs.declared.tree.places.Position as place
 use Rattle.ash_tree.specs.declared.tree.types.Primitive.{Primitive}
 use Rattle.ash_tree.specs.declared.tree.types.Primitive.TheVariants as primitives
 use Rattle.ash_tree.specs.Tree as written
@@ -13,22 +13,22 @@ use Rattle.ash_typed.specs.declared.types.ObjectType.{ObjectType}
 use Rattle.ash_typed.specs.declared.types.ObjectType.TheVariants as objects
 use Rattle.ash_integers.specs.declared.int_type.IntType.TheVariants as ints
 use Rattle.ash_typed.specs.declared.types.Element.{Element}
-use Rattle.ash_typed.specs.declared.tree.operations.Target.TheVariants as targets
+use Rattle.ash_typed.specs.declared.tree.operations.CallTarget.TheVariants as targets
 use Rattle.ash_typing.specs.declared.types.Ty.{Ty}
 use Rattle.ash_typing.specs.declared.types.Ty.TheVariants as ty
 use Rattle.ash_typing.specs.TypingResult.{TypingResult, ◌>>=◌, broken}
-use Rattle.ash_typing.specs.Types.{var_type, object_of, ty_of, ty_of_element}
-use Rattle.ash_typed.specs.Tree.{Expr, Exprs, This, Read, Cast, Call, Indexed, no_expr, expr}
+use Rattle.ash_typing.specs.TypeRules.{var_type, object_of, ty_of, ty_of_element}
+use Rattle.ash_typed.specs.TypedTree.{Expr, Exprs, This, Read, Cast, Call, Indexed, no_expr, expr}
 use Rattle.ash_typing.specs.Coercions.{fits}
 use Rattle.ash_typing.specs.ModuleDeclarations.{object_named, element_named}
-use Rattle.ash_typing.specs.Environment.{Environment, Class, Known, Callee, variable_in, callee_in, array_built}
-use Rattle.ash_typing.specs.Expressions.{TypedExpr, check_expr, check_exprs, check_call, called, callee_at, known_at, this_at}
-use Rattle.ash_typing.specs.Expressions.{arguments_at, all_coerced, coerced_for_assignment, coerced, integer_of}
-use Rattle.ash_typing.specs.Expressions.{bool_of, handle_of}
-use Rattle.ash_typing.specs.Expressions.{convert_at, converting, term_at, read_at, integer_at, in_brackets, index_in}
-use Rattle.ash_typing.specs.Expressions.{indexed_object, indexed, at_element, known_element, check_array, cast_type}
-use Rattle.ash_typing.specs.Expressions.{cast_at, term_of}
-use Rattle.ash_typing.specs.Typing.{is_known, HasType, AllHaveType, AreArguments, no_arguments, argument, IsCastType}
+use Rattle.ash_typing.specs.Environment.{Environment, ClassSignature, Known, Callee, variable_in, callee_in, array_built}
+use Rattle.ash_typing.specs.ExpressionRules.{TypedExpr, check_expr, check_exprs, check_call, called, callee_at, known_at, this_at}
+use Rattle.ash_typing.specs.ExpressionRules.{arguments_at, all_coerced, coerced_for_assignment, coerced, integer_of}
+use Rattle.ash_typing.specs.ExpressionRules.{bool_of, handle_of}
+use Rattle.ash_typing.specs.ExpressionRules.{convert_at, converting, term_at, read_at, integer_at, in_brackets, index_in}
+use Rattle.ash_typing.specs.ExpressionRules.{indexed_object, indexed, at_element, known_element, check_array, cast_type}
+use Rattle.ash_typing.specs.ExpressionRules.{cast_at, term_of}
+use Rattle.ash_typing.specs.Typing.{is_known, HasType, AllHaveType, AreTypedArguments, no_arguments, argument, IsCastType}
 use Rattle.ash_typing.specs.Typing.{to_class, to_interface, this, name, call, brackets, to_integer, to_bool, new_array}
 use Rattle.ash_typing.specs.Typing.{cast}
 use Rattle.ash_typing.proofs.TypingWords.{no_fault, same_ok, bind_ok}
@@ -60,7 +60,7 @@ object_ok at _ h known e = absurd (no_fault _ h e)
 
 -- arguments
 
-pub coerced_for_assignment_ok : (classes : List Class) (of : Ty) (t : TypedExpr) (e : Expr)
+pub coerced_for_assignment_ok : (classes : List ClassSignature) (of : Ty) (t : TypedExpr) (e : Expr)
     → coerced_for_assignment classes of t ≡ Ok e
     → (fits classes of t.ty ≡ true) × (converted_to of (term_of t) ≡ e)
 unfolding coerced_for_assignment
@@ -71,10 +71,10 @@ coerced_for_assignment_ok classes of t e h = go (fits classes of t.ty) h
     go true h = (refl, same_ok (coerced of t) e h)
     go false h = absurd (no_fault _ e h)
 
-all_coerced_ok : (classes : List Class) (parameters : List Ty) (ts : List TypedExpr) (trees : Exprs)
+all_coerced_ok : (classes : List ClassSignature) (parameters : List Ty) (ts : List TypedExpr) (trees : Exprs)
     → length parameters ≡ length ts → all_coerced classes parameters ts ≡ Ok trees
-    → AreArguments classes parameters (terms ts) trees
-all_coerced_ok classes [] [] trees n h = at_ok (λ trees. AreArguments classes [] [] trees) no_expr trees h no_arguments
+    → AreTypedArguments classes parameters (terms ts) trees
+all_coerced_ok classes [] [] trees n h = at_ok (λ trees. AreTypedArguments classes [] [] trees) no_expr trees h no_arguments
 all_coerced_ok classes [] (t ∷ ts) trees n h = cc
 all_coerced_ok classes (of ∷ parameters) [] trees n h = cc
 all_coerced_ok classes (of ∷ parameters) (t ∷ ts) trees n h =
@@ -82,19 +82,19 @@ all_coerced_ok classes (of ∷ parameters) (t ∷ ts) trees n h =
     (λ e. all_coerced classes parameters ts >>= λ es. Ok (expr e es)) trees h in
     let rest = bind_ok (all_coerced classes parameters ts) (λ es. Ok (expr first.0 es)) trees first.2 in
     let fit = coerced_for_assignment_ok classes of t first.0 first.1 in
-    at_ok (λ trees. AreArguments classes (of ∷ parameters) (term_of t ∷ terms ts) trees) (expr first.0 rest.0) trees
+    at_ok (λ trees. AreTypedArguments classes (of ∷ parameters) (term_of t ∷ terms ts) trees) (expr first.0 rest.0) trees
     rest.2 (subst
-    (λ x. AreArguments classes (of ∷ parameters) (term_of t ∷ terms ts) (expr x rest.0)) fit.1
+    (λ x. AreTypedArguments classes (of ∷ parameters) (term_of t ∷ terms ts) (expr x rest.0)) fit.1
     (argument fit.0 (all_coerced_ok classes parameters ts rest.0 (ap pred n) rest.1)))
 
-pub arguments_ok : (classes : List Class) (at : ℕ) (parameters : List Ty) (ts : List TypedExpr) (trees : Exprs)
-    → arguments_at classes at parameters ts ≡ Ok trees → AreArguments classes parameters (terms ts) trees
+pub arguments_ok : (classes : List ClassSignature) (at : ℕ) (parameters : List Ty) (ts : List TypedExpr) (trees : Exprs)
+    → arguments_at classes at parameters ts ≡ Ok trees → AreTypedArguments classes parameters (terms ts) trees
 unfolding arguments_at
 arguments_ok classes at parameters ts trees h = go (nat_eq (length parameters) (length ts)) refl h
   where
     go : (b : Bool) → nat_eq (length parameters) (length ts) ≡ b
         → cond b (all_coerced classes parameters ts) (broken rules.WrongArgumentCount at) ≡ Ok trees
-        → AreArguments classes parameters (terms ts) trees
+        → AreTypedArguments classes parameters (terms ts) trees
     go true n h = all_coerced_ok classes parameters ts trees (eqb-true (length parameters) (length ts) n) h
     go false n h = absurd (no_fault _ trees h)
 
@@ -107,22 +107,22 @@ Sound env left e = (u : TypedExpr) → check_expr env left e ≡ Ok u → HasTyp
 abbrev pub AllSound : Environment → written.Exprs → Type 0
 AllSound env es = (us : List TypedExpr) → check_exprs env es ≡ Ok us → AllHaveType env es (terms us)
 
-pub this_sound : (env : Environment) (left : Bool) (p : place.Place) (found : Option ℕ) (r : TypedExpr) → env.this ≡ found
+pub this_sound : (env : Environment) (left : Bool) (p : place.Position) (found : Option ℕ) (r : TypedExpr) → env.this ≡ found
     → this_at p.at found ≡ Ok r → HasType env left (written.This p) (term_of r)
 this_sound env left p None r e h = absurd (no_fault _ r h)
 this_sound env left p (Some class) r e h =
     at_ok (λ r. HasType env left (written.This p) (term_of r))
     (term_at p.at (ty.Handle (objects.Class class)) (This class)) r h (this e)
 
-pub name_sound : (env : Environment) (left : Bool) (p : place.Place) (text : List ℕ) (found : Option Known) (r : TypedExpr)
+pub name_sound : (env : Environment) (left : Bool) (p : place.Position) (text : List ℕ) (found : Option Known) (r : TypedExpr)
     → variable_in env text ≡ found → known_at p.at found ≡ Ok r → HasType env left (written.Name p text) (term_of r)
 name_sound env left p text None r e h = absurd (no_fault _ r h)
 name_sound env left p text (Some known) r e h =
     at_ok (λ r. HasType env left (written.Name p text) (term_of r)) (read_at p.at known.1 known.0) r h (name e)
 
-pub called_with : (classes : List Class) (at : ℕ) (callee : Callee) (ts : List TypedExpr) (ps : List Ty) (r : TypedExpr)
+pub called_with : (classes : List ClassSignature) (at : ℕ) (callee : Callee) (ts : List TypedExpr) (ps : List Ty) (r : TypedExpr)
     → called classes at callee ts (Some ps) ≡ Ok r
-    → (trees : Exprs) × AreArguments classes ps (terms ts) trees
+    → (trees : Exprs) × AreTypedArguments classes ps (terms ts) trees
     × (term_at at callee.result (call_of callee.target (map var_type ps) trees) ≡ r)
 unfolding called
 called_with classes at callee ts ps r h =
@@ -133,10 +133,10 @@ called_with classes at callee ts ps r h =
       same_ok (term_at at callee.result (call_of callee.target (map var_type ps) a.0)) r a.2,
     )
 
-pub called_ok : (classes : List Class) (at : ℕ) (callee : Callee) (ts : List TypedExpr) (parameters : Option (List Ty))
+pub called_ok : (classes : List ClassSignature) (at : ℕ) (callee : Callee) (ts : List TypedExpr) (parameters : Option (List Ty))
     (r : TypedExpr) → called classes at callee ts parameters ≡ Ok r
     → (ps : List Ty) × (parameters ≡ Some ps)
-    × ((trees : Exprs) × AreArguments classes ps (terms ts) trees
+    × ((trees : Exprs) × AreTypedArguments classes ps (terms ts) trees
     × (term_at at callee.result (call_of callee.target (map var_type ps) trees) ≡ r))
 unfolding called
 called_ok classes at callee ts None r h = absurd (no_fault _ r h)
@@ -146,7 +146,7 @@ callee_ok : (at : ℕ) (found : Option Callee) (callee : Callee) → callee_at a
 callee_ok at None callee h = absurd (no_fault _ callee h)
 callee_ok at (Some found) callee h = ap Some (same_ok found callee h)
 
-pub call_sound : (env : Environment) (left : Bool) (p : place.Place) (text : List ℕ) (es : written.Exprs) (r : TypedExpr)
+pub call_sound : (env : Environment) (left : Bool) (p : place.Position) (text : List ℕ) (es : written.Exprs) (r : TypedExpr)
     → AllSound env es → check_call env p.at text (check_exprs env es) ≡ Ok r
     → HasType env left (written.Call p text es) (term_of r)
 call_sound env left p text es r all h =
@@ -157,7 +157,7 @@ call_sound env left p text es r all h =
     subst (λ r. HasType env left (written.Call p text es) (term_of r)) ((d.2).2)
     (call (callee_ok p.at (callee_in env text) c.0 c.1) d.1 (all a.0 a.1) ((d.2).1))
 
-pub brackets_sound : (env : Environment) (left : Bool) (p : place.Place) (e : written.Expr) (r : TypedExpr)
+pub brackets_sound : (env : Environment) (left : Bool) (p : place.Position) (e : written.Expr) (r : TypedExpr)
     → Sound env false e
     → (check_expr env false e >>= λ t. Ok (in_brackets p.at t)) ≡ Ok r → HasType env left (written.Brackets p e) (term_of r)
 brackets_sound env left p e r sound h =
@@ -165,7 +165,7 @@ brackets_sound env left p e r sound h =
     at_ok (λ r. HasType env left (written.Brackets p e) (term_of r)) (in_brackets p.at a.0) r a.2
     (brackets (sound a.0 a.1))
 
-to_integer_sound : (env : Environment) (left : Bool) (p : place.Place) (to : Primitive) (k : IntType) (e : written.Expr)
+to_integer_sound : (env : Environment) (left : Bool) (p : place.Position) (to : Primitive) (k : IntType) (e : written.Expr)
     (u r : TypedExpr) → HasType env false e (term_of u) → is_known u.ty ≡ true → ty_of to ≡ ty.Integer k
     → converting p.at (ty.Integer k) u ≡ Ok r → HasType env left (written.Convert p to e) (term_of r)
 to_integer_sound env left p to k e u r d known is h =
@@ -173,7 +173,7 @@ to_integer_sound env left p to k e u r d known is h =
     at_ok (λ r. HasType env left (written.Convert p to e) (term_of r)) (integer_at p.at k u) r j.2
     (to_integer d is (integer_ok u.at u.ty j.0 known j.1))
 
-pub convert_sound : (env : Environment) (left : Bool) (p : place.Place) (to : Primitive) (e : written.Expr)
+pub convert_sound : (env : Environment) (left : Bool) (p : place.Position) (to : Primitive) (e : written.Expr)
     (u r : TypedExpr)
     → HasType env false e (term_of u) → is_known u.ty ≡ true → convert_at p.at to u ≡ Ok r
     → HasType env left (written.Convert p to e) (term_of r)
@@ -190,21 +190,21 @@ element_ok : (at : ℕ) (found : Option Element) (e : Element) → known_element
 element_ok at None e h = absurd (no_fault _ e h)
 element_ok at (Some found) e h = ap Some (same_ok found e h)
 
-array_by : (env : Environment) (left : Bool) (p : place.Place) (of : written.Element) (es : written.Exprs)
+array_by : (env : Environment) (left : Bool) (p : place.Position) (of : written.Element) (es : written.Exprs)
     (elements : Element) (ts : List Term) (count : ℕ) (trees : Exprs) → length ts ≡ count
     → element_named env.registered env.declarations of ≡ Some elements → AllHaveType env es ts
-    → AreArguments env.declarations.classes (array_parameters count) ts trees
+    → AreTypedArguments env.declarations.classes (array_parameters count) ts trees
     → HasType env left (written.NewArray p of es)
     (term (ty.Handle (objects.Array elements))
     (Call (targets.Array elements) (map var_type (array_parameters count)) trees))
 array_by env left p of es elements ts count trees c n all args =
-    subst (λ (count : ℕ). AreArguments env.declarations.classes (array_parameters count) ts trees
+    subst (λ (count : ℕ). AreTypedArguments env.declarations.classes (array_parameters count) ts trees
     → HasType env left (written.NewArray p of es)
     (term (ty.Handle (objects.Array elements))
     (Call (targets.Array elements) (map var_type (array_parameters count)) trees))) c
     (λ args. new_array n all args) args
 
-pub array_sound : (env : Environment) (left : Bool) (p : place.Place) (of : written.Element) (es : written.Exprs)
+pub array_sound : (env : Environment) (left : Bool) (p : place.Position) (of : written.Element) (es : written.Exprs)
     (r : TypedExpr) → AllSound env es → check_array env p.at of (check_exprs env es) ≡ Ok r
     → HasType env left (written.NewArray p of es) (term_of r)
 array_sound env left p of es r all h =
@@ -262,7 +262,7 @@ cast_type_ok at (Some (objects.Interface interface)) o h = (
 )
 cast_type_ok at (Some _) o h = absurd (no_fault _ o h)
 
-pub cast_sound : (env : Environment) (left : Bool) (p : place.Place) (to : written.TypeName) (e : written.Expr)
+pub cast_sound : (env : Environment) (left : Bool) (p : place.Position) (to : written.TypeName) (e : written.Expr)
     (o : ObjectType) (u r : TypedExpr) → object_named env.registered env.declarations to.name ≡ Some o → IsCastType o
     → HasType env false e (term_of u) → is_known u.ty ≡ true → cast_at p.at o u ≡ Ok r
     → HasType env left (written.Cast p to e) (term_of r)

@@ -1,6 +1,6 @@
 -- The rules type what the walk types: operators.
 use Rattle.std.proofs.Common.{◌≡◌, ℕ, Bool, true, false, Option, Some, None, Ok, refl, sym, ap, ◌∙◌, subst}
-use Rattle.ash_tree.specs.declared.tree.places.Place as place
+use Rattle.ash_tree.specs.declared.tree.places.Position as place
 use Rattle.ash_tree.specs.declared.tree.operators.UnaryOp.{UnaryOp}
 use Rattle.ash_tree.specs.declared.tree.operators.UnaryOp.TheVariants as unary
 use Rattle.ash_tree.specs.declared.tree.operators.BinaryOp.{BinaryOp}
@@ -14,14 +14,14 @@ use Rattle.ash_typed.specs.declared.tree.operations.Operands.{Operands}
 use Rattle.ash_typed.specs.declared.tree.operations.IncrementOp.{IncrementOp}
 use Rattle.ash_typed.specs.declared.tree.operations.IncrementOp.TheVariants as steps
 use Rattle.ash_typing.specs.TypingResult.{◌>>=◌}
-use Rattle.ash_typing.specs.Types.{signed, common, operator_class_of, operator_result, common_operands, assumed_type}
-use Rattle.ash_typed.specs.Tree.{Expr, Alter, Conditional, Count, Place}
+use Rattle.ash_typing.specs.TypeRules.{signed, common, operator_class_of, operator_result, common_operands, assumed_type}
+use Rattle.ash_typed.specs.TypedTree.{Expr, Alter, Conditional, Count, Place}
 use Rattle.ash_typing.specs.Environment.{Environment}
-use Rattle.ash_typing.specs.Expressions.{TypedExpr, UnifiedOperands, check_expr, check_links, coerced, operate}
-use Rattle.ash_typing.specs.Expressions.{operated as joined, unify_operands}
-use Rattle.ash_typing.specs.Expressions.{unified_as, unified_by, counted, altered, unary_at, integer_of, bool_of}
-use Rattle.ash_typing.specs.Expressions.{handle_of}
-use Rattle.ash_typing.specs.Expressions.{handle_at, choice, chosen, term_at, integer_at, placed, term_of}
+use Rattle.ash_typing.specs.ExpressionRules.{TypedExpr, UnifiedOperands, check_expr, check_links, coerced, operate}
+use Rattle.ash_typing.specs.ExpressionRules.{operated as joined, unify_operands}
+use Rattle.ash_typing.specs.ExpressionRules.{unified_as, unified_by, counted, altered, unary_at, integer_of, bool_of}
+use Rattle.ash_typing.specs.ExpressionRules.{handle_of}
+use Rattle.ash_typing.specs.ExpressionRules.{handle_at, choice, chosen, term_at, integer_at, placed, term_of}
 use Rattle.ash_typing.specs.Typing.{IsKnown, is_known, HasType, LinksHaveType, plus, minus, complement, not, increment}
 use Rattle.ash_typing.specs.Typing.{decrement, handle, handle_written, conditional, operated, AreUnified, left_of, right_of}
 use Rattle.ash_typing.proofs.TypingWords.{no_fault, same_ok, bind_ok, unconverted, adapted_is, known_assumed, right_is}
@@ -44,7 +44,7 @@ counted_ok at step u (Some target) r known h =
       (k.0, integer_ok u.at u.ty k.0 known k.1, same_ok (term_at at (ty.Integer k.0) (Count target k.0 step)) r k.2),
     )
 
-handle_sound : (env : Environment) (left : Bool) (p : place.Place) (e : written.Expr) (u r : TypedExpr)
+handle_sound : (env : Environment) (left : Bool) (p : place.Position) (e : written.Expr) (u r : TypedExpr)
     → HasType env false e (term_of u) → is_known u.ty ≡ true → handle_at left p.at u ≡ Ok r
     → HasType env left (written.Unary p unary.Handle e) (term_of r)
 handle_sound env true p e u r d known h =
@@ -56,7 +56,7 @@ handle_sound env false p e u r d known h =
     at_ok (λ r. HasType env false (written.Unary p unary.Handle e) (term_of r)) (term_at p.at t.0 u.tree) r t.2
     (rw (← o.2) (handle d o.1))
 
-pub unary_sound : (env : Environment) (left : Bool) (p : place.Place) (op : UnaryOp) (e : written.Expr) (u r : TypedExpr)
+pub unary_sound : (env : Environment) (left : Bool) (p : place.Position) (op : UnaryOp) (e : written.Expr) (u r : TypedExpr)
     → HasType env false e (term_of u) → is_known u.ty ≡ true → unary_at left p.at op u ≡ Ok r
     → HasType env left (written.Unary p op e) (term_of r)
 unfolding unary_at
@@ -165,7 +165,7 @@ chosen_ok : (c a b : TypedExpr) (found : Option Ty) (r : TypedExpr) → chosen c
 chosen_ok c a b None r h = absurd (no_fault _ r h)
 chosen_ok c a b (Some of) r h = (of, refl, same_ok _ r h)
 
-pub conditional_sound : (env : Environment) (left : Bool) (p : place.Place) (c a b : written.Expr) (t x y r : TypedExpr)
+pub conditional_sound : (env : Environment) (left : Bool) (p : place.Position) (c a b : written.Expr) (t x y r : TypedExpr)
     → HasType env false c (term_of t) → HasType env false a (term_of x) → HasType env false b (term_of y)
     → is_known t.ty ≡ true → choice t x y ≡ Ok r → HasType env left (written.Conditional p c a b) (term_of r)
 unfolding choice

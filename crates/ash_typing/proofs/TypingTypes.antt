@@ -11,24 +11,24 @@ use Rattle.ash_typed.specs.declared.types.ObjectType.{ObjectType}
 use Rattle.ash_typing.specs.declared.types.Ty.{Ty}
 use Rattle.ash_typing.specs.declared.types.Ty.TheVariants as ty
 use Rattle.ash_typed.specs.declared.tree.operations.Variable.TheVariants as variables
-use Rattle.ash_typed.specs.declared.tree.operations.Member.{Member}
+use Rattle.ash_typed.specs.declared.tree.operations.ObjectMember.{ObjectMember}
 use Rattle.ash_typed.specs.declared.tree.operations.Operands.{Operands}
 use Rattle.ash_typed.specs.declared.tree.operations.Operands.TheVariants as operands
 use Rattle.ash_typing.specs.declared.forms.OperatorClass.{OperatorClass}
 use Rattle.ash_typing.specs.declared.forms.OperatorClass.TheVariants as operator_class
-use Rattle.ash_typed.specs.Tree.{Expr, This, Read, Place, Stored, Held, place_in, converted}
+use Rattle.ash_typed.specs.TypedTree.{Expr, This, Read, Place, Stored, Held, place_in, converted}
 use Rattle.ash_typed.specs.TypeOf.{type_of, type_of_place, value, value_of_result, as_value, chosen_type}
 use Rattle.ash_typed.specs.declared.types.VarType.{VarType}
 use Rattle.ash_typed.specs.declared.types.VarType.TheVariants as vars
-use Rattle.ash_typing.specs.Types.{var_type, value_type, is_same_integer_type, gives_object, common, object_of, common_integer_type}
-use Rattle.ash_typing.specs.Types.{operator_class_of, integers_in, common_operands, operator_result}
-use Rattle.ash_typing.specs.Environment.{Environment, Declared, Class, Known, first_from, last_named, declares}
+use Rattle.ash_typing.specs.TypeRules.{var_type, value_type, is_same_integer_type, gives_object, common, object_of, common_integer_type}
+use Rattle.ash_typing.specs.TypeRules.{operator_class_of, integers_in, common_operands, operator_result}
+use Rattle.ash_typing.specs.Environment.{Environment, Declared, ClassSignature, Known, first_from, last_named, declares}
 use Rattle.ash_typing.specs.Environment.{this_class, variable_in, callee_in, member_in, method_in, field_in, local_in}
 use Rattle.ash_typing.specs.Environment.{own_field_in, global_in}
 use Rattle.ash_typing.specs.declared.forms.Form.{Form}
 use Rattle.ash_typing.specs.declared.forms.Form.TheVariants as form
 use Rattle.ash_typing.specs.Terms.{conversion, applied, assignable, bracketed, handle_form, Term, converted_to}
-use Rattle.ash_typing.specs.Typing.{IsKnown, IsVariableType, IsResultType, is_known, IsRead, IsReadWherePlace, HasType}
+use Rattle.ash_typing.specs.Typing.{IsKnown, IsVariableType, IsTypeOfResult, is_known, IsReadOfPlace, IsReadWherePlace, HasType}
 use Rattle.ash_typing.specs.Typing.{LinksHaveType, SuffixesHaveType, SuffixHasType, number, truth, null, this, name}
 use Rattle.ash_typing.specs.Typing.{call, brackets, to_integer, to_bool, new_array, cast, postfix, plus, minus}
 use Rattle.ash_typing.specs.Typing.{complement, not, increment, decrement, handle, handle_written, binary as operators}
@@ -179,7 +179,7 @@ mutual
       call_type callee.target (map var_type parameters) trees
       ∙ ap value_of_result (at_some IsTypedCallee (callee_in env text) callee (callee_type env text) c)
       ∙ result_value callee.result
-      (at_some (λ callee. IsResultType callee.result) (callee_in env text) callee (callee_known env text known) c)
+      (at_some (λ callee. IsTypeOfResult callee.result) (callee_in env text) callee (callee_known env text known) c)
   type_is (brackets h) known = type_is h known
   type_is (to_integer {t = t} {j = j} {k = k} h i l) known = converted_type k j t (type_is h known) l
   type_is (to_bool h i l) known = type_is h known ∙ ap value_type l
@@ -221,7 +221,7 @@ mutual
   suffix_type {env} (method {text = text} {o = o} {m = m} h i all args) known =
       ap value_of_result (at_some IsTypedMethod (method_in env o text) m (method_type env o text) i)
       ∙ result_value m.result
-      (at_some (λ m. IsResultType m.result) (method_in env o text) m (method_known env o text known) i)
+      (at_some (λ m. IsTypeOfResult m.result) (method_in env o text) m (method_known env o text known) i)
   suffix_type (index {elements = of} h d i) known = element_type of
   suffix_type (increment_after h i) known = refl
   suffix_type (decrement_after h i) known = refl
@@ -232,7 +232,7 @@ abbrev IsReadTerm : Term → Type 0
 IsReadTerm t = IsReadWherePlace t.form t.tree
 
 abbrev IsReadName : Known → Type 0
-IsReadName known = IsRead known.0
+IsReadName known = IsReadOfPlace known.0
 
 variable_read : (env : Environment) (text : List ℕ) → IfSome (variable_in env text) IsReadName
 unfolding variable_in
@@ -241,11 +241,11 @@ variable_read env text =
     (λ (found : ℕ × Ty). (Read (Stored (variables.Local found.0 (var_type found.1))), found.1))
     (last_named text 0 None env.locals) (if_all (last_named text 0 None env.locals) (λ found. (_, refl))) in
     let own = if_any IsReadName
-    (λ (c : ℕ × Class).
-    option_map (λ (found : Member × Ty). (Read (Held (This c.0) found.0), found.1)) (field_in c.0 c.1 text))
+    (λ (c : ℕ × ClassSignature).
+    option_map (λ (found : ObjectMember × Ty). (Read (Held (This c.0) found.0), found.1)) (field_in c.0 c.1 text))
     (this_class env)
     (λ c. if_map IsReadName
-    (λ (found : Member × Ty). (Read (Held (This c.0) found.0), found.1)) (field_in c.0 c.1 text)
+    (λ (found : ObjectMember × Ty). (Read (Held (This c.0) found.0), found.1)) (field_in c.0 c.1 text)
     (if_all (field_in c.0 c.1 text) (λ found. (_, refl)))) in
     let global =
     if_map IsReadName

@@ -14,9 +14,9 @@ use Rattle.ash_typed.specs.declared.tree.operations.Calculator.TheVariants as ca
 use Rattle.ash_typed.specs.declared.tree.operations.Operands.{Operands}
 use Rattle.ash_typed.specs.declared.tree.operations.Operands.TheVariants as operands
 use Rattle.ash_typing.specs.TypingResult.{TypingResult, ◌>>=◌}
-use Rattle.ash_typing.specs.Types.{is_same_integer_type, common_integer_type, operator_class_of, binary_of}
-use Rattle.ash_typing.specs.Types.{integers_in, common_operands, assumed_type}
-use Rattle.ash_typing.specs.Expressions.{adapted, unify_operands, placed, term_of}
+use Rattle.ash_typing.specs.TypeRules.{is_same_integer_type, common_integer_type, operator_class_of, binary_of}
+use Rattle.ash_typing.specs.TypeRules.{integers_in, common_operands, assumed_type}
+use Rattle.ash_typing.specs.ExpressionRules.{adapted, unify_operands, placed, term_of}
 use Rattle.ash_typing.specs.Typing.{is_known, AreUnified, right_of}
 use Rattle.ash_typing.specs.Terms.{Term, adapted_to, converted_to, right_by}
 

@@ -7,10 +7,11 @@ use Rattle.ash_typed.specs.declared.types.ObjectType.TheVariants.{Interface as O
 use Rattle.ash_typing.specs.declared.types.Ty.{Ty}
 use Rattle.ash_typing.specs.declared.types.Ty.TheVariants as ty
 use Rattle.ash_typing.specs.TypingResult.{TypingResult, ◌>>=◌, broken}
-use Rattle.ash_typed.specs.Tree.{Expr}
-use Rattle.ash_typing.specs.Environment.{Environment, Class, Callee, construction}
+use Rattle.ash_typed.specs.TypedTree.{Expr}
+use Rattle.ash_typing.specs.Environment.{Environment, ClassSignature, Callee, construction}
 pub use Rattle.ash_typed.specs.StatementTree.{Initialization}
-use Rattle.ash_typing.specs.Expressions.{TypedExpr, check_expr, check_exprs, coerced_for_assignment, called, at_element}
+use Rattle.ash_typing.specs.ExpressionRules.{TypedExpr, check_expr, check_exprs, coerced_for_assignment, called}
+use Rattle.ash_typing.specs.ExpressionRules.{at_element}
 use Rattle.ash_typing.specs.Terms.{initialization}
 
 -- the type of variables
@@ -36,7 +37,7 @@ abbrev pub built : TypedExpr → Option Expr
 built t = Some t.tree
 
 -- An object is constructed, by the type at this offset.
-unfoldable pub constructed : List Class → ℕ → List TypedExpr → Option Callee → TypingResult (Option Expr)
+unfoldable pub constructed : List ClassSignature → ℕ → List TypedExpr → Option Callee → TypingResult (Option Expr)
 constructed classes at ts None = broken NoFactory at
 constructed classes at ts (Some callee) = called classes at callee ts callee.parameters >>= λ t. Ok (built t)
 
@@ -45,16 +46,16 @@ unfoldable pub begun : Environment → ℕ → Ty → TypingResult (Option Expr)
 begun env at (ty.Object o) = constructed env.declarations.classes at [] (construction env o 0)
 begun env at _ = Ok None
 
-abbrev pub stored_first : List Class → Ty → TypedExpr → TypingResult (Option Expr)
+abbrev pub stored_first : List ClassSignature → Ty → TypedExpr → TypingResult (Option Expr)
 stored_first classes of t = coerced_for_assignment classes of t >>= λ e. Ok (Some e)
 
 -- `T x = e`, with x at this offset, begins so: objects are not assigned.
-unfoldable pub begun_with : List Class → ℕ → Ty → TypedExpr → TypingResult (Option Expr)
+unfoldable pub begun_with : List ClassSignature → ℕ → Ty → TypedExpr → TypingResult (Option Expr)
 begun_with classes at (ty.Object o) t = broken NotAssignable at
 begun_with classes at of t = stored_first classes of t
 
 -- `T x(e)` is `T x = e` for a primitive type.
-unfoldable pub begun_by_one : List Class → ℕ → Ty → List TypedExpr → TypingResult (Option Expr)
+unfoldable pub begun_by_one : List ClassSignature → ℕ → Ty → List TypedExpr → TypingResult (Option Expr)
 begun_by_one classes at of (t ∷ []) = stored_first classes of t
 begun_by_one classes at of _ = broken TypeMismatch at
 
@@ -66,7 +67,8 @@ begun_by env of_at at of ts = begun_by_one env.declarations.classes at of ts
 
 unfoldable pub initialized : Environment → ℕ → ℕ → Ty → written.Initializer → TypingResult (Option Expr)
 initialized env of_at at of written.Default = begun env of_at of
-initialized env of_at at of (written.Value e) = check_expr env false e >>= λ t. begun_with env.declarations.classes at of t
+initialized env of_at at of (written.Value e) = check_expr env false e >>= λ t. begun_with env.declarations.classes
+    at of t
 initialized env of_at at of (written.Arguments es) =
     check_exprs env (written.exprs es) >>= λ ts. begun_by env of_at at of ts
 

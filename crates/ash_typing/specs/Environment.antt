@@ -14,17 +14,17 @@ use Rattle.ash_typed.specs.declared.types.ObjectType.TheVariants.{Host as OfHost
 use Rattle.ash_typing.specs.declared.types.Ty.{Ty}
 use Rattle.ash_typing.specs.declared.types.Ty.TheVariants as ty
 use Rattle.ash_typed.specs.declared.tree.operations.Variable.TheVariants as variables
-use Rattle.ash_typed.specs.declared.tree.operations.Member.{Member}
-use Rattle.ash_typed.specs.declared.tree.operations.Member.TheVariants as members
+use Rattle.ash_typed.specs.declared.tree.operations.ObjectMember.{ObjectMember}
+use Rattle.ash_typed.specs.declared.tree.operations.ObjectMember.TheVariants as members
 use Rattle.ash_typed.specs.declared.tree.operations.Method.{Method}
 use Rattle.ash_typed.specs.declared.tree.operations.Method.TheVariants as methods
 use Rattle.ash_typed.specs.declared.tree.operations.ArrayMethod.{ArrayMethod}
 use Rattle.ash_typed.specs.declared.tree.operations.ArrayMethod.TheVariants as arrays
-use Rattle.ash_typed.specs.declared.tree.operations.Target.TheVariants as targets
+use Rattle.ash_typed.specs.declared.tree.operations.CallTarget.TheVariants as targets
 use Rattle.ash_typing.specs.declared.forms.Callable.{Callable}
 use Rattle.ash_typing.specs.declared.forms.Callable.TheVariants as callables
-use Rattle.ash_typing.specs.Types.{ty_of, ty_of_element, var_type, result_type}
-use Rattle.ash_typed.specs.Tree.{Expr, This, Read, Stored, Held}
+use Rattle.ash_typing.specs.TypeRules.{ty_of, ty_of_element, var_type, result_type}
+use Rattle.ash_typed.specs.TypedTree.{Expr, This, Read, Stored, Held}
 use Rattle.ash_typing.specs.Terms.{array_parameters}
 
 -- A variable, a parameter or a field has a name and a type.
@@ -36,29 +36,29 @@ abbrev pub type_declared : Declared → VarType
 type_declared v = var_type v.of
 
 -- A function or a method has the result `Void` where it has none.
-pub record Function : Type 0 where
+pub record FunctionSignature : Type 0 where
   pub name : List ℕ
   pub result : Ty
   pub parameters : List Ty
 
 -- An interface has the methods that it declares.
-pub record Interface : Type 0 where
+pub record InterfaceSignature : Type 0 where
   pub name : List ℕ
-  pub methods : List Function
+  pub methods : List FunctionSignature
 
 -- A class has the places of the interfaces that it lists, and the parameters that its construction takes.
-pub record Class : Type 0 where
+pub record ClassSignature : Type 0 where
   pub name : List ℕ
   pub interfaces : List ℕ
   pub fields : List Declared
-  pub methods : List Function
+  pub methods : List FunctionSignature
   pub parameters : List Ty
 
 -- A module declares these.
 pub record ModuleDeclarations : Type 0 where
-  pub interfaces : List Interface
-  pub classes : List Class
-  pub functions : List Function
+  pub interfaces : List InterfaceSignature
+  pub classes : List ClassSignature
+  pub functions : List FunctionSignature
   pub globals : List Declared
 
 pub record Environment : Type 0 where
@@ -104,19 +104,20 @@ last_named name i found (v ∷ vs) = last_named name (i + 1) (if bytes_eq name v
 abbrev pub declares : List ℕ → Declared → Bool
 declares name v = bytes_eq name v.name
 
-abbrev pub is_called : List ℕ → Function → Bool
+abbrev pub is_called : List ℕ → FunctionSignature → Bool
 is_called name f = bytes_eq name f.name
 
-abbrev pub is_class : List ℕ → Class → Bool
+abbrev pub is_class : List ℕ → ClassSignature → Bool
 is_class name c = bytes_eq name c.name
 
-abbrev pub is_interface_named : List ℕ → Interface → Bool
+abbrev pub is_interface_named : List ℕ → InterfaceSignature → Bool
 is_interface_named name i = bytes_eq name i.name
 
 -- `this_class env` is the class whose object runs.
-abbrev pub this_class : Environment → Option (ℕ × Class)
+abbrev pub this_class : Environment → Option (ℕ × ClassSignature)
 this_class env =
-    option_and_then (λ (i : ℕ). option_map (λ (c : Class). (i, c)) (slice_get env.declarations.classes i)) env.this
+    option_and_then (λ (i : ℕ). option_map (λ (c : ClassSignature). (i, c)) (slice_get env.declarations.classes i))
+    env.this
 
 -- A name alone is a local, the nearest one, else a field of the object that runs, else a global.
 
@@ -130,7 +131,7 @@ local_in locals name =
     (last_named name 0 None locals)
 
 -- `field_in class c name` is a field of the class of this place.
-abbrev pub field_in : ℕ → Class → List ℕ → Option (Member × Ty)
+abbrev pub field_in : ℕ → ClassSignature → List ℕ → Option (ObjectMember × Ty)
 field_in class c name =
     option_map (λ (found : ℕ × Declared). (members.Field class found.0 (var_type found.1.of), found.1.of))
     (first_from (declares name) 0 c.fields)
@@ -138,8 +139,8 @@ field_in class c name =
 abbrev pub own_field_in : Environment → List ℕ → Option Known
 own_field_in env name =
     option_and_then
-    (λ (c : ℕ × Class).
-    option_map (λ (found : Member × Ty). (Read (Held (This c.0) found.0), found.1)) (field_in c.0 c.1 name))
+    (λ (c : ℕ × ClassSignature).
+    option_map (λ (found : ObjectMember × Ty). (Read (Held (This c.0) found.0), found.1)) (field_in c.0 c.1 name))
     (this_class env)
 
 abbrev pub global_in : List Declared → List ℕ → Option Known
@@ -167,17 +168,17 @@ result_of (Some primitive) = ty_of primitive
 abbrev pub own_method_in : Environment → List ℕ → Option Callee
 own_method_in env name =
     option_and_then
-    (λ (c : ℕ × Class).
-    option_map (λ (found : ℕ × Function).
+    (λ (c : ℕ × ClassSignature).
+    option_map (λ (found : ℕ × FunctionSignature).
     record {
       target = callables.OwnMethod c.0 found.0 (result_type found.1.result);
       result = found.1.result;
       parameters = Some found.1.parameters;
     }) (first_from (is_called name) 0 c.1.methods)) (this_class env)
 
-abbrev pub function_in : List Function → List ℕ → Option Callee
+abbrev pub function_in : List FunctionSignature → List ℕ → Option Callee
 function_in functions name =
-    option_map (λ (found : ℕ × Function).
+    option_map (λ (found : ℕ × FunctionSignature).
     record {
       target = callables.Target (targets.Function found.0 (result_type found.1.result));
       result = found.1.result;
@@ -193,9 +194,9 @@ service_function (host.FunctionRegistration service id operation) =
     })
 service_function _ = None
 
-abbrev pub class_in : List Class → List ℕ → Option Callee
+abbrev pub class_in : List ClassSignature → List ℕ → Option Callee
 class_in classes name =
-    option_map (λ (found : ℕ × Class).
+    option_map (λ (found : ℕ × ClassSignature).
     record {
       target = callables.Target (targets.Class found.0);
       result = ty.Handle (OfClass found.0);
@@ -246,14 +247,14 @@ name_of_kind registrations kind = type_name (find (host.takes_kind kind) registr
 unfoldable pub host_member_in : List host.Registration → ℕ → List ℕ → Option host.Registration
 host_member_in registrations kind name = find (host.takes_member (name_of_kind registrations kind) name) registrations
 
-abbrev pub property : host.Registration → Option (Member × Ty)
+abbrev pub property : host.Registration → Option (ObjectMember × Ty)
 property (host.PropertyRegistration of id value name) = Some (members.Property id (var_type (ty_of value)), ty_of value)
 property _ = None
 
 -- `member_in env o name` is what an object holds by this name; an interface and an array hold nothing that has a name.
-unfoldable pub member_in : Environment → ObjectType → List ℕ → Option (Member × Ty)
+unfoldable pub member_in : Environment → ObjectType → List ℕ → Option (ObjectMember × Ty)
 member_in env (OfClass i) name =
-    option_and_then (λ (c : Class). field_in i c name) (slice_get env.declarations.classes i)
+    option_and_then (λ (c : ClassSignature). field_in i c name) (slice_get env.declarations.classes i)
 member_in env (OfInterface i) name = None
 member_in env (OfHost kind) name = option_and_then property (host_member_in env.registered kind name)
 member_in env (OfArray of) name = None
@@ -272,28 +273,28 @@ host_method (host.MethodRegistration of id operation) = Some (record {
 })
 host_method _ = None
 
-abbrev pub class_method : ℕ → List ℕ → Class → Option Invoked
+abbrev pub class_method : ℕ → List ℕ → ClassSignature → Option Invoked
 class_method i name c =
-    option_map (λ (found : ℕ × Function).
+    option_map (λ (found : ℕ × FunctionSignature).
     record {
       method = methods.Script i found.0 (result_type found.1.result);
       result = found.1.result;
       parameters = found.1.parameters;
     }) (first_from (is_called name) 0 c.methods)
 
-unfoldable pub method_of_class : List Class → ℕ → List ℕ → Option Invoked
+unfoldable pub method_of_class : List ClassSignature → ℕ → List ℕ → Option Invoked
 method_of_class classes i name = option_and_then (class_method i name) (slice_get classes i)
 
-abbrev pub interface_method : ℕ → List ℕ → Interface → Option Invoked
+abbrev pub interface_method : ℕ → List ℕ → InterfaceSignature → Option Invoked
 interface_method i name of =
-    option_map (λ (found : ℕ × Function).
+    option_map (λ (found : ℕ × FunctionSignature).
     record {
       method = methods.Interface i found.0 (result_type found.1.result);
       result = found.1.result;
       parameters = found.1.parameters;
     }) (first_from (is_called name) 0 of.methods)
 
-unfoldable pub method_of_interface : List Interface → ℕ → List ℕ → Option Invoked
+unfoldable pub method_of_interface : List InterfaceSignature → ℕ → List ℕ → Option Invoked
 method_of_interface interfaces i name = option_and_then (interface_method i name) (slice_get interfaces i)
 
 -- methods of arrays
@@ -337,14 +338,14 @@ method_in env (OfArray of) name = method_of_array of name
 
 -- Objects are constructed.
 
-abbrev pub class_built : ℕ → Class → Callee
+abbrev pub class_built : ℕ → ClassSignature → Callee
 class_built place c = record {
   target = callables.Target (targets.Class place);
   result = ty.Handle (OfClass place);
   parameters = Some c.parameters;
 }
 
-unfoldable pub class_construction : List Class → ℕ → Option Callee
+unfoldable pub class_construction : List ClassSignature → ℕ → Option Callee
 class_construction classes place = option_map (class_built place) (slice_get classes place)
 
 unfoldable pub kind_construction : List host.Registration → ℕ → Option Callee

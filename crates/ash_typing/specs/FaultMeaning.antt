@@ -10,15 +10,15 @@ use Rattle.ash_lex.specs.Tokens.{Meaning, name, reserved}
 use Rattle.ash_lex.specs.declared.words.ReservedWord.TheVariants as words
 use Rattle.ash_registrations.specs.Registrations.{Registration}
 use Rattle.ash_tree.specs.Tree as written
-use Rattle.ash_tree.specs.Tokens.{Tokens}
-use Rattle.ash_tree.specs.declared.tree.places.Place.{Place}
+use Rattle.ash_tree.specs.GrammarTokens.{Tokens}
+use Rattle.ash_tree.specs.declared.tree.places.Position.{Position}
 use Rattle.ash_tree.specs.declared.tree.operators.UnaryOp.{UnaryOp}
 use Rattle.ash_tree.specs.declared.tree.operators.UnaryOp.TheVariants as unary
 use Rattle.ash_tree.specs.declared.tree.operators.AssignOp.{AssignOp}
 use Rattle.ash_tree.specs.declared.tree.statements.Label.{Label}
 use Rattle.ash_tree.specs.declared.tree.statements.Label.TheVariants as labels
 use Rattle.ash_integers.specs.declared.int_type.IntType.{IntType}
-use Rattle.ash_typed.specs.Limits.{max_module_types}
+use Rattle.ash_typed.specs.ModuleLimits.{max_module_types}
 use Rattle.ash_typed.specs.declared.types.ObjectType.{ObjectType}
 use Rattle.ash_typed.specs.declared.types.ObjectType.TheVariants as objects
 use Rattle.ash_typing.specs.declared.fault.Rule.{Rule}
@@ -26,11 +26,11 @@ use Rattle.ash_typing.specs.declared.fault.Rule.TheVariants as rules
 use Rattle.ash_typing.specs.declared.fault.Fault.{Fault}
 use Rattle.ash_typing.specs.declared.types.Ty.{Ty}
 use Rattle.ash_typing.specs.declared.types.Ty.TheVariants as ty
-use Rattle.ash_typing.specs.Types.{is_interface, object_of}
+use Rattle.ash_typing.specs.TypeRules.{is_interface, object_of}
 use Rattle.ash_typing.specs.Environment.{Environment, Callee, Invoked, declares, variable_in, callee_in, member_in}
 use Rattle.ash_typing.specs.Environment.{method_in, construction}
 use Rattle.ash_typing.specs.ModuleDeclarations.{declarations, object_named, ty_named}
-use Rattle.ash_typing.specs.Expressions.{TypedExpr, is_void, is_assign, check_expr}
+use Rattle.ash_typing.specs.ExpressionRules.{TypedExpr, is_void, is_assign, check_expr}
 use Rattle.ash_typing.specs.Terms.{assignable, is_stored, array_parameters}
 use Rattle.ash_typing.specs.Declarations.{at_type, at_type_name}
 use Rattle.ash_typing.specs.Switches.{is_within}
@@ -38,7 +38,7 @@ use Rattle.ash_typing.specs.Labels.{is_same_constant, is_last}
 use Rattle.ash_typing.specs.Scopes as scopes
 use Rattle.ash_typing.specs.Scopes.{Scope}
 use Rattle.ash_typing.specs.Returning.{returns_in}
-use Rattle.ash_typing.specs.Items.{is_taken}
+use Rattle.ash_typing.specs.ItemRules.{is_taken}
 use Rattle.ash_tree.specs.Items.{Routine, classes_of, interfaces_of}
 use Rattle.ash_typing.specs.FaultPlaces.{breaks_at}
 use Rattle.ash_typing.specs.Mismatches.{counts_after, Mismatches}
@@ -77,7 +77,7 @@ pub record Naming : Type 0 where
   pub text : List ℕ
   pub is_refused : Bool
 
-abbrev pub naming : Place → List ℕ → Bool → Option Naming
+abbrev pub naming : Position → List ℕ → Bool → Option Naming
 naming p text b = Some (record { at = p.at; text = text; is_refused = b })
 
 -- A constructor is among the members before.
@@ -168,22 +168,22 @@ counts _ = false
 -- What is wrong at an offset, where a token means this: in the module of this script, with these registrations.
 pub data IsWrong (registrations : List Registration) (script : List written.Item) : Rule → ℕ → Meaning → Type 0 where
   -- no local, field or global has this name
-  no_variable : {env : Environment} {p : Place} {text : List ℕ}
+  no_variable : {env : Environment} {p : Position} {text : List ℕ}
       → Occurs registrations script (Expression env (written.Name p text))
       → variable_in env text ≡ None
       → IsWrong registrations script rules.UnknownName p.at (name text)
   -- no method, function, class or registered type or function has this name
-  no_callee : {env : Environment} {p : Place} {text : List ℕ} {es : written.Exprs}
+  no_callee : {env : Environment} {p : Position} {text : List ℕ} {es : written.Exprs}
       → Occurs registrations script (Expression env (written.Call p text es))
       → callee_in env text ≡ None
       → IsWrong registrations script rules.UnknownName p.at (name text)
   -- objects of the type of what is before the point have no field and no property of this name, or no method
-  no_member : {env : Environment} {t : TypedExpr} {p : Place} {text : List ℕ} {ss : written.Suffixes} {o : ObjectType}
-      → Occurs registrations script (Suffixes env t (written.suffix (written.Field p text) ss))
+  no_member : {env : Environment} {t : TypedExpr} {p : Position} {text : List ℕ} {ss : written.Suffixes}
+      {o : ObjectType} → Occurs registrations script (Suffixes env t (written.suffix (written.Field p text) ss))
       → object_of t.ty ≡ Some o
       → member_in env o text ≡ None
       → IsWrong registrations script rules.UnknownName p.at (name text)
-  no_method : {env : Environment} {t : TypedExpr} {p : Place} {text : List ℕ} {es : written.Exprs}
+  no_method : {env : Environment} {t : TypedExpr} {p : Position} {text : List ℕ} {es : written.Exprs}
       {ss : written.Suffixes}
       {o : ObjectType}
       → Occurs registrations script (Suffixes env t (written.suffix (written.Method p text es) ss))
@@ -196,11 +196,11 @@ pub data IsWrong (registrations : List Registration) (script : List written.Item
       → written_by x ≡ Some used
       → object_named registrations (declarations registrations script) text ≡ None
       → IsWrong registrations script rules.UnknownType (at_type_name used.of) (name text)
-  no_cast_type : {env : Environment} {p : Place} {to : written.TypeName} {e : written.Expr}
+  no_cast_type : {env : Environment} {p : Position} {to : written.TypeName} {e : written.Expr}
       → Occurs registrations script (Expression env (written.Cast p to e))
       → object_named registrations (declarations registrations script) to.name ≡ None
       → IsWrong registrations script rules.UnknownType to.place.at (name to.name)
-  no_element_type : {env : Environment} {p at : Place} {text : List ℕ} {es : written.Exprs}
+  no_element_type : {env : Environment} {p at : Position} {text : List ℕ} {es : written.Exprs}
       → Occurs registrations script (Expression env (written.NewArray p (written.HandleElement at text) es))
       → object_named registrations (declarations registrations script) text ≡ None
       → IsWrong registrations script rules.UnknownType at.at (name text)
@@ -229,21 +229,21 @@ pub data IsWrong (registrations : List Registration) (script : List written.Item
       → returns_in r.body ≡ false
       → IsWrong registrations script rules.NoReturn r.place.at (name r.name)
   -- what is called takes another number of arguments than it is given
-  call_count : {env : Environment} {p : Place} {text : List ℕ} {es : written.Exprs} {callee : Callee}
+  call_count : {env : Environment} {p : Position} {text : List ℕ} {es : written.Exprs} {callee : Callee}
       {parameters : List Ty}
       → Occurs registrations script (Expression env (written.Call p text es))
       → callee_in env text ≡ Some callee
       → callee.parameters ≡ Some parameters
       → nat_eq (length parameters) (argument_count es) ≡ false
       → IsWrong registrations script rules.WrongArgumentCount p.at (name text)
-  method_count : {env : Environment} {t : TypedExpr} {p : Place} {text : List ℕ} {es : written.Exprs}
+  method_count : {env : Environment} {t : TypedExpr} {p : Position} {text : List ℕ} {es : written.Exprs}
       {ss : written.Suffixes} {o : ObjectType} {m : Invoked}
       → Occurs registrations script (Suffixes env t (written.suffix (written.Method p text es) ss))
       → object_of t.ty ≡ Some o
       → method_in env o text ≡ Some m
       → nat_eq (length m.parameters) (argument_count es) ≡ false
       → IsWrong registrations script rules.WrongArgumentCount p.at (name text)
-  array_count : {env : Environment} {p : Place} {of : written.Element} {es : written.Exprs}
+  array_count : {env : Environment} {p : Position} {of : written.Element} {es : written.Exprs}
       → Occurs registrations script (Expression env (written.NewArray p of es))
       → nat_eq (length (array_parameters (argument_count es))) (argument_count es) ≡ false
       → IsWrong registrations script rules.WrongArgumentCount p.at (reserved words.Array)
@@ -255,7 +255,7 @@ pub data IsWrong (registrations : List Registration) (script : List written.Item
       → nat_eq (length parameters) (initial_count i) ≡ false
       → IsWrong registrations script rules.WrongArgumentCount of_at m
   -- a registered type is constructed, and has no factory
-  call_factory : {env : Environment} {p : Place} {text : List ℕ} {es : written.Exprs} {callee : Callee}
+  call_factory : {env : Environment} {p : Position} {text : List ℕ} {es : written.Exprs} {callee : Callee}
       → Occurs registrations script (Expression env (written.Call p text es))
       → callee_in env text ≡ Some callee
       → callee.parameters ≡ None
@@ -265,33 +265,33 @@ pub data IsWrong (registrations : List Registration) (script : List written.Item
       → is_constructible (construction env o (initial_count i)) ≡ false
       → IsWrong registrations script rules.NoFactory of_at m
   -- the type of the value of a `switch` does not hold the constant of a label
-  out_of_range : {scope : Scope} {int_type : Option IntType} {before : List Label} {p : Place} {l : Label}
+  out_of_range : {scope : Scope} {int_type : Option IntType} {before : List Label} {p : Position} {l : Label}
       {ss : written.Stmts} {cs : written.Cases} {m : Meaning}
       → Occurs registrations script (Cases scope int_type before (written.next_case (written.labelled p l ss) cs))
       → is_within int_type l ≡ false
       → IsWrong registrations script rules.ConstantOutOfRange p.at m
   -- a label before has the same constant
-  duplicate : {scope : Scope} {int_type : Option IntType} {before : List Label} {p : Place} {l : Label}
+  duplicate : {scope : Scope} {int_type : Option IntType} {before : List Label} {p : Position} {l : Label}
       {ss : written.Stmts} {cs : written.Cases} {m : Meaning}
       → Occurs registrations script (Cases scope int_type before (written.next_case (written.labelled p l ss) cs))
       → list_any (is_same_constant l) before ≡ true
       → IsWrong registrations script rules.DuplicateCase p.at m
   -- `this` where no object runs
-  no_object : {env : Environment} {p : Place}
+  no_object : {env : Environment} {p : Position}
       → Occurs registrations script (Expression env (written.This p))
       → env.this ≡ None
       → IsWrong registrations script rules.Misplaced p.at (reserved words.This)
   -- `break` and `continue` where there is nothing that they leave
-  no_loop_to_leave : {scope : Scope} {p : Place}
+  no_loop_to_leave : {scope : Scope} {p : Position}
       → Occurs registrations script (Statement scope (written.Break p))
       → (scope.in_loop || scope.in_switch) ≡ false
       → IsWrong registrations script rules.Misplaced p.at (reserved words.Break)
-  no_loop : {scope : Scope} {p : Place}
+  no_loop : {scope : Scope} {p : Position}
       → Occurs registrations script (Statement scope (written.Continue p))
       → scope.in_loop ≡ false
       → IsWrong registrations script rules.Misplaced p.at (reserved words.Continue)
   -- `default` before another label
-  early_default : {scope : Scope} {int_type : Option IntType} {before : List Label} {p : Place} {ss : written.Stmts}
+  early_default : {scope : Scope} {int_type : Option IntType} {before : List Label} {p : Position} {ss : written.Stmts}
       {cs : written.Cases}
       → Occurs registrations script
       (Cases scope int_type before (written.next_case (written.labelled p labels.Default ss) cs))
@@ -321,13 +321,13 @@ pub data IsWrong (registrations : List Registration) (script : List written.Item
       → Mismatches registrations script at
       → IsWrong registrations script rules.TypeMismatch at m
   -- what is left of `=` or of `op=` takes no value
-  takes_none : {env : Environment} {p : Place} {op : AssignOp} {e v : written.Expr} {t : TypedExpr} {m : Meaning}
+  takes_none : {env : Environment} {p : Position} {op : AssignOp} {e v : written.Expr} {t : TypedExpr} {m : Meaning}
       → Occurs registrations script (Expression env (written.Assign p e op v))
       → check_expr env (is_assign op) e ≡ Ok t
       → takes_value t ≡ false
       → IsWrong registrations script rules.NotAssignable t.at m
   -- what is counted up or down is no place
-  no_place : {env : Environment} {p : Place} {op : UnaryOp} {e : written.Expr} {t : TypedExpr} {m : Meaning}
+  no_place : {env : Environment} {p : Position} {op : UnaryOp} {e : written.Expr} {t : TypedExpr} {m : Meaning}
       → Occurs registrations script (Expression env (written.Unary p op e))
       → counts op ≡ true
       → check_expr env false e ≡ Ok t

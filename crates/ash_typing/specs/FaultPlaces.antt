@@ -5,7 +5,7 @@ use Rattle.ash_lex.specs.Tokens.{Meaning, name, number, sign, reserved}
 use Rattle.ash_lex.specs.declared.signs.Sign.TheVariants as signs
 use Rattle.ash_lex.specs.declared.words.ReservedWord.TheVariants as words
 use Rattle.ash_tree.specs.Operators.{primitive, unary_operator}
-use Rattle.ash_tree.specs.Tokens.{Tokens}
+use Rattle.ash_tree.specs.GrammarTokens.{Tokens}
 use Rattle.ash_typing.specs.declared.fault.Rule.{Rule}
 use Rattle.ash_typing.specs.declared.fault.Rule.TheVariants as rules
 use Rattle.ash_typing.specs.declared.fault.Fault.{Fault}

@@ -5,7 +5,7 @@ use Rattle.ash_tree.specs.declared.tree.statements.Label.{Label}
 use Rattle.ash_tree.specs.declared.tree.statements.Label.TheVariants as labels
 use Rattle.ash_integers.specs.declared.int_type.IntType.{IntType}
 use Rattle.ash_integers.specs.declared.int_type.IntType.TheVariants.{Int, Uint, Int64, Uint64}
-use Rattle.ash_typing.specs.Types.{holds}
+use Rattle.ash_typing.specs.TypeRules.{holds}
 use Rattle.ash_tree.specs.Tree as written
 
 -- The type holds what is this much below zero.

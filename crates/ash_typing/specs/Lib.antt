@@ -1,5 +1,5 @@
 pub mod TypingResult
-pub mod Types
+pub mod TypeRules
 pub mod Terms
 pub mod Environment
 pub mod Coercions
@@ -8,13 +8,13 @@ pub mod Scopes
 pub mod Returning
 pub mod Labels
 pub mod Implementations
-pub mod Expressions
+pub mod ExpressionRules
 pub mod Declarations
 pub mod Typing
 pub mod Switches
-pub mod Statements
+pub mod StatementRules
 pub mod TypedStatements
-pub mod Items
+pub mod ItemRules
 pub mod TypedModules
 pub mod FaultPlaces
 pub mod Phrases

@@ -4,7 +4,7 @@ use Rattle.std.specs.Prelude.{◌≡◌, ℕ, List, [], ◌∷◌, Bool, true, f
 use Rattle.std.specs.Prelude.{if◌then◌else◌}
 use Rattle.ash_registrations.specs.Registrations.{Registration}
 use Rattle.ash_tree.specs.Tree as written
-use Rattle.ash_tree.specs.declared.tree.places.Place.{Place}
+use Rattle.ash_tree.specs.declared.tree.places.Position.{Position}
 use Rattle.ash_tree.specs.declared.tree.types.Primitive.{Primitive}
 use Rattle.ash_tree.specs.declared.tree.operators.UnaryOp.{UnaryOp}
 use Rattle.ash_tree.specs.declared.tree.operators.UnaryOp.TheVariants as unary
@@ -13,20 +13,22 @@ use Rattle.ash_tree.specs.declared.tree.operators.AssignOp.{AssignOp}
 use Rattle.ash_typed.specs.declared.types.ObjectType.{ObjectType}
 use Rattle.ash_typed.specs.declared.types.ObjectType.TheVariants as objects
 use Rattle.ash_typed.specs.declared.tree.operations.Calculator.{Calculator}
-use Rattle.ash_typed.specs.Tree.{Null}
+use Rattle.ash_typed.specs.TypedTree.{Null}
 use Rattle.ash_typing.specs.declared.fault.Rule.TheVariants.{TypeMismatch}
 use Rattle.ash_typing.specs.declared.types.Ty.{Ty}
 use Rattle.ash_typing.specs.declared.types.Ty.TheVariants as ty
 use Rattle.ash_typing.specs.TypingResult.{broken}
-use Rattle.ash_typing.specs.Types.{object_of, ty_of, common, binary_of}
+use Rattle.ash_typing.specs.TypeRules.{object_of, ty_of, common, binary_of}
 use Rattle.ash_typing.specs.Coercions.{fits}
-use Rattle.ash_typing.specs.Environment.{Environment, Class, Callee, Invoked, callee_in, method_in, construction}
+use Rattle.ash_typing.specs.Environment.{Environment, ClassSignature, Callee, Invoked, callee_in, method_in}
+use Rattle.ash_typing.specs.Environment.{construction}
 use Rattle.ash_typing.specs.ModuleDeclarations.{declarations, object_named}
 use Rattle.ash_typing.specs.Typing.{is_object}
-use Rattle.ash_typing.specs.Expressions.{TypedExpr, term_at, is_void, is_assign, unify_operands, check_expr, check_exprs}
+use Rattle.ash_typing.specs.ExpressionRules.{TypedExpr, term_at, is_void, is_assign, unify_operands, check_expr}
+use Rattle.ash_typing.specs.ExpressionRules.{check_exprs}
 use Rattle.ash_typing.specs.Terms.{operator_of, array_parameters}
 use Rattle.ash_typing.specs.Scopes.{Scope, block_of, after}
-use Rattle.ash_typing.specs.Statements.{gives_nothing}
+use Rattle.ash_typing.specs.StatementRules.{gives_nothing}
 use Rattle.ash_typing.specs.Implementations.{implemented}
 use Rattle.ash_typing.specs.Phrases.{Expression, Statement, Interfaces, Occurs, Links, Suffixes, Initializer}
 
@@ -96,7 +98,7 @@ condition_of (written.DoWhile p s c) = Some c
 condition_of _ = None
 
 -- An argument, whose first token has this offset, does not fit its parameter.
-pub data IsUnfit (classes : List Class) : List Ty → List TypedExpr → ℕ → Type 0 where
+pub data IsUnfit (classes : List ClassSignature) : List Ty → List TypedExpr → ℕ → Type 0 where
   this_one : {of : Ty} {t : TypedExpr} {parameters : List Ty} {ts : List TypedExpr}
       → fits classes of t.ty ≡ false
       → IsUnfit classes (of ∷ parameters) (t ∷ ts) t.at
@@ -107,7 +109,7 @@ pub data IsUnfit (classes : List Class) : List Ty → List TypedExpr → ℕ →
 -- Types do not fit at this offset: in the module of this script, with these registrations.
 pub data Mismatches (registrations : List Registration) (script : List written.Item) : ℕ → Type 0 where
   -- an argument does not fit its parameter
-  of_call : {env : Environment} {p : Place} {text : List ℕ} {es : written.Exprs} {callee : Callee}
+  of_call : {env : Environment} {p : Position} {text : List ℕ} {es : written.Exprs} {callee : Callee}
       {parameters : List Ty} {ts : List TypedExpr} {at : ℕ}
       → Occurs registrations script (Expression env (written.Call p text es))
       → callee_in env text ≡ Some callee
@@ -115,7 +117,7 @@ pub data Mismatches (registrations : List Registration) (script : List written.I
       → check_exprs env es ≡ Ok ts
       → IsUnfit env.declarations.classes parameters ts at
       → Mismatches registrations script at
-  of_method : {env : Environment} {t : TypedExpr} {p : Place} {text : List ℕ} {es : written.Exprs}
+  of_method : {env : Environment} {t : TypedExpr} {p : Position} {text : List ℕ} {es : written.Exprs}
       {ss : written.Suffixes}
       {o : ObjectType} {m : Invoked} {ts : List TypedExpr} {at : ℕ}
       → Occurs registrations script (Suffixes env t (written.suffix (written.Method p text es) ss))
@@ -124,8 +126,8 @@ pub data Mismatches (registrations : List Registration) (script : List written.I
       → check_exprs env es ≡ Ok ts
       → IsUnfit env.declarations.classes m.parameters ts at
       → Mismatches registrations script at
-  of_array : {env : Environment} {p : Place} {of : written.Element} {es : written.Exprs} {ts : List TypedExpr} {at : ℕ}
-      → Occurs registrations script (Expression env (written.NewArray p of es))
+  of_array : {env : Environment} {p : Position} {of : written.Element} {es : written.Exprs} {ts : List TypedExpr}
+      {at : ℕ} → Occurs registrations script (Expression env (written.NewArray p of es))
       → check_exprs env es ≡ Ok ts
       → IsUnfit env.declarations.classes (array_parameters (length ts)) ts at
       → Mismatches registrations script at
@@ -139,7 +141,7 @@ pub data Mismatches (registrations : List Registration) (script : List written.I
       → Mismatches registrations script arg_at
   -- an operand is of no type that its operator takes; of two operands the fault is at the one that the operator takes
   -- nowhere
-  operand : {env : Environment} {p : Place} {op : UnaryOp} {e : written.Expr} {t : TypedExpr}
+  operand : {env : Environment} {p : Position} {op : UnaryOp} {e : written.Expr} {t : TypedExpr}
       → Occurs registrations script (Expression env (written.Unary p op e))
       → check_expr env false e ≡ Ok t
       → takes_operand op t.ty ≡ false
@@ -154,43 +156,43 @@ pub data Mismatches (registrations : List Registration) (script : List written.I
       → check_expr env false e ≡ Ok u
       → unify_operands op t u ≡ broken TypeMismatch at
       → Mismatches registrations script at
-  converted : {env : Environment} {p : Place} {to : Primitive} {e : written.Expr} {t : TypedExpr}
+  converted : {env : Environment} {p : Position} {to : Primitive} {e : written.Expr} {t : TypedExpr}
       → Occurs registrations script (Expression env (written.Convert p to e))
       → check_expr env false e ≡ Ok t
       → converts (ty_of to) t.ty ≡ false
       → Mismatches registrations script t.at
   -- `cast`, of an object to a class or an interface
-  cast_from : {env : Environment} {p : Place} {to : written.TypeName} {e : written.Expr} {t : TypedExpr}
+  cast_from : {env : Environment} {p : Position} {to : written.TypeName} {e : written.Expr} {t : TypedExpr}
       → Occurs registrations script (Expression env (written.Cast p to e))
       → check_expr env false e ≡ Ok t
       → may_be_object t.ty ≡ false
       → Mismatches registrations script t.at
-  cast_to : {env : Environment} {p : Place} {to : written.TypeName} {e : written.Expr} {o : ObjectType}
+  cast_to : {env : Environment} {p : Position} {to : written.TypeName} {e : written.Expr} {o : ObjectType}
       → Occurs registrations script (Expression env (written.Cast p to e))
       → object_named registrations (declarations registrations script) to.name ≡ Some o
       → is_cast_type o ≡ false
       → Mismatches registrations script to.place.at
   -- c ? a : b
-  choice_condition : {env : Environment} {p : Place} {c a b : written.Expr} {t : TypedExpr}
+  choice_condition : {env : Environment} {p : Position} {c a b : written.Expr} {t : TypedExpr}
       → Occurs registrations script (Expression env (written.Conditional p c a b))
       → check_expr env false c ≡ Ok t
       → may_be_bool t.ty ≡ false
       → Mismatches registrations script t.at
-  branches : {env : Environment} {p : Place} {c a b : written.Expr} {x y : TypedExpr}
+  branches : {env : Environment} {p : Position} {c a b : written.Expr} {x y : TypedExpr}
       → Occurs registrations script (Expression env (written.Conditional p c a b))
       → check_expr env false a ≡ Ok x
       → check_expr env false b ≡ Ok y
       → common x.ty y.ty ≡ None
       → Mismatches registrations script (if is_void x.ty then x.at else y.at)
   -- what is assigned does not fit the place, or the operator of `op=` takes no such operands
-  assigned : {env : Environment} {p : Place} {op : AssignOp} {e v : written.Expr} {t u : TypedExpr}
+  assigned : {env : Environment} {p : Position} {op : AssignOp} {e v : written.Expr} {t u : TypedExpr}
       → Occurs registrations script (Expression env (written.Assign p e op v))
       → check_expr env (is_assign op) e ≡ Ok t
       → check_expr env false v ≡ Ok u
       → operator_of op ≡ None
       → fits env.declarations.classes t.ty u.ty ≡ false
       → Mismatches registrations script u.at
-  updated : {env : Environment} {p : Place} {op : AssignOp} {c : Calculator} {e v : written.Expr} {t u : TypedExpr}
+  updated : {env : Environment} {p : Position} {op : AssignOp} {c : Calculator} {e v : written.Expr} {t u : TypedExpr}
       {at : ℕ}
       → Occurs registrations script (Expression env (written.Assign p e op v))
       → check_expr env (is_assign op) e ≡ Ok t
@@ -198,8 +200,8 @@ pub data Mismatches (registrations : List Registration) (script : List written.I
       → operator_of op ≡ Some c
       → unify_operands (binary_of c) (term_at t.at t.ty Null) u ≡ broken TypeMismatch at
       → Mismatches registrations script at
-  updated_place : {env : Environment} {p : Place} {op : AssignOp} {c : Calculator} {e v : written.Expr} {t : TypedExpr}
-      → Occurs registrations script (Expression env (written.Assign p e op v))
+  updated_place : {env : Environment} {p : Position} {op : AssignOp} {c : Calculator} {e v : written.Expr}
+      {t : TypedExpr} → Occurs registrations script (Expression env (written.Assign p e op v))
       → check_expr env (is_assign op) e ≡ Ok t
       → operator_of op ≡ Some c
       → may_be_integer t.ty ≡ false
@@ -246,28 +248,28 @@ pub data Mismatches (registrations : List Registration) (script : List written.I
       → check_expr scope.env false c ≡ Ok t
       → may_be_bool t.ty ≡ false
       → Mismatches registrations script t.at
-  for_condition : {scope : Scope} {p : Place} {f s : written.Stmt} {c : written.Expr} {es : List written.Expr}
+  for_condition : {scope : Scope} {p : Position} {f s : written.Stmt} {c : written.Expr} {es : List written.Expr}
       {t : TypedExpr}
       → Occurs registrations script (Statement scope (written.For p f (Some c) es s))
       → check_expr (after (block_of scope) f).env false c ≡ Ok t
       → may_be_bool t.ty ≡ false
       → Mismatches registrations script t.at
-  switch_value : {scope : Scope} {p : Place} {e : written.Expr} {cs : written.Cases} {t : TypedExpr}
+  switch_value : {scope : Scope} {p : Position} {e : written.Expr} {cs : written.Cases} {t : TypedExpr}
       → Occurs registrations script (Statement scope (written.Switch p e cs))
       → check_expr scope.env false e ≡ Ok t
       → may_be_integer t.ty ≡ false
       → Mismatches registrations script t.at
   -- `return`: a value that does not fit, one where none is given, and none where one is
-  returned : {scope : Scope} {p : Place} {e : written.Expr} {t : TypedExpr}
+  returned : {scope : Scope} {p : Position} {e : written.Expr} {t : TypedExpr}
       → Occurs registrations script (Statement scope (written.Return p (Some e)))
       → check_expr scope.env false e ≡ Ok t
       → fits scope.env.declarations.classes scope.result t.ty ≡ false
       → Mismatches registrations script t.at
-  returned_value : {scope : Scope} {p : Place} {e : written.Expr}
+  returned_value : {scope : Scope} {p : Position} {e : written.Expr}
       → Occurs registrations script (Statement scope (written.Return p (Some e)))
       → is_void scope.result ≡ true
       → Mismatches registrations script p.at
-  returned_nothing : {scope : Scope} {p : Place}
+  returned_nothing : {scope : Scope} {p : Position}
       → Occurs registrations script (Statement scope (written.Return p None))
       → gives_nothing scope.result ≡ false
       → Mismatches registrations script p.at

@@ -14,24 +14,27 @@ use Rattle.ash_typed.specs.declared.types.ObjectType.TheVariants.{Class as OfCla
 use Rattle.ash_typed.specs.declared.types.ObjectType.TheVariants.{Host as OfHost, Array as OfArray}
 use Rattle.ash_typing.specs.declared.types.Ty.{Ty}
 use Rattle.ash_typing.specs.declared.types.Ty.TheVariants as ty
-use Rattle.ash_typing.specs.Types.{ty_of}
-use Rattle.ash_typing.specs.Environment.{Declared, Function, Interface, Class, ModuleDeclarations, first_from, is_class}
+use Rattle.ash_typing.specs.TypeRules.{ty_of}
+use Rattle.ash_typing.specs.Environment.{Declared, FunctionSignature, InterfaceSignature, ClassSignature}
+use Rattle.ash_typing.specs.Environment.{ModuleDeclarations, first_from, is_class}
 use Rattle.ash_typing.specs.Environment.{is_interface_named, Environment}
 use Rattle.ash_tree.specs.Items.{classes_of, interfaces_of, functions_of, globals_of, fields_of, methods_of}
 use Rattle.ash_tree.specs.Items.{constructors_of}
 
 -- types by their names
 
-abbrev pub class_type : List Class → List ℕ → Option ObjectType
-class_type classes name = option_map (λ (found : ℕ × Class). OfClass found.0) (first_from (is_class name) 0 classes)
+abbrev pub class_type : List ClassSignature → List ℕ → Option ObjectType
+class_type classes name = option_map (λ (found : ℕ × ClassSignature). OfClass found.0)
+    (first_from (is_class name) 0 classes)
 
 abbrev pub host_object : host.Registration → Option ObjectType
 host_object (host.TypeRegistration name kind) = Some (OfHost kind)
 host_object _ = None
 
-abbrev pub interface_type : List Interface → List ℕ → Option ObjectType
+abbrev pub interface_type : List InterfaceSignature → List ℕ → Option ObjectType
 interface_type interfaces name =
-    option_map (λ (found : ℕ × Interface). OfInterface found.0) (first_from (is_interface_named name) 0 interfaces)
+    option_map (λ (found : ℕ × InterfaceSignature). OfInterface found.0)
+    (first_from (is_interface_named name) 0 interfaces)
 
 -- The name is that of a class of the module, else of an interface, else of a registered type.
 unfoldable pub object_named : List host.Registration → ModuleDeclarations → List ℕ → Option ObjectType
@@ -109,21 +112,22 @@ all_variables registrations named (v ∷ vs) = variables registrations named v +
 abbrev pub parameter_ty : List host.Registration → ModuleDeclarations → written.Parameter → Ty
 parameter_ty registrations named p = ty_named registrations named p.of
 
-abbrev pub function_declaration : List host.Registration → ModuleDeclarations → written.Function → Function
+abbrev pub function_declaration : List host.Registration → ModuleDeclarations → written.Function → FunctionSignature
 function_declaration registrations named f = record {
   name = f.name;
   result = result_named registrations named f.result;
   parameters = map (parameter_ty registrations named) f.parameters;
 }
 
-abbrev pub signature_declaration : List host.Registration → ModuleDeclarations → written.InterfaceMethod → Function
+abbrev pub signature_declaration : List host.Registration → ModuleDeclarations → written.InterfaceMethod
+    → FunctionSignature
 signature_declaration registrations named m = record {
   name = m.name;
   result = result_named registrations named m.result;
   parameters = map (parameter_ty registrations named) m.parameters;
 }
 
-abbrev pub interface_declaration : List host.Registration → ModuleDeclarations → written.Interface → Interface
+abbrev pub interface_declaration : List host.Registration → ModuleDeclarations → written.Interface → InterfaceSignature
 interface_declaration registrations named i = record {
   name = i.name;
   methods = map (signature_declaration registrations named) i.methods;
@@ -150,7 +154,7 @@ listed_in registrations named [] = []
 listed_in registrations named (n ∷ ns) =
     with_place (interface_place (object_named registrations named n.name)) (listed_in registrations named ns)
 
-abbrev pub class_declaration : List host.Registration → ModuleDeclarations → written.Class → Class
+abbrev pub class_declaration : List host.Registration → ModuleDeclarations → written.Class → ClassSignature
 class_declaration registrations named c = record {
   name = c.name;
   interfaces = listed_in registrations named c.interfaces;
@@ -161,10 +165,10 @@ class_declaration registrations named c = record {
 
 -- a class and an interface of which only the name is known, since types name no more of them
 
-abbrev pub named_class : written.Class → Class
+abbrev pub named_class : written.Class → ClassSignature
 named_class c = record { name = c.name; interfaces = []; fields = []; methods = []; parameters = [] }
 
-abbrev pub named_interface : written.Interface → Interface
+abbrev pub named_interface : written.Interface → InterfaceSignature
 named_interface i = record { name = i.name; methods = [] }
 
 -- `names_in is` is what types name.

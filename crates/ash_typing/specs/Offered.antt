@@ -4,10 +4,10 @@ use Rattle.std.specs.Option.{option_and_then}
 use Rattle.std.specs.Str.{bytes_eq}
 use Rattle.ash_tree.specs.declared.tree.types.Primitive.{Primitive}
 use Rattle.ash_registrations.specs.Registrations as host
-use Rattle.ash_typed.specs.Signatures.{HostSignature, Host}
+use Rattle.ash_typed.specs.Signatures.{HostSignature, HostSignatures}
 use Rattle.ash_typing.specs.Environment.{name_of_kind}
 
-abbrev pub host_signature : host.Operation → HostSignature
+abbrev pub host_signature : host.HostFunction → HostSignature
 host_signature o = record { result = o.result; parameters = o.parameters }
 
 -- `kind_in call` is the kind of a registered type.
@@ -43,7 +43,7 @@ function_at service id (host.FunctionRegistration other taken operation) =
 function_at service id _ = None
 
 -- `offered registrations` is what is offered with these registrations.
-abbrev pub offered : List host.Registration → Host
+abbrev pub offered : List host.Registration → HostSignatures
 offered registrations = record {
   kinds = filter_map kind_in registrations;
   factories = λ kind. filter_map (factory_at registrations kind) registrations;

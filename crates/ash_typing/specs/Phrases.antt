@@ -3,23 +3,23 @@
 use Rattle.std.specs.Prelude.{◌≡◌, ℕ, ◌-◌, List, [], ◌∷◌, ◌++◌, map, length, false, Option, Some, Ok}
 use Rattle.ash_registrations.specs.Registrations.{Registration}
 use Rattle.ash_tree.specs.Tree as written
-use Rattle.ash_tree.specs.declared.tree.places.Place.{Place}
+use Rattle.ash_tree.specs.declared.tree.places.Position.{Position}
 use Rattle.ash_tree.specs.declared.tree.types.Primitive.{Primitive}
 use Rattle.ash_tree.specs.declared.tree.operators.UnaryOp.{UnaryOp}
 use Rattle.ash_tree.specs.declared.tree.operators.BinaryOp.{BinaryOp}
 use Rattle.ash_tree.specs.declared.tree.operators.AssignOp.{AssignOp}
 use Rattle.ash_tree.specs.declared.tree.statements.Label.{Label}
 use Rattle.ash_integers.specs.declared.int_type.IntType.{IntType}
-use Rattle.ash_typed.specs.Limits.{max_globals, max_class_members}
+use Rattle.ash_typed.specs.ModuleLimits.{max_globals, max_class_members}
 use Rattle.ash_typing.specs.declared.types.Ty.{Ty}
 use Rattle.ash_typing.specs.declared.types.Ty.TheVariants as ty
 use Rattle.ash_typing.specs.Environment.{Environment, Declared, with_locals, inside}
 use Rattle.ash_typing.specs.ModuleDeclarations.{declared, ty_in}
-use Rattle.ash_typing.specs.Expressions.{TypedExpr, operate, check_expr, check_suffix}
+use Rattle.ash_typing.specs.ExpressionRules.{TypedExpr, operate, check_expr, check_suffix}
 use Rattle.ash_typing.specs.Declarations.{at_type, known_ty}
 use Rattle.ash_typing.specs.Switches.{integer_type_in}
 use Rattle.ash_typing.specs.Scopes.{Scope, block_of, loop_of, switch_of, with_variables, after, body_scope}
-use Rattle.ash_typing.specs.Items.{Names, passed_ty, check_result, check_parameters}
+use Rattle.ash_typing.specs.ItemRules.{Names, passed_ty, check_result, check_parameters}
 use Rattle.ash_tree.specs.Items.{Routine, routine_of, constructing, classes_of, globals_of, variable_names}
 use Rattle.ash_tree.specs.Items.{member_names, item_names}
 use Rattle.ash_typing.specs.TypedModules.{signature_name, listed_name, environment}
@@ -106,51 +106,51 @@ environment_of (Items env before is) = env
 -- A phrase is one of the module of this script, with these registrations, and sees this.
 pub data Occurs (registrations : List Registration) (script : List written.Item) : Phrase → Type 0 where
   -- expressions
-  call_arguments : {env : Environment} {p : Place} {text : List ℕ} {es : written.Exprs}
+  call_arguments : {env : Environment} {p : Position} {text : List ℕ} {es : written.Exprs}
       → Occurs registrations script (Expression env (written.Call p text es))
       → Occurs registrations script (Arguments env es)
-  in_brackets : {env : Environment} {p : Place} {e : written.Expr}
+  in_brackets : {env : Environment} {p : Position} {e : written.Expr}
       → Occurs registrations script (Expression env (written.Brackets p e))
       → Occurs registrations script (Expression env e)
-  converted : {env : Environment} {p : Place} {to : Primitive} {e : written.Expr}
+  converted : {env : Environment} {p : Position} {to : Primitive} {e : written.Expr}
       → Occurs registrations script (Expression env (written.Convert p to e))
       → Occurs registrations script (Expression env e)
-  array_arguments : {env : Environment} {p : Place} {of : written.Element} {es : written.Exprs}
+  array_arguments : {env : Environment} {p : Position} {of : written.Element} {es : written.Exprs}
       → Occurs registrations script (Expression env (written.NewArray p of es))
       → Occurs registrations script (Arguments env es)
-  cast : {env : Environment} {p : Place} {to : written.TypeName} {e : written.Expr}
+  cast : {env : Environment} {p : Position} {to : written.TypeName} {e : written.Expr}
       → Occurs registrations script (Expression env (written.Cast p to e))
       → Occurs registrations script (Expression env e)
-  before_suffixes : {env : Environment} {p : Place} {e : written.Expr} {ss : written.Suffixes}
+  before_suffixes : {env : Environment} {p : Position} {e : written.Expr} {ss : written.Suffixes}
       → Occurs registrations script (Expression env (written.Postfix p e ss))
       → Occurs registrations script (Expression env e)
-  suffixes : {env : Environment} {p : Place} {e : written.Expr} {ss : written.Suffixes} {t : TypedExpr}
+  suffixes : {env : Environment} {p : Position} {e : written.Expr} {ss : written.Suffixes} {t : TypedExpr}
       → Occurs registrations script (Expression env (written.Postfix p e ss))
       → check_expr env false e ≡ Ok t
       → Occurs registrations script (Suffixes env t ss)
-  operand : {env : Environment} {p : Place} {op : UnaryOp} {e : written.Expr}
+  operand : {env : Environment} {p : Position} {op : UnaryOp} {e : written.Expr}
       → Occurs registrations script (Expression env (written.Unary p op e))
       → Occurs registrations script (Expression env e)
-  first_operand : {env : Environment} {p : Place} {e : written.Expr} {ls : written.Links}
+  first_operand : {env : Environment} {p : Position} {e : written.Expr} {ls : written.Links}
       → Occurs registrations script (Expression env (written.Binary p e ls))
       → Occurs registrations script (Expression env e)
-  links : {env : Environment} {p : Place} {e : written.Expr} {ls : written.Links} {t : TypedExpr}
+  links : {env : Environment} {p : Position} {e : written.Expr} {ls : written.Links} {t : TypedExpr}
       → Occurs registrations script (Expression env (written.Binary p e ls))
       → check_expr env false e ≡ Ok t
       → Occurs registrations script (Links env t ls)
-  condition : {env : Environment} {p : Place} {c a b : written.Expr}
+  condition : {env : Environment} {p : Position} {c a b : written.Expr}
       → Occurs registrations script (Expression env (written.Conditional p c a b))
       → Occurs registrations script (Expression env c)
-  chosen : {env : Environment} {p : Place} {c a b : written.Expr}
+  chosen : {env : Environment} {p : Position} {c a b : written.Expr}
       → Occurs registrations script (Expression env (written.Conditional p c a b))
       → Occurs registrations script (Expression env a)
-  otherwise : {env : Environment} {p : Place} {c a b : written.Expr}
+  otherwise : {env : Environment} {p : Position} {c a b : written.Expr}
       → Occurs registrations script (Expression env (written.Conditional p c a b))
       → Occurs registrations script (Expression env b)
-  target : {env : Environment} {p : Place} {op : AssignOp} {e v : written.Expr}
+  target : {env : Environment} {p : Position} {op : AssignOp} {e v : written.Expr}
       → Occurs registrations script (Expression env (written.Assign p e op v))
       → Occurs registrations script (Expression env e)
-  value : {env : Environment} {p : Place} {op : AssignOp} {e v : written.Expr}
+  value : {env : Environment} {p : Position} {op : AssignOp} {e v : written.Expr}
       → Occurs registrations script (Expression env (written.Assign p e op v))
       → Occurs registrations script (Expression env v)
   argument : {env : Environment} {e : written.Expr} {es : written.Exprs}
@@ -167,7 +167,7 @@ pub data Occurs (registrations : List Registration) (script : List written.Item)
       → check_expr env false e ≡ Ok u
       → operate op t u ≡ Ok next
       → Occurs registrations script (Links env next ls)
-  method_arguments : {env : Environment} {t : TypedExpr} {p : Place} {text : List ℕ} {es : written.Exprs}
+  method_arguments : {env : Environment} {t : TypedExpr} {p : Position} {text : List ℕ} {es : written.Exprs}
       {ss : written.Suffixes}
       → Occurs registrations script (Suffixes env t (written.suffix (written.Method p text es) ss))
       → Occurs registrations script (Arguments env es)
@@ -192,63 +192,63 @@ pub data Occurs (registrations : List Registration) (script : List written.Item)
       → Occurs registrations script (Locals scope at of (d ∷ ds))
       → Occurs registrations script (Locals (with_variables scope (declared of d ∷ [])) at of ds)
   -- statements
-  locals : {scope : Scope} {p : Place} {v : written.Vars} {of : Ty}
+  locals : {scope : Scope} {p : Position} {v : written.Vars} {of : Ty}
       → Occurs registrations script (Statement scope (written.Declare p v))
       → known_ty v.of (ty_in scope.env v.of) ≡ Ok of
       → Occurs registrations script (Locals scope (at_type v.of) of v.decls)
-  evaluated : {scope : Scope} {p : Place} {e : written.Expr}
+  evaluated : {scope : Scope} {p : Position} {e : written.Expr}
       → Occurs registrations script (Statement scope (written.Evaluate p e))
       → Occurs registrations script (Expression scope.env e)
-  block : {scope : Scope} {p : Place} {ss : written.Stmts}
+  block : {scope : Scope} {p : Position} {ss : written.Stmts}
       → Occurs registrations script (Statement scope (written.Block p ss))
       → Occurs registrations script (Statements (block_of scope) ss)
-  if_condition : {scope : Scope} {p : Place} {c : written.Expr} {s : written.Stmt}
+  if_condition : {scope : Scope} {p : Position} {c : written.Expr} {s : written.Stmt}
       → Occurs registrations script (Statement scope (written.If p c s))
       → Occurs registrations script (Expression scope.env c)
-  if_body : {scope : Scope} {p : Place} {c : written.Expr} {s : written.Stmt}
+  if_body : {scope : Scope} {p : Position} {c : written.Expr} {s : written.Stmt}
       → Occurs registrations script (Statement scope (written.If p c s))
       → Occurs registrations script (Statement scope s)
-  else_condition : {scope : Scope} {p : Place} {c : written.Expr} {s t : written.Stmt}
+  else_condition : {scope : Scope} {p : Position} {c : written.Expr} {s t : written.Stmt}
       → Occurs registrations script (Statement scope (written.IfElse p c s t))
       → Occurs registrations script (Expression scope.env c)
-  then_body : {scope : Scope} {p : Place} {c : written.Expr} {s t : written.Stmt}
+  then_body : {scope : Scope} {p : Position} {c : written.Expr} {s t : written.Stmt}
       → Occurs registrations script (Statement scope (written.IfElse p c s t))
       → Occurs registrations script (Statement scope s)
-  else_body : {scope : Scope} {p : Place} {c : written.Expr} {s t : written.Stmt}
+  else_body : {scope : Scope} {p : Position} {c : written.Expr} {s t : written.Stmt}
       → Occurs registrations script (Statement scope (written.IfElse p c s t))
       → Occurs registrations script (Statement scope t)
-  while_condition : {scope : Scope} {p : Place} {c : written.Expr} {s : written.Stmt}
+  while_condition : {scope : Scope} {p : Position} {c : written.Expr} {s : written.Stmt}
       → Occurs registrations script (Statement scope (written.While p c s))
       → Occurs registrations script (Expression scope.env c)
-  while_body : {scope : Scope} {p : Place} {c : written.Expr} {s : written.Stmt}
+  while_body : {scope : Scope} {p : Position} {c : written.Expr} {s : written.Stmt}
       → Occurs registrations script (Statement scope (written.While p c s))
       → Occurs registrations script (Statement (loop_of scope) s)
-  do_condition : {scope : Scope} {p : Place} {c : written.Expr} {s : written.Stmt}
+  do_condition : {scope : Scope} {p : Position} {c : written.Expr} {s : written.Stmt}
       → Occurs registrations script (Statement scope (written.DoWhile p s c))
       → Occurs registrations script (Expression scope.env c)
-  do_body : {scope : Scope} {p : Place} {c : written.Expr} {s : written.Stmt}
+  do_body : {scope : Scope} {p : Position} {c : written.Expr} {s : written.Stmt}
       → Occurs registrations script (Statement scope (written.DoWhile p s c))
       → Occurs registrations script (Statement (loop_of scope) s)
-  for_head : {scope : Scope} {p : Place} {f s : written.Stmt} {c : Option written.Expr} {es : List written.Expr}
+  for_head : {scope : Scope} {p : Position} {f s : written.Stmt} {c : Option written.Expr} {es : List written.Expr}
       → Occurs registrations script (Statement scope (written.For p f c es s))
       → Occurs registrations script (Statement (block_of scope) f)
-  for_condition : {scope : Scope} {p : Place} {f s : written.Stmt} {c : written.Expr} {es : List written.Expr}
+  for_condition : {scope : Scope} {p : Position} {f s : written.Stmt} {c : written.Expr} {es : List written.Expr}
       → Occurs registrations script (Statement scope (written.For p f (Some c) es s))
       → Occurs registrations script (Expression (after (block_of scope) f).env c)
-  for_steps : {scope : Scope} {p : Place} {f s : written.Stmt} {c : Option written.Expr} {es : List written.Expr}
+  for_steps : {scope : Scope} {p : Position} {f s : written.Stmt} {c : Option written.Expr} {es : List written.Expr}
       → Occurs registrations script (Statement scope (written.For p f c es s))
       → Occurs registrations script (Arguments (after (block_of scope) f).env (written.exprs es))
-  for_body : {scope : Scope} {p : Place} {f s : written.Stmt} {c : Option written.Expr} {es : List written.Expr}
+  for_body : {scope : Scope} {p : Position} {f s : written.Stmt} {c : Option written.Expr} {es : List written.Expr}
       → Occurs registrations script (Statement scope (written.For p f c es s))
       → Occurs registrations script (Statement (loop_of (after (block_of scope) f)) s)
-  switch_value : {scope : Scope} {p : Place} {e : written.Expr} {cs : written.Cases}
+  switch_value : {scope : Scope} {p : Position} {e : written.Expr} {cs : written.Cases}
       → Occurs registrations script (Statement scope (written.Switch p e cs))
       → Occurs registrations script (Expression scope.env e)
-  cases : {scope : Scope} {p : Place} {e : written.Expr} {cs : written.Cases} {t : TypedExpr}
+  cases : {scope : Scope} {p : Position} {e : written.Expr} {cs : written.Cases} {t : TypedExpr}
       → Occurs registrations script (Statement scope (written.Switch p e cs))
       → check_expr scope.env false e ≡ Ok t
       → Occurs registrations script (Cases (switch_of scope) (integer_type_in t.ty) [] cs)
-  returned : {scope : Scope} {p : Place} {e : written.Expr}
+  returned : {scope : Scope} {p : Position} {e : written.Expr}
       → Occurs registrations script (Statement scope (written.Return p (Some e)))
       → Occurs registrations script (Expression scope.env e)
   statement : {scope : Scope} {s : written.Stmt} {ss : written.Stmts}
@@ -257,11 +257,11 @@ pub data Occurs (registrations : List Registration) (script : List written.Item)
   other_statements : {scope : Scope} {s : written.Stmt} {ss : written.Stmts}
       → Occurs registrations script (Statements scope (written.stmt s ss))
       → Occurs registrations script (Statements (after scope s) ss)
-  labelled : {scope : Scope} {int_type : Option IntType} {before : List Label} {p : Place} {l : Label}
+  labelled : {scope : Scope} {int_type : Option IntType} {before : List Label} {p : Position} {l : Label}
       {ss : written.Stmts} {cs : written.Cases}
       → Occurs registrations script (Cases scope int_type before (written.next_case (written.labelled p l ss) cs))
       → Occurs registrations script (Statements scope ss)
-  other_cases : {scope : Scope} {int_type : Option IntType} {before : List Label} {p : Place} {l : Label}
+  other_cases : {scope : Scope} {int_type : Option IntType} {before : List Label} {p : Position} {l : Label}
       {ss : written.Stmts} {cs : written.Cases}
       → Occurs registrations script (Cases scope int_type before (written.next_case (written.labelled p l ss) cs))
       → Occurs registrations script (Cases scope int_type (before ++ l ∷ []) cs)

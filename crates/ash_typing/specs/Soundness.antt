@@ -2,21 +2,22 @@
 use Rattle.std.specs.Prelude.{◌||◌, List, map}
 use Rattle.ash_registrations.specs.Registrations as host
 use Rattle.ash_typed.specs.Modules.{Signature}
-use Rattle.ash_typed.specs.Signatures.{ClassSignature, Signatures}
+use Rattle.ash_typed.specs.Signatures.{ClassTypes, ModuleSignatures}
 use Rattle.ash_typed.specs.SoundExpressions as expressions
 use Rattle.ash_typed.specs.SoundStatements as statements
-use Rattle.ash_typing.specs.Types.{var_type, result_type}
-use Rattle.ash_typing.specs.Environment.{type_declared, Function, Interface, Class, ModuleDeclarations, Environment}
+use Rattle.ash_typing.specs.TypeRules.{var_type, result_type}
+use Rattle.ash_typing.specs.Environment.{type_declared, FunctionSignature, InterfaceSignature, ClassSignature}
+use Rattle.ash_typing.specs.Environment.{ModuleDeclarations, Environment}
 use Rattle.ash_typing.specs.Scopes.{Scope}
 use Rattle.ash_typing.specs.Offered.{offered}
 
-abbrev pub signature_of : Function → Signature
+abbrev pub signature_of : FunctionSignature → Signature
 signature_of f = record { name = f.name; result = result_type f.result; parameters = map var_type f.parameters }
 
-abbrev pub signatures_of_interface : Interface → List Signature
+abbrev pub signatures_of_interface : InterfaceSignature → List Signature
 signatures_of_interface i = map signature_of i.methods
 
-abbrev pub signature_of_class : Class → ClassSignature
+abbrev pub signature_of_class : ClassSignature → ClassTypes
 signature_of_class c = record {
   interfaces = c.interfaces;
   fields = map type_declared c.fields;
@@ -25,7 +26,7 @@ signature_of_class c = record {
 }
 
 -- `signatures_in registrations declarations` is what a module declares, with these registrations.
-abbrev pub signatures_in : List host.Registration → ModuleDeclarations → Signatures
+abbrev pub signatures_in : List host.Registration → ModuleDeclarations → ModuleSignatures
 signatures_in registrations declarations = record {
   host = offered registrations;
   interfaces = map signatures_of_interface declarations.interfaces;
@@ -35,7 +36,7 @@ signatures_in registrations declarations = record {
 }
 
 -- `seen_in env` is what an expression sees.
-abbrev pub seen_in : Environment → expressions.Environment
+abbrev pub seen_in : Environment → expressions.TypedEnvironment
 seen_in env = record {
   signatures = signatures_in env.registered env.declarations;
   this = env.this;
@@ -43,7 +44,7 @@ seen_in env = record {
 }
 
 -- `seen_at scope` is what a statement sees.
-abbrev pub seen_at : Scope → statements.Scope
+abbrev pub seen_at : Scope → statements.TypedScope
 seen_at scope = record {
   env = seen_in scope.env;
   result = result_type scope.result;

@@ -23,8 +23,9 @@ use Rattle.ash_typing.specs.declared.forms.Callable.TheVariants as callables
 use Rattle.ash_typed.specs.declared.tree.operations.Operands.{Operands}
 use Rattle.ash_typed.specs.declared.tree.operations.Operands.TheVariants as operands
 use Rattle.ash_typed.specs.declared.types.VarType.{VarType}
-use Rattle.ash_typing.specs.Types.{var_type, number_type, holds, is_same_integer_type, typed_operator, integers_in}
-use Rattle.ash_typed.specs.Tree.{Expr, Number, This, Invoke, Operate, Lazily, Call, Place, Exprs, place_in, converted}
+use Rattle.ash_typing.specs.TypeRules.{var_type, number_type, holds, is_same_integer_type, typed_operator, integers_in}
+use Rattle.ash_typed.specs.TypedTree.{Expr, Number, This, Invoke, Operate, Lazily, Call, Place, Exprs, place_in}
+use Rattle.ash_typed.specs.TypedTree.{converted}
 use Rattle.ash_typed.specs.StatementTree.{Initialization}
 
 -- terms

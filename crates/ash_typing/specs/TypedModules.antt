@@ -11,13 +11,13 @@ use Rattle.ash_typing.specs.declared.types.Ty.{Ty}
 use Rattle.ash_typing.specs.declared.types.Ty.TheVariants as ty
 use Rattle.ash_typed.specs.declared.types.VarType.{VarType}
 use Rattle.ash_typed.specs.declared.types.ObjectType.TheVariants.{Interface as OfInterface}
-use Rattle.ash_typing.specs.Types.{var_type, result_type}
+use Rattle.ash_typing.specs.TypeRules.{var_type, result_type}
 use Rattle.ash_typing.specs.Environment.{Declared, Environment, named_in, inside, module_environment, with_locals}
-use Rattle.ash_typing.specs.Typing.{IsVariableType, IsDeclared}
+use Rattle.ash_typing.specs.Typing.{IsVariableType, IsDeclaredType}
 use Rattle.ash_typing.specs.ModuleDeclarations.{declarations, object_named, ty_in, result_in}
-use Rattle.ash_typed.specs.Limits.{max_module_types, max_globals, max_class_members}
+use Rattle.ash_typed.specs.ModuleLimits.{max_module_types, max_globals, max_class_members}
 use Rattle.ash_typed.specs.StatementTree.{Initialization, Body}
-use Rattle.ash_typing.specs.TypedStatements.{AreStmts}
+use Rattle.ash_typing.specs.TypedStatements.{AreTypedStmts}
 use Rattle.ash_typed.specs.Modules.{Variables, Function, Signature, Interface, Implementation, Class, Module}
 use Rattle.ash_typing.specs.Scopes.{body_scope}
 use Rattle.ash_typing.specs.Returning.{returns_in}
@@ -56,23 +56,23 @@ IsPassedParameter env p = IsPassed (ty_in env p.of)
 -- variables of a module or of a class
 
 -- `T x = a, y(b), z` has these typed variables.
-pub record AreVariables (env : Environment) (v : written.Vars) (typed : Variables) : Type 0 where
+pub record AreTypedVariables (env : Environment) (v : written.Vars) (typed : Variables) : Type 0 where
   pub variable : IsVariableType (ty_in env v.of)
   pub line : typed.line ≡ (written.place_of_type v.of).line
-  pub values : AllZip (IsDeclared env (ty_in env v.of)) v.decls typed.values
+  pub values : AllZip (IsDeclaredType env (ty_in env v.of)) v.decls typed.values
 
 -- The fields of a class are the variables of each declaration, in source order.
 abbrev pub AreFields : Environment → List written.Vars → List Initialization → Type 0
 AreFields env [] typed = typed ≡ []
 AreFields env (v ∷ vs) typed =
     (values : List Initialization) × (more : List Initialization) × IsVariableType (ty_in env v.of)
-    × AllZip (IsDeclared env (ty_in env v.of)) v.decls values × AreFields env vs more × (typed ≡ values ++ more)
+    × AllZip (IsDeclaredType env (ty_in env v.of)) v.decls values × AreFields env vs more × (typed ≡ values ++ more)
 
 -- functions
 
 -- Parameters and the variables of a body are one block.
-abbrev pub IsBody : Environment → Ty → List written.Stmt → Body → Type 0
-IsBody env of body typed = AreStmts (body_scope env of) (written.stmts body) typed
+abbrev pub IsTypedBody : Environment → Ty → List written.Stmt → Body → Type 0
+IsTypedBody env of body typed = AreTypedStmts (body_scope env of) (written.stmts body) typed
 
 -- A function, a method or a constructor that gives this type. Its parameters differ in name, and a function with a
 -- result returns however its conditions turn out.
@@ -83,17 +83,17 @@ pub record IsRoutine (env : Environment) (of : Ty) (r : Routine) (typed : Functi
   pub passed : AllByRecursion (IsPassedParameter env) r.parameters
   pub differ : IsDistinct bytes_eq (map parameter_name r.parameters)
   pub parameters : typed.parameters ≡ map (type_of_parameter env) r.parameters
-  pub body : IsBody (with_locals env (map (parameter_of env) r.parameters)) of r.body typed.body
+  pub body : IsTypedBody (with_locals env (map (parameter_of env) r.parameters)) of r.body typed.body
   pub returns : (of ≡ ty.Void) ⊎ IsTrue (returns_in r.body)
 
 -- A function without a result is void.
-abbrev pub IsResult : Environment → Option written.Named → Type 0
-IsResult env None = Unit {0}
-IsResult env (Some of) = IsPassed (ty_in env of)
+abbrev pub IsTypedResult : Environment → Option written.Named → Type 0
+IsTypedResult env None = Unit {0}
+IsTypedResult env (Some of) = IsPassed (ty_in env of)
 
 -- `T f(..) { .. }` has this typed function.
-pub record IsFunction (env : Environment) (f : written.Function) (typed : Function) : Type 0 where
-  pub passed : IsResult env f.result
+pub record IsTypedFunction (env : Environment) (f : written.Function) (typed : Function) : Type 0 where
+  pub passed : IsTypedResult env f.result
   pub routine : IsRoutine env (result_in env f.result) (routine_of f) typed
 
 -- interfaces
@@ -102,29 +102,29 @@ abbrev pub signature_name : written.InterfaceMethod → List ℕ
 signature_name m = m.name
 
 -- `T m(..);` in an interface has this typed signature: its parameters differ in name.
-pub record IsSignature (env : Environment) (m : written.InterfaceMethod) (typed : Signature) : Type 0 where
+pub record IsTypedSignature (env : Environment) (m : written.InterfaceMethod) (typed : Signature) : Type 0 where
   pub name : typed.name ≡ m.name
-  pub passed_result : IsResult env m.result
+  pub passed_result : IsTypedResult env m.result
   pub result : typed.result ≡ result_type (result_in env m.result)
   pub passed : AllByRecursion (IsPassedParameter env) m.parameters
   pub differ : IsDistinct bytes_eq (map parameter_name m.parameters)
   pub parameters : typed.parameters ≡ map (type_of_parameter env) m.parameters
 
 -- An interface after so many classes. It has at most `max_class_members` methods, which differ in name.
-pub record IsInterface (env : Environment) (i : written.Interface) (classes : ℕ) (typed : Interface) : Type 0 where
+pub record IsTypedInterface (env : Environment) (i : written.Interface) (classes : ℕ) (typed : Interface) : Type 0 where
   pub name : typed.name ≡ i.name
   pub line : typed.line ≡ i.place.line
   pub before : typed.classes_before ≡ classes
   pub differ : IsDistinct bytes_eq (map signature_name i.methods)
   pub few : length i.methods ≤ max_class_members
-  pub methods : AllZip (IsSignature env) i.methods typed.methods
+  pub methods : AllZip (IsTypedSignature env) i.methods typed.methods
 
 -- These are interfaces, each after so many classes.
-abbrev pub AreInterfaces : Environment → List written.Interface → List ℕ → List Interface → Type 0
-AreInterfaces env [] [] [] = Unit {0}
-AreInterfaces env (i ∷ is) (before ∷ befores) (typed ∷ more) =
-    IsInterface env i before typed × AreInterfaces env is befores more
-AreInterfaces env _ _ _ = ⊥
+abbrev pub AreTypedInterfaces : Environment → List written.Interface → List ℕ → List Interface → Type 0
+AreTypedInterfaces env [] [] [] = Unit {0}
+AreTypedInterfaces env (i ∷ is) (before ∷ befores) (typed ∷ more) =
+    IsTypedInterface env i before typed × AreTypedInterfaces env is befores more
+AreTypedInterfaces env _ _ _ = ⊥
 
 -- classes
 
@@ -137,7 +137,7 @@ pub record IsListed (env : Environment) (class : ℕ) (n : written.TypeName) (ty
   pub methods : implemented env class typed.interface ≡ Some typed.methods
 
 -- A constructor has its class's name.
-pub record IsConstructor (env : Environment) (class : List ℕ) (c : written.Constructor)
+pub record IsTypedConstructor (env : Environment) (class : List ℕ) (c : written.Constructor)
     (typed : Function) : Type 0 where
   pub named : c.name ≡ class
   pub routine : IsRoutine env ty.Void (constructing c) typed
@@ -145,12 +145,12 @@ pub record IsConstructor (env : Environment) (class : List ℕ) (c : written.Con
 -- A class has at most one constructor.
 abbrev pub HasConstructor : Environment → List ℕ → List written.Constructor → Option Function → Type 0
 HasConstructor env class [] None = Unit {0}
-HasConstructor env class (c ∷ []) (Some typed) = IsConstructor env class c typed
+HasConstructor env class (c ∷ []) (Some typed) = IsTypedConstructor env class c typed
 HasConstructor env class _ _ = ⊥
 
 -- A class, of this place among those of the module. It has at most `max_class_members` fields and
 -- methods, which differ in name.
-pub record IsClass (env : Environment) (place : ℕ) (c : written.Class) (typed : Class) : Type 0 where
+pub record IsTypedClass (env : Environment) (place : ℕ) (c : written.Class) (typed : Class) : Type 0 where
   pub name : typed.name ≡ c.name
   pub line : typed.line ≡ c.place.line
   pub listed_once : IsDistinct bytes_eq (map listed_name c.interfaces)
@@ -158,14 +158,15 @@ pub record IsClass (env : Environment) (place : ℕ) (c : written.Class) (typed 
   pub differ : IsDistinct bytes_eq (member_names c.members)
   pub few : length (member_names c.members) ≤ max_class_members
   pub fields : AreFields (inside env place) (fields_of c.members) typed.fields
-  pub methods : AllZip (IsFunction (inside env place)) (methods_of c.members) typed.methods
+  pub methods : AllZip (IsTypedFunction (inside env place)) (methods_of c.members) typed.methods
   pub constructor : HasConstructor (inside env place) c.name (constructors_of c.members) typed.constructor
 
 -- These are classes, of which the first has this place.
-abbrev pub AreClasses : Environment → ℕ → List written.Class → List Class → Type 0
-AreClasses env place [] [] = Unit {0}
-AreClasses env place (c ∷ cs) (typed ∷ more) = IsClass env place c typed × AreClasses env (place + 1) cs more
-AreClasses env place _ _ = ⊥
+abbrev pub AreTypedClasses : Environment → ℕ → List written.Class → List Class → Type 0
+AreTypedClasses env place [] [] = Unit {0}
+AreTypedClasses env place (c ∷ cs) (typed ∷ more) = IsTypedClass env place c typed
+    × AreTypedClasses env (place + 1) cs more
+AreTypedClasses env place _ _ = ⊥
 
 -- modules
 
@@ -180,8 +181,8 @@ pub record IsTyped (registrations : List host.Registration) (is : List written.I
   pub free : AllByRecursion (IsFree registrations) (item_names is)
   pub few_types : length (classes_of is) + length (interfaces_of is) ≤ max_module_types
   pub few_globals : length (variable_names (globals_of is)) ≤ max_globals
-  pub interfaces : AreInterfaces (environment registrations is) (interfaces_of is) (classes_before 0 is)
+  pub interfaces : AreTypedInterfaces (environment registrations is) (interfaces_of is) (classes_before 0 is)
       typed.interfaces
-  pub classes : AreClasses (environment registrations is) 0 (classes_of is) typed.classes
-  pub functions : AllZip (IsFunction (environment registrations is)) (functions_of is) typed.functions
-  pub globals : AllZip (AreVariables (environment registrations is)) (globals_of is) typed.globals
+  pub classes : AreTypedClasses (environment registrations is) 0 (classes_of is) typed.classes
+  pub functions : AllZip (IsTypedFunction (environment registrations is)) (functions_of is) typed.functions
+  pub globals : AllZip (AreTypedVariables (environment registrations is)) (globals_of is) typed.globals

@@ -1,6 +1,6 @@
 //! What the rules of typing see of an operator and of an expression, besides their types.
 
-use ash_typed::{Calculator, Comparator, Lazy, Target, VarType};
+use ash_typed::{Calculator, CallTarget, Comparator, Lazy, VarType};
 
 /// The class of an operator between two operands, by the types that it takes.
 #[derive(Clone, Copy)]
@@ -49,5 +49,5 @@ pub enum Callable {
         method: usize,
         result: Option<VarType>,
     },
-    Target(Target),
+    Target(CallTarget),
 }

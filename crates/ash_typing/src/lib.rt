@@ -1,13 +1,13 @@
 //! The rules of typing: which script has which typed tree, and where a script has none, its first fault.
 //!
 //! The rules are in `specs/`, one case for each: of expressions and of variables in `Typing`, of statements in
-//! `TypedStatements`, of modules in `TypedModules`. The walk that finds the first fault is in `Expressions`,
-//! `Declarations`, `Statements` and `Items`. What both need is in neither: in `Types`, `Terms`, `Environment`,
-//! `Coercions`, `ModuleDeclarations`, `Scopes`, `Returning`, `Labels` and `Implementations`. `typing` and `modules` say
-//! that the two are one, and that each fault of a module is at one of its tokens, where its rule is broken: at which,
-//! `FaultPlaces` says, and what is wrong there, `FaultMeaning`. `soundness` says that what the rules type is sound, as
-//! `ash_typed` says it of the typed tree alone. The crate uses `ash_lex` and `ash_tree`, whose tokens and trees are
-//! typed, `ash_registrations`, and `ash_typed`, whose trees are the typed ones. It types nothing itself:
+//! `TypedStatements`, of modules in `TypedModules`. The walk that finds the first fault is in `ExpressionRules`,
+//! `Declarations`, `StatementRules` and `ItemRules`. What both need is in neither: in `TypeRules`, `Terms`,
+//! `Environment`, `Coercions`, `ModuleDeclarations`, `Scopes`, `Returning`, `Labels` and `Implementations`. `typing`
+//! and `modules` say that the two are one, and that each fault of a module is at one of its tokens, where its rule is
+//! broken: at which, `FaultPlaces` says, and what is wrong there, `FaultMeaning`. `soundness` says that what the rules
+//! type is sound, as `ash_typed` says it of the typed tree alone. The crate uses `ash_lex` and `ash_tree`, whose tokens
+//! and trees are typed, `ash_registrations`, and `ash_typed`, whose trees are the typed ones. It types nothing itself:
 //! `ash_expressions` and `ash_check` do, by these definitions.
 //!
 //! In reading order: `types`, `forms`, `fault`, `typing`, `modules`, `soundness`.

@@ -4,31 +4,31 @@
 ghost use Rattle.std.specs.Prelude.{◌≡◌, ◌↔◌, ℕ, List, Ok, Err, IsOk};
 ghost use Rattle.ash_registrations.specs.Registrations.{Registration};
 ghost use Rattle.ash_tree.specs.Grammar.{Derives};
-ghost use Rattle.ash_tree.specs.Tokens.{Tokens};
+ghost use Rattle.ash_tree.specs.GrammarTokens.{Tokens};
 ghost use Rattle.ash_tree.specs.Tree as written;
 ghost use Rattle.ash_typing.specs.declared.fault.Fault.{Fault};
 ghost use Rattle.ash_typing.specs.FaultMeaning.{IsBrokenAt};
 ghost use Rattle.ash_typing.specs.FaultPlaces.{IsTokenOf, IsFaultOf};
-ghost use Rattle.ash_typing.specs.Items.{check_module};
+ghost use Rattle.ash_typing.specs.ItemRules.{check_module};
 ghost use Rattle.ash_typed.specs.Modules as modules;
 ghost use Rattle.ash_typed.specs.StatementTree.{Stmts};
-ghost use Rattle.ash_typing.specs.Statements.{check_stmts};
+ghost use Rattle.ash_typing.specs.StatementRules.{check_stmts};
 ghost use Rattle.ash_typing.specs.TypedModules.{environment, IsTyped};
-ghost use Rattle.ash_typing.specs.TypedStatements.{IsKnownScope, AreStmts};
+ghost use Rattle.ash_typing.specs.TypedStatements.{IsKnownScope, AreTypedStmts};
 ghost use Rattle.ash_typing.specs.Typing.{IsKnown};
 ghost use Rattle.ash_typing.specs.Scopes.{Scope};
 
 /// That the walk types the statements that have a typed tree by the rules, and no others where all types are known; and
 /// then its answer is that tree. It does nothing when it runs.
 pub fn typing_of_statements()
-    ensures complete { (scope : Scope) (ss : written.Stmts) (ts : Stmts) → AreStmts scope ss ts
+    ensures complete { (scope : Scope) (ss : written.Stmts) (ts : Stmts) → AreTypedStmts scope ss ts
         → check_stmts scope ss ≡ Ok ts }
     ensures sound { (scope : Scope) → IsKnownScope scope → (ss : written.Stmts) (ts : Stmts)
-        → check_stmts scope ss ≡ Ok ts → AreStmts scope ss ts }
+        → check_stmts scope ss ≡ Ok ts → AreTypedStmts scope ss ts }
     ensures no_fault { (scope : Scope) → IsKnownScope scope → (ss : written.Stmts)
-        → IsOk (check_stmts scope ss) ↔ ((ts : Stmts) × AreStmts scope ss ts) }
-    ensures one_tree { (scope : Scope) (ss : written.Stmts) (ts us : Stmts) → AreStmts scope ss ts
-        → AreStmts scope ss us → ts ≡ us }
+        → IsOk (check_stmts scope ss) ↔ ((ts : Stmts) × AreTypedStmts scope ss ts) }
+    ensures one_tree { (scope : Scope) (ss : written.Stmts) (ts us : Stmts)
+        → AreTypedStmts scope ss ts → AreTypedStmts scope ss us → ts ≡ us }
 {}
 
 /// That the walk finds no fault of a module exactly where the rules give it a typed tree, whatever is registered; and

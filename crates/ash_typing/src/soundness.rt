@@ -3,7 +3,7 @@
 ghost use Rattle.std.specs.Prelude.{ℕ, Bool, List};
 ghost use Rattle.ash_registrations.specs.Registrations.{Registration};
 ghost use Rattle.ash_tree.specs.Grammar.{Derives};
-ghost use Rattle.ash_tree.specs.Tokens.{Tokens};
+ghost use Rattle.ash_tree.specs.GrammarTokens.{Tokens};
 ghost use Rattle.ash_tree.specs.Tree as written;
 ghost use Rattle.ash_typed.specs.Modules.{Module};
 ghost use Rattle.ash_typed.specs.SoundExpressions as expressions;
@@ -15,9 +15,9 @@ ghost use Rattle.ash_typing.specs.Nesting.{AllDeclareInBlocks, ItemsDeclareInBlo
 ghost use Rattle.ash_typing.specs.Offered.{offered};
 ghost use Rattle.ash_typing.specs.Soundness.{seen_in, seen_at};
 ghost use Rattle.ash_typing.specs.Scopes.{Scope};
-ghost use Rattle.ash_typing.specs.Types.{value_type};
+ghost use Rattle.ash_typing.specs.TypeRules.{value_type};
 ghost use Rattle.ash_typing.specs.TypedModules.{IsTyped};
-ghost use Rattle.ash_typing.specs.TypedStatements.{IsKnownScope, AreStmts};
+ghost use Rattle.ash_typing.specs.TypedStatements.{IsKnownScope, AreTypedStmts};
 ghost use Rattle.ash_typing.specs.Typing.{IsKnown, HasType};
 ghost use Rattle.ash_typing.specs.Terms.{Term};
 
@@ -27,7 +27,8 @@ pub fn typed_is_sound()
         → (left : Bool) (e : written.Expr) (t : Term) → HasType env left e t
         → expressions.IsWellTyped (seen_in env) t.tree (value_type t.ty) }
     ensures statements { (scope : Scope) → IsKnownScope scope → (ss : written.Stmts) (ts : Stmts)
-        → AllDeclareInBlocks ss → AreStmts scope ss ts → statements.AreStmts (seen_at scope) ts }
+        → AllDeclareInBlocks ss → AreTypedStmts scope ss ts
+        → statements.AreSoundStmts (seen_at scope) ts }
     ensures modules { (registrations : List Registration) (is : List written.Item) (typed : Module)
         → ItemsDeclareInBlocks is → IsTyped registrations is typed
         → IsSound (offered registrations) typed }

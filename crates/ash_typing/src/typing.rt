@@ -5,15 +5,15 @@ ghost use Rattle.ash_tree.specs.Tree as written;
 ghost use Rattle.ash_typing.specs.declared.types.Ty.{Ty};
 ghost use Rattle.ash_typing.specs.declared.types.Ty.TheVariants.{Unknown};
 ghost use Rattle.ash_typing.specs.Environment.{Environment};
-ghost use Rattle.ash_typing.specs.Expressions.{TypedExpr, check_expr, check_exprs, first_at};
-ghost use Rattle.ash_typing.specs.Expressions.{placed, all_placed, term_of};
+ghost use Rattle.ash_typing.specs.ExpressionRules.{TypedExpr, check_expr, check_exprs, first_at};
+ghost use Rattle.ash_typing.specs.ExpressionRules.{placed, all_placed, term_of};
 ghost use Rattle.ash_typing.specs.Declarations.{Initialization, initialized, check_decl};
-ghost use Rattle.ash_typed.specs.Tree.{Expr};
+ghost use Rattle.ash_typed.specs.TypedTree.{Expr};
 ghost use Rattle.ash_typed.specs.TypeOf.{type_of};
 ghost use Rattle.ash_typed.specs.declared.types.VarType.{VarType};
-ghost use Rattle.ash_typing.specs.Types.{var_type, ty_of_var, value_type};
+ghost use Rattle.ash_typing.specs.TypeRules.{var_type, ty_of_var, value_type};
 ghost use Rattle.ash_typing.specs.Typing.{IsKnown, IsVariableType, HasType, AllHaveType};
-ghost use Rattle.ash_typing.specs.Typing.{BeginsWith, IsDeclared};
+ghost use Rattle.ash_typing.specs.Typing.{IsTypedBeginning, IsDeclaredType};
 ghost use Rattle.ash_typing.specs.Typing.{IsReadWherePlace};
 ghost use Rattle.ash_typing.specs.Terms.{Term};
 
@@ -51,18 +51,18 @@ pub fn typing_of_arguments()
 /// when it runs.
 pub fn typing_of_variables()
     ensures begins_complete { (env : Environment) (of_at at : ℕ) (of : Ty) (i : written.Initializer)
-        (value : Option Expr) → BeginsWith env of i value
+        (value : Option Expr) → IsTypedBeginning env of i value
         → initialized env of_at at of i ≡ Ok value }
     ensures begins_sound { (env : Environment) → IsKnown env
         → (of_at at : ℕ) (of : Ty) (i : written.Initializer) (value : Option Expr)
-        → initialized env of_at at of i ≡ Ok value → BeginsWith env of i value }
+        → initialized env of_at at of i ≡ Ok value → IsTypedBeginning env of i value }
     ensures complete { (env : Environment) (at : ℕ) (of : Ty) (d : written.Decl)
-        (i : Initialization) → IsDeclared env of d i → check_decl env at of d ≡ Ok i }
+        (i : Initialization) → IsDeclaredType env of d i → check_decl env at of d ≡ Ok i }
     ensures sound { (env : Environment) → IsKnown env
         → (at : ℕ) (of : Ty) (d : written.Decl) (i : Initialization) → check_decl env at of d ≡ Ok i
-        → IsDeclared env of d i }
+        → IsDeclaredType env of d i }
     ensures no_fault { (env : Environment) → IsKnown env → (at : ℕ) (of : Ty) (d : written.Decl)
-        → IsOk (check_decl env at of d) ↔ ((i : Initialization) × IsDeclared env of d i) }
+        → IsOk (check_decl env at of d) ↔ ((i : Initialization) × IsDeclaredType env of d i) }
 {}
 
 /// That each type of variables is one of a typed tree, and each of a typed tree one of variables. It does nothing when

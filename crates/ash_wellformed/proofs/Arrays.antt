@@ -6,14 +6,14 @@ use Rattle.std.specs.Option.{option_map_or}
 use Rattle.std.proofs.lemmas.Option.{same_Some}
 use Rattle.ash_host.specs.declared.word.Word.{Word}
 use Rattle.ash_host.specs.declared.word.Word.TheVariants as words
-use Rattle.ash_host.specs.Objects.{Element, Plain, Script, Array, Host, Objects, object_at, handle, handles, fields_of, Lives}
+use Rattle.ash_host.specs.Objects.{Elements, Plain, Script, Array, Host, LiveObjects, object_at, handle, handles, fields_of, Lives}
 use Rattle.ash_host.specs.Limits.{max_elements}
 use Rattle.ash_typed.specs.declared.types.Element as typed_element
 use Rattle.ash_typed.specs.declared.tree.operations.ArrayMethod.{ArrayMethod}
 use Rattle.ash_typed.specs.declared.tree.operations.ArrayMethod.TheVariants as methods
 use Rattle.ash_typed.specs.TypeOf.{value, no_value, value_of_result, type_of_element, result_of_array_method}
 use Rattle.ash_typed.specs.SoundOperations.{parameters_of_array_method}
-use Rattle.ash_typed.specs.SoundExpressions.{Environment}
+use Rattle.ash_typed.specs.SoundExpressions.{TypedEnvironment}
 use Rattle.ash_phrases.specs.declared.exception.Exception.TheVariants.{IndexOutOfBounds, ArrayLimit}
 use Rattle.ash_phrases.specs.Activity.{World, Activity, in_world, in_frame}
 use Rattle.ash_phrases.specs.Runs.{Run, Progress, onward, demand, give, ◌>>◌, ◌>>=◌}
@@ -23,7 +23,7 @@ use Rattle.ash_phrases.specs.ArraySteps.{zero_element, natural_of, zero_in, zero
 use Rattle.ash_phrases.specs.Locations.{read}
 use Rattle.ash_phrases.specs.Classes.{Program}
 use Rattle.ash_wellformed.specs.WellFormed.{Context, IsContext, Shape, shape_of, shape_at, IsArrayOf, IsReference, to_nothing, to_object, uint, IsValue, is_truth, is_integer, AreValues, and_value, AllAre, none_are, and_is, gives_nothing, gives, IsObject, IsWellFormed, IsSafe}
-use Rattle.ash_wellformed.specs.Laws.{Goes, Leaves, done, ended, Evaluates}
+use Rattle.ash_wellformed.specs.WellFormedLaws.{Goes, Leaves, done, ended, Evaluates}
 use Rattle.ash_wellformed.proofs.Values.{all_live}
 use Rattle.ash_wellformed.proofs.Changes.{world_changed, world_follows, changed_stays}
 use Rattle.ash_wellformed.proofs.Parts.{same_elements, elements_fit, elements_few, elements_put}
@@ -38,7 +38,7 @@ from_option : (o : Option (Plain (List ℕ))) (shape : Shape) → option_map sha
 from_option None shape e = absurd (cc)
 from_option (Some x) shape e = (x, refl, same_Some (shape_of x) shape e)
 
-pub object_with : (number : ℕ) (all : Objects (List ℕ)) (shape : Shape) → shape_at number all ≡ Some shape → (x : Plain (List ℕ)) × (object_at number all ≡ Some x) × (shape_of x ≡ shape)
+pub object_with : (number : ℕ) (all : LiveObjects (List ℕ)) (shape : Shape) → shape_at number all ≡ Some shape → (x : Plain (List ℕ)) × (object_at number all ≡ Some x) × (shape_of x ≡ shape)
 object_with number all shape e = from_option (object_at number all) shape e
 
 pub words_of : (number : ℕ) (w : World) (x : Plain (List ℕ)) → object_at number w.objects ≡ Some x → words_in number w ≡ fields_of x
@@ -54,12 +54,12 @@ pub after_object : {c : Context} {B : Type 0} {R : B → Activity → Type 0} (f
 after_object f a s to_nothing next = ended s
 after_object f a s (to_object {number} {shape} at fits) next = next number shape refl at fits
 
-zero_from : {p : Program} {all : Objects (List ℕ)} {e : typed_element.Element} {shape : Shape} (i : IsArrayOf p e shape) (o : Plain (List ℕ)) → shape_of o ≡ shape → IsValue p all (type_of_element e) (zero_in o)
+zero_from : {p : Program} {all : LiveObjects (List ℕ)} {e : typed_element.Element} {shape : Shape} (i : IsArrayOf p e shape) (o : Plain (List ℕ)) → shape_of o ≡ shape → IsValue p all (type_of_element e) (zero_in o)
 zero_from i (Script owner place fields) s = absurd (let whole = s ∙ i.is in cc)
-zero_from {p} {all} {e} i (Array of ws) s = subst (λ (x : Element (List ℕ)). IsValue p all (type_of_element e) (zero_element x)) (sym (same_elements (s ∙ i.is))) (zero_of_element e)
+zero_from {p} {all} {e} i (Array of ws) s = subst (λ (x : Elements (List ℕ)). IsValue p all (type_of_element e) (zero_element x)) (sym (same_elements (s ∙ i.is))) (zero_of_element e)
 zero_from i (Host kind state) s = absurd (let whole = s ∙ i.is in cc)
 
-module _ {c : Context} {env : Environment} {envs : List Environment} where
+module _ {c : Context} {env : TypedEnvironment} {envs : List TypedEnvironment} where
   -- an object gets other words, with which it is well-formed
   pub put_goes : {a : Activity} (number : ℕ) (ws : List Word) → IsWellFormed c env envs a → ((o : Plain (List ℕ)) → object_at number (a.world).objects ≡ Some o → IsObject c.modules (a.world).objects (with_words ws o)) → Goes c env envs a (in_world (with_object number (with_words ws)) a)
   put_goes {a} number ws h fits =

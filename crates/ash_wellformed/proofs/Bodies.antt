@@ -5,30 +5,30 @@ use Rattle.std.specs.Option.{option_map_or}
 use Rattle.std.proofs.lemmas.Option.{same_Some}
 use Rattle.ash_host.specs.declared.word.Word.{Word}
 use Rattle.ash_host.specs.declared.word.Word.TheVariants as words
-use Rattle.ash_host.specs.Objects.{Objects}
+use Rattle.ash_host.specs.Objects.{LiveObjects}
 use Rattle.ash_typed.specs.declared.types.VarType.{VarType}
-use Rattle.ash_typed.specs.Tree.{Expr}
+use Rattle.ash_typed.specs.TypedTree.{Expr}
 use Rattle.ash_typed.specs.StatementTree.{Initialization}
 use Rattle.ash_typed.specs.TypeOf.{value_of_result, value}
 use Rattle.ash_typed.specs.Modules.{Class}
 use Rattle.ash_typed.specs.Signatures as sig
 use Rattle.ash_typed.specs.Signatures.{type_declared}
-use Rattle.ash_typed.specs.SoundExpressions.{Environment, Fits, fits}
+use Rattle.ash_typed.specs.SoundExpressions.{TypedEnvironment, Fits, fits}
 use Rattle.ash_typed.specs.SoundStatements as sound
-use Rattle.ash_typed.specs.SoundStatements.{BeginsWith}
+use Rattle.ash_typed.specs.SoundStatements.{IsSoundBeginning}
 use Rattle.ash_typed.specs.SoundModules.{inside}
-use Rattle.ash_typed.specs.Returning.{AnyReturns}
+use Rattle.ash_typed.specs.TypedReturning.{AnyReturns}
 use Rattle.ash_phrases.specs.Activity.{Activity}
 use Rattle.ash_phrases.specs.Runs.{Progress, Run, onward, skip, ◌>>=◌}
 use Rattle.ash_phrases.specs.Releases.{full}
 use Rattle.ash_phrases.specs.Locations.{Part}
 use Rattle.ash_phrases.specs.Classes.{Entry}
-use Rattle.ash_phrases.specs.Calls.{Calls, value_or_null}
-use Rattle.ash_phrases.specs.Expressions.{expression}
-use Rattle.ash_phrases.specs.Statements.{Flow, On, Broke, Continued, Returned, statements}
+use Rattle.ash_phrases.specs.CallMeaning.{Calls, value_or_null}
+use Rattle.ash_phrases.specs.ExpressionMeaning.{expression}
+use Rattle.ash_phrases.specs.StatementMeaning.{Flow, On, Broke, Continued, Returned, statements}
 use Rattle.ash_phrases.specs.Functions.{write_field, initialize_fields, value_of, run_entry, body}
 use Rattle.ash_wellformed.specs.WellFormed.{Context, IsContext, declared, IsOfClass, IsReference, to_object, IsValue, IsGiven, gives_nothing, IsThis, is_this, IsWellFormed}
-use Rattle.ash_wellformed.specs.Laws.{Passes, Leaves, done, ended, no_step, IsLeftBy, by_break, by_continue, by_return}
+use Rattle.ash_wellformed.specs.WellFormedLaws.{Passes, Leaves, done, ended, no_step, IsLeftBy, by_break, by_continue, by_return}
 use Rattle.ash_wellformed.proofs.Triples.{bind, weaken, safe, passes_itself, passes_more}
 use Rattle.ash_wellformed.proofs.Arrays.{after_object}
 use Rattle.ash_wellformed.proofs.Locations.{in_field, write_goes}
@@ -40,7 +40,7 @@ use Rattle.ash_wellformed.proofs.Flows.{Yields, yields, anyway, then_yields, yie
 use Rattle.ash_wellformed.proofs.Widening.{widened_fit}
 
 -- what a variable begins with fits it
-pub begins_fitting : {env : Environment} {of : VarType} {e : Expr} → BeginsWith env of (Some e) → Fits env of e
+pub begins_fitting : {env : TypedEnvironment} {of : VarType} {e : Expr} → IsSoundBeginning env of (Some e) → Fits env of e
 begins_fitting (sound.stored nothing e) = e
 begins_fitting (sound.constructed k e) = fits e sig.same
 
@@ -65,17 +65,17 @@ module _ {c : Context} (context : IsContext c) (inner : Entry → Run (Option Wo
 
   -- fields
 
-  reference_in : {all : Objects (List ℕ)} {class : ℕ} {w : Word} → IsThis c.program all (Some class) w → IsReference all (IsOfClass c.program class) w
+  reference_in : {all : LiveObjects (List ℕ)} {class : ℕ} {w : Word} → IsThis c.program all (Some class) w → IsReference all (IsOfClass c.program class) w
   reference_in (is_this at i) = to_object at i
 
-  module _ {class : ℕ} {source : Class} (at : slice_get ((c.program).tree).classes class ≡ Some source) (locals : List VarType) {envs : List Environment} where
+  module _ {class : ℕ} {source : Class} (at : slice_get ((c.program).tree).classes class ≡ Some source) (locals : List VarType) {envs : List TypedEnvironment} where
     field_written : {a : Activity} (place : ℕ) (of : VarType) (w : Word) → slice_get (map type_declared source.fields) place ≡ Some of → IsWellFormed c (in_class c class locals) envs a → IsValue c.program (a.world).objects of w → Leaves c (λ (none : Unit {0}) b. Passes c (in_class c class locals) envs a b) (write_field place w a)
     field_written {a} place of w field h v =
         after_object _ a (safe h) (reference_in (h.frame).this) (λ number shape is there i.
         let one : source ≡ i.source = same_Some source i.source (sym at ∙ i.at) in
         weaken (λ none b g. g.passes) (write_goes context (Part number place) w h (in_field i there (subst (λ (k : Class). slice_get (map type_declared k.fields) place ≡ Some of) one field)) v))
 
-    field_initialized : {a : Activity} (place : ℕ) (of : VarType) (o : Option Expr) → slice_get (map type_declared source.fields) place ≡ Some of → BeginsWith (inside (declared c) class) of o → IsWellFormed c (in_class c class locals) envs a → Leaves c (λ (none : Unit {0}) b. Passes c (in_class c class locals) envs a b) (option_map_or (λ e. full (expression here e >>= write_field place)) o skip a)
+    field_initialized : {a : Activity} (place : ℕ) (of : VarType) (o : Option Expr) → slice_get (map type_declared source.fields) place ≡ Some of → IsSoundBeginning (inside (declared c) class) of o → IsWellFormed c (in_class c class locals) envs a → Leaves c (λ (none : Unit {0}) b. Passes c (in_class c class locals) envs a b) (option_map_or (λ e. full (expression here e >>= write_field place)) o skip a)
     field_initialized place of None field k h = done (passes_itself h)
     field_initialized place of (Some e) field k h =
         stored_passes context inner bodies (in_class c class locals) refl envs (widened_fit (declared c) (Some class) locals (begins_fitting k)) h (λ w b well v. field_written place of w field well v)
@@ -85,14 +85,14 @@ module _ {c : Context} (context : IsContext c) (inner : Entry → Run (Option Wo
     fields_initialized (and_field {place} {v} field k rest) h =
         bind (field_initialized place v.of v.value field k h) (λ none b p. weaken (λ one d q. passes_more p q) (fields_initialized rest p.well))
 
-  class_env : (env : Environment) (class : ℕ) → env.signatures ≡ declared c → env.this ≡ Some class → env ≡ in_class c class env.locals
-  class_env env class same this = ap (λ (s : sig.Signatures). record { signatures = s; this = env.this; locals = env.locals }) same ∙ ap (λ (t : Option ℕ). record { signatures = declared c; this = t; locals = env.locals }) this
+  class_env : (env : TypedEnvironment) (class : ℕ) → env.signatures ≡ declared c → env.this ≡ Some class → env ≡ in_class c class env.locals
+  class_env env class same this = ap (λ (s : sig.ModuleSignatures). record { signatures = s; this = env.this; locals = env.locals }) same ∙ ap (λ (t : Option ℕ). record { signatures = declared c; this = t; locals = env.locals }) this
 
-  entry_fields : {env : Environment} {envs : List Environment} {a : Activity} {vs : List Initialization} → env.signatures ≡ declared c → HasFields c env vs → IsWellFormed c env envs a → Leaves c (λ (none : Unit {0}) b. Passes c env envs a b) (initialize_fields here 0 vs a)
+  entry_fields : {env : TypedEnvironment} {envs : List TypedEnvironment} {a : Activity} {vs : List Initialization} → env.signatures ≡ declared c → HasFields c env vs → IsWellFormed c env envs a → Leaves c (λ (none : Unit {0}) b. Passes c env envs a b) (initialize_fields here 0 vs a)
   entry_fields same none_initialized h = done (passes_itself h)
   entry_fields {env} {envs} {a} {vs} same (all_initialized {class} this at fs) h =
       let is : env ≡ in_class c class env.locals = class_env env class same this in
-      subst (λ (x : Environment). Leaves c (λ (none : Unit {0}) b. Passes c x envs a b) (initialize_fields here 0 vs a)) (sym is) (fields_initialized at env.locals fs (subst (λ (x : Environment). IsWellFormed c x envs a) is h))
+      subst (λ (x : TypedEnvironment). Leaves c (λ (none : Unit {0}) b. Passes c x envs a b) (initialize_fields here 0 vs a)) (sym is) (fields_initialized at env.locals fs (subst (λ (x : TypedEnvironment). IsWellFormed c x envs a) is h))
 
   -- bodies
 
@@ -100,7 +100,7 @@ module _ {c : Context} (context : IsContext c) (inner : Entry → Run (Option Wo
   jumping depth e a (inl none) = yields_more (λ flow _. inl none) (anyway (onward (initialize_fields here 0 e.fields a) (λ none. statements here depth e.body)))
   jumping depth e a (inr some) = yields_more (λ flow j. inr j) (then_yields (anyway (initialize_fields here 0 e.fields a)) (λ none b _. stmts_jump here depth some b))
 
-  pub entry_gives : (depth : ℕ) (env : Environment) (result : Option VarType) (e : Entry) → IsEntry c env result e → (envs : List Environment) (a : Activity) → IsWellFormed c env envs a → Leaves c (λ v b. IsResulted c env envs (value_of_result result) a (value_or_null v) b) (run_entry here depth e a)
+  pub entry_gives : (depth : ℕ) (env : TypedEnvironment) (result : Option VarType) (e : Entry) → IsEntry c env result e → (envs : List TypedEnvironment) (a : Activity) → IsWellFormed c env envs a → Leaves c (λ v b. IsResulted c env envs (value_of_result result) a (value_or_null v) b) (run_entry here depth e a)
   entry_gives depth env result e k envs a h =
       bind (left_of (bind (entry_fields k.signatures k.fields h) (λ none b p. on_after_passes p (stmts_lead context inner bodies depth k.body k.signatures p.well))) (jumping depth e a k.returns))
       (λ flow b q. done (record { types = (q.0).types; passes = ((q.0).leads).passes; value = finish flow ((q.0).leads).left q.1 }))

@@ -12,7 +12,7 @@ use Rattle.std.proofs.lemmas.Option.{same_Some}
 use Rattle.std.proofs.lemmas.Map.Entries.{sum_by-insert_entry, length-values_of}
 use Rattle.std.proofs.lemmas.Map.Keys.{sorted_from_strictly_increasing}
 use Rattle.std.proofs.lemmas.List.Sums.{sum_by-cons}
-use Rattle.ash_host.specs.Objects.{Plain, Objects, object_at, numbers, with_at, IsInOrder, Lives}
+use Rattle.ash_host.specs.Objects.{Plain, LiveObjects, object_at, numbers, with_at, IsInOrder, Lives}
 use Rattle.ash_host.proofs.Order.{object_at-with_at, in_order-with_at}
 use Rattle.ash_host.specs.Limits.{max_objects}
 use Rattle.ash_phrases.specs.Activity.{World}
@@ -44,40 +44,40 @@ length-with_at {A} k v l o =
     omega (arith, sums, there, ones (values_of l), ones (values_of (with_at k v l)), length-values_of l, length-values_of (with_at k v l))
 
 module _ (number : ℕ) (how : Plain (List ℕ) → Plain (List ℕ)) where
-  none_changed : (n : ℕ) (all : Objects (List ℕ)) → object_at number all ≡ None → (b : Bool) → nat_eq n number ≡ b → object_at n all ≡ cond b (option_map how (object_at n all)) (object_at n all)
+  none_changed : (n : ℕ) (all : LiveObjects (List ℕ)) → object_at number all ≡ None → (b : Bool) → nat_eq n number ≡ b → object_at n all ≡ cond b (option_map how (object_at n all)) (object_at n all)
   none_changed n all none false is = refl
   none_changed n all none true is =
       let same : n ≡ number = eqb-true n number is in
       let gone : object_at n all ≡ None = ap (λ (k : ℕ). object_at k all) same ∙ none in
       gone ∙ sym (ap (option_map how) gone)
 
-  some_changed : (n : ℕ) (all : Objects (List ℕ)) (object : Plain (List ℕ)) → object_at number all ≡ Some object → (b : Bool) → nat_eq n number ≡ b → cond b (Some (how object)) (object_at n all) ≡ cond b (option_map how (object_at n all)) (object_at n all)
+  some_changed : (n : ℕ) (all : LiveObjects (List ℕ)) (object : Plain (List ℕ)) → object_at number all ≡ Some object → (b : Bool) → nat_eq n number ≡ b → cond b (Some (how object)) (object_at n all) ≡ cond b (option_map how (object_at n all)) (object_at n all)
   some_changed n all object some false is = refl
   some_changed n all object some true is =
       let same : n ≡ number = eqb-true n number is in
       let here : object_at n all ≡ Some object = ap (λ (k : ℕ). object_at k all) same ∙ some in
       sym (ap (option_map how) here)
 
-  changed_from : (n : ℕ) (all : Objects (List ℕ)) (o : Option (Plain (List ℕ))) → object_at number all ≡ o → object_at n (option_map_or (λ object. with_at number (how object) all) o all) ≡ cond (nat_eq n number) (option_map how (object_at n all)) (object_at n all)
+  changed_from : (n : ℕ) (all : LiveObjects (List ℕ)) (o : Option (Plain (List ℕ))) → object_at number all ≡ o → object_at n (option_map_or (λ object. with_at number (how object) all) o all) ≡ cond (nat_eq n number) (option_map how (object_at n all)) (object_at n all)
   changed_from n all None e = none_changed n all e (nat_eq n number) refl
   changed_from n all (Some object) e = object_at-with_at number (how object) n all ∙ some_changed n all object e (nat_eq n number) refl
 
   -- what lives by each number after the object of one was changed
-  pub object_at-changed : (n : ℕ) (all : Objects (List ℕ)) → object_at n (change_at number how all) ≡ cond (nat_eq n number) (option_map how (object_at n all)) (object_at n all)
+  pub object_at-changed : (n : ℕ) (all : LiveObjects (List ℕ)) → object_at n (change_at number how all) ≡ cond (nat_eq n number) (option_map how (object_at n all)) (object_at n all)
   object_at-changed n all = changed_from n all (object_at number all) refl
 
-  in_order_from : (all : Objects (List ℕ)) (o : Option (Plain (List ℕ))) → IsInOrder all → IsInOrder (option_map_or (λ object. with_at number (how object) all) o all)
+  in_order_from : (all : LiveObjects (List ℕ)) (o : Option (Plain (List ℕ))) → IsInOrder all → IsInOrder (option_map_or (λ object. with_at number (how object) all) o all)
   in_order_from all None h = h
   in_order_from all (Some object) h = in_order-with_at number (how object) all h
 
-  pub in_order-changed : (all : Objects (List ℕ)) → IsInOrder all → IsInOrder (change_at number how all)
+  pub in_order-changed : (all : LiveObjects (List ℕ)) → IsInOrder all → IsInOrder (change_at number how all)
   in_order-changed all h = in_order_from all (object_at number all) h
 
-  length_from : (all : Objects (List ℕ)) (o : Option (Plain (List ℕ))) → object_at number all ≡ o → IsInOrder all → length (option_map_or (λ object. with_at number (how object) all) o all) ≡ length all
+  length_from : (all : LiveObjects (List ℕ)) (o : Option (Plain (List ℕ))) → object_at number all ≡ o → IsInOrder all → length (option_map_or (λ object. with_at number (how object) all) o all) ≡ length all
   length_from all None e h = refl
   length_from all (Some object) e h = omega (arith, length-with_at number (how object) all h, ap one_if e)
 
-  pub length-changed : (all : Objects (List ℕ)) → IsInOrder all → length (change_at number how all) ≡ length all
+  pub length-changed : (all : LiveObjects (List ℕ)) → IsInOrder all → length (change_at number how all) ≡ length all
   length-changed all h = length_from all (object_at number all) refl h
 
   module _ (keeps : (o : Plain (List ℕ)) → shape_of (how o) ≡ shape_of o) where
@@ -86,13 +86,13 @@ module _ (number : ℕ) (how : Plain (List ℕ) → Plain (List ℕ)) where
     keeps_shape true (Some o) = ap Some (keeps o)
     keeps_shape false o = refl
 
-    pub shape_at-changed : (n : ℕ) (all : Objects (List ℕ)) → shape_at n (change_at number how all) ≡ shape_at n all
+    pub shape_at-changed : (n : ℕ) (all : LiveObjects (List ℕ)) → shape_at n (change_at number how all) ≡ shape_at n all
     shape_at-changed n all = ap (option_map shape_of) (object_at-changed n all) ∙ keeps_shape (nat_eq n number) (object_at n all)
 
-    pub changed_stays : (all : Objects (List ℕ)) (n : ℕ) → Stays all (change_at number how all) n
+    pub changed_stays : (all : LiveObjects (List ℕ)) (n : ℕ) → Stays all (change_at number how all) n
     changed_stays all n = record { stays = λ shape e. shape_at-changed n all ∙ e }
 
-    lives_before : (all : Objects (List ℕ)) (n : ℕ) → Lives (change_at number how all) n → Lives all n
+    lives_before : (all : LiveObjects (List ℕ)) (n : ℕ) → Lives (change_at number how all) n → Lives all n
     lives_before all n h =
         let there = lives_shape n (change_at number how all) h in
         shape_lives n all there.0 (sym (shape_at-changed n all) ∙ there.1)

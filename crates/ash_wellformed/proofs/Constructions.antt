@@ -11,7 +11,7 @@ use Rattle.ash_host.specs.declared.word.Word.TheVariants as words
 use Rattle.ash_host.specs.declared.event.Event.TheVariants.{Drew}
 use Rattle.ash_host.specs.declared.event.Target.TheVariants as targets
 use Rattle.ash_host.specs.Calls.{Start}
-use Rattle.ash_host.specs.Objects.{Plain, Array, Host, Objects}
+use Rattle.ash_host.specs.Objects.{Plain, Array, Host, LiveObjects}
 use Rattle.ash_host.specs.Limits.{max_objects, max_elements}
 use Rattle.ash_typed.specs.declared.types.Element as typed_element
 use Rattle.ash_typed.specs.declared.types.Element.TheVariants as elements
@@ -19,7 +19,7 @@ use Rattle.ash_integers.specs.declared.int_type.IntType.TheVariants as ints
 use Rattle.ash_typed.specs.declared.types.ObjectType.TheVariants as objects
 use Rattle.ash_typed.specs.declared.types.VarType.TheVariants as vars
 use Rattle.ash_typed.specs.TypeOf.{value, type_of_element}
-use Rattle.ash_typed.specs.SoundExpressions.{Environment}
+use Rattle.ash_typed.specs.SoundExpressions.{TypedEnvironment}
 use Rattle.ash_phrases.specs.declared.exception.Exception.{Exception}
 use Rattle.ash_phrases.specs.declared.exception.Exception.TheVariants.{ObjectLimit, NumbersSpent, ArrayLimit}
 use Rattle.ash_phrases.specs.Activity.{FreeBox, Activity, in_world}
@@ -29,7 +29,7 @@ use Rattle.ash_phrases.specs.HostSteps.{place_of_kind, without_box, box_in, box_
 use Rattle.ash_phrases.specs.ArraySteps.{zero_element, count_in, construct_array}
 use Rattle.ash_phrases.specs.Classes.{Program, element_of}
 use Rattle.ash_wellformed.specs.WellFormed.{Context, IsContext, Shape, OfElements, OfKind, IsOffered, shape_of, shape_at, IsNamed, to_nothing, to_object, IsValue, is_truth, is_integer, is_handle, IsGiven, gives, IsState, IsObject, is_array, is_host, IsWellFormed, IsSafe}
-use Rattle.ash_wellformed.specs.Laws.{Goes, Offers, a_construction, Leaves, done, ended, no_step, Evaluates}
+use Rattle.ash_wellformed.specs.WellFormedLaws.{Goes, Offers, a_construction, Leaves, done, ended, no_step, Evaluates}
 use Rattle.ash_wellformed.proofs.Lists.{all_replicate}
 use Rattle.ash_wellformed.proofs.Parts.{known_here}
 use Rattle.ash_wellformed.proofs.Integers.{integer_word}
@@ -74,11 +74,11 @@ record IsBox (kind : ℕ) (a : Activity) (found : ℕ × FreeBox) : Type 0 where
   pub fits : IsState (found.1).state
 
 -- an object of the shape was made, and this is its number
-pub record IsMade (c : Context) (env : Environment) (envs : List Environment) (is : Shape) (a : Activity) (number : ℕ) (b : Activity) : Type 0 where
+pub record IsMade (c : Context) (env : TypedEnvironment) (envs : List TypedEnvironment) (is : Shape) (a : Activity) (number : ℕ) (b : Activity) : Type 0 where
   pub goes : Goes c env envs a b
   pub shape : shape_at number (b.world).objects ≡ Some is
 
-pub zero_of_element : {p : Program} {all : Objects (List ℕ)} (e : typed_element.Element) → IsValue p all (type_of_element e) (zero_element (element_of p e))
+pub zero_of_element : {p : Program} {all : LiveObjects (List ℕ)} (e : typed_element.Element) → IsValue p all (type_of_element e) (zero_element (element_of p e))
 zero_of_element elements.Bool = is_truth
 zero_of_element (elements.Integer ints.Int) = is_integer (integer_word ints.Int (pos 0))
 zero_of_element (elements.Integer ints.Uint) = is_integer (integer_word ints.Uint (pos 0))
@@ -88,7 +88,7 @@ zero_of_element (elements.Class class) = is_handle to_nothing
 zero_of_element (elements.Interface interface) = is_handle to_nothing
 zero_of_element (elements.Host kind) = is_handle to_nothing
 
-module _ {c : Context} {env : Environment} {envs : List Environment} where
+module _ {c : Context} {env : TypedEnvironment} {envs : List TypedEnvironment} where
   pub number_demanded : {a : Activity} → IsWellFormed c env envs a → Leaves c (λ (none : Unit {0}) b. (b ≡ a) × HasRoom a) (demand_number a)
   number_demanded {a} h =
       let asked : Leaves c (λ (v : Bool) b. (b ≡ a) × ((v ≡ nat_lt (a.world).last max_number) × (nat_lt (length (a.world).objects) max_objects ≡ true))) (onward (demand (nat_lt (length (a.world).objects) max_objects) ObjectLimit a) (λ none. look (λ activity. nat_lt (activity.world).last max_number))) = after_demand _ (nat_lt (length (a.world).objects) max_objects) ObjectLimit a (safe h) (λ room. done (refl, (refl, room))) in

@@ -6,32 +6,32 @@ use Rattle.std.specs.Option.{option_map_or, option_and_then}
 use Rattle.std.proofs.lemmas.Option.{same_Some, slice_get-map}
 use Rattle.ash_host.specs.declared.word.Word.{Word}
 use Rattle.ash_host.specs.declared.word.Word.TheVariants as words
-use Rattle.ash_host.specs.Objects.{Objects, object_at}
+use Rattle.ash_host.specs.Objects.{LiveObjects, object_at}
 use Rattle.ash_host.specs.Reach.{ReachableIn, is_reachable}
 use Rattle.ash_host.proofs.ReachLaws.{is_reachable_says, object_at-after_sweep, sweep_is_exact}
 use Rattle.ash_host.proofs.SweepLaws.{swept_reachable}
 use Rattle.ash_typed.specs.declared.types.VarType.{VarType}
 use Rattle.ash_typed.specs.declared.types.VarType.TheVariants as vars
-use Rattle.ash_typed.specs.Tree.{Expr}
+use Rattle.ash_typed.specs.TypedTree.{Expr}
 use Rattle.ash_typed.specs.StatementTree.{Initialization}
 use Rattle.ash_typed.specs.TypeOf.{value_of_result}
 use Rattle.ash_typed.specs.Modules.{Function, Variables}
 use Rattle.ash_typed.specs.Signatures.{signature_of, type_declared, types_of_globals}
-use Rattle.ash_typed.specs.SoundExpressions.{Environment}
-use Rattle.ash_typed.specs.SoundStatements.{IsInitialized, BeginsWith}
-use Rattle.ash_typed.specs.SoundModules.{outside, AreVariables}
+use Rattle.ash_typed.specs.SoundExpressions.{TypedEnvironment}
+use Rattle.ash_typed.specs.SoundStatements.{IsInitialized, IsSoundBeginning}
+use Rattle.ash_typed.specs.SoundModules.{outside, AreSoundVariables}
 use Rattle.ash_phrases.specs.Activity.{World, Frame, Activity}
 use Rattle.ash_phrases.specs.Runs.{Interrupt, Raising, OutOfTicks, Progress, skip, give, ◌>>◌, ◌>>=◌}
 use Rattle.ash_phrases.specs.Frames.{frame_of, tick}
 use Rattle.ash_phrases.specs.Releases.{roots, sweep, full}
 use Rattle.ash_phrases.specs.Locations.{Global, write}
 use Rattle.ash_phrases.specs.Classes.{Program, FreeFunction, Entry, entry_of}
-use Rattle.ash_phrases.specs.Calls.{value_or_null}
-use Rattle.ash_phrases.specs.Expressions.{expression}
+use Rattle.ash_phrases.specs.CallMeaning.{value_or_null}
+use Rattle.ash_phrases.specs.ExpressionMeaning.{expression}
 use Rattle.ash_phrases.specs.Functions.{initialize_globals, initialize_module, body, calls_within}
 use Rattle.ash_phrases.specs.Ends.{End, Finished, interrupted_in, Outcome, outcome_of, begun, call_entry, call_function, with_globals, init_frame, load_module}
 use Rattle.ash_wellformed.specs.WellFormed.{Context, IsContext, declared, is_truth, is_integer, AreValues, no_values, IsGiven, gives_nothing, gives, no_this, Follows, IsWorld, IsFrame, no_frames, IsWellFormed, IsSafe}
-use Rattle.ash_wellformed.specs.Laws.{Passes, OffersNothing, Leaves, done, ended, no_step, IsSettled, IsNoObjectResult, GivesItsResult, RunsKeep, LoadsKeep, CallsComeToAnEnd, LoadsComeToAnEnd}
+use Rattle.ash_wellformed.specs.WellFormedLaws.{Passes, OffersNothing, Leaves, done, ended, no_step, IsBetweenRequests, IsNoObjectResult, GivesItsResult, RunsKeep, LoadsKeep, CallsComeToAnEnd, LoadsComeToAnEnd}
 use Rattle.ash_wellformed.proofs.Values.{none_in}
 use Rattle.ash_wellformed.proofs.Triples.{follows_itself, follows_more, bind, weaken, safe, passes_itself, passes_more}
 use Rattle.ash_wellformed.proofs.Sweeps.{world_swept, swept_follows}
@@ -48,7 +48,7 @@ lived_reached : (frames : List Frame) (w : World) (n : ℕ) (b : Bool) → is_re
 lived_reached frames w n true is lives = is_reachable_says (roots frames w) w.objects n is
 lived_reached frames w n false is lives = absurd (cc)
 
-primitive_given : {p : Program} {all : Objects (List ℕ)} {w : Word} (o : Option VarType) → IsNoObjectResult o → IsGiven p all (value_of_result o) w → IsGiven p [] (value_of_result o) w
+primitive_given : {p : Program} {all : LiveObjects (List ℕ)} {w : Word} (o : Option VarType) → IsNoObjectResult o → IsGiven p all (value_of_result o) w → IsGiven p [] (value_of_result o) w
 primitive_given None k gives_nothing = gives_nothing
 primitive_given (Some vars.Bool) k (gives is_truth) = gives is_truth
 primitive_given (Some (vars.Integer int_type)) k (gives (is_integer i)) = gives (is_integer i)
@@ -68,7 +68,7 @@ record Comes (c : Context) (result : Option VarType) (v : Option Word) (b : Acti
   pub value : IsGiven c.program (b.world).objects (value_of_result result) (value_or_null v)
 
 module _ {c : Context} where
-  pub settled : (w : World) → IsWorld c w → Follows c.began w → IsSettled c (sweep [] w)
+  pub settled : (w : World) → IsWorld c w → Follows c.began w → IsBetweenRequests c (sweep [] w)
   unfolding sweep
   settled w h since = record {
     world = world_swept [] h;
@@ -78,15 +78,15 @@ module _ {c : Context} where
         swept_reachable (sweep_is_exact (roots [] w) w.objects (h.numbered).in_order) n was;
   }
 
-  safe_settled : {b : Activity} → IsSafe c b → IsSettled c (sweep [] b.world)
+  safe_settled : {b : Activity} → IsSafe c b → IsBetweenRequests c (sweep [] b.world)
   safe_settled {b} s = settled b.world (s.well).world (s.well).since
 
   -- a run that ends leaves such a world
-  ends_settled : {Q : Option Word → Activity → Type 0} {r : Progress (Option Word)} (P : End → Type 0) (o : Outcome) → ((v : Option Word) (b : Activity) → Q v b → IsSafe c b × P (Finished v)) → ((i : Interrupt) (f : Frame) → P (interrupted_in i f)) → Leaves c Q r → outcome_of r ≡ Some o → IsSettled c o.world × P o.end
+  ends_settled : {Q : Option Word → Activity → Type 0} {r : Progress (Option Word)} (P : End → Type 0) (o : Outcome) → ((v : Option Word) (b : Activity) → Q v b → IsSafe c b × P (Finished v)) → ((i : Interrupt) (f : Frame) → P (interrupted_in i f)) → Leaves c Q r → outcome_of r ≡ Some o → IsBetweenRequests c o.world × P o.end
   ends_settled P o keeps others (done {v} {b} q) e =
       let both = keeps v b q in
-      subst (λ (x : Outcome). IsSettled c x.world × P x.end) (same_Some _ o e) (safe_settled both.0, both.1)
-  ends_settled P o keeps others (ended {interrupt} {b} s) e = subst (λ (x : Outcome). IsSettled c x.world × P x.end) (same_Some _ o e) (safe_settled s, others interrupt b.frame)
+      subst (λ (x : Outcome). IsBetweenRequests c x.world × P x.end) (same_Some _ o e) (safe_settled both.0, both.1)
+  ends_settled P o keeps others (ended {interrupt} {b} s) e = subst (λ (x : Outcome). IsBetweenRequests c x.world × P x.end) (same_Some _ o e) (safe_settled s, others interrupt b.frame)
   ends_settled P o keeps others (no_step offers) e = absurd (cc)
 
   -- where the host offers nothing a run ends
@@ -96,7 +96,7 @@ module _ {c : Context} where
   has_outcome none (no_step offers) = absurd (none offers)
 
   -- one frame and no callers
-  begun_well : {w : World} (env : Environment) (budget : ℕ) (f : Frame) → IsWorld c w → Follows c.began w → IsFrame c w.objects env f → IsWellFormed c env [] (begun w budget f)
+  begun_well : {w : World} (env : TypedEnvironment) (budget : ℕ) (f : Frame) → IsWorld c w → Follows c.began w → IsFrame c w.objects env f → IsWellFormed c env [] (begun w budget f)
   begun_well env budget f h since frame = record { world = h; since = since; frame = frame; callers = no_frames; few = omega arith }
 
   entry_comes : IsContext c → (place : ℕ) (f : Function) (args : List Word) (budget : ℕ) (w : World) (entry : Entry) → slice_get ((c.program).tree).functions place ≡ Some f → IsWorld c w → Follows c.began w → AreValues c.program w.objects f.parameters args → entry_of (c.program).tree (FreeFunction place) ≡ Some entry → Leaves c (Comes c f.result) ((tick entry.line >> body c.program budget entry) (begun w budget (frame_of entry.name entry.line words.Null args)))
@@ -118,11 +118,11 @@ module _ {c : Context} where
 
   -- initializers
 
-  module _ (context : IsContext c) (budget : ℕ) (envs : List Environment) where
-    abbrev env : Environment
+  module _ (context : IsContext c) (budget : ℕ) (envs : List TypedEnvironment) where
+    abbrev env : TypedEnvironment
     env = outside (declared c)
 
-    global_initialized : {a : Activity} (place : ℕ) (of : VarType) (o : Option Expr) → slice_get (types_of_globals ((c.program).tree).globals) place ≡ Some of → BeginsWith env of o → IsWellFormed c env envs a → Leaves c (λ (none : Unit {0}) b. Passes c env envs a b) (option_map_or (λ e. full (expression (calls_within c.program budget) e >>= write (Global place))) o skip a)
+    global_initialized : {a : Activity} (place : ℕ) (of : VarType) (o : Option Expr) → slice_get (types_of_globals ((c.program).tree).globals) place ≡ Some of → IsSoundBeginning env of o → IsWellFormed c env envs a → Leaves c (λ (none : Unit {0}) b. Passes c env envs a b) (option_map_or (λ e. full (expression (calls_within c.program budget) e >>= write (Global place))) o skip a)
     global_initialized place of None at k h = done (passes_itself h)
     global_initialized place of (Some e) at k h =
         stored_passes context (body c.program budget) (keeps_bodies context budget) env refl envs (begins_fitting k) h (λ w b well v. weaken (λ none d g. g.passes) (write_goes context (Global place) w well (in_global at) v))
@@ -152,7 +152,7 @@ module _ {c : Context} where
         let level : place + 1 + length vs + i ≡ place + suc (length vs) + i = omega arith in
         subst (λ (n : ℕ). slice_get (types_of_globals ((c.program).tree).globals) n ≡ Some of) level (after_types (place + 1) vs more (next_place place v.of (map type_declared vs ++ more) t) i of at)
 
-    module_initialized : {a : Activity} (place : ℕ) (ds : List Variables) → Types place (types_of_globals ds) → AllByRecursion (AreVariables env) ds → IsWellFormed c env envs a → Leaves c (λ (none : Unit {0}) b. Passes c env envs a b) (initialize_module (calls_within c.program budget) place ds a)
+    module_initialized : {a : Activity} (place : ℕ) (ds : List Variables) → Types place (types_of_globals ds) → AllByRecursion (AreSoundVariables env) ds → IsWellFormed c env envs a → Leaves c (λ (none : Unit {0}) b. Passes c env envs a b) (initialize_module (calls_within c.program budget) place ds a)
     module_initialized place [] t k h = done (passes_itself h)
     module_initialized place (d ∷ ds) t k h =
         bind (bind (tick_goes d.line h) (λ none b g. weaken (λ one x q. passes_more g.passes q) (globals_initialized place d.values (types_of_globals ds) t k.0 (g.passes).well)))

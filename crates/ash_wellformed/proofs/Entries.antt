@@ -14,12 +14,12 @@ use Rattle.ash_host.proofs.RecordLaws.{bytes_decide}
 use Rattle.ash_typed.specs.declared.types.VarType.{VarType}
 use Rattle.ash_typed.specs.StatementTree.{Initialization, no_stmt}
 use Rattle.ash_typed.specs.Modules.{Function, Signature, Implementation, Class, Module}
-use Rattle.ash_typed.specs.Signatures.{ClassSignature, Signatures, signature_of, signature_of_class, type_declared, parameters_of}
-use Rattle.ash_typed.specs.SoundExpressions.{Environment}
-use Rattle.ash_typed.specs.SoundStatements.{BeginsWith, IsInitialized, AreStmts, no_stmts}
+use Rattle.ash_typed.specs.Signatures.{ClassTypes, ModuleSignatures, signature_of, signature_of_class, type_declared, parameters_of}
+use Rattle.ash_typed.specs.SoundExpressions.{TypedEnvironment}
+use Rattle.ash_typed.specs.SoundStatements.{IsSoundBeginning, IsInitialized, AreSoundStmts, no_stmts}
 use Rattle.ash_typed.specs.SoundModules as sound
-use Rattle.ash_typed.specs.SoundModules.{inside, outside, IsFunction, IsConstructor, IsImplementation, IsClass, AreClasses}
-use Rattle.ash_typed.specs.Returning.{AnyReturns}
+use Rattle.ash_typed.specs.SoundModules.{inside, outside, IsSoundFunction, IsSoundConstructor, IsImplementation, IsSoundClass, AreSoundClasses}
+use Rattle.ash_typed.specs.TypedReturning.{AnyReturns}
 use Rattle.ash_phrases.specs.Classes.{place_of_class, places_of_classes, class_of, implementation_in, implemented, FreeFunction, Method, Construction, Entry, entry_of_function, entry_of_method, entry_of_construction, entry_of}
 use Rattle.ash_wellformed.specs.WellFormed.{Context, IsContext, declared, OfClass, shape_of, IsOfClass}
 use Rattle.ash_wellformed.proofs.Values.{first_in, later_in}
@@ -68,12 +68,12 @@ pub data AreFields (c : Context) (class : ℕ) (source : Class) : ℕ → List I
   no_fields : {place : ℕ} → AreFields c class source place []
   and_field : {place : ℕ} {v : Initialization} {vs : List Initialization}
       → slice_get (map type_declared source.fields) place ≡ Some v.of
-      → BeginsWith (inside (declared c) class) v.of v.value
+      → IsSoundBeginning (inside (declared c) class) v.of v.value
       → AreFields c class source (place + 1) vs
       → AreFields c class source place (v ∷ vs)
 
 -- none, or those of the class of the object that is constructed
-pub data HasFields (c : Context) (env : Environment) : List Initialization → Type 0 where
+pub data HasFields (c : Context) (env : TypedEnvironment) : List Initialization → Type 0 where
   none_initialized : HasFields c env []
   all_initialized : {class : ℕ} {source : Class} {vs : List Initialization}
       → env.this ≡ Some class
@@ -82,24 +82,24 @@ pub data HasFields (c : Context) (env : Environment) : List Initialization → T
       → HasFields c env vs
 
 -- What is entered is sound in this environment, and gives this.
-pub record IsEntry (c : Context) (env : Environment) (result : Option VarType) (e : Entry) : Type 0 where
+pub record IsEntry (c : Context) (env : TypedEnvironment) (result : Option VarType) (e : Entry) : Type 0 where
   pub signatures : env.signatures ≡ declared c
   pub fields : HasFields c env e.fields
-  pub body : AreStmts (record { env = env; result = result; may_break = false; may_continue = false }) e.body
+  pub body : AreSoundStmts (record { env = env; result = result; may_break = false; may_continue = false }) e.body
   pub returns : (result ≡ None) ⊎ AnyReturns e.body
 
-abbrev pub in_class : Context → ℕ → List VarType → Environment
+abbrev pub in_class : Context → ℕ → List VarType → TypedEnvironment
 in_class c class locals = record { signatures = declared c; this = Some class; locals = locals }
 
-abbrev pub in_none : Context → List VarType → Environment
+abbrev pub in_none : Context → List VarType → TypedEnvironment
 in_none c locals = record { signatures = declared c; this = None; locals = locals }
 
 -- classes by place
-classes_at : (s : Signatures) (start k place : ℕ) (cs : List Class) (source : Class) → place ≡ start + k → AreClasses s start cs → slice_get cs k ≡ Some source → IsClass s place source
+classes_at : (s : ModuleSignatures) (start k place : ℕ) (cs : List Class) (source : Class) → place ≡ start + k → AreSoundClasses s start cs → slice_get cs k ≡ Some source → IsSoundClass s place source
 classes_at s start k place [] source same h at = absurd (cc)
 classes_at s start zero place (x ∷ cs) source same h at =
     let here : start ≡ place = omega arith in
-    subst (λ (n : ℕ). IsClass s n source) here (subst (IsClass s start) (same_Some x source at) h.0)
+    subst (λ (n : ℕ). IsSoundClass s n source) here (subst (IsSoundClass s start) (same_Some x source at) h.0)
 classes_at s start (suc k) place (x ∷ cs) source same h at = classes_at s (start + 1) k place cs source (omega arith) h.1 at
 
 fields_from : {c : Context} {class : ℕ} {source : Class} (place : ℕ) (vs : List Initialization) → AllByRecursion (IsInitialized (inside (declared c) class)) vs → ((i : ℕ) (v : Initialization) → slice_get vs i ≡ Some v → slice_get (map type_declared source.fields) (place + i) ≡ Some v.of) → AreFields c class source place vs
@@ -112,26 +112,26 @@ fields_from {source = source} place (v ∷ vs) h types =
     subst (λ (n : ℕ). slice_get (map type_declared source.fields) n ≡ Some x.of) level (types (suc i) x at)))
 
 module _ {c : Context} (context : IsContext c) where
-  pub class_is : (class : ℕ) (source : Class) → slice_get ((c.program).tree).classes class ≡ Some source → IsClass (declared c) class source
+  pub class_is : (class : ℕ) (source : Class) → slice_get ((c.program).tree).classes class ≡ Some source → IsSoundClass (declared c) class source
   class_is class source at = classes_at (declared c) 0 class class ((c.program).tree).classes source (omega arith) (context.sound).classes at
 
   -- functions
 
-  function_from : (f : Function) → IsFunction (outside (declared c)) f → IsEntry c (in_none c f.parameters) f.result (entry_of_function f)
+  function_from : (f : Function) → IsSoundFunction (outside (declared c)) f → IsEntry c (in_none c f.parameters) f.result (entry_of_function f)
   function_from f h = record { signatures = refl; fields = none_initialized; body = h.body; returns = h.returns }
 
   pub function_entry : (place : ℕ) (s : Signature) → slice_get (declared c).functions place ≡ Some s → (e : Entry) → entry_of (c.program).tree (FreeFunction place) ≡ Some e → IsEntry c (in_none c s.parameters) s.result e
   function_entry place s at e there =
       let (f, here, same) = mapped entry_of_function (slice_get ((c.program).tree).functions place) e there in
       let signature : signature_of f ≡ s = same_Some (signature_of f) s (sym (slice_get-map signature_of ((c.program).tree).functions place ∙ ap (option_map signature_of) here) ∙ at) in
-      let one : IsEntry c (in_none c f.parameters) f.result (entry_of_function f) = function_from f (rec_at (IsFunction (outside (declared c))) ((c.program).tree).functions place f (context.sound).functions here) in
+      let one : IsEntry c (in_none c f.parameters) f.result (entry_of_function f) = function_from f (rec_at (IsSoundFunction (outside (declared c))) ((c.program).tree).functions place f (context.sound).functions here) in
       subst (λ (x : Signature). IsEntry c (in_none c x.parameters) x.result e) signature (subst (IsEntry c (in_none c f.parameters) f.result) same one)
 
   -- methods
 
   method_from : (class own : ℕ) (k : Class) (f : Function) → slice_get ((c.program).tree).classes class ≡ Some k → slice_get k.methods own ≡ Some f → IsEntry c (in_class c class f.parameters) f.result (entry_of_method k f)
   method_from class own k f at here =
-      let h : IsFunction (inside (declared c) class) f = rec_at (IsFunction (inside (declared c) class)) k.methods own f (class_is class k at).methods here in
+      let h : IsSoundFunction (inside (declared c) class) f = rec_at (IsSoundFunction (inside (declared c) class)) k.methods own f (class_is class k at).methods here in
       record { signatures = refl; fields = none_initialized; body = h.body; returns = h.returns }
 
   -- what a method is that a class has
@@ -145,20 +145,20 @@ module _ {c : Context} (context : IsContext c) where
       let entry_same : entry_of_method k f ≡ e = sym (ap (λ (x : Class). entry_of_method x g) class_same ∙ ap (entry_of_method k) method_same) ∙ same in
       subst (λ (x : Signature). IsEntry c (in_class c class x.parameters) x.result e) signature (subst (IsEntry c (in_class c class f.parameters) f.result) entry_same (method_from class own k f at here))
 
-  pub method_entry : (class method : ℕ) (cs : ClassSignature) (s : Signature) → slice_get (declared c).classes class ≡ Some cs → slice_get cs.methods method ≡ Some s → (e : Entry) → entry_of (c.program).tree (Method class method) ≡ Some e → IsEntry c (in_class c class s.parameters) s.result e
+  pub method_entry : (class method : ℕ) (cs : ClassTypes) (s : Signature) → slice_get (declared c).classes class ≡ Some cs → slice_get cs.methods method ≡ Some s → (e : Entry) → entry_of (c.program).tree (Method class method) ≡ Some e → IsEntry c (in_class c class s.parameters) s.result e
   method_entry class method cs s at here e there =
       let (k, at_k, rest) = chained (λ (x : Class). option_map (entry_of_method x) (slice_get x.methods method)) (slice_get ((c.program).tree).classes class) e there in
       let (f, at_f, same) = mapped (entry_of_method k) (slice_get k.methods method) e rest in
       let of_k : signature_of_class k ≡ cs = same_Some (signature_of_class k) cs (sym (slice_get-map signature_of_class ((c.program).tree).classes class ∙ ap (option_map signature_of_class) at_k) ∙ at) in
-      let listed : slice_get (map signature_of k.methods) method ≡ Some s = subst (λ (x : ClassSignature). slice_get x.methods method ≡ Some s) (sym of_k) here in
+      let listed : slice_get (map signature_of k.methods) method ≡ Some s = subst (λ (x : ClassTypes). slice_get x.methods method ≡ Some s) (sym of_k) here in
       let signature : signature_of f ≡ s = same_Some (signature_of f) s (sym (slice_get-map signature_of k.methods method ∙ ap (option_map signature_of) at_f) ∙ listed) in
       own_method class method k f s at_k at_f signature e there
 
   -- constructions
 
-  body_from : (class : ℕ) (k : Class) (o : Option Function) → IfSome o (IsConstructor (inside (declared c) class) k.name) → AreStmts (record { env = in_class c class (parameters_of o); result = None; may_break = false; may_continue = false }) (option_map_or (λ (f : Function). f.body) o no_stmt)
+  body_from : (class : ℕ) (k : Class) (o : Option Function) → IfSome o (IsSoundConstructor (inside (declared c) class) k.name) → AreSoundStmts (record { env = in_class c class (parameters_of o); result = None; may_break = false; may_continue = false }) (option_map_or (λ (f : Function). f.body) o no_stmt)
   body_from class k None h = no_stmts
-  body_from class k (Some f) h = subst (λ (r : Option VarType). AreStmts (record { env = in_class c class f.parameters; result = r; may_break = false; may_continue = false }) f.body) h.gives_nothing (h.function).body
+  body_from class k (Some f) h = subst (λ (r : Option VarType). AreSoundStmts (record { env = in_class c class f.parameters; result = r; may_break = false; may_continue = false }) f.body) h.gives_nothing (h.function).body
 
   pub construction_entry : (class : ℕ) (k : Class) → slice_get ((c.program).tree).classes class ≡ Some k → (e : Entry) → entry_of (c.program).tree (Construction class) ≡ Some e → IsEntry c (in_class c class (parameters_of k.constructor)) None e
   construction_entry class k at e there =
@@ -219,7 +219,7 @@ module _ {c : Context} (context : IsContext c) where
       let (i, found_i, at_own) = chained (λ (x : Implementation). slice_get x.methods method) (implementation_in (c.program).tree class interface) own found in
       let (k, at_k, same, within, (others, at_others, zipped)) = implementation_found class interface i found_i in
       let one : others ≡ all = same_Some others all (sym at_others ∙ ap (slice_get (declared c).interfaces) same ∙ at_all) in
-      let (x, at_x, (f, at_f, signature)) = zip_at (sound.Implements k.methods) others i.methods method own zipped at_own in
+      let (x, at_x, (f, at_f, signature)) = zip_at (sound.ImplementsDeclared k.methods) others i.methods method own zipped at_own in
       let declared_x : slice_get all method ≡ Some x = subst (λ (l : List Signature). slice_get l method ≡ Some x) one at_x in
       let level : x ≡ s = same_Some x s (sym declared_x ∙ at_s) in
       own_method class own k f s at_k at_f (signature ∙ level) e there

@@ -3,17 +3,17 @@ use Rattle.std.proofs.Common.{◌≡◌, ℕ, ℤ, Bool, true, false, List, [], 
 use Rattle.std.specs.Prelude.{Option, Some, None, is_none}
 use Rattle.ash_integers.specs.Integers.{number_of}
 use Rattle.ash_host.specs.declared.word.Word.{Word}
-use Rattle.ash_typed.specs.Tree.{Expr}
+use Rattle.ash_typed.specs.TypedTree.{Expr}
 use Rattle.ash_typed.specs.StatementTree.{Stmt, Empty, Declare, Evaluate, Block, If, Branch, no_branch, branch, Repeat, For, Switch, Break, Continue, Return, Stmts, no_stmt, stmt, labelled, Cases, no_case, next_case}
-use Rattle.ash_typed.specs.Returning as returning
-use Rattle.ash_typed.specs.Returning.{Breaks, break_out, AnyBreaks, first_breaks, later_breaks, BreaksOut, first_case, later_case, HasDefault, first_label, later_label, Returns, AnyReturns, LastReturns}
+use Rattle.ash_typed.specs.TypedReturning as returning
+use Rattle.ash_typed.specs.TypedReturning.{Breaks, break_out, AnyBreaks, first_breaks, later_breaks, BreaksOut, first_case, later_case, HasDefault, first_label, later_label, Returns, AnyReturns, LastReturns}
 use Rattle.ash_phrases.specs.Activity.{Activity}
 use Rattle.ash_phrases.specs.Runs.{Interrupt, Progress, Done, Ended, NoStep, Run, onward, give, ◌>>◌}
 use Rattle.ash_phrases.specs.Releases.{release, full}
 use Rattle.ash_phrases.specs.Frames.{tick}
-use Rattle.ash_phrases.specs.Calls.{Calls}
-use Rattle.ash_phrases.specs.Expressions.{expression}
-use Rattle.ash_phrases.specs.Statements.{Flow, On, Broke, Continued, Returned, go_on, end_block, in_block, after_break, condition, return_value, Labelled, from_label, is_constant, or_else, chosen, fall_through, switch, statement, statements, case_run, cases}
+use Rattle.ash_phrases.specs.CallMeaning.{Calls}
+use Rattle.ash_phrases.specs.ExpressionMeaning.{expression}
+use Rattle.ash_phrases.specs.StatementMeaning.{Flow, On, Broke, Continued, Returned, go_on, end_block, in_block, after_break, condition, return_value, Labelled, from_label, is_constant, or_else, chosen, fall_through, switch, statement, statements, case_run, cases}
 
 -- where a run has a value, it is one of these
 pub data Yields {A : Type 0} (P : A → Type 0) : Progress A → Type 0 where

@@ -7,13 +7,13 @@ use Rattle.std.proofs.lemmas.Bool.Decides.{nat_tests}
 use Rattle.std.proofs.lemmas.Iterator.Adapters.{position_from-zero}
 use Rattle.std.proofs.lemmas.List.FromFn.{get_or-map-range_with_len, length-map-range_with_len}
 use Rattle.std.proofs.lemmas.Option.{same_Some, slice_get-map, slice_get_within, slice_get-get_or}
-use Rattle.ash_host.specs.Objects.{Plain, Script, Array, Host, Objects, object_at}
+use Rattle.ash_host.specs.Objects.{Plain, Script, Array, Host, LiveObjects, object_at}
 use Rattle.ash_host.proofs.RecordLaws.{bytes_decide}
 use Rattle.ash_typed.specs.Modules.{Function, Signature, Implementation, Class}
-use Rattle.ash_typed.specs.Signatures.{ClassSignature, signature_of, signature_of_class, place_of_interface}
+use Rattle.ash_typed.specs.Signatures.{ClassTypes, signature_of, signature_of_class, place_of_interface}
 use Rattle.ash_typed.specs.SoundModules as sound
 use Rattle.ash_phrases.specs.Classes.{place_of_class, places_of_classes, class_of, implementation_in, implemented, FreeFunction, Method, Construction, entry_of_function, entry_of_method, entry_of_construction, entry_of}
-use Rattle.ash_wellformed.specs.WellFormed.{Context, IsContext, declared, Shape, OfClass, shape_of, shape_at, IsOfClass, Implements}
+use Rattle.ash_wellformed.specs.WellFormed.{Context, IsContext, declared, Shape, OfClass, shape_of, shape_at, IsOfClass, ListsInterface}
 use Rattle.ash_wellformed.proofs.Values.{none_in}
 use Rattle.ash_wellformed.proofs.Places.{one_class}
 use Rattle.ash_wellformed.proofs.Arrays.{object_with}
@@ -70,13 +70,13 @@ module _ (c : Context) where
       let (f, here, same) = mapped signature_of (slice_get ((c.program).tree).functions place) s (sym (slice_get-map signature_of ((c.program).tree).functions place) ∙ at) in
       ap (λ (o : Option Function). is_some (option_map entry_of_function o)) here
 
-  class_listed : (class : ℕ) (cs : ClassSignature) → slice_get (declared c).classes class ≡ Some cs → (k : Class) × (slice_get ((c.program).tree).classes class ≡ Some k) × (signature_of_class k ≡ cs)
+  class_listed : (class : ℕ) (cs : ClassTypes) → slice_get (declared c).classes class ≡ Some cs → (k : Class) × (slice_get ((c.program).tree).classes class ≡ Some k) × (signature_of_class k ≡ cs)
   class_listed class cs at = mapped signature_of_class (slice_get ((c.program).tree).classes class) cs (sym (slice_get-map signature_of_class ((c.program).tree).classes class) ∙ at)
 
-  pub class_there : (class : ℕ) (cs : ClassSignature) → slice_get (declared c).classes class ≡ Some cs → IsSome (slice_get ((c.program).tree).classes class)
+  pub class_there : (class : ℕ) (cs : ClassTypes) → slice_get (declared c).classes class ≡ Some cs → IsSome (slice_get ((c.program).tree).classes class)
   class_there class cs at = ap is_some (class_listed class cs at).1
 
-  pub construction_there : (class : ℕ) (cs : ClassSignature) → slice_get (declared c).classes class ≡ Some cs → IsSome (entry_of (c.program).tree (Construction class))
+  pub construction_there : (class : ℕ) (cs : ClassTypes) → slice_get (declared c).classes class ≡ Some cs → IsSome (entry_of (c.program).tree (Construction class))
   construction_there class cs at = ap (λ (o : Option Class). is_some (option_map entry_of_construction o)) (class_listed class cs at).1
 
   own_there : (class own : ℕ) (k : Class) (f : Function) → slice_get ((c.program).tree).classes class ≡ Some k → slice_get k.methods own ≡ Some f → IsSome (entry_of (c.program).tree (Method class own))
@@ -84,10 +84,10 @@ module _ (c : Context) where
       ap (λ (o : Option Class). is_some (option_and_then (λ (x : Class). option_map (entry_of_method x) (slice_get x.methods own)) o)) at
       ∙ ap (λ (o : Option Function). is_some (option_map (entry_of_method k) o)) here
 
-  pub method_there : (class method : ℕ) (cs : ClassSignature) (s : Signature) → slice_get (declared c).classes class ≡ Some cs → slice_get cs.methods method ≡ Some s → IsSome (entry_of (c.program).tree (Method class method))
+  pub method_there : (class method : ℕ) (cs : ClassTypes) (s : Signature) → slice_get (declared c).classes class ≡ Some cs → slice_get cs.methods method ≡ Some s → IsSome (entry_of (c.program).tree (Method class method))
   method_there class method cs s at here =
       let (k, at_k, of_k) = class_listed class cs at in
-      let listed : slice_get (map signature_of k.methods) method ≡ Some s = subst (λ (x : ClassSignature). slice_get x.methods method ≡ Some s) (sym of_k) here in
+      let listed : slice_get (map signature_of k.methods) method ≡ Some s = subst (λ (x : ClassTypes). slice_get x.methods method ≡ Some s) (sym of_k) here in
       let (f, at_f, same) = mapped signature_of (slice_get k.methods method) s (sym (slice_get-map signature_of k.methods method) ∙ listed) in
       own_there class method k f at_k at_f
 
@@ -113,29 +113,29 @@ module _ {c : Context} (context : IsContext c) where
   class_seen (Array of elements) class i = absurd (let is = i.is in cc)
   class_seen (Host kind state) class i = absurd (let is = i.is in cc)
 
-  pub class_at_seen : (number : ℕ) (all : Objects (List ℕ)) (shape : Shape) (class : ℕ) → shape_at number all ≡ Some shape → IsOfClass c.program class shape → option_and_then (class_of c.program) (object_at number all) ≡ Some class
+  pub class_at_seen : (number : ℕ) (all : LiveObjects (List ℕ)) (shape : Shape) (class : ℕ) → shape_at number all ≡ Some shape → IsOfClass c.program class shape → option_and_then (class_of c.program) (object_at number all) ≡ Some class
   class_at_seen number all shape class at i =
       let (o, there, is) = object_with number all shape at in
       ap (option_and_then (class_of c.program)) there ∙ class_seen o class (subst (IsOfClass c.program class) (sym is) i)
 
   -- methods of interfaces
 
-  implementation_there : (interface : ℕ) {shape : Shape} (i : Implements c.program interface shape) → IsSome (implementation_in (c.program).tree i.class interface)
+  implementation_there : (interface : ℕ) {shape : Shape} (i : ListsInterface c.program interface shape) → IsSome (implementation_in (c.program).tree i.class interface)
   implementation_there interface i =
       ap (λ (o : Option Class). is_some (option_and_then (λ (k : Class). find (λ (x : Implementation). nat_eq x.interface interface) k.interfaces) o)) (i.of).at
       ∙ listed_there interface ((i.of).source).interfaces i.lists
 
-  pub implemented_there : (interface method : ℕ) (all : List Signature) (s : Signature) → slice_get (declared c).interfaces interface ≡ Some all → slice_get all method ≡ Some s → {shape : Shape} (i : Implements c.program interface shape) → IsSome (implemented (c.program).tree interface method i.class)
+  pub implemented_there : (interface method : ℕ) (all : List Signature) (s : Signature) → slice_get (declared c).interfaces interface ≡ Some all → slice_get all method ≡ Some s → {shape : Shape} (i : ListsInterface c.program interface shape) → IsSome (implemented (c.program).tree interface method i.class)
   implemented_there interface method all s at_all at_s i =
       let (x, found) = some_from (implementation_in (c.program).tree i.class interface) (implementation_there interface i) in
       let (k, at_k, same, within, (others, at_others, zipped)) = implementation_found context i.class interface x found in
       let one : others ≡ all = same_Some others all (sym at_others ∙ ap (slice_get (declared c).interfaces) same ∙ at_all) in
-      let (own, at_own) = zip_there (sound.Implements k.methods) others x.methods method s zipped (subst (λ (l : List Signature). slice_get l method ≡ Some s) (sym one) at_s) in
+      let (own, at_own) = zip_there (sound.ImplementsDeclared k.methods) others x.methods method s zipped (subst (λ (l : List Signature). slice_get l method ≡ Some s) (sym one) at_s) in
       ap (λ (o : Option Implementation). is_some (option_and_then (λ (y : Implementation). slice_get y.methods method) o)) found ∙ ap is_some at_own
 
   pub through_there : (interface method class own : ℕ) → implemented (c.program).tree interface method class ≡ Some own → IsSome (entry_of (c.program).tree (Method class own))
   through_there interface method class own found =
       let (x, found_x, at_own) = chained (λ (y : Implementation). slice_get y.methods method) (implementation_in (c.program).tree class interface) own found in
       let (k, at_k, same, within, (others, at_others, zipped)) = implementation_found context class interface x found_x in
-      let (s, at_s, (f, at_f, signature)) = zip_at (sound.Implements k.methods) others x.methods method own zipped at_own in
+      let (s, at_s, (f, at_f, signature)) = zip_at (sound.ImplementsDeclared k.methods) others x.methods method own zipped at_own in
       own_there c class own k f at_k at_f

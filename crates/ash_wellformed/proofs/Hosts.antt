@@ -13,19 +13,19 @@ use Rattle.ash_host.specs.declared.event.Event.TheVariants.{Called}
 use Rattle.ash_host.specs.declared.event.Target.{Target}
 use Rattle.ash_host.specs.declared.event.Target.TheVariants as targets
 use Rattle.ash_host.specs.Calls.{HostCall, Invoke, Get, Set}
-use Rattle.ash_host.specs.Objects.{Plain, Script, Array, Host, Objects, handle}
+use Rattle.ash_host.specs.Objects.{Plain, Script, Array, Host, LiveObjects, handle}
 use Rattle.ash_host.specs.Records.{HostRecord, next_record}
 use Rattle.ash_host.proofs.RecordLaws.{next_record_says}
 use Rattle.ash_integers.specs.declared.int_type.IntType.TheVariants as ints
 use Rattle.ash_typed.specs.declared.types.VarType.{VarType}
 use Rattle.ash_typed.specs.declared.types.VarType.TheVariants as vars
 use Rattle.ash_typed.specs.TypeOf.{ValueType, value, as_value, value_of_result}
-use Rattle.ash_typed.specs.SoundExpressions.{Environment}
+use Rattle.ash_typed.specs.SoundExpressions.{TypedEnvironment}
 use Rattle.ash_phrases.specs.Activity.{FreeBox, World, Activity, in_world}
 use Rattle.ash_phrases.specs.Classes.{Program}
 use Rattle.ash_phrases.specs.HostSteps.{with_event, state_of, with_state_in, with_state, next_answer, after_answer, call_host, is_of, accept, invoke_host, get_property, set_property, without_box}
 use Rattle.ash_wellformed.specs.WellFormed.{Known, Context, shape_of, int, uint, int64, uint64, is_truth, is_integer, IsGiven, gives_nothing, gives, IsState, IsHostWord, IsAnswer, IsObject, is_host, Follows, IsWorld, IsWellFormed}
-use Rattle.ash_wellformed.specs.Laws.{Goes, Offers, Leaves, done, ended, no_step, Evaluates}
+use Rattle.ash_wellformed.specs.WellFormedLaws.{Goes, Offers, Leaves, done, ended, no_step, Evaluates}
 use Rattle.ash_wellformed.proofs.Values.{Stays, frame_stays, frames_stay}
 use Rattle.ash_wellformed.proofs.Changes.{world_changed, world_follows, changed_stays}
 use Rattle.ash_wellformed.proofs.Triples.{follows_more, bind, weaken, after_offered, chosen, safe, goes_itself, goes_more}
@@ -116,7 +116,7 @@ module _ {c : Context} {w : World} (h : IsWorld c w) where
     states = record { services = rec_set IsState w.services index state (h.states).services fits; pool = (h.states).pool; answers = (h.states).answers };
   }
 
-state_object : {modules : Known} {all : Objects (List ℕ)} (state : List ℕ) (o : Plain (List ℕ)) → IsState state → IsObject modules all o → IsObject modules all (with_state_in state o)
+state_object : {modules : Known} {all : LiveObjects (List ℕ)} (state : List ℕ) (o : Plain (List ℕ)) → IsState state → IsObject modules all o → IsObject modules all (with_state_in state o)
 state_object state (Script owner place fields) fits h = h
 state_object state (Array of elements) fits h = h
 state_object state (Host kind old) fits h = is_host fits
@@ -143,7 +143,7 @@ answers_from : (target : Target) (call : HostCall) (w : World) (taken : HostReco
 answers_from target call w taken None e = absurd (cc)
 answers_from target call w taken (Some before) e = (next_record_says target call before w.answers taken.0 taken.1 e).first
 
-primitive_given : {p : Program} {all : Objects (List ℕ)} (of : VarType) (w : Word) → is_of of w ≡ true → IsHostWord w → IsGiven p all (value (as_value of)) w
+primitive_given : {p : Program} {all : LiveObjects (List ℕ)} (of : VarType) (w : Word) → is_of of w ≡ true → IsHostWord w → IsGiven p all (value (as_value of)) w
 primitive_given vars.Bool (words.Bool b) e f = gives is_truth
 primitive_given (vars.Integer ints.Int) (words.Int n) e f = gives (is_integer (int f))
 primitive_given (vars.Integer ints.Uint) (words.Uint n) e f = gives (is_integer (uint f))
@@ -162,11 +162,11 @@ no_handle (vars.Handle o) (words.Object number) n e at = cc
 no_handle of _ n e at = cc
 
 -- a host answered
-pub record IsAnswered (c : Context) (env : Environment) (envs : List Environment) (a : Activity) (answer : HostAnswer) (b : Activity) : Type 0 where
+pub record IsAnswered (c : Context) (env : TypedEnvironment) (envs : List TypedEnvironment) (a : Activity) (answer : HostAnswer) (b : Activity) : Type 0 where
   pub goes : Goes c env envs a b
   pub fits : IsAnswer answer
 
-module _ {c : Context} {env : Environment} {envs : List Environment} where
+module _ {c : Context} {env : TypedEnvironment} {envs : List TypedEnvironment} where
   -- a step that changes the world alone
   pub world_goes : {a : Activity} (how : World → World) → IsWellFormed c env envs a → IsWorld c (how a.world) → Follows a.world (how a.world) → ((n : ℕ) → Stays (a.world).objects (how a.world).objects n) → Goes c env envs a (in_world how a)
   world_goes how h world follows stay = record {

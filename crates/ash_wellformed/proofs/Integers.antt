@@ -2,7 +2,7 @@
 use Rattle.std.proofs.Common.{◌≡◌, ◌⊎◌, inl, inr, ℤ, pos, negsuc, ◌+ℤ◌, ◌-ℤ◌, ◌*ℤ◌, int_div, int_rem, List, ℕ, refl, subst}
 use Rattle.std.specs.Prelude.{Result, Ok, Err, Some}
 use Rattle.ash_host.specs.declared.word.Word.{Word}
-use Rattle.ash_host.specs.Objects.{Objects, handle}
+use Rattle.ash_host.specs.Objects.{LiveObjects, handle}
 use Rattle.ash_integers.specs.declared.arithmetic.DivisionFault.{DivisionFault}
 use Rattle.ash_integers.specs.declared.arithmetic.DivisionFault.TheVariants as faults
 use Rattle.ash_integers.specs.declared.shift.Shift.TheVariants as shifts
@@ -18,12 +18,12 @@ use Rattle.ash_typed.specs.declared.tree.operations.Calculation.{Calculation}
 use Rattle.ash_typed.specs.declared.tree.operations.Change.{Change}
 use Rattle.ash_typed.specs.declared.tree.operations.IncrementOp.{IncrementOp}
 use Rattle.ash_typed.specs.declared.tree.operations.IncrementOp.TheVariants as steps
-use Rattle.ash_typed.specs.SoundOperations.{IsShift, IsChange, negate, complement, not}
+use Rattle.ash_typed.specs.SoundOperations.{IsShift, IsSoundChange, negate, complement, not}
 use Rattle.ash_phrases.specs.Activity.{Activity}
-use Rattle.ash_phrases.specs.Operators.{word_at, zero_of, calculated_by, give_or_raise, calculate, altered, counted, given_by}
+use Rattle.ash_phrases.specs.OperatorMeaning.{word_at, zero_of, calculated_by, give_or_raise, calculate, altered, counted, given_by}
 use Rattle.ash_phrases.specs.Classes.{Program}
 use Rattle.ash_wellformed.specs.WellFormed.{Context, to_nothing, IsInRange, IsInteger, int, uint, int64, uint64, IsValue, is_truth, is_integer, is_object, is_handle, IsSafe}
-use Rattle.ash_wellformed.specs.Laws.{Leaves, done, ended}
+use Rattle.ash_wellformed.specs.WellFormedLaws.{Leaves, done, ended}
 use Rattle.ash_wellformed.proofs.Values.{integer_is_none}
 use Rattle.ash_wellformed.proofs.Ranges.{reduced_in, and_in, or_in, xor_in, shifted_in, quotient_in, remainder_in}
 use Rattle.ash_wellformed.proofs.Triples.{weaken}
@@ -48,7 +48,7 @@ number_in (uint64 f) = f
 pub integer_word : (int_type : IntType) (z : ℤ) → IsInteger int_type (word_at int_type z)
 integer_word int_type z = integer_at int_type (integers.reduced int_type z) (reduced_in int_type z)
 
-pub zero_value : {p : Program} {all : Objects (List ℕ)} (of : VarType) → IsValue p all of (zero_of of)
+pub zero_value : {p : Program} {all : LiveObjects (List ℕ)} (of : VarType) → IsValue p all of (zero_of of)
 zero_value vars.Bool = is_truth
 zero_value (vars.Integer int_type) = is_integer (integer_word int_type (pos 0))
 zero_value (vars.Object o) = is_object to_nothing
@@ -100,12 +100,12 @@ module _ {c : Context} (a : Activity) (s : IsSafe c a) where
 
 -- operators of one operand
 
-pub altered_value : {p : Program} {all : Objects (List ℕ)} {change : Change} {of : VarType} (w : Word) → IsChange change of → IsValue p all of (altered change w)
+pub altered_value : {p : Program} {all : LiveObjects (List ℕ)} {change : Change} {of : VarType} (w : Word) → IsSoundChange change of → IsValue p all of (altered change w)
 altered_value w (negate {int_type} signed) = is_integer (integer_word int_type _)
 altered_value w (complement {int_type}) = is_integer (integer_word int_type _)
 altered_value w not = is_truth
 
-pub altered_is_none : {change : Change} {of : VarType} (n : ℕ) (w : Word) → IsChange change of → handle (altered change w) ≡ Some n → ⊥
+pub altered_is_none : {change : Change} {of : VarType} (n : ℕ) (w : Word) → IsSoundChange change of → handle (altered change w) ≡ Some n → ⊥
 altered_is_none n w (negate {int_type} signed) e = integer_is_none n (integer_word int_type _) e
 altered_is_none n w (complement {int_type}) e = integer_is_none n (integer_word int_type _) e
 altered_is_none n w not e = cc

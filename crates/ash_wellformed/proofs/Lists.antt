@@ -4,12 +4,12 @@ use Rattle.std.specs.Prelude.{Some}
 use Rattle.std.proofs.lemmas.Option.{same_Some}
 use Rattle.ash_host.specs.declared.word.Word.{Word}
 use Rattle.ash_host.specs.declared.word.Word.TheVariants.{Null}
-use Rattle.ash_host.specs.Objects.{Objects}
+use Rattle.ash_host.specs.Objects.{LiveObjects}
 use Rattle.ash_typed.specs.declared.types.VarType.{VarType}
 use Rattle.ash_phrases.specs.Classes.{Program}
 use Rattle.ash_wellformed.specs.WellFormed.{IsValue, AreValues, no_values, and_value, AllAre, none_are, and_is}
 
-module _ {p : Program} {all : Objects (List ℕ)} where
+module _ {p : Program} {all : LiveObjects (List ℕ)} where
   pub values_length : {types : List VarType} {ws : List Word} → AreValues p all types ws → length ws ≡ length types
   values_length no_values = refl
   values_length (and_value v vs) = ap suc (values_length vs)

@@ -4,7 +4,7 @@ use Rattle.std.specs.Prelude.{Some, Contains}
 use Rattle.std.proofs.lemmas.Option.{same_Some}
 use Rattle.ash_host.specs.declared.word.Word.{Word}
 use Rattle.ash_host.specs.declared.word.Word.TheVariants as words
-use Rattle.ash_host.specs.Objects.{Objects, handle, handles, Lives}
+use Rattle.ash_host.specs.Objects.{LiveObjects, handle, handles, Lives}
 use Rattle.ash_integers.specs.declared.int_type.IntType.{IntType}
 use Rattle.ash_typed.specs.declared.types.Element as typed_element
 use Rattle.ash_typed.specs.declared.types.VarType.{VarType}
@@ -14,17 +14,17 @@ use Rattle.ash_typed.specs.declared.tree.operations.IncrementOp.{IncrementOp}
 use Rattle.ash_typed.specs.TypeOf.{ValueType, value, as_value, type_of_element}
 use Rattle.ash_typed.specs.Signatures.{type_declared, types_of_globals}
 use Rattle.ash_typed.specs.SoundOperations.{IsShift}
-use Rattle.ash_typed.specs.SoundExpressions.{Environment}
+use Rattle.ash_typed.specs.SoundExpressions.{TypedEnvironment}
 use Rattle.ash_phrases.specs.Activity.{Activity, in_world, in_frame}
 use Rattle.ash_phrases.specs.Runs.{Progress}
 use Rattle.ash_phrases.specs.Releases.{holding}
 use Rattle.ash_phrases.specs.ObjectSteps.{with_object, words_in, with_words}
-use Rattle.ash_phrases.specs.Operators.{converted_to, counted}
+use Rattle.ash_phrases.specs.OperatorMeaning.{converted_to, counted}
 use Rattle.ash_phrases.specs.Locations.{Location, Local, Global, Part, Property, with_local, with_global, read, write}
 use Rattle.ash_phrases.specs.Classes.{Program}
-use Rattle.ash_phrases.specs.Expressions.{store, update, count_at}
+use Rattle.ash_phrases.specs.ExpressionMeaning.{store, update, count_at}
 use Rattle.ash_wellformed.specs.WellFormed.{Context, IsContext, Shape, shape_of, shape_at, IsOfClass, IsArrayOf, IsInteger, IsValue, is_integer, AreValues, gives, IsWellFormed}
-use Rattle.ash_wellformed.specs.Laws.{Goes, Offers, Leaves, done, Evaluates}
+use Rattle.ash_wellformed.specs.WellFormedLaws.{Goes, Offers, Leaves, done, Evaluates}
 use Rattle.ash_wellformed.proofs.Values.{integer_is_none, value_lives, handle_cases, none_in}
 use Rattle.ash_wellformed.proofs.Fits.{kept_value, unkept, given_value}
 use Rattle.ash_wellformed.proofs.Integers.{integer_word, counted_integer, given_integer, calculate_gives}
@@ -35,7 +35,7 @@ use Rattle.ash_wellformed.proofs.Hosts.{world_goes, well_after, get_property_giv
 use Rattle.ash_wellformed.proofs.Arrays.{object_with, words_of, put_goes, elements_are, few_elements, elements_go}
 
 -- a place that is computed holds values of a type
-pub data IsLocated (c : Context) (env : Environment) (a : Activity) : Location → VarType → Type 0 where
+pub data IsLocated (c : Context) (env : TypedEnvironment) (a : Activity) : Location → VarType → Type 0 where
   in_local : {slot : ℕ} {of : VarType} → slice_get env.locals slot ≡ Some of → IsLocated c env a (Local slot) of
   in_global : {place : ℕ} {of : VarType}
       → slice_get (types_of_globals ((c.program).tree).globals) place ≡ Some of
@@ -53,23 +53,23 @@ pub data IsLocated (c : Context) (env : Environment) (a : Activity) : Location �
   in_property : {number id : ℕ} {of : VarType} → Offers c.host → IsLocated c env a (Property number id of) of
 
 -- what is read at a place, which stays
-pub record IsRead (c : Context) (env : Environment) (envs : List Environment) (l : Location) (of : VarType) (a : Activity) (w : Word) (b : Activity) : Type 0 where
+pub record IsRead (c : Context) (env : TypedEnvironment) (envs : List TypedEnvironment) (l : Location) (of : VarType) (a : Activity) (w : Word) (b : Activity) : Type 0 where
   pub goes : Goes c env envs a b
   pub value : IsValue c.program (b.world).objects of w
   pub located : IsLocated c env b l of
 
 -- a place that stays while something is calculated
-record IsLeft (c : Context) (env : Environment) (envs : List Environment) (l : Location) (of : VarType) (a b : Activity) : Type 0 where
+record IsLeft (c : Context) (env : TypedEnvironment) (envs : List TypedEnvironment) (l : Location) (of : VarType) (a b : Activity) : Type 0 where
   pub goes : Goes c env envs a b
   pub located : IsLocated c env b l of
 
-integer_in : {p : Program} {all : Objects (List ℕ)} {int_type : IntType} {w : Word} → IsValue p all (vars.Integer int_type) w → IsInteger int_type w
+integer_in : {p : Program} {all : LiveObjects (List ℕ)} {int_type : IntType} {w : Word} → IsValue p all (vars.Integer int_type) w → IsInteger int_type w
 integer_in (is_integer i) = i
 
-one_lives : {p : Program} {all : Objects (List ℕ)} {of : VarType} {w : Word} → IsValue p all of w → (n : ℕ) → Contains (handles (w ∷ [])) n → Lives all n
+one_lives : {p : Program} {all : LiveObjects (List ℕ)} {of : VarType} {w : Word} → IsValue p all of w → (n : ℕ) → Contains (handles (w ∷ [])) n → Lives all n
 one_lives {w = w} v n i = elim (handle_cases w [] n i) [ inl here ↦ value_lives n v here | inr none ↦ absurd (none_in n none) ]
 
-module _ {c : Context} (context : IsContext c) {env : Environment} {envs : List Environment} where
+module _ {c : Context} (context : IsContext c) {env : TypedEnvironment} {envs : List TypedEnvironment} where
   field_values : {a : Activity} (h : IsWellFormed c env envs a) (number : ℕ) {class : ℕ} {shape : Shape} (i : IsOfClass c.program class shape) → shape_at number (a.world).objects ≡ Some shape → AreValues c.program (a.world).objects (map type_declared (i.source).fields) (words_in number a.world)
   field_values {a} h number {class} {shape} i at =
       let there = object_with number (a.world).objects shape at in

@@ -3,7 +3,7 @@ use Rattle.std.proofs.Common.{◌≡◌, ◌<◌, ◌≤◌, ℕ, zero, suc, Lis
 use Rattle.std.specs.Prelude.{Some, slice_get}
 use Rattle.std.proofs.lemmas.Option.{same_Some}
 use Rattle.ash_host.specs.declared.word.Word.{Word}
-use Rattle.ash_host.specs.Objects.{Element, Handles, Hosts, Plain, Script, Array, Host, Objects, fields_of}
+use Rattle.ash_host.specs.Objects.{Elements, Handles, Hosts, Plain, Script, Array, Host, LiveObjects, fields_of}
 use Rattle.ash_host.specs.Limits.{max_elements}
 use Rattle.ash_integers.specs.declared.int_type.IntType.TheVariants as ints
 use Rattle.ash_typed.specs.declared.types.Element as typed_element
@@ -14,7 +14,7 @@ use Rattle.ash_typed.specs.Modules.{Interface, Class, Module}
 use Rattle.ash_typed.specs.Signatures.{type_declared}
 use Rattle.ash_phrases.specs.ObjectSteps.{with_words}
 use Rattle.ash_phrases.specs.Classes.{Program, place_of_class, place_of_interface, element_of}
-use Rattle.ash_wellformed.specs.WellFormed.{Context, IsContext, Shape, OfClass, OfElements, OfKind, shape_of, IsOfClass, Implements, IsNamed, IsKnownFor, IsArrayOf, IsReference, to_nothing, to_object, IsValue, is_truth, is_integer, is_handle, AreValues, AllAre, none_are, and_is, IsObject, is_script, is_array}
+use Rattle.ash_wellformed.specs.WellFormed.{Context, IsContext, Shape, OfClass, OfElements, OfKind, shape_of, IsOfClass, ListsInterface, IsNamed, IsKnownFor, IsArrayOf, IsReference, to_nothing, to_object, IsValue, is_truth, is_integer, is_handle, AreValues, AllAre, none_are, and_is, IsObject, is_script, is_array}
 use Rattle.ash_wellformed.proofs.Places.{one_class, class_or_interface, one_interface}
 use Rattle.ash_wellformed.proofs.SourceOrder.{in_source_order}
 
@@ -24,7 +24,7 @@ same_owner e = cc
 same_place : {owner other : List ℕ} {place at : ℕ} → OfClass owner place ≡ OfClass other at → place ≡ at
 same_place e = cc
 
-pub same_elements : {of other : Element (List ℕ)} → OfElements of ≡ OfElements other → of ≡ other
+pub same_elements : {of other : Elements (List ℕ)} → OfElements of ≡ OfElements other → of ≡ other
 same_elements e = cc
 
 same_owners : {owner other : List ℕ} {place at : ℕ} → Handles owner place ≡ Handles other at → owner ≡ other
@@ -33,7 +33,7 @@ same_owners e = cc
 same_places : {owner other : List ℕ} {place at : ℕ} → Handles owner place ≡ Handles other at → place ≡ at
 same_places e = cc
 
-same_kinds : {kind other : ℕ} → ◌≡◌ {A = Element (List ℕ)} (Hosts kind) (Hosts other) → kind ≡ other
+same_kinds : {kind other : ℕ} → ◌≡◌ {A = Elements (List ℕ)} (Hosts kind) (Hosts other) → kind ≡ other
 same_kinds e = cc
 
 -- what has a place in a list is there
@@ -55,7 +55,7 @@ module _ {c : Context} (context : IsContext c) where
   abbrev types_in : Class → List VarType
   types_in k = map type_declared k.fields
 
-  module _ {all : Objects (List ℕ)} {class : ℕ} {shape : Shape} (i : IsOfClass p class shape) where
+  module _ {all : LiveObjects (List ℕ)} {class : ℕ} {shape : Shape} (i : IsOfClass p class shape) where
     values_as : (owner : List ℕ) (tree : Module) (k : Class) (other : ℕ) (ws : List Word) → owner ≡ p.name → tree ≡ p.tree → slice_get tree.classes other ≡ Some k → place_of_class tree other ≡ place_of_class p.tree class → AreValues (record { name = owner; tree = tree }) all (types_in k) ws → AreValues p all (types_in i.source) ws
     values_as owner tree k other ws name same at place values =
         let at_other : slice_get (p.tree).classes other ≡ Some k = subst (λ (m : Module). slice_get m.classes other ≡ Some k) same at in
@@ -95,7 +95,7 @@ module _ {c : Context} (context : IsContext c) where
 
   -- elements
 
-  refers_as : {all : Objects (List ℕ)} {Fits More : Shape → Type 0} {w : Word} → ((shape : Shape) → Fits shape → More shape) → IsReference all Fits w → IsReference all More w
+  refers_as : {all : LiveObjects (List ℕ)} {Fits More : Shape → Type 0} {w : Word} → ((shape : Shape) → Fits shape → More shape) → IsReference all Fits w → IsReference all More w
   refers_as more to_nothing = to_nothing
   refers_as more (to_object {shape = shape} at fits) = to_object at (more shape fits)
 
@@ -105,8 +105,8 @@ module _ {c : Context} (context : IsContext c) where
   class_as : (q : Program) (class other : ℕ) → q ≡ p → other ≡ class → (shape : Shape) → IsOfClass q other shape → IsOfClass p class shape
   class_as q class other same level shape i = subst (λ (n : ℕ). IsOfClass p n shape) level (subst (λ (r : Program). IsOfClass r other shape) same i)
 
-  interface_as : (q : Program) (interface other : ℕ) → q ≡ p → other ≡ interface → (shape : Shape) → Implements q other shape → Implements p interface shape
-  interface_as q interface other same level shape i = subst (λ (n : ℕ). Implements p n shape) level (subst (λ (r : Program). Implements r other shape) same i)
+  interface_as : (q : Program) (interface other : ℕ) → q ≡ p → other ≡ interface → (shape : Shape) → ListsInterface q other shape → ListsInterface p interface shape
+  interface_as q interface other same level shape i = subst (λ (n : ℕ). ListsInterface p n shape) level (subst (λ (r : Program). ListsInterface r other shape) same i)
 
   module _ (q : Program) (known : c.modules q.name ≡ Some q.tree) where
     one_program : (place at : ℕ) → Handles q.name place ≡ Handles p.name at → q ≡ p
@@ -137,7 +137,7 @@ module _ {c : Context} (context : IsContext c) where
         class_or_interface p.tree (in_source_order context.sound) class other i at (sym (subst (λ (r : Program). place_of_interface r.tree other ≡ place_of_class p.tree class) same (same_places e)))
 
   -- a module that has the same elements by its types has values of the same type
-  element_as : {all : Objects (List ℕ)} (q : Program) (e d : typed_element.Element) {w : Word} → IsKnownFor c.modules q d → IsNamed p.tree e → IsNamed q.tree d → element_of q d ≡ element_of p e → IsValue q all (type_of_element d) w → IsValue p all (type_of_element e) w
+  element_as : {all : LiveObjects (List ℕ)} (q : Program) (e d : typed_element.Element) {w : Word} → IsKnownFor c.modules q d → IsNamed p.tree e → IsNamed q.tree d → element_of q d ≡ element_of p e → IsValue q all (type_of_element d) w → IsValue p all (type_of_element e) w
   element_as q elements.Bool elements.Bool k ne nd same is_truth = is_truth
   element_as q (elements.Integer ints.Int) (elements.Integer ints.Int) k ne nd same (is_integer i) = is_integer i
   element_as q (elements.Integer ints.Uint) (elements.Integer ints.Uint) k ne nd same (is_integer i) = is_integer i
@@ -166,7 +166,7 @@ module _ {c : Context} (context : IsContext c) where
   element_as q (elements.Host kind) (elements.Integer ints.Uint64) k ne nd same v = absurd (cc)
   element_as q _ _ k ne nd same v = absurd (cc)
 
-  elements_as : {all : Objects (List ℕ)} (q : Program) (e d : typed_element.Element) {ws : List Word} → IsKnownFor c.modules q d → IsNamed p.tree e → IsNamed q.tree d → element_of q d ≡ element_of p e → AllAre q all (type_of_element d) ws → AllAre p all (type_of_element e) ws
+  elements_as : {all : LiveObjects (List ℕ)} (q : Program) (e d : typed_element.Element) {ws : List Word} → IsKnownFor c.modules q d → IsNamed p.tree e → IsNamed q.tree d → element_of q d ≡ element_of p e → AllAre q all (type_of_element d) ws → AllAre p all (type_of_element e) ws
   elements_as q e d k ne nd same none_are = none_are
   elements_as q e d k ne nd same (and_is v vs) = and_is (element_as q e d k ne nd same v) (elements_as q e d k ne nd same vs)
 
@@ -176,7 +176,7 @@ module _ {c : Context} (context : IsContext c) where
   known_here (elements.Interface interface) = context.known
   known_here _ = tt
 
-  module _ {all : Objects (List ℕ)} {e : typed_element.Element} {shape : Shape} (i : IsArrayOf p e shape) where
+  module _ {all : LiveObjects (List ℕ)} {e : typed_element.Element} {shape : Shape} (i : IsArrayOf p e shape) where
     -- an array of the elements has values of their type
     pub elements_fit : (o : Plain (List ℕ)) → shape_of o ≡ shape → IsObject c.modules all o → AllAre p all (type_of_element e) (fields_of o)
     elements_fit (Script owner place ws) s o = absurd (let whole = s ∙ i.is in cc)

@@ -2,7 +2,7 @@
 use Rattle.std.proofs.Common.{ℕ}
 use Rattle.ash_phrases.specs.Functions.{body}
 use Rattle.ash_wellformed.specs.WellFormed.{Context, IsContext}
-use Rattle.ash_wellformed.specs.Laws.{ExpressionsKeep, StatementsKeep, BlocksKeep, CallsKeep, MethodsKeep}
+use Rattle.ash_wellformed.specs.WellFormedLaws.{ExpressionsKeep, StatementsKeep, BlocksKeep, CallsKeep, MethodsKeep}
 use Rattle.ash_wellformed.proofs.Calls.{invoke_gives, target_gives}
 use Rattle.ash_wellformed.proofs.Expressions.{expression_gives}
 use Rattle.ash_wellformed.proofs.Statements.{stmt_leads, stmts_lead}

@@ -2,7 +2,7 @@
 use Rattle.std.proofs.Common.{◌≡◌, ◌≤◌, ℕ, zero, suc, List, [], ◌∷◌, Some, slice_get, subst, arith}
 use Rattle.std.proofs.lemmas.Option.{same_Some}
 use Rattle.ash_typed.specs.Modules.{Interface, Module}
-use Rattle.ash_typed.specs.Signatures.{Host}
+use Rattle.ash_typed.specs.Signatures.{HostSignatures}
 use Rattle.ash_typed.specs.SoundModules.{AreInOrder, IsSound}
 
 -- No interface has more classes before it than a later one, so that each class and each interface has a place of its
@@ -31,5 +31,5 @@ rises least (x ∷ is) h zero later i j le here there =
 rises least (x ∷ is) h (suc earlier) zero i j le here there = absurd (omega arith)
 rises least (x ∷ is) h (suc earlier) (suc later) i j le here there = rises x.classes_before is h.1 earlier later i j (omega arith) here there
 
-pub in_source_order : {host : Host} {m : Module} → IsSound host m → IsInSourceOrder m
+pub in_source_order : {host : HostSignatures} {m : Module} → IsSound host m → IsInSourceOrder m
 in_source_order {m = m} sound earlier later i j le here there = rises 0 m.interfaces sound.interfaces_in_order earlier later i j le here there

@@ -5,32 +5,32 @@ use Rattle.std.specs.List.{AllByRecursion}
 use Rattle.std.specs.Option.{option_map_or}
 use Rattle.ash_host.specs.declared.word.Word.{Word}
 use Rattle.ash_host.specs.declared.word.Word.TheVariants as words
-use Rattle.ash_host.specs.Objects.{Objects}
+use Rattle.ash_host.specs.Objects.{LiveObjects}
 use Rattle.ash_integers.specs.Integers.{number_of}
 use Rattle.ash_tree.specs.declared.tree.statements.Label.{Label}
 use Rattle.ash_integers.specs.declared.int_type.IntType.{IntType}
 use Rattle.ash_typed.specs.declared.types.VarType.{VarType}
 use Rattle.ash_typed.specs.declared.tree.statements.Test.{Test}
 use Rattle.ash_typed.specs.declared.tree.statements.Test.TheVariants as tests
-use Rattle.ash_typed.specs.Tree.{Expr}
+use Rattle.ash_typed.specs.TypedTree.{Expr}
 use Rattle.ash_typed.specs.StatementTree.{Initialization, Stmt, Loop, Stmts, Cases, Head}
 use Rattle.ash_typed.specs.TypeOf.{ValueType, value, as_value, value_of_result}
 use Rattle.ash_typed.specs.Signatures as sig
-use Rattle.ash_typed.specs.Signatures.{Signatures, IsSubtype}
-use Rattle.ash_typed.specs.SoundExpressions.{Environment, IsWellTyped, Fits, fits}
+use Rattle.ash_typed.specs.Signatures.{ModuleSignatures, IsSubtype}
+use Rattle.ash_typed.specs.SoundExpressions.{TypedEnvironment, IsWellTyped, Fits, fits}
 use Rattle.ash_typed.specs.SoundStatements as sound
-use Rattle.ash_typed.specs.SoundStatements.{Scope, with_locals, BeginsWith, AreDeclared, none_declared, and_declared, IsEvaluated, IsCondition, MayBeCondition, IsHead, head_is_empty, head_declares, head_evaluates, IsStmt, IsLoop, AreStmts, AreCases, AreLabelled}
+use Rattle.ash_typed.specs.SoundStatements.{TypedScope, with_locals, IsSoundBeginning, AreSoundDeclarations, none_declared, and_declared, IsEvaluated, IsSoundCondition, MayBeSoundCondition, IsSoundHead, head_is_empty, head_declares, head_evaluates, IsSoundStmt, IsLoop, AreSoundStmts, AreSoundCases, AreLabelled}
 use Rattle.ash_phrases.specs.Activity.{Activity, in_frame}
 use Rattle.ash_phrases.specs.Runs.{Run, Progress, give, ◌>>◌, ◌>>=◌}
 use Rattle.ash_phrases.specs.Releases.{release, full, declare, keeping}
 use Rattle.ash_phrases.specs.Frames.{tick}
-use Rattle.ash_phrases.specs.Operators.{zero_of}
+use Rattle.ash_phrases.specs.OperatorMeaning.{zero_of}
 use Rattle.ash_phrases.specs.Classes.{Entry}
-use Rattle.ash_phrases.specs.Calls.{Calls, value_or_null}
-use Rattle.ash_phrases.specs.Expressions.{expression}
-use Rattle.ash_phrases.specs.Statements.{Flow, On, Broke, Continued, Returned, go_on, end_block, in_block, after_break, declare_all, evaluate, evaluate_all, condition, condition_or_true, begin, return_value, Turn, after_body, turn, turns, repeat, Labelled, from_label, is_constant, or_else, chosen as chosen_labels, fall_through, switch, statement, loop, statements, cases}
+use Rattle.ash_phrases.specs.CallMeaning.{Calls, value_or_null}
+use Rattle.ash_phrases.specs.ExpressionMeaning.{expression}
+use Rattle.ash_phrases.specs.StatementMeaning.{Flow, On, Broke, Continued, Returned, go_on, end_block, in_block, after_break, declare_all, evaluate, evaluate_all, condition, condition_or_true, begin, return_value, Turn, after_body, turn, turns, repeat, Labelled, from_label, is_constant, or_else, chosen as chosen_labels, fall_through, switch, statement, loop, statements, cases}
 use Rattle.ash_wellformed.specs.WellFormed.{Context, IsContext, declared, IsValue, IsGiven, gives_nothing, gives, IsWellFormed}
-use Rattle.ash_wellformed.specs.Laws.{Passes, IsCarried, Leaves, done, ended, IsLeftBy, by_itself, by_break, by_continue, by_return, Leads, LeadsOn}
+use Rattle.ash_wellformed.specs.WellFormedLaws.{Passes, IsCarried, Leaves, done, ended, IsLeftBy, by_itself, by_break, by_continue, by_return, Leads, LeadsOn}
 use Rattle.ash_wellformed.proofs.Fits.{fitting_value, kept_value}
 use Rattle.ash_wellformed.proofs.Integers.{zero_value}
 use Rattle.ash_wellformed.proofs.Lists.{values_length}
@@ -45,18 +45,18 @@ left_like a b store held by_itself = by_itself
 left_like a b store held (by_break e) = by_break e
 left_like a b store held (by_continue e) = by_continue e
 left_like {c} {gives} a b store held (by_return {v} k) = by_return (record {
-  value = subst (λ (all : Objects (List ℕ)). IsGiven c.program all (value_of_result gives) (value_or_null v)) (sym store) k.value;
+  value = subst (λ (all : LiveObjects (List ℕ)). IsGiven c.program all (value_of_result gives) (value_or_null v)) (sym store) k.value;
   held = λ n e. subst (λ (ns : List ℕ). Contains ns n) (sym held) (k.held n e);
 })
 
-no_more_locals : {c : Context} {envs : List Environment} (env : Environment) {a b : Activity} → Passes c env envs a b → Passes c (with_locals env []) envs a b
+no_more_locals : {c : Context} {envs : List TypedEnvironment} (env : TypedEnvironment) {a b : Activity} → Passes c env envs a b → Passes c (with_locals env []) envs a b
 no_more_locals {c} {envs} env {a} {b} p = subst (λ (ls : List VarType). Passes c (record { signatures = env.signatures; this = env.this; locals = ls }) envs a b) (sym (append-nil env.locals)) p
 
-more_locals : {c : Context} {envs : List Environment} (env : Environment) {a b : Activity} (types more : List VarType) → Passes c (with_locals (with_locals env types) more) envs a b → Passes c (with_locals env (types ++ more)) envs a b
+more_locals : {c : Context} {envs : List TypedEnvironment} (env : TypedEnvironment) {a b : Activity} (types more : List VarType) → Passes c (with_locals (with_locals env types) more) envs a b → Passes c (with_locals env (types ++ more)) envs a b
 more_locals {c} {envs} env {a} {b} types more p = subst (λ (ls : List VarType). Passes c (record { signatures = env.signatures; this = env.this; locals = ls }) envs a b) (append_assoc env.locals types more) p
 
 -- what is repeated keeps what is well-formed
-record KeepsTurn (c : Context) (env : Environment) (envs : List Environment) (gives : Option VarType) (t : Turn) : Type 0 where
+record KeepsTurn (c : Context) (env : TypedEnvironment) (envs : List TypedEnvironment) (gives : Option VarType) (t : Turn) : Type 0 where
   pub condition : (a : Activity) → IsWellFormed c env envs a → Leaves c (λ (v : Bool) b. Passes c env envs a b) (t.condition a)
   pub steps : (a : Activity) → IsWellFormed c env envs a → Leaves c (λ (none : Unit {0}) b. Passes c env envs a b) (t.steps a)
   pub body : (a : Activity) → IsWellFormed c env envs a → Leaves c (Leads c env gives true true envs a) (t.body a)
@@ -70,37 +70,37 @@ or_else_keeps P [] others h k = k
 or_else_keeps P (l ∷ ls) others h k = h
 
 -- a label keeps what is well-formed
-abbrev KeepsLabel : Context → Environment → List Environment → Option VarType → Bool → Bool → Labelled → Type 0
+abbrev KeepsLabel : Context → TypedEnvironment → List TypedEnvironment → Option VarType → Bool → Bool → Labelled → Type 0
 KeepsLabel c env envs result breaks continues l = (a : Activity) → IsWellFormed c env envs a → Leaves c (Leads c env result breaks continues envs a) (l.run a)
 
 on_after : {c : Context} {R : Flow → Activity → Type 0} (rest : Run Flow) (flow : Flow) (b : Activity) → flow ≡ On → Leaves c R (rest b) → Leaves c R (go_on rest flow b)
 on_after {c} {R} rest flow b same l = subst (λ (f : Flow). Leaves c R (go_on rest f b)) (sym same) l
 
-module _ {c : Context} {envs : List Environment} where
+module _ {c : Context} {envs : List TypedEnvironment} where
   -- flows
 
-  after_passing : {env other : Environment} {gives : Option VarType} {breaks continues : Bool} {a b d : Activity} {flow : Flow} → Passes c other envs a b → Leads c env gives breaks continues envs b flow d → Leads c env gives breaks continues envs a flow d
+  after_passing : {env other : TypedEnvironment} {gives : Option VarType} {breaks continues : Bool} {a b d : Activity} {flow : Flow} → Passes c other envs a b → Leads c env gives breaks continues envs b flow d → Leads c env gives breaks continues envs a flow d
   after_passing p l = record { passes = passes_more p l.passes; left = l.left }
 
-  after_passes : {env other : Environment} {gives : Option VarType} {breaks continues : Bool} {a b : Activity} {r : Progress Flow} → Passes c other envs a b → Leaves c (Leads c env gives breaks continues envs b) r → Leaves c (Leads c env gives breaks continues envs a) r
+  after_passes : {env other : TypedEnvironment} {gives : Option VarType} {breaks continues : Bool} {a b : Activity} {r : Progress Flow} → Passes c other envs a b → Leaves c (Leads c env gives breaks continues envs b) r → Leaves c (Leads c env gives breaks continues envs a) r
   after_passes p l = weaken (λ flow d q. after_passing p q) l
 
-  pub on_after_passes : {env other : Environment} {gives : Option VarType} {breaks continues : Bool} {a b : Activity} {r : Progress Flow} → Passes c other envs a b → Leaves c (LeadsOn c env gives breaks continues envs b) r → Leaves c (LeadsOn c env gives breaks continues envs a) r
+  pub on_after_passes : {env other : TypedEnvironment} {gives : Option VarType} {breaks continues : Bool} {a b : Activity} {r : Progress Flow} → Passes c other envs a b → Leaves c (LeadsOn c env gives breaks continues envs b) r → Leaves c (LeadsOn c env gives breaks continues envs a) r
   on_after_passes p l = weaken (λ flow d q. record { types = q.types; leads = after_passing p q.leads }) l
 
-  stays_on : {env : Environment} {gives : Option VarType} {breaks continues : Bool} {a b : Activity} → Passes c env envs a b → Leads c env gives breaks continues envs a On b
+  stays_on : {env : TypedEnvironment} {gives : Option VarType} {breaks continues : Bool} {a b : Activity} → Passes c env envs a b → Leads c env gives breaks continues envs a On b
   stays_on p = record { passes = p; left = by_itself }
 
-  as_on : {env : Environment} {gives : Option VarType} {breaks continues : Bool} {a b : Activity} {flow : Flow} → Leads c env gives breaks continues envs a flow b → LeadsOn c env gives breaks continues envs a flow b
+  as_on : {env : TypedEnvironment} {gives : Option VarType} {breaks continues : Bool} {a b : Activity} {flow : Flow} → Leads c env gives breaks continues envs a flow b → LeadsOn c env gives breaks continues envs a flow b
   as_on {env} l = record { types = []; leads = record { passes = no_more_locals env l.passes; left = l.left } }
 
-  go_on_leads : {env : Environment} {gives : Option VarType} {breaks continues : Bool} {a b : Activity} (rest : Run Flow) (flow : Flow) → Leads c env gives breaks continues envs a flow b → Leaves c (LeadsOn c env gives breaks continues envs b) (rest b) → Leaves c (LeadsOn c env gives breaks continues envs a) (go_on rest flow b)
+  go_on_leads : {env : TypedEnvironment} {gives : Option VarType} {breaks continues : Bool} {a b : Activity} (rest : Run Flow) (flow : Flow) → Leads c env gives breaks continues envs a flow b → Leaves c (LeadsOn c env gives breaks continues envs b) (rest b) → Leaves c (LeadsOn c env gives breaks continues envs a) (go_on rest flow b)
   go_on_leads rest On p l = on_after_passes p.passes l
   go_on_leads rest Broke p l = done (as_on p)
   go_on_leads rest Continued p l = done (as_on p)
   go_on_leads rest (Returned v) p l = done (as_on p)
 
-  go_on_stays : {env : Environment} {gives : Option VarType} {breaks continues : Bool} {a b : Activity} (rest : Run Flow) (flow : Flow) → Leads c env gives breaks continues envs a flow b → Leaves c (Leads c env gives breaks continues envs b) (rest b) → Leaves c (Leads c env gives breaks continues envs a) (go_on rest flow b)
+  go_on_stays : {env : TypedEnvironment} {gives : Option VarType} {breaks continues : Bool} {a b : Activity} (rest : Run Flow) (flow : Flow) → Leads c env gives breaks continues envs a flow b → Leaves c (Leads c env gives breaks continues envs b) (rest b) → Leaves c (Leads c env gives breaks continues envs a) (go_on rest flow b)
   go_on_stays rest On p l = after_passes p.passes l
   go_on_stays rest Broke p l = done p
   go_on_stays rest Continued p l = done p
@@ -108,13 +108,13 @@ module _ {c : Context} {envs : List Environment} where
 
   -- blocks
 
-  ends_block : {env : Environment} {gives : Option VarType} {breaks continues : Bool} {a b : Activity} (flow : Flow) → Leads c env gives breaks continues envs a flow b → Leaves c (Leads c env gives breaks continues envs a) (end_block flow b)
+  ends_block : {env : TypedEnvironment} {gives : Option VarType} {breaks continues : Bool} {a b : Activity} (flow : Flow) → Leads c env gives breaks continues envs a flow b → Leaves c (Leads c env gives breaks continues envs a) (end_block flow b)
   ends_block On p = bind (release_passes (p.passes).well) (λ none d g. done (stays_on (passes_more p.passes g.passes)))
   ends_block Broke p = done p
   ends_block Continued p = done p
   ends_block (Returned v) p = done p
 
-  pub block_leads : {env : Environment} {gives : Option VarType} {breaks continues : Bool} {a : Activity} (inside : Run Flow) → IsWellFormed c env envs a → Leaves c (LeadsOn c env gives breaks continues envs a) (inside a) → Leaves c (Leads c env gives breaks continues envs a) (in_block inside a)
+  pub block_leads : {env : TypedEnvironment} {gives : Option VarType} {breaks continues : Bool} {a : Activity} (inside : Run Flow) → IsWellFormed c env envs a → Leaves c (LeadsOn c env gives breaks continues envs a) (inside a) → Leaves c (Leads c env gives breaks continues envs a) (in_block inside a)
   block_leads {env} {gives} {breaks} {continues} {a} inside h l = bind l (λ flow b on.
       let out = left_passes on.types (length (a.frame).locals) (values_length (h.frame).locals) ((on.leads).passes).well in
       ends_block flow (record {
@@ -123,7 +123,7 @@ module _ {c : Context} {envs : List Environment} where
       }))
 
   -- a `break` ends at a loop or a `switch`
-  breaks_end : {env : Environment} {gives : Option VarType} {inner breaks continues : Bool} {a b : Activity} (flow : Flow) → (inner ≡ true → continues ≡ true) → Leads c env gives true inner envs a flow b → Leaves c (Leads c env gives breaks continues envs a) (after_break flow b)
+  breaks_end : {env : TypedEnvironment} {gives : Option VarType} {inner breaks continues : Bool} {a b : Activity} (flow : Flow) → (inner ≡ true → continues ≡ true) → Leads c env gives true inner envs a flow b → Leaves c (Leads c env gives breaks continues envs a) (after_break flow b)
   breaks_end On more p = done (stays_on p.passes)
   breaks_end Broke more p = bind (release_passes (p.passes).well) (λ none d g. done (stays_on (passes_more p.passes g.passes)))
   breaks_end Continued more p = done (record { passes = p.passes; left = still more p.left })
@@ -137,7 +137,7 @@ module _ {c : Context} {envs : List Environment} where
 
   -- loops
 
-  module _ {env : Environment} {gives : Option VarType} (t : Turn) (k : KeepsTurn c env envs gives t) where
+  module _ {env : TypedEnvironment} {gives : Option VarType} (t : Turn) (k : KeepsTurn c env envs gives t) where
     steps_then : {a : Activity} (next : Run Flow) → ((d : Activity) → IsWellFormed c env envs d → Leaves c (Leads c env gives true false envs d) (next d)) → IsWellFormed c env envs a → Leaves c (Leads c env gives true false envs a) ((t.steps >> next) a)
     steps_then {a} next more h = bind (k.steps a h) (λ none d p. after_passes p (more d p.well))
 
@@ -167,7 +167,7 @@ module _ {c : Context} {envs : List Environment} where
 
   -- labels
 
-  module _ (env : Environment) (gives : Option VarType) (breaks continues : Bool) where
+  module _ (env : TypedEnvironment) (gives : Option VarType) (breaks continues : Bool) where
     fall_leads : (ls : List Labelled) → AllByRecursion (KeepsLabel c env envs gives breaks continues) ls → (a : Activity) → IsWellFormed c env envs a → Leaves c (Leads c env gives breaks continues envs a) (fall_through ls a)
     fall_leads [] k a h = done (stays_on (passes_itself h))
     fall_leads (l ∷ ls) k a h = bind (k.0 a h) (λ flow b p. go_on_stays _ flow p (fall_leads ls k.1 b (p.passes).well))
@@ -176,7 +176,7 @@ module _ {c : Context} {envs : List Environment} where
     switch_leads ls word k a h =
         fall_leads (chosen_labels (number_of word) ls) (or_else_keeps (KeepsLabel c env envs gives breaks continues) (from_label (is_constant (number_of word)) ls) (from_label is_none ls) (from_keeps (KeepsLabel c env envs gives breaks continues) (is_constant (number_of word)) ls k) (from_keeps (KeepsLabel c env envs gives breaks continues) is_none ls k)) a h
 
-  declared_on : {env : Environment} {gives : Option VarType} {breaks continues : Bool} {a b d : Activity} {flow : Flow} (types : List VarType) → Passes c (with_locals env types) envs a b → LeadsOn c (with_locals env types) gives breaks continues envs b flow d → LeadsOn c env gives breaks continues envs a flow d
+  declared_on : {env : TypedEnvironment} {gives : Option VarType} {breaks continues : Bool} {a b d : Activity} {flow : Flow} (types : List VarType) → Passes c (with_locals env types) envs a b → LeadsOn c (with_locals env types) gives breaks continues envs b flow d → LeadsOn c env gives breaks continues envs a flow d
   declared_on {env} types p on = record {
     types = types ++ on.types;
     leads = record { passes = more_locals env types on.types (passes_more p (on.leads).passes); left = (on.leads).left };
@@ -186,9 +186,9 @@ module _ {c : Context} (context : IsContext c) (body : Entry → Run (Option Wor
   abbrev here : Calls
   here = record { program = c.program; body = body }
 
-  module _ (env : Environment) (same : env.signatures ≡ declared c) (envs : List Environment) where
-    fitting : {from : ValueType} {all : Objects (List ℕ)} (of : VarType) {w : Word} → IsSubtype env.signatures from (value (as_value of)) → IsGiven c.program all from w → IsValue c.program all of w
-    fitting {from} of s g = fitting_value c of (subst (λ (x : Signatures). IsSubtype x from (value (as_value of))) same s) g
+  module _ (env : TypedEnvironment) (same : env.signatures ≡ declared c) (envs : List TypedEnvironment) where
+    fitting : {from : ValueType} {all : LiveObjects (List ℕ)} (of : VarType) {w : Word} → IsSubtype env.signatures from (value (as_value of)) → IsGiven c.program all from w → IsValue c.program all of w
+    fitting {from} of s g = fitting_value c of (subst (λ (x : ModuleSignatures). IsSubtype x from (value (as_value of))) same s) g
 
     -- full expressions
 
@@ -202,15 +202,15 @@ module _ {c : Context} (context : IsContext c) (body : Entry → Run (Option Wor
     evaluate_all_passes [] k h = done (passes_itself h)
     evaluate_all_passes (e ∷ es) k h = bind (evaluate_passes (k.0).1 h) (λ none b p. weaken (λ one d q. passes_more p q) (evaluate_all_passes es k.1 p.well))
 
-    condition_passes : {e : Expr} {a : Activity} → IsCondition env e → IsWellFormed c env envs a → Leaves c (λ (v : Bool) b. Passes c env envs a b) (condition here e a)
+    condition_passes : {e : Expr} {a : Activity} → IsSoundCondition env e → IsWellFormed c env envs a → Leaves c (λ (v : Bool) b. Passes c env envs a b) (condition here e a)
     condition_passes e h = bind (evaluated e h) (λ w b p. done p)
 
-    condition_or_true_passes : (o : Option Expr) {a : Activity} → MayBeCondition env o → IsWellFormed c env envs a → Leaves c (λ (v : Bool) b. Passes c env envs a b) (condition_or_true here o a)
+    condition_or_true_passes : (o : Option Expr) {a : Activity} → MayBeSoundCondition env o → IsWellFormed c env envs a → Leaves c (λ (v : Bool) b. Passes c env envs a b) (condition_or_true here o a)
     condition_or_true_passes None k h = done (passes_itself h)
     condition_or_true_passes (Some e) k h = condition_passes k h
 
     -- with what is done with its value
-    pub stored_passes : {other : Environment} {of : VarType} {e : Expr} {a : Activity} {store : Word → Run (Unit {0})} → Fits env of e → IsWellFormed c env envs a → ((w : Word) (b : Activity) → IsWellFormed c env envs b → IsValue c.program (b.world).objects of w → Leaves c (λ (none : Unit {0}) d. Passes c other envs b d) (store w b)) → Leaves c (λ (none : Unit {0}) b. Passes c other envs a b) (full (expression here e >>= store) a)
+    pub stored_passes : {other : TypedEnvironment} {of : VarType} {e : Expr} {a : Activity} {store : Word → Run (Unit {0})} → Fits env of e → IsWellFormed c env envs a → ((w : Word) (b : Activity) → IsWellFormed c env envs b → IsValue c.program (b.world).objects of w → Leaves c (λ (none : Unit {0}) d. Passes c other envs b d) (store w b)) → Leaves c (λ (none : Unit {0}) b. Passes c other envs a b) (full (expression here e >>= store) a)
     stored_passes {of = of} {e = x} {store = more} (fits e s) h as_value =
         full_passes (expression here x >>= more) (bind (expression_gives context body bodies same e h) (λ w b got. weaken (λ none d q. passes_more (got.goes).passes q) (as_value w b ((got.goes).passes).well (fitting of s (got.carried).value))))
 
@@ -221,27 +221,27 @@ module _ {c : Context} (context : IsContext c) (body : Entry → Run (Option Wor
           left = by_return (subst (λ (o : Option VarType). IsCarried c (value_of_result o) b w) (sym is) (record { value = gives (kept_value (fitting of s (got.carried).value)); held = (got.carried).held }));
         }))
 
-    begins_fitting : {of : VarType} {e : Expr} → BeginsWith env of (Some e) → Fits env of e
+    begins_fitting : {of : VarType} {e : Expr} → IsSoundBeginning env of (Some e) → Fits env of e
     begins_fitting (sound.stored nothing e) = e
     begins_fitting (sound.constructed k e) = fits e sig.same
 
-    one_declared : {of : VarType} (o : Option Expr) {a : Activity} → BeginsWith env of o → IsWellFormed c env envs a → Leaves c (λ (none : Unit {0}) b. Passes c (with_locals env (of ∷ [])) envs a b) (option_map_or (λ e. full (expression here e >>= declare)) o (declare (zero_of of)) a)
+    one_declared : {of : VarType} (o : Option Expr) {a : Activity} → IsSoundBeginning env of o → IsWellFormed c env envs a → Leaves c (λ (none : Unit {0}) b. Passes c (with_locals env (of ∷ [])) envs a b) (option_map_or (λ e. full (expression here e >>= declare)) o (declare (zero_of of)) a)
     one_declared {of} None k h = done (declared_passes of (zero_of of) h (zero_value of))
     one_declared {of} (Some e) k h = stored_passes (begins_fitting k) h (λ w b well v. done (declared_passes of w well v))
 
-  all_declared : {env : Environment} {vs : List Initialization} {types : List VarType} → AreDeclared env vs types → env.signatures ≡ declared c → {envs : List Environment} {a : Activity} → IsWellFormed c env envs a → Leaves c (λ (none : Unit {0}) b. Passes c (with_locals env types) envs a b) (declare_all here vs a)
+  all_declared : {env : TypedEnvironment} {vs : List Initialization} {types : List VarType} → AreSoundDeclarations env vs types → env.signatures ≡ declared c → {envs : List TypedEnvironment} {a : Activity} → IsWellFormed c env envs a → Leaves c (λ (none : Unit {0}) b. Passes c (with_locals env types) envs a b) (declare_all here vs a)
   all_declared (none_declared {env}) same h = done (no_more_locals env (passes_itself h))
   all_declared (and_declared {env} {v} {types = types} i rest) same h =
       bind (one_declared env same _ v.value i.value h) (λ none b p. weaken (λ one d q. more_locals env (v.of ∷ []) types (passes_more p q)) (all_declared rest same p.well))
 
-  begins : {env : Environment} {head : Head} {types : List VarType} → IsHead env head types → env.signatures ≡ declared c → {envs : List Environment} {a : Activity} → IsWellFormed c env envs a → Leaves c (λ (none : Unit {0}) b. Passes c (with_locals env types) envs a b) (begin here head a)
+  begins : {env : TypedEnvironment} {head : Head} {types : List VarType} → IsSoundHead env head types → env.signatures ≡ declared c → {envs : List TypedEnvironment} {a : Activity} → IsWellFormed c env envs a → Leaves c (λ (none : Unit {0}) b. Passes c (with_locals env types) envs a b) (begin here head a)
   begins {env} head_is_empty same h = done (no_more_locals env (passes_itself h))
   begins {env} (head_declares vs) same h = all_declared vs same h
   begins {env} (head_evaluates e) same h = weaken (λ none b p. no_more_locals env p) (evaluate_passes _ same _ e.1 h)
 
   module _ (depth : ℕ) where
     mutual
-      pub stmt_leads : {scope : Scope} {s : Stmt} → IsStmt scope s → (scope.env).signatures ≡ declared c → {envs : List Environment} {a : Activity} → IsWellFormed c scope.env envs a → Leaves c (Leads c scope.env scope.result scope.may_break scope.may_continue envs a) (statement here depth s a)
+      pub stmt_leads : {scope : TypedScope} {s : Stmt} → IsSoundStmt scope s → (scope.env).signatures ≡ declared c → {envs : List TypedEnvironment} {a : Activity} → IsWellFormed c scope.env envs a → Leaves c (Leads c scope.env scope.result scope.may_break scope.may_continue envs a) (statement here depth s a)
       stmt_leads (sound.empty {line = line}) same h = bind (tick_goes line h) (λ none b g. done (stays_on g.passes))
       stmt_leads (sound.evaluate {line = line} e) same h =
           bind (bind (tick_goes line h) (λ none b g. weaken (λ one d q. passes_more g.passes q) (evaluate_passes _ same _ e.1 (g.passes).well))) (λ none b p. done (stays_on p))
@@ -268,7 +268,7 @@ module _ {c : Context} (context : IsContext c) (body : Entry → Run (Option Wor
           bind (tick_goes line h) (λ none b g. done (record { passes = g.passes; left = by_return (subst (λ (o : Option VarType). IsCarried c (value_of_result o) b words.Null) (sym is) (record { value = gives_nothing; held = λ n e. absurd (cc) })) }))
       stmt_leads (sound.return_value {line = line} is e) same h = bind (tick_goes line h) (λ none b g. after_passes g.passes (return_gives _ same _ is e (g.passes).well))
 
-      loop_leads : {scope : Scope} {inside : Loop} (line : ℕ) → IsLoop scope inside → (scope.env).signatures ≡ declared c → {envs : List Environment} {a : Activity} → IsWellFormed c scope.env envs a → Leaves c (Leads c scope.env scope.result true false envs a) (loop here depth line inside a)
+      loop_leads : {scope : TypedScope} {inside : Loop} (line : ℕ) → IsLoop scope inside → (scope.env).signatures ≡ declared c → {envs : List TypedEnvironment} {a : Activity} → IsWellFormed c scope.env envs a → Leaves c (Leads c scope.env scope.result true false envs a) (loop here depth line inside a)
       loop_leads line (sound.loop {test = test} {c = e} {steps = es} {s = s} k steps b) same {a = a} h =
           repeats (record { line = line; condition = condition_or_true here e; steps = evaluate_all here es; body = statement here depth s }) (record {
             condition = λ x well. condition_or_true_passes _ same _ e k well;
@@ -276,17 +276,17 @@ module _ {c : Context} (context : IsContext c) (body : Entry → Run (Option Wor
             body = λ x well. stmt_leads b same well;
           }) test depth a h
 
-      pub stmts_lead : {scope : Scope} {ss : Stmts} → AreStmts scope ss → (scope.env).signatures ≡ declared c → {envs : List Environment} {a : Activity} → IsWellFormed c scope.env envs a → Leaves c (LeadsOn c scope.env scope.result scope.may_break scope.may_continue envs a) (statements here depth ss a)
+      pub stmts_lead : {scope : TypedScope} {ss : Stmts} → AreSoundStmts scope ss → (scope.env).signatures ≡ declared c → {envs : List TypedEnvironment} {a : Activity} → IsWellFormed c scope.env envs a → Leaves c (LeadsOn c scope.env scope.result scope.may_break scope.may_continue envs a) (statements here depth ss a)
       stmts_lead sound.no_stmts same h = done (as_on (stays_on (passes_itself h)))
       stmts_lead (sound.declare {scope} {line} {vs = list} {types} vs ss) same {envs} {a} h =
           let begun : Leaves c (λ (flow : Flow) b. (flow ≡ On) × Passes c (with_locals scope.env types) envs a b) ((tick line >> declare_all here list >> give On) a) = bind (bind (tick_goes line h) (λ none b g. weaken (λ one d q. passes_more g.passes q) (all_declared vs same (g.passes).well))) (λ none b p. done (refl, p)) in
           bind begun (λ flow b q. on_after _ flow b q.0 (weaken (λ f d on. declared_on types q.1 on) (stmts_lead ss same (q.1).well)))
       stmts_lead (sound.more_stmts s ss) same h = bind (stmt_leads s same h) (λ flow b p. go_on_leads _ flow p (stmts_lead ss same (p.passes).well))
 
-      cases_keep : {scope : Scope} {int_type : IntType} {before : List Label} {cs : Cases} → AreCases scope int_type before cs → (scope.env).signatures ≡ declared c → (envs : List Environment) → AllByRecursion (KeepsLabel c scope.env envs scope.result scope.may_break scope.may_continue) (cases here depth cs)
+      cases_keep : {scope : TypedScope} {int_type : IntType} {before : List Label} {cs : Cases} → AreSoundCases scope int_type before cs → (scope.env).signatures ≡ declared c → (envs : List TypedEnvironment) → AllByRecursion (KeepsLabel c scope.env envs scope.result scope.may_break scope.may_continue) (cases here depth cs)
       cases_keep sound.no_cases same envs = tt
       cases_keep (sound.more_cases l ss cs) same envs = ((λ a h. labelled_leads ss same h), cases_keep cs same envs)
 
-      labelled_leads : {scope : Scope} {ss : Stmts} → AreLabelled scope ss → (scope.env).signatures ≡ declared c → {envs : List Environment} {a : Activity} → IsWellFormed c scope.env envs a → Leaves c (Leads c scope.env scope.result scope.may_break scope.may_continue envs a) (statements here depth ss a)
+      labelled_leads : {scope : TypedScope} {ss : Stmts} → AreLabelled scope ss → (scope.env).signatures ≡ declared c → {envs : List TypedEnvironment} {a : Activity} → IsWellFormed c scope.env envs a → Leaves c (Leads c scope.env scope.result scope.may_break scope.may_continue envs a) (statements here depth ss a)
       labelled_leads sound.none_labelled same h = done (stays_on (passes_itself h))
       labelled_leads (sound.and_labelled s ss) same h = bind (stmt_leads s same h) (λ flow b p. go_on_stays _ flow p (labelled_leads ss same (p.passes).well))

@@ -3,12 +3,12 @@ use Rattle.std.proofs.Common.{◌≡◌, ◌≤◌, ℕ, Bool, true, false, cond
 use Rattle.std.specs.Prelude.{Option, Some, None, Contains, option_map, filter}
 use Rattle.std.specs.Option.{option_map_or}
 use Rattle.std.proofs.lemmas.List.Elements.{Contains-append_left, Contains-append_right}
-use Rattle.ash_host.specs.Objects.{Plain, Objects, object_at, handles, fields_of, Refers}
+use Rattle.ash_host.specs.Objects.{Plain, LiveObjects, object_at, handles, fields_of, Refers}
 use Rattle.ash_host.specs.Reach.{Root, Field, ReachableIn, is_reachable, after_sweep}
 use Rattle.ash_host.proofs.ReachLaws.{is_reachable_says, is_reachable_yes, object_at-after_sweep, sweep_is_exact}
 use Rattle.ash_host.proofs.NumberLaws.{swept_numbered}
 use Rattle.ash_host.specs.Limits.{max_objects}
-use Rattle.ash_typed.specs.SoundExpressions.{Environment}
+use Rattle.ash_typed.specs.SoundExpressions.{TypedEnvironment}
 use Rattle.ash_phrases.specs.Activity.{World, Frame}
 use Rattle.ash_phrases.specs.Releases.{roots_of_frame, roots, sweep}
 use Rattle.ash_wellformed.specs.WellFormed.{Context, Shape, OfKind, shape_of, shape_at, IsObject, Follows, IsWorld, AreFrames}
@@ -26,7 +26,7 @@ module _ {c : Context} (frames : List Frame) {w : World} (h : IsWorld c w) where
   abbrev held : List ℕ
   held = roots frames w
 
-  abbrev left : Objects (List ℕ)
+  abbrev left : LiveObjects (List ℕ)
   left = after_sweep held w.objects
 
   -- what can be reached is there as it was
@@ -88,6 +88,6 @@ module _ {c : Context} (frames : List Frame) {w : World} (h : IsWorld c w) where
     states = record { services = (h.states).services; pool = (h.states).pool; answers = (h.states).answers };
   }
 
-  pub frames_swept : {envs : List Environment} → AreFrames c w.objects envs frames → AreFrames c (sweep frames w).objects envs frames
+  pub frames_swept : {envs : List TypedEnvironment} → AreFrames c w.objects envs frames → AreFrames c (sweep frames w).objects envs frames
   unfolding sweep
   frames_swept hs = frames_stay frame_root_stays hs

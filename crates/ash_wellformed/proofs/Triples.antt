@@ -4,17 +4,17 @@ use Rattle.std.specs.Prelude.{Option, Some, None, Contains, IsSome, if◌then◌
 use Rattle.std.proofs.lemmas.Option.{same_Some}
 use Rattle.std.proofs.lemmas.List.Elements.{Contains-append_left, Contains-append_right, Contains-append_cases}
 use Rattle.ash_host.specs.declared.word.Word.{Word}
-use Rattle.ash_host.specs.Objects.{Objects, handles, Lives, AreNumbered}
+use Rattle.ash_host.specs.Objects.{LiveObjects, handles, Lives, AreNumbered}
 use Rattle.ash_typed.specs.declared.types.VarType.{VarType}
 use Rattle.ash_typed.specs.TypeOf.{ValueType}
-use Rattle.ash_typed.specs.SoundExpressions.{Environment}
+use Rattle.ash_typed.specs.SoundExpressions.{TypedEnvironment}
 use Rattle.ash_phrases.specs.declared.exception.Exception.{Exception}
 use Rattle.ash_phrases.specs.Activity.{World, Frame, Activity, in_frame}
 use Rattle.ash_phrases.specs.Runs.{Progress, Run, onward, demand, found}
 use Rattle.ash_phrases.specs.Releases.{holding, give_held}
 use Rattle.ash_phrases.specs.Classes.{Program}
 use Rattle.ash_wellformed.specs.WellFormed.{Context, Shape, shape_at, IsGiven, Follows, IsWorld, IsFrame, IsWellFormed, IsSafe}
-use Rattle.ash_wellformed.specs.Laws.{Passes, Goes, IsCarried, AreCarried, Offers, Leaves, done, ended, no_step, Evaluates}
+use Rattle.ash_wellformed.specs.WellFormedLaws.{Passes, Goes, IsCarried, AreCarried, Offers, Leaves, done, ended, no_step, Evaluates}
 use Rattle.ash_wellformed.proofs.Values.{handle_first, handle_cases, none_in, shape_lives, lives_shape, Stays, given_stays, values_stay, given_lives}
 
 -- what follows
@@ -29,7 +29,7 @@ follows_more {u} {v} {w} f g = record {
   outside = g.outside ∙ f.outside;
 }
 
-pub word_lives : {p : Program} {all : Objects (List ℕ)} {of : ValueType} {w : Word} → IsGiven p all of w → (n : ℕ) → Contains (handles (w ∷ [])) n → Lives all n
+pub word_lives : {p : Program} {all : LiveObjects (List ℕ)} {of : ValueType} {w : Word} → IsGiven p all of w → (n : ℕ) → Contains (handles (w ∷ [])) n → Lives all n
 word_lives {w = w} g n i =
     elim (handle_cases w [] n i) [
       | inl here ↦ given_lives n g here
@@ -79,7 +79,7 @@ module _ {c : Context} where
   chosen r s true a one other = one refl
   chosen r s false a one other = other refl
 
-  pub safe : {env : Environment} {envs : List Environment} {a : Activity} → IsWellFormed c env envs a → IsSafe c a
+  pub safe : {env : TypedEnvironment} {envs : List TypedEnvironment} {a : Activity} → IsWellFormed c env envs a → IsSafe c a
   safe {env} {envs} h = record { env = env; envs = envs; well = h }
 
   pub lives_stays : {u v : World} → IsWorld c u → Follows u v → (n : ℕ) → Lives v.objects n → Stays u.objects v.objects n
@@ -87,19 +87,19 @@ module _ {c : Context} where
 
   -- frames that go on
 
-  pub passes_itself : {env : Environment} {envs : List Environment} {a : Activity} → IsWellFormed c env envs a → Passes c env envs a a
+  pub passes_itself : {env : TypedEnvironment} {envs : List TypedEnvironment} {a : Activity} → IsWellFormed c env envs a → Passes c env envs a a
   passes_itself {a = a} h = record { well = h; follows = follows_itself a.world; this = refl; callers = refl }
 
-  pub goes_itself : {env : Environment} {envs : List Environment} {a : Activity} → IsWellFormed c env envs a → Goes c env envs a a
+  pub goes_itself : {env : TypedEnvironment} {envs : List TypedEnvironment} {a : Activity} → IsWellFormed c env envs a → Goes c env envs a a
   goes_itself h = record { passes = passes_itself h; held = λ n i. i }
 
-  pub passes_more : {env other : Environment} {envs : List Environment} {a b d : Activity} → Passes c env envs a b → Passes c other envs b d → Passes c other envs a d
+  pub passes_more : {env other : TypedEnvironment} {envs : List TypedEnvironment} {a b d : Activity} → Passes c env envs a b → Passes c other envs b d → Passes c other envs a d
   passes_more p q = record { well = q.well; follows = follows_more p.follows q.follows; this = q.this ∙ p.this; callers = q.callers ∙ p.callers }
 
-  pub goes_more : {env other : Environment} {envs : List Environment} {a b d : Activity} → Goes c env envs a b → Goes c other envs b d → Goes c other envs a d
+  pub goes_more : {env other : TypedEnvironment} {envs : List TypedEnvironment} {a b d : Activity} → Goes c env envs a b → Goes c other envs b d → Goes c other envs a d
   goes_more p q = record { passes = passes_more p.passes q.passes; held = λ n i. q.held n (p.held n i) }
 
-  module _ {env other : Environment} {envs : List Environment} {a b : Activity} (h : IsWellFormed c env envs a) (g : Goes c other envs a b) where
+  module _ {env other : TypedEnvironment} {envs : List TypedEnvironment} {a b : Activity} (h : IsWellFormed c env envs a) (g : Goes c other envs a b) where
     -- what is held stays
     pub held_stays : (n : ℕ) → Contains (a.frame).held n → Stays (a.world).objects (b.world).objects n
     held_stays n i = lives_stays h.world (g.passes).follows n ((((g.passes).well).frame).held.each n (g.held n i))
@@ -110,7 +110,7 @@ module _ {c : Context} where
       held = λ n e. g.held n (k.held n e);
     }
 
-  pub carry_all : {env other : Environment} {envs : List Environment} {a b : Activity} {types : List VarType} {ws : List Word} → IsWellFormed c env envs a → Goes c other envs a b → AreCarried c types a ws → AreCarried c types b ws
+  pub carry_all : {env other : TypedEnvironment} {envs : List TypedEnvironment} {a b : Activity} {types : List VarType} {ws : List Word} → IsWellFormed c env envs a → Goes c other envs a b → AreCarried c types a ws → AreCarried c types b ws
   carry_all h g k = record {
     values = values_stay (λ n i. held_stays h g n (k.held n i)) k.values;
     held = λ n i. g.held n (k.held n i);
@@ -118,14 +118,14 @@ module _ {c : Context} where
 
   -- steps that change what frames hold
 
-  pub holds_more : {all : Objects (List ℕ)} {env : Environment} {f : Frame} (ns : List ℕ) → ((n : ℕ) → Contains ns n → Lives all n) → IsFrame c all env f → IsFrame c all env (holding ns f)
+  pub holds_more : {all : LiveObjects (List ℕ)} {env : TypedEnvironment} {f : Frame} (ns : List ℕ) → ((n : ℕ) → Contains ns n → Lives all n) → IsFrame c all env f → IsFrame c all env (holding ns f)
   holds_more {f = f} ns live h = record {
     this = h.this;
     locals = h.locals;
     held = record { each = λ n i. elim (Contains-append_cases ns f.held n i) [ inl new ↦ live n new | inr old ↦ (h.held).each n old ] };
   }
 
-  pub hold_goes : {env : Environment} {envs : List Environment} {a : Activity} (ns : List ℕ) → ((n : ℕ) → Contains ns n → Lives (a.world).objects n) → IsWellFormed c env envs a → Goes c env envs a (in_frame (holding ns) a)
+  pub hold_goes : {env : TypedEnvironment} {envs : List TypedEnvironment} {a : Activity} (ns : List ℕ) → ((n : ℕ) → Contains ns n → Lives (a.world).objects n) → IsWellFormed c env envs a → Goes c env envs a (in_frame (holding ns) a)
   hold_goes {a = a} ns live h = record {
     passes = record {
       well = record { world = h.world; since = h.since; frame = holds_more ns live h.frame; callers = h.callers; few = h.few };
@@ -137,7 +137,7 @@ module _ {c : Context} where
   }
 
   -- a value that is held from now on
-  pub word_held : {env : Environment} {envs : List Environment} {a : Activity} {of : ValueType} (w : Word) → IsWellFormed c env envs a → IsGiven c.program (a.world).objects of w → Evaluates c env envs of a w (in_frame (holding (handles (w ∷ []))) a)
+  pub word_held : {env : TypedEnvironment} {envs : List TypedEnvironment} {a : Activity} {of : ValueType} (w : Word) → IsWellFormed c env envs a → IsGiven c.program (a.world).objects of w → Evaluates c env envs of a w (in_frame (holding (handles (w ∷ []))) a)
   word_held {a = a} w h g = record {
     goes = hold_goes (handles (w ∷ [])) (word_lives g) h;
     carried = record {
@@ -146,5 +146,5 @@ module _ {c : Context} where
     };
   }
 
-  pub given_held : {env : Environment} {envs : List Environment} {a : Activity} {of : ValueType} (w : Word) → IsWellFormed c env envs a → IsGiven c.program (a.world).objects of w → Leaves c (Evaluates c env envs of a) (give_held w a)
+  pub given_held : {env : TypedEnvironment} {envs : List TypedEnvironment} {a : Activity} {of : ValueType} (w : Word) → IsWellFormed c env envs a → IsGiven c.program (a.world).objects of w → Leaves c (Evaluates c env envs of a) (give_held w a)
   given_held w h g = done (word_held w h g)

@@ -5,11 +5,11 @@ use Rattle.std.specs.List.{cons_option}
 use Rattle.std.proofs.lemmas.Option.{same_Some}
 use Rattle.std.proofs.lemmas.List.Elements.{Contains-append_left, Contains-append_right}
 use Rattle.ash_host.specs.declared.word.Word.{Word}
-use Rattle.ash_host.specs.Objects.{Plain, Objects, object_at, handle, handles, fields_of, Lives}
+use Rattle.ash_host.specs.Objects.{Plain, LiveObjects, object_at, handle, handles, fields_of, Lives}
 use Rattle.ash_integers.specs.declared.int_type.IntType.{IntType}
 use Rattle.ash_typed.specs.declared.types.VarType.{VarType}
 use Rattle.ash_typed.specs.TypeOf.{ValueType}
-use Rattle.ash_typed.specs.SoundExpressions.{Environment}
+use Rattle.ash_typed.specs.SoundExpressions.{TypedEnvironment}
 use Rattle.ash_phrases.specs.Activity.{Frame}
 use Rattle.ash_phrases.specs.Releases.{roots_of_frame}
 use Rattle.ash_phrases.specs.Classes.{Program}
@@ -60,15 +60,15 @@ shape_of_some : (o : Option (Plain (List ℕ))) → IsSome o → (shape : Shape)
 shape_of_some None h = absurd (cc)
 shape_of_some (Some object) h = (shape_of object, refl)
 
-pub shape_lives : (number : ℕ) (all : Objects (List ℕ)) (shape : Shape) → shape_at number all ≡ Some shape → Lives all number
+pub shape_lives : (number : ℕ) (all : LiveObjects (List ℕ)) (shape : Shape) → shape_at number all ≡ Some shape → Lives all number
 shape_lives number all shape e = some_shape (object_at number all) shape e
 
-pub lives_shape : (number : ℕ) (all : Objects (List ℕ)) → Lives all number → (shape : Shape) × (shape_at number all ≡ Some shape)
+pub lives_shape : (number : ℕ) (all : LiveObjects (List ℕ)) → Lives all number → (shape : Shape) × (shape_at number all ≡ Some shape)
 lives_shape number all h = shape_of_some (object_at number all) h
 
 -- what refers to an object refers to one that lives
 
-reference_lives : {all : Objects (List ℕ)} {Fits : Shape → Type 0} {w : Word} (n : ℕ) → IsReference all Fits w → handle w ≡ Some n → Lives all n
+reference_lives : {all : LiveObjects (List ℕ)} {Fits : Shape → Type 0} {w : Word} (n : ℕ) → IsReference all Fits w → handle w ≡ Some n → Lives all n
 reference_lives n to_nothing e = absurd (cc)
 reference_lives {all} n (to_object {number} {shape} at fits) e = subst (λ (k : ℕ). Lives all k) (same_Some number n e) (shape_lives number all shape at)
 
@@ -78,18 +78,18 @@ integer_is_none n (uint f) e = cc
 integer_is_none n (int64 f) e = cc
 integer_is_none n (uint64 f) e = cc
 
-pub value_lives : {p : Program} {all : Objects (List ℕ)} {of : VarType} {w : Word} (n : ℕ) → IsValue p all of w → handle w ≡ Some n → Lives all n
+pub value_lives : {p : Program} {all : LiveObjects (List ℕ)} {of : VarType} {w : Word} (n : ℕ) → IsValue p all of w → handle w ≡ Some n → Lives all n
 value_lives n is_truth e = absurd (cc)
 value_lives n (is_integer i) e = absurd (integer_is_none n i e)
 value_lives n (is_object r) e = reference_lives n r e
 value_lives n (is_handle r) e = reference_lives n r e
 
-pub given_lives : {p : Program} {all : Objects (List ℕ)} {of : ValueType} {w : Word} (n : ℕ) → IsGiven p all of w → handle w ≡ Some n → Lives all n
+pub given_lives : {p : Program} {all : LiveObjects (List ℕ)} {of : ValueType} {w : Word} (n : ℕ) → IsGiven p all of w → handle w ≡ Some n → Lives all n
 given_lives n gives_nothing e = absurd (cc)
 given_lives n gives_null e = absurd (cc)
 given_lives n (gives v) e = value_lives n v e
 
-pub values_live : {p : Program} {all : Objects (List ℕ)} {types : List VarType} {ws : List Word} (n : ℕ) → AreValues p all types ws → Contains (handles ws) n → Lives all n
+pub values_live : {p : Program} {all : LiveObjects (List ℕ)} {types : List VarType} {ws : List Word} (n : ℕ) → AreValues p all types ws → Contains (handles ws) n → Lives all n
 values_live n no_values c = absurd (none_in n c)
 values_live n (and_value {word = w} {ws = ws} v vs) c =
     elim (handle_cases w ws n c) [
@@ -97,7 +97,7 @@ values_live n (and_value {word = w} {ws = ws} v vs) c =
       | inr later ↦ values_live n vs later
     ]
 
-pub all_live : {p : Program} {all : Objects (List ℕ)} {of : VarType} {ws : List Word} (n : ℕ) → AllAre p all of ws → Contains (handles ws) n → Lives all n
+pub all_live : {p : Program} {all : LiveObjects (List ℕ)} {of : VarType} {ws : List Word} (n : ℕ) → AllAre p all of ws → Contains (handles ws) n → Lives all n
 all_live n none_are c = absurd (none_in n c)
 all_live n (and_is {word = w} {ws = ws} v vs) c =
     elim (handle_cases w ws n c) [
@@ -106,10 +106,10 @@ all_live n (and_is {word = w} {ws = ws} v vs) c =
     ]
 
 -- what lives by a number lives on, as what it was
-pub record Stays (old new : Objects (List ℕ)) (number : ℕ) : Type 0 where
+pub record Stays (old new : LiveObjects (List ℕ)) (number : ℕ) : Type 0 where
   pub stays : (shape : Shape) → shape_at number old ≡ Some shape → shape_at number new ≡ Some shape
 
-module _ {old new : Objects (List ℕ)} where
+module _ {old new : LiveObjects (List ℕ)} where
   pub lives_on : (n : ℕ) → Stays old new n → Lives old n → Lives new n
   lives_on n s h = let there = lives_shape n old h in shape_lives n new there.0 (s.stays there.0 there.1)
 
@@ -149,14 +149,14 @@ module _ {old new : Objects (List ℕ)} where
   object_stays stay (is_host s) = is_host s
 
   module _ {c : Context} where
-    pub frame_stays : {env : Environment} {f : Frame} → ((n : ℕ) → Contains (roots_of_frame f) n → Stays old new n) → IsFrame c old env f → IsFrame c new env f
+    pub frame_stays : {env : TypedEnvironment} {f : Frame} → ((n : ℕ) → Contains (roots_of_frame f) n → Stays old new n) → IsFrame c old env f → IsFrame c new env f
     frame_stays {f = f} stay h = record {
       this = this_stays (λ n e. stay n (Contains-append_left (handles (f.this ∷ f.locals)) f.held n (handle_first f.this f.locals n e))) h.this;
       locals = values_stay (λ n i. stay n (Contains-append_left (handles (f.this ∷ f.locals)) f.held n (handle_later f.this f.locals n i))) h.locals;
       held = live_on (λ n i. stay n (Contains-append_right (handles (f.this ∷ f.locals)) f.held n i)) h.held;
     }
 
-    pub frames_stay : {envs : List Environment} {fs : List Frame} → ((n : ℕ) → Contains (flat_map roots_of_frame fs) n → Stays old new n) → AreFrames c old envs fs → AreFrames c new envs fs
+    pub frames_stay : {envs : List TypedEnvironment} {fs : List Frame} → ((n : ℕ) → Contains (flat_map roots_of_frame fs) n → Stays old new n) → AreFrames c old envs fs → AreFrames c new envs fs
     frames_stay stay no_frames = no_frames
     frames_stay stay (and_frame {f = f} {fs = fs} h hs) =
         and_frame (frame_stays (λ n i. stay n (Contains-append_left (roots_of_frame f) (flat_map roots_of_frame fs) n i)) h)

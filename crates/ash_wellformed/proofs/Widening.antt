@@ -2,17 +2,17 @@
 use Rattle.std.proofs.Common.{ℕ, List, []}
 use Rattle.std.specs.Prelude.{Option}
 use Rattle.ash_typed.specs.declared.types.VarType.{VarType}
-use Rattle.ash_typed.specs.Tree.{Expr, Place, Exprs}
+use Rattle.ash_typed.specs.TypedTree.{Expr, Place, Exprs}
 use Rattle.ash_typed.specs.TypeOf.{ValueType}
-use Rattle.ash_typed.specs.Signatures.{Signatures}
+use Rattle.ash_typed.specs.Signatures.{ModuleSignatures}
 use Rattle.ash_typed.specs.SoundExpressions as sound
-use Rattle.ash_typed.specs.SoundExpressions.{Environment, IsWellTyped, HasPlace, Fits, AreArguments}
+use Rattle.ash_typed.specs.SoundExpressions.{TypedEnvironment, IsWellTyped, HasPlace, Fits, AreSoundArguments}
 
-module _ (s : Signatures) (this : Option ℕ) (locals : List VarType) where
-  abbrev narrow : Environment
+module _ (s : ModuleSignatures) (this : Option ℕ) (locals : List VarType) where
+  abbrev narrow : TypedEnvironment
   narrow = record { signatures = s; this = this; locals = [] }
 
-  abbrev wide : Environment
+  abbrev wide : TypedEnvironment
   wide = record { signatures = s; this = this; locals = locals }
 
   mutual
@@ -48,6 +48,6 @@ module _ (s : Signatures) (this : Option ℕ) (locals : List VarType) where
     pub widened_fit : {of : VarType} {e : Expr} → Fits narrow of e → Fits wide of e
     widened_fit (sound.fits h i) = sound.fits (widened h) i
 
-    widened_arguments : {types : List VarType} {es : Exprs} → AreArguments narrow types es → AreArguments wide types es
+    widened_arguments : {types : List VarType} {es : Exprs} → AreSoundArguments narrow types es → AreSoundArguments wide types es
     widened_arguments sound.no_arguments = sound.no_arguments
     widened_arguments (sound.argument h i) = sound.argument (widened_fit h) (widened_arguments i)

@@ -1,2 +1,2 @@
 pub mod WellFormed
-pub mod Laws
+pub mod WellFormedLaws

@@ -9,7 +9,7 @@ use Rattle.ash_host.specs.declared.word.Word.TheVariants as words
 use Rattle.ash_host.specs.declared.answer.HostAnswer.{HostAnswer}
 use Rattle.ash_host.specs.declared.answer.HostAnswer.TheVariants as answers
 use Rattle.ash_host.specs.Limits.{max_state_bytes}
-use Rattle.ash_host.specs.Objects.{Element, Plain, Script, Array, Host, Objects, object_at, Lives, AreNumbered}
+use Rattle.ash_host.specs.Objects.{Elements, Plain, Script, Array, Host, LiveObjects, object_at, Lives, AreNumbered}
 use Rattle.ash_host.specs.Records.{HostRecord}
 use Rattle.ash_host.specs.Limits.{max_objects, max_elements}
 use Rattle.ash_tree.specs.declared.tree.types.Primitive.{Primitive}
@@ -24,8 +24,8 @@ use Rattle.ash_typed.specs.declared.types.VarType.TheVariants as vars
 use Rattle.ash_typed.specs.TypeOf.{ValueType, no_value, null_value, value, type_of_element}
 use Rattle.ash_typed.specs.Modules.{Class, Module}
 use Rattle.ash_typed.specs.Signatures as signatures
-use Rattle.ash_typed.specs.Signatures.{Signatures, signatures_of, type_declared, types_of_globals}
-use Rattle.ash_typed.specs.SoundExpressions.{Environment}
+use Rattle.ash_typed.specs.Signatures.{ModuleSignatures, signatures_of, type_declared, types_of_globals}
+use Rattle.ash_typed.specs.SoundExpressions.{TypedEnvironment}
 use Rattle.ash_typed.specs.SoundModules.{IsSound}
 use Rattle.ash_phrases.specs.Activity.{FreeBox, World, Frame, Activity}
 use Rattle.ash_phrases.specs.Frames.{max_frames}
@@ -40,7 +40,7 @@ Known = List ℕ → Option Module
 
 -- What the host offers, the module that runs, the modules that are known, and the world in which the run began.
 pub record Context : Type 0 where
-  pub host : signatures.Host
+  pub host : signatures.HostSignatures
   pub program : Program
   pub modules : Known
   pub began : World
@@ -51,7 +51,7 @@ pub record IsContext (c : Context) : Type 0 where
   pub sound : IsSound c.host (c.program).tree
 
 -- what the module that runs declares
-abbrev pub declared : Context → Signatures
+abbrev pub declared : Context → ModuleSignatures
 declared c = signatures_of c.host (c.program).tree
 
 -- store typing
@@ -59,7 +59,7 @@ declared c = signatures_of c.host (c.program).tree
 -- What an object is, which never changes: of a class of a module, an array of such elements, or of a kind.
 pub data Shape : Type 0 where
   OfClass : (owner : List ℕ) (place : ℕ) → Shape
-  OfElements : (of : Element (List ℕ)) → Shape
+  OfElements : (of : Elements (List ℕ)) → Shape
   OfKind : (kind : ℕ) → Shape
 
 abbrev pub shape_of : Plain (List ℕ) → Shape
@@ -68,7 +68,7 @@ shape_of (Array of elements) = OfElements of
 shape_of (Host kind state) = OfKind kind
 
 -- the shape of the object that lives by a number
-abbrev pub shape_at : ℕ → Objects (List ℕ) → Option Shape
+abbrev pub shape_at : ℕ → LiveObjects (List ℕ) → Option Shape
 shape_at number objects = option_map shape_of (object_at number objects)
 
 -- value typing, as a module reads its types
@@ -80,7 +80,7 @@ pub record IsOfClass (p : Program) (class : ℕ) (shape : Shape) : Type 0 where
   pub is : shape ≡ OfClass p.name (place_of_class p.tree class)
 
 -- that of a class that lists the interface
-pub record Implements (p : Program) (interface : ℕ) (shape : Shape) : Type 0 where
+pub record ListsInterface (p : Program) (interface : ℕ) (shape : Shape) : Type 0 where
   pub class : ℕ
   pub of : IsOfClass p class shape
   pub lists : Contains (map signatures.place_of_interface (of.source).interfaces) interface
@@ -98,12 +98,12 @@ pub record IsArrayOf (p : Program) (of : typed_element.Element) (shape : Shape) 
 
 abbrev pub IsOf : Program → ObjectType → Shape → Type 0
 IsOf p (objects.Class class) shape = IsOfClass p class shape
-IsOf p (objects.Interface interface) shape = Implements p interface shape
+IsOf p (objects.Interface interface) shape = ListsInterface p interface shape
 IsOf p (objects.Host kind) shape = shape ≡ OfKind kind
 IsOf p (objects.Array of) shape = IsArrayOf p of shape
 
 -- null, or a handle of a living object of such a shape
-pub data IsReference (all : Objects (List ℕ)) (Fits : Shape → Type 0) : Word → Type 0 where
+pub data IsReference (all : LiveObjects (List ℕ)) (Fits : Shape → Type 0) : Word → Type 0 where
   to_nothing : IsReference all Fits words.Null
   to_object : {number : ℕ} {shape : Shape}
       → shape_at number all ≡ Some shape
@@ -125,14 +125,14 @@ pub data IsInteger : IntType → Word → Type 0 where
   uint64 : {n : ℕ} → IsInRange ints.Uint64 (pos n) → IsInteger ints.Uint64 (words.Uint64 n)
 
 -- a word is a value of the type: null where there is no object
-pub data IsValue (p : Program) (all : Objects (List ℕ)) : VarType → Word → Type 0 where
+pub data IsValue (p : Program) (all : LiveObjects (List ℕ)) : VarType → Word → Type 0 where
   is_truth : {b : Bool} → IsValue p all vars.Bool (words.Bool b)
   is_integer : {int_type : IntType} {word : Word} → IsInteger int_type word → IsValue p all (vars.Integer int_type) word
   is_object : {of : ObjectType} {word : Word} → IsReference all (IsOf p of) word → IsValue p all (vars.Object of) word
   is_handle : {of : ObjectType} {word : Word} → IsReference all (IsOf p of) word → IsValue p all (vars.Handle of) word
 
 -- words are values of these types, each of the one at its place
-pub data AreValues (p : Program) (all : Objects (List ℕ)) : List VarType → List Word → Type 0 where
+pub data AreValues (p : Program) (all : LiveObjects (List ℕ)) : List VarType → List Word → Type 0 where
   no_values : AreValues p all [] []
   and_value : {of : VarType} {types : List VarType} {word : Word} {ws : List Word}
       → IsValue p all of word
@@ -140,7 +140,7 @@ pub data AreValues (p : Program) (all : Objects (List ℕ)) : List VarType → L
       → AreValues p all (of ∷ types) (word ∷ ws)
 
 -- words are values of one type
-pub data AllAre (p : Program) (all : Objects (List ℕ)) (of : VarType) : List Word → Type 0 where
+pub data AllAre (p : Program) (all : LiveObjects (List ℕ)) (of : VarType) : List Word → Type 0 where
   none_are : AllAre p all of []
   and_is : {word : Word} {ws : List Word}
       → IsValue p all of word
@@ -148,7 +148,7 @@ pub data AllAre (p : Program) (all : Objects (List ℕ)) (of : VarType) : List W
       → AllAre p all of (word ∷ ws)
 
 -- a word is what an expression gives: what gives no value gives null
-pub data IsGiven (p : Program) (all : Objects (List ℕ)) : ValueType → Word → Type 0 where
+pub data IsGiven (p : Program) (all : LiveObjects (List ℕ)) : ValueType → Word → Type 0 where
   gives_nothing : IsGiven p all no_value words.Null
   gives_null : IsGiven p all null_value words.Null
   gives : {of : VarType} {word : Word} → IsValue p all of word → IsGiven p all (value of) word
@@ -157,7 +157,7 @@ pub data IsGiven (p : Program) (all : Objects (List ℕ)) : ValueType → Word �
 
 -- A script object is of a class of the module that it knows by name, and its fields are of the types that the class
 -- says.
-pub record IsScript (modules : Known) (all : Objects (List ℕ)) (owner : List ℕ) (place : ℕ) (fields : List Word)
+pub record IsScript (modules : Known) (all : LiveObjects (List ℕ)) (owner : List ℕ) (place : ℕ) (fields : List Word)
     : Type 0 where
   pub tree : Module
   pub known : modules owner ≡ Some tree
@@ -174,7 +174,8 @@ IsKnownFor modules p (elements.Interface interface) = modules p.name ≡ Some p.
 IsKnownFor modules p _ = Unit {0}
 
 -- An array has no more elements than it may, each of the type that a module has for its elements.
-pub record IsArray (modules : Known) (all : Objects (List ℕ)) (of : Element (List ℕ)) (ws : List Word) : Type 0 where
+pub record IsArray (modules : Known) (all : LiveObjects (List ℕ)) (of : Elements (List ℕ))
+    (ws : List Word) : Type 0 where
   pub few : length ws ≤ max_elements
   pub program : Program
   pub element : typed_element.Element
@@ -187,11 +188,11 @@ pub record IsArray (modules : Known) (all : Objects (List ℕ)) (of : Element (L
 abbrev pub IsState : List ℕ → Type 0
 IsState state = length state ≤ max_state_bytes
 
-pub data IsObject (modules : Known) (all : Objects (List ℕ)) : Plain (List ℕ) → Type 0 where
+pub data IsObject (modules : Known) (all : LiveObjects (List ℕ)) : Plain (List ℕ) → Type 0 where
   is_script : {owner : List ℕ} {place : ℕ} {fields : List Word}
       → IsScript modules all owner place fields
       → IsObject modules all (Script owner place fields)
-  is_array : {of : Element (List ℕ)} {ws : List Word}
+  is_array : {of : Elements (List ℕ)} {ws : List Word}
       → IsArray modules all of ws
       → IsObject modules all (Array of ws)
   is_host : {kind : ℕ} {state : List ℕ}
@@ -201,19 +202,19 @@ pub data IsObject (modules : Known) (all : Objects (List ℕ)) : Plain (List ℕ
 -- worlds
 
 -- each living object is well-formed among these
-pub record AreObjects (modules : Known) (all : Objects (List ℕ)) : Type 0 where
+pub record AreObjects (modules : Known) (all : LiveObjects (List ℕ)) : Type 0 where
   pub each : (number : ℕ) (object : Plain (List ℕ)) → object_at number all ≡ Some object → IsObject modules all object
 
 -- the host constructs objects of the kind
-abbrev pub IsOffered : signatures.Host → ℕ → Type 0
+abbrev pub IsOffered : signatures.HostSignatures → ℕ → Type 0
 IsOffered host kind = (parameters : List Primitive) × Contains (host.factories kind) parameters
 
 -- each living host object is of a kind of which the host constructs objects
-pub record AreOffered (host : signatures.Host) (all : Objects (List ℕ)) : Type 0 where
+pub record AreOffered (host : signatures.HostSignatures) (all : LiveObjects (List ℕ)) : Type 0 where
   pub each : (number kind : ℕ) → shape_at number all ≡ Some (OfKind kind) → IsOffered host kind
 
 -- each of these numbers is that of a living object
-pub record AllLive (all : Objects (List ℕ)) (numbers : List ℕ) : Type 0 where
+pub record AllLive (all : LiveObjects (List ℕ)) (numbers : List ℕ) : Type 0 where
   pub each : (number : ℕ) → Contains numbers number → Lives all number
 
 -- a word that a host answers with has a number that its type has
@@ -257,7 +258,7 @@ pub record Follows (old new : World) : Type 0 where
 -- frames
 
 -- the object whose method runs, where one does
-pub data IsThis (p : Program) (all : Objects (List ℕ)) : Option ℕ → Word → Type 0 where
+pub data IsThis (p : Program) (all : LiveObjects (List ℕ)) : Option ℕ → Word → Type 0 where
   no_this : IsThis p all None words.Null
   is_this : {class number : ℕ} {shape : Shape}
       → shape_at number all ≡ Some shape
@@ -265,22 +266,23 @@ pub data IsThis (p : Program) (all : Objects (List ℕ)) : Option ℕ → Word �
       → IsThis p all (Some class) (words.Object number)
 
 -- A frame of code that sees this environment: its locals are of their types, and what it holds lives.
-pub record IsFrame (c : Context) (all : Objects (List ℕ)) (env : Environment) (f : Frame) : Type 0 where
+pub record IsFrame (c : Context) (all : LiveObjects (List ℕ)) (env : TypedEnvironment) (f : Frame) : Type 0 where
   pub this : IsThis c.program all env.this f.this
   pub locals : AreValues c.program all env.locals f.locals
   pub held : AllLive all f.held
 
 -- frames of code that sees these environments
-pub data AreFrames (c : Context) (all : Objects (List ℕ)) : List Environment → List Frame → Type 0 where
+pub data AreFrames (c : Context) (all : LiveObjects (List ℕ)) : List TypedEnvironment → List Frame → Type 0 where
   no_frames : AreFrames c all [] []
-  and_frame : {env : Environment} {envs : List Environment} {f : Frame} {fs : List Frame}
+  and_frame : {env : TypedEnvironment} {envs : List TypedEnvironment} {f : Frame} {fs : List Frame}
       → IsFrame c all env f
       → AreFrames c all envs fs
       → AreFrames c all (env ∷ envs) (f ∷ fs)
 
 -- An activity whose frames are of code that sees these environments: the frame that runs, and its callers. Since the
 -- run began nothing changed what it is.
-pub record IsWellFormed (c : Context) (env : Environment) (envs : List Environment) (a : Activity) : Type 0 where
+pub record IsWellFormed (c : Context) (env : TypedEnvironment) (envs : List TypedEnvironment)
+    (a : Activity) : Type 0 where
   pub world : IsWorld c a.world
   pub since : Follows c.began a.world
   pub frame : IsFrame c (a.world).objects env a.frame
@@ -289,6 +291,6 @@ pub record IsWellFormed (c : Context) (env : Environment) (envs : List Environme
 
 -- for some environments
 pub record IsSafe (c : Context) (a : Activity) : Type 0 where
-  pub env : Environment
-  pub envs : List Environment
+  pub env : TypedEnvironment
+  pub envs : List TypedEnvironment
   pub well : IsWellFormed c env envs a

@@ -1,11 +1,11 @@
 //! The laws of well-formed worlds. A function without a body does nothing: its contract is the law.
 ghost use Rattle.std.specs.Prelude.{ℕ};
 ghost use Rattle.ash_wellformed.specs.WellFormed.{Context, IsContext};
-ghost use Rattle.ash_wellformed.specs.Laws.{ExpressionsKeep, StatementsKeep, BlocksKeep};
-ghost use Rattle.ash_wellformed.specs.Laws.{CallsKeep, MethodsKeep};
-ghost use Rattle.ash_wellformed.specs.Laws.{RunsKeep, LoadsKeep, CallsComeToAnEnd};
-ghost use Rattle.ash_wellformed.specs.Laws.{LoadsComeToAnEnd, MoreModulesKeep, FewerModulesKeep};
-ghost use Rattle.ash_wellformed.specs.Laws.{ValuesAreOfTheirModule, ValuesKeepTheirTypes};
+ghost use Rattle.ash_wellformed.specs.WellFormedLaws.{ExpressionsKeep, StatementsKeep, BlocksKeep};
+ghost use Rattle.ash_wellformed.specs.WellFormedLaws.{CallsKeep, MethodsKeep};
+ghost use Rattle.ash_wellformed.specs.WellFormedLaws.{RunsKeep, LoadsKeep, CallsComeToAnEnd};
+ghost use Rattle.ash_wellformed.specs.WellFormedLaws.{LoadsComeToAnEnd, MoreModulesKeep, FewerModulesKeep};
+ghost use Rattle.ash_wellformed.specs.WellFormedLaws.{ValuesAreOfTheirModule, ValuesKeepTheirTypes};
 
 /// A phrase of a sound module leaves what is well-formed, at each of its ends: an expression gives a value of its type,
 /// and so does a call; a statement is left by a jump that its scope allows, with what its function gives. A phrase has

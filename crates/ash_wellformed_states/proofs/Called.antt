@@ -8,11 +8,11 @@ use Rattle.std.proofs.lemmas.Option.{same_Some}
 use Rattle.ash_host.specs.declared.word.Word.{Word}
 use Rattle.ash_host.specs.Objects.{handles}
 use Rattle.ash_typed.specs.Modules.{Function, Module}
-use Rattle.ash_typed.specs.Signatures.{Host, types_of_globals}
+use Rattle.ash_typed.specs.Signatures.{HostSignatures, types_of_globals}
 use Rattle.ash_phrases.specs.Activity.{World}
 use Rattle.ash_phrases.specs.Ends.{Outcome, call_function}
 use Rattle.ash_wellformed.specs.WellFormed.{Context, IsContext, AreValues, IsWorld}
-use Rattle.ash_wellformed.specs.Laws.{OffersNothing, IsSettled}
+use Rattle.ash_wellformed.specs.WellFormedLaws.{OffersNothing, IsBetweenRequests}
 use Rattle.ash_wellformed.proofs.Triples.{follows_itself}
 use Rattle.ash_wellformed.proofs.Calls.{contains_map}
 use Rattle.ash_wellformed.proofs.Entries.{found_in}
@@ -71,7 +71,7 @@ false_of : (b : Bool) → not b ≡ true → b ≡ false
 false_of true e = absurd (cc)
 false_of false e = refl
 
-module _ {Fault : Type 0} (embedding : Embedding Fault) (host : Host) (sound : ReadsSound host embedding) (s : State) (hosts : Hosts) (h : IsWellFormedState embedding host s) (hs : AreHosts hosts) (m : LoadedModule) (tree : Module) (found : find_module m.name s ≡ Some m) (is : embedding.read m.source ≡ Ok tree) where
+module _ {Fault : Type 0} (embedding : Embedding Fault) (host : HostSignatures) (sound : ReadsSound host embedding) (s : State) (hosts : Hosts) (h : IsWellFormedState embedding host s) (hs : AreHosts hosts) (m : LoadedModule) (tree : Module) (found : find_module m.name s ≡ Some m) (is : embedding.read m.source ≡ Ok tree) where
   abbrev others : List LoadedModule
   others = without_module m.name s.modules
 
@@ -105,7 +105,7 @@ module _ {Fault : Type 0} (embedding : Embedding Fault) (host : Host) (sound : R
       let named = found_by_name s.modules h.ascending x i in
       same_Some x m (sym named ∙ ap (λ (n : List ℕ). find (has_name n) s.modules) (name_says m.name x e) ∙ found)
 
-  module _ (left : s.seq < max_seq) (w : World) (settled : IsSettled c w) where
+  module _ (left : s.seq < max_seq) (w : World) (settled : IsBetweenRequests c w) where
     abbrev f : LoadedModule → LoadedModule
     f = changed m.name w.globals
 

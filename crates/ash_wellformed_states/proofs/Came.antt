@@ -4,17 +4,17 @@ use Rattle.std.specs.Prelude.{Some, None, Contains, IsSome, Ok}
 use Rattle.std.specs.Option.{option_and_then}
 use Rattle.std.specs.Str.{bytes_eq}
 use Rattle.ash_host.specs.declared.word.Word.{Word}
-use Rattle.ash_host.specs.Objects.{Objects, handles}
+use Rattle.ash_host.specs.Objects.{LiveObjects, handles}
 use Rattle.ash_typed.specs.declared.types.VarType.{VarType}
 use Rattle.ash_typed.specs.Modules.{Module}
-use Rattle.ash_typed.specs.Signatures.{Host, types_of_globals}
+use Rattle.ash_typed.specs.Signatures.{HostSignatures, types_of_globals}
 use Rattle.ash_phrases.specs.Activity.{World}
 use Rattle.ash_phrases.specs.Releases.{sweep}
-use Rattle.ash_phrases.specs.Operators.{zero_of}
+use Rattle.ash_phrases.specs.OperatorMeaning.{zero_of}
 use Rattle.ash_phrases.specs.Classes.{Program}
 use Rattle.ash_phrases.specs.Ends.{Outcome, load_module, with_globals}
 use Rattle.ash_wellformed.specs.WellFormed.{Context, IsContext, AreValues, no_values, and_value, AreObjects, IsWorld}
-use Rattle.ash_wellformed.specs.Laws.{OffersNothing, IsSettled, KnowsAll}
+use Rattle.ash_wellformed.specs.WellFormedLaws.{OffersNothing, IsBetweenRequests, KnowsAll}
 use Rattle.ash_wellformed.proofs.Triples.{follows_itself}
 use Rattle.ash_wellformed.proofs.Integers.{zero_value}
 use Rattle.ash_wellformed.proofs.Entries.{found_passes, chained}
@@ -33,11 +33,11 @@ use Rattle.ash_wellformed_states.proofs.Left.{root_cases, hosts_after, begun, st
 abbrev nothing : Program
 nothing = record { name = []; tree = record { interfaces = []; classes = []; functions = []; globals = [] } }
 
-zero_values : {p : Program} {all : Objects (List ℕ)} (types : List VarType) → AreValues p all types (map zero_of types)
+zero_values : {p : Program} {all : LiveObjects (List ℕ)} (types : List VarType) → AreValues p all types (map zero_of types)
 zero_values [] = no_values
 zero_values (t ∷ types) = and_value (zero_value t) (zero_values types)
 
-module _ {Fault : Type 0} (embedding : Embedding Fault) (host : Host) (s : State) (hosts : Hosts) (h : IsWellFormedState embedding host s) (hs : AreHosts hosts) (left : s.seq < max_seq) where
+module _ {Fault : Type 0} (embedding : Embedding Fault) (host : HostSignatures) (s : State) (hosts : Hosts) (h : IsWellFormedState embedding host s) (hs : AreHosts hosts) (left : s.seq < max_seq) where
   -- discarded
 
   module _ (name : List ℕ) where
@@ -124,13 +124,13 @@ module _ {Fault : Type 0} (embedding : Embedding Fault) (host : Host) (s : State
     world_before : IsWorld c before
     world_before = begun embedding c s hosts (map zero_of (types_of_globals tree.globals)) s.modules h hs (λ m i. i) living_before (zero_values (types_of_globals tree.globals))
 
-    pub load_settles : (budget : ℕ) (o : Outcome) → load_module c.program budget (world_of [] s.modules s hosts) ≡ Some o → IsSettled c o.world
+    pub load_settles : (budget : ℕ) (o : Outcome) → load_module c.program budget (world_of [] s.modules s hosts) ≡ Some o → IsBetweenRequests c o.world
     load_settles budget o e = loads_keep context budget (world_of [] s.modules s hosts) o world_before (follows_itself before) e
 
     pub load_ends : (budget : ℕ) → OffersNothing host → IsSome (load_module c.program budget (world_of [] s.modules s hosts))
     load_ends budget none = loads_come_to_an_end context budget (world_of [] s.modules s hosts) none world_before
 
-    module _ (w : World) (settled : IsSettled c w) where
+    module _ (w : World) (settled : IsBetweenRequests c w) where
       -- one that did not come to its end goes
       unfinished : Context
       unfinished = record { host = host; program = nothing; modules = c.modules; began = before }

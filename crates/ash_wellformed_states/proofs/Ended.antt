@@ -2,21 +2,21 @@
 use Rattle.std.proofs.Common.{◌≡◌, ℕ, [], ◌∷◌, refl, ap, ◌∙◌}
 use Rattle.std.specs.Prelude.{Option, Ok, Err, IsSome, is_some, option_map}
 use Rattle.std.specs.Option.{option_and_then}
-use Rattle.ash_typed.specs.Signatures.{Host}
+use Rattle.ash_typed.specs.Signatures.{HostSignatures}
 use Rattle.ash_phrases.specs.Ends.{call_function, load_module}
-use Rattle.ash_wellformed.specs.Laws.{OffersNothing}
+use Rattle.ash_wellformed.specs.WellFormedLaws.{OffersNothing}
 use Rattle.ash_wellformed.proofs.Found.{some_from, some_mapped}
 use Rattle.ash_steps.specs.States.{State, Hosts, Embedding, without_module, world_of}
 use Rattle.ash_steps.specs.Tasks.{Task, Initialize, Invoke, Remove, Read, Show, Count, Rewrite, TaskResult, task_of}
 use Rattle.ash_steps.specs.Steps.{Step, after_load, after_call, perform, unless_refused, step, with_step, run, performed}
 use Rattle.ash_steps.specs.Premises.{ReadsSound}
-use Rattle.ash_wellformed_states.specs.WellFormedStates.{AreHosts, IsWellFormedState, HaveSteps, HaveRuns}
+use Rattle.ash_wellformed_states.specs.WellFormedStates.{AreHosts, IsWellFormedState, WellFormedHaveSteps, HaveRuns}
 use Rattle.ash_wellformed_states.proofs.Asked.{IsTask, initializes, calls, task_is}
 use Rattle.ash_wellformed_states.proofs.Called.{call_ends}
 use Rattle.ash_wellformed_states.proofs.Came.{load_ends}
 use Rattle.ash_wellformed_states.proofs.Stepped.{arguments_values, steps_keep}
 
-module _ {Fault : Type 0} (embedding : Embedding Fault) (host : Host) where
+module _ {Fault : Type 0} (embedding : Embedding Fault) (host : HostSignatures) where
   task_has_step : (budget : ℕ) (t : Task) (s : State) (hosts : Hosts) → OffersNothing host → ReadsSound host embedding → IsWellFormedState embedding host s → AreHosts hosts → IsTask embedding s t → IsSome (perform {Fault = Fault} budget t s hosts)
   task_has_step budget (Initialize name source tree) s hosts none sound h hs (initializes good is free few left) =
       some_mapped (after_load name source s) (load_module (record { name = name; tree = tree }) budget (world_of [] s.modules s hosts)) (load_ends embedding host s hosts h hs left sound name source tree good is free few budget none)
@@ -32,7 +32,7 @@ module _ {Fault : Type 0} (embedding : Embedding Fault) (host : Host) where
   result_has_step budget (Ok t) s hosts none sound h hs is = task_has_step budget t s hosts none sound h hs (is t refl)
   result_has_step budget (Err refusal) s hosts none sound h hs is = refl
 
-  pub have_steps : HaveSteps embedding host
+  pub have_steps : WellFormedHaveSteps embedding host
   have_steps budget request s hosts none sound h hs = result_has_step budget (task_of embedding request s) s hosts none sound h hs (λ t is. task_is embedding s request t is)
 
   pub have_runs : HaveRuns embedding host

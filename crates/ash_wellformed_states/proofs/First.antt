@@ -2,7 +2,7 @@
 use Rattle.std.proofs.Common.{ℕ, List, [], arith}
 use Rattle.std.specs.List.{AllByRecursion}
 use Rattle.ash_host.specs.Objects.{Plain, Lives}
-use Rattle.ash_typed.specs.Signatures.{Host}
+use Rattle.ash_typed.specs.Signatures.{HostSignatures}
 use Rattle.ash_wellformed.specs.WellFormed.{IsState}
 use Rattle.ash_steps.specs.States.{Embedding, empty}
 use Rattle.ash_wellformed_states.specs.WellFormedStates.{IsWellFormedState}
@@ -10,7 +10,7 @@ use Rattle.ash_wellformed_states.specs.WellFormedStates.{IsWellFormedState}
 none_lives : (number : ℕ) → Lives {A = Plain (List ℕ)} [] number → ⊥
 none_lives number h = cc
 
-pub empty_well : {Fault : Type 0} (embedding : Embedding Fault) (host : Host) (services : List (List ℕ)) → AllByRecursion IsState services → IsWellFormedState embedding host (empty services)
+pub empty_well : {Fault : Type 0} (embedding : Embedding Fault) (host : HostSignatures) (services : List (List ℕ)) → AllByRecursion IsState services → IsWellFormedState embedding host (empty services)
 empty_well embedding host services fits = record {
   ascending = tt;
   valid = tt;

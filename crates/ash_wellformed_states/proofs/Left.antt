@@ -4,15 +4,15 @@ use Rattle.std.specs.Prelude.{Option, Some, None, IsSome, Contains, Ok}
 use Rattle.std.specs.List.{AllByRecursion}
 use Rattle.std.specs.Option.{option_and_then}
 use Rattle.std.proofs.lemmas.List.Elements.{Contains-append_cases}
-use Rattle.ash_host.specs.Objects.{Objects, handles}
+use Rattle.ash_host.specs.Objects.{LiveObjects, handles}
 use Rattle.ash_host.proofs.SweepLaws.{reachable_along}
 use Rattle.ash_typed.specs.Modules.{Module}
-use Rattle.ash_typed.specs.Signatures.{Host, types_of_globals}
+use Rattle.ash_typed.specs.Signatures.{HostSignatures, types_of_globals}
 use Rattle.ash_phrases.specs.Activity.{World}
 use Rattle.ash_phrases.specs.Releases.{roots, sweep}
 use Rattle.ash_phrases.specs.Classes.{Program}
 use Rattle.ash_wellformed.specs.WellFormed.{Context, Shape, shape_at, AreValues, AllLive, AreObjects, Follows, IsWorld}
-use Rattle.ash_wellformed.specs.Laws.{IsSettled, KnowsAll, IsKnownShape}
+use Rattle.ash_wellformed.specs.WellFormedLaws.{IsBetweenRequests, KnowsAll, IsKnownShape}
 use Rattle.ash_wellformed.proofs.Values.{none_in, values_live}
 use Rattle.ash_wellformed.proofs.Ends.{settled}
 use Rattle.ash_wellformed.proofs.Modules.{fewer_modules_keep, values_are_of_their_module, values_keep_their_types}
@@ -39,12 +39,12 @@ swept_none w none = none
 hosts_kept : {c : Context} {w : World} → IsWorld c w → AreHosts (hosts_left w)
 hosts_kept h = record { pool = (h.states).pool; answers = (h.states).answers }
 
-pub hosts_after : {c : Context} {w : World} → IsSettled c w → AreHosts (hosts_left w)
+pub hosts_after : {c : Context} {w : World} → IsBetweenRequests c w → AreHosts (hosts_left w)
 hosts_after s = hosts_kept s.world
 
 module _ {Fault : Type 0} (embedding : Embedding Fault) where
   -- what the globals of modules refer to lives
-  pub globals_live : {host : Host} (s : State) → IsWellFormedState embedding host s → (ms : List LoadedModule) → ((m : LoadedModule) → Contains ms m → Contains s.modules m) → AllLive s.objects (handles (globals_of ms))
+  pub globals_live : {host : HostSignatures} (s : State) → IsWellFormedState embedding host s → (ms : List LoadedModule) → ((m : LoadedModule) → Contains ms m → Contains s.modules m) → AllLive s.objects (handles (globals_of ms))
   globals_live s h ms within = record {
     each = λ n i.
         let (m, at, inside) = from_globals ms n i in
@@ -65,7 +65,7 @@ module _ {Fault : Type 0} (embedding : Embedding Fault) where
   }
 
   -- the state that a run leaves
-  pub state_well : (c : Context) (s : State) (ms : List LoadedModule) (w : World) → IsSettled c w → Ascend ms → AllByRecursion HasValidName ms → length ms ≤ max_modules → AllByRecursion (IsLoaded embedding w.objects) ms → AreObjects (known_of embedding ms) w.objects → s.seq < max_seq → ((n : ℕ) → Contains (roots [] w) n → Contains (handles (globals_of ms)) n) → IsWellFormedState embedding c.host (state_after ms w s)
+  pub state_well : (c : Context) (s : State) (ms : List LoadedModule) (w : World) → IsBetweenRequests c w → Ascend ms → AllByRecursion HasValidName ms → length ms ≤ max_modules → AllByRecursion (IsLoaded embedding w.objects) ms → AreObjects (known_of embedding ms) w.objects → s.seq < max_seq → ((n : ℕ) → Contains (roots [] w) n → Contains (handles (globals_of ms)) n) → IsWellFormedState embedding c.host (state_after ms w s)
   state_well c s ms w settled ascending valid few loaded living left roots_in = record {
     ascending = ascending;
     valid = valid;
@@ -95,7 +95,7 @@ module _ {Fault : Type 0} (embedding : Embedding Fault) where
       from_state : Follows (record before { objects = s.objects; last = s.last }) w
       from_state = record {
         last = let le : before.last ≤ w.last = follows.last in omega (arith, last);
-        shapes = λ n shape le e. subst (λ (all : Objects (List ℕ)). shape_at n all ≡ Some shape) objects (follows.shapes n shape (omega (arith, last)) e);
+        shapes = λ n shape le e. subst (λ (all : LiveObjects (List ℕ)). shape_at n all ≡ Some shape) objects (follows.shapes n shape (omega (arith, last)) e);
         outside = follows.outside;
       }
 
@@ -115,7 +115,7 @@ module _ {Fault : Type 0} (embedding : Embedding Fault) where
   removed c s ms w h world since objects last outside none within ascending valid few knows left =
       (state_well c s ms (sweep [] w) after ascending valid few loaded living left roots_in, hosts_after after)
     where
-      after : IsSettled c (sweep [] w)
+      after : IsBetweenRequests c (sweep [] w)
       after = settled w world since
 
       roots_in : (n : ℕ) → Contains (roots [] (sweep [] w)) n → Contains (handles (globals_of ms)) n

@@ -4,17 +4,17 @@ use Rattle.std.specs.Prelude.{Option, Some, None, Ok, Err}
 use Rattle.std.specs.Ordering.{int_eq}
 use Rattle.std.proofs.lemmas.Option.{same_Some}
 use Rattle.ash_host.specs.declared.word.Word.{Word}
-use Rattle.ash_host.specs.Objects.{Objects}
+use Rattle.ash_host.specs.Objects.{LiveObjects}
 use Rattle.ash_integers.specs.Integers.{reduced}
 use Rattle.ash_typed.specs.declared.types.VarType.{VarType}
 use Rattle.ash_typed.specs.declared.types.VarType.TheVariants as vars
-use Rattle.ash_typed.specs.Signatures.{Host}
+use Rattle.ash_typed.specs.Signatures.{HostSignatures}
 use Rattle.ash_phrases.specs.Activity.{World}
-use Rattle.ash_phrases.specs.Operators.{word_at}
+use Rattle.ash_phrases.specs.OperatorMeaning.{word_at}
 use Rattle.ash_phrases.specs.Classes.{Program}
 use Rattle.ash_phrases.specs.Ends.{End, Finished, Threw, Aborted, call_function, load_module}
 use Rattle.ash_wellformed.specs.WellFormed.{IsValue, is_truth, is_integer, AreValues, no_values, and_value}
-use Rattle.ash_wellformed.specs.Laws.{IsSettled}
+use Rattle.ash_wellformed.specs.WellFormedLaws.{IsBetweenRequests}
 use Rattle.ash_wellformed.proofs.Integers.{integer_word}
 use Rattle.ash_wellformed.proofs.Entries.{mapped}
 use Rattle.ash_steps.specs.declared.argument.Argument.{Argument}
@@ -24,18 +24,18 @@ use Rattle.ash_steps.specs.Requests.{Refused, Value, ShownAs, Number, Done}
 use Rattle.ash_steps.specs.Tasks.{option_cons, argument_of, arguments_of, Task, Initialize, Invoke, Remove, Read, Show, Count, Rewrite, TaskResult, task_of}
 use Rattle.ash_steps.specs.Steps.{Step, replied, after_load_with, after_load, after_call, after_discard, perform, unless_refused, performed as was_performed, put_off, no_request, next_request}
 use Rattle.ash_steps.specs.Premises.{ReadsSound}
-use Rattle.ash_wellformed_states.specs.WellFormedStates.{AreHosts, IsWellFormedState, StepsKeep, RunsKeep}
+use Rattle.ash_wellformed_states.specs.WellFormedStates.{AreHosts, IsWellFormedState, StepsKeep, RunsKeepWellFormed}
 use Rattle.ash_wellformed_states.proofs.Asked.{IsTask, initializes, calls, removes, task_is}
 use Rattle.ash_wellformed_states.proofs.Called.{call_keeps}
 use Rattle.ash_wellformed_states.proofs.Came.{loading, discard_keeps, load_settles, unfinished_keeps, finished_keeps}
 
 -- arguments
 
-number_from : {p : Program} {all : Objects (List ℕ)} (int_type : _) (z : _) (w : Word) (b : Bool) → (if b then Some (word_at int_type z) else None) ≡ Some w → IsValue p all (vars.Integer int_type) w
+number_from : {p : Program} {all : LiveObjects (List ℕ)} (int_type : _) (z : _) (w : Word) (b : Bool) → (if b then Some (word_at int_type z) else None) ≡ Some w → IsValue p all (vars.Integer int_type) w
 number_from {p} {all} int_type z w true e = subst (IsValue p all (vars.Integer int_type)) (same_Some (word_at int_type z) w e) (is_integer (integer_word int_type z))
 number_from int_type z w false e = absurd (cc)
 
-argument_value : {p : Program} {all : Objects (List ℕ)} (of : VarType) (a : Argument) (w : Word) → argument_of of a ≡ Some w → IsValue p all of w
+argument_value : {p : Program} {all : LiveObjects (List ℕ)} (of : VarType) (a : Argument) (w : Word) → argument_of of a ≡ Some w → IsValue p all of w
 argument_value {p} {all} vars.Bool (arguments.Truth b) w e = subst (IsValue p all vars.Bool) (same_Some _ w e) is_truth
 argument_value vars.Bool (arguments.Number z) w e = absurd (cc)
 argument_value (vars.Integer int_type) (arguments.Truth b) w e = absurd (cc)
@@ -48,7 +48,7 @@ both_some (Some w) (Some rest) ws e = (w, rest, refl, refl, same_Some (w ∷ res
 both_some (Some w) None ws e = absurd (cc)
 both_some None os ws e = absurd (cc)
 
-pub arguments_values : {p : Program} {all : Objects (List ℕ)} (types : List VarType) (asked : List Argument) (ws : List Word) → arguments_of types asked ≡ Some ws → AreValues p all types ws
+pub arguments_values : {p : Program} {all : LiveObjects (List ℕ)} (types : List VarType) (asked : List Argument) (ws : List Word) → arguments_of types asked ≡ Some ws → AreValues p all types ws
 arguments_values {p} {all} [] [] ws e = subst (AreValues p all []) (same_Some [] ws e) no_values
 arguments_values [] (a ∷ asked) ws e = absurd (cc)
 arguments_values (t ∷ types) [] ws e = absurd (cc)
@@ -56,7 +56,7 @@ arguments_values {p} {all} (t ∷ types) (a ∷ asked) ws e =
     let (w, rest, one, more, whole) = both_some (argument_of t a) (arguments_of types asked) ws e in
     subst (AreValues p all (t ∷ types)) whole (and_value (argument_value t a w one) (arguments_values types asked rest more))
 
-module _ {Fault : Type 0} (embedding : Embedding Fault) (host : Host) where
+module _ {Fault : Type 0} (embedding : Embedding Fault) (host : HostSignatures) where
   abbrev Keeps : Step Fault → Type 0
   Keeps one = IsWellFormedState embedding host one.state × AreHosts one.hosts
 
@@ -69,7 +69,7 @@ module _ {Fault : Type 0} (embedding : Embedding Fault) (host : Host) where
       let settled = load_settles embedding host s hosts h hs left sound name source tree good is free few budget o ran in
       subst Keeps same (by_end o.end o.world settled)
     where
-      by_end : (end : End) (w : World) → IsSettled (loading embedding host s hosts h hs left sound name source tree good is free few) w → Keeps (after_load_with name source s end w)
+      by_end : (end : End) (w : World) → IsBetweenRequests (loading embedding host s hosts h hs left sound name source tree good is free few) w → Keeps (after_load_with name source s end w)
       by_end (Finished v) w settled = finished_keeps embedding host s hosts h hs left sound name source tree good is free few w settled
       by_end (Threw x f line) w settled = unfinished_keeps embedding host s hosts h hs left sound name source tree good is free few w settled
       by_end (Aborted f line) w settled = unfinished_keeps embedding host s hosts h hs left sound name source tree good is free few w settled
@@ -90,7 +90,7 @@ module _ {Fault : Type 0} (embedding : Embedding Fault) (host : Host) where
   steps_keep budget request s hosts one sound h hs (was_performed e) = stepped budget (task_of embedding request s) s hosts one sound h hs (λ t is. task_is embedding s request t is) e
   steps_keep budget request s hosts one sound h hs (put_off {refusal} cause e) = subst Keeps (sym e) (h, hs)
 
-  pub runs_keep : RunsKeep embedding host
+  pub runs_keep : RunsKeepWellFormed embedding host
   runs_keep budget [] s hosts history sound h hs no_request = (h, hs)
   runs_keep budget (request ∷ requests) s hosts history sound h hs (next_request {one = one} {rest = rest} first more) =
       let kept = steps_keep budget request s hosts one sound h hs first in

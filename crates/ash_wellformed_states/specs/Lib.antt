@@ -1,2 +1,2 @@
 pub mod WellFormedStates
-pub mod Examples
+pub mod ModuleExample

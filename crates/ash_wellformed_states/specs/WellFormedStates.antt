@@ -3,16 +3,16 @@ use Rattle.std.specs.Prelude.{◌≡◌, ◌≤◌, ℕ, true, List, [], ◌∷�
 use Rattle.std.specs.declared.cmp.Ordering.TheVariants.{Less}
 use Rattle.std.specs.List.{AllByRecursion}
 use Rattle.std.specs.Option.{option_and_then}
-use Rattle.ash_host.specs.Objects.{Objects, handles, Lives, AreNumbered}
+use Rattle.ash_host.specs.Objects.{LiveObjects, handles, Lives, AreNumbered}
 use Rattle.ash_host.specs.Reach.{ReachableIn}
 use Rattle.ash_host.specs.Records.{HostRecord}
 use Rattle.ash_host.specs.Limits.{max_objects}
 use Rattle.ash_typed.specs.Modules.{Module}
-use Rattle.ash_typed.specs.Signatures.{Host, types_of_globals}
+use Rattle.ash_typed.specs.Signatures.{HostSignatures, types_of_globals}
 use Rattle.ash_phrases.specs.Activity.{FreeBox}
 use Rattle.ash_phrases.specs.ObjectSteps.{max_number}
 use Rattle.ash_wellformed.specs.WellFormed.{Known, AreValues, AreObjects, AreOffered, IsState, IsAnswer}
-use Rattle.ash_wellformed.specs.Laws.{OffersNothing}
+use Rattle.ash_wellformed.specs.WellFormedLaws.{OffersNothing}
 use Rattle.ash_steps.specs.States.{LoadedModule, State, Hosts, Embedding, compare_names, has_name, globals_of}
 use Rattle.ash_steps.specs.Requests.{Request}
 use Rattle.ash_steps.specs.Tasks.{is_module_name, max_modules, max_seq, tree_of}
@@ -43,14 +43,14 @@ module _ {Fault : Type 0} (embedding : Embedding Fault) where
   known_of ms name = option_and_then (tree_of embedding) (find (has_name name) ms)
 
   -- a module that is loaded: its source is read, and its globals are of their types
-  pub record IsLoaded (all : Objects (List ℕ)) (m : LoadedModule) : Type 0 where
+  pub record IsLoaded (all : LiveObjects (List ℕ)) (m : LoadedModule) : Type 0 where
     pub tree : Module
     pub is : embedding.read m.source ≡ Ok tree
     pub values : AreValues (record { name = m.name; tree = tree }) all (types_of_globals tree.globals) m.globals
 
   -- A state: the modules are by ascending name, what is stored is of its type, host objects are of kinds that the host
   -- has, numbers are at most the last, limits hold, and every object can be reached from the globals.
-  pub record IsWellFormedState (host : Host) (s : State) : Type 0 where
+  pub record IsWellFormedState (host : HostSignatures) (s : State) : Type 0 where
     pub ascending : Ascend s.modules
     pub valid : AllByRecursion HasValidName s.modules
     pub few_modules : length s.modules ≤ max_modules
@@ -69,7 +69,7 @@ module _ {Fault : Type 0} (embedding : Embedding Fault) where
 
   -- A request leaves a well-formed state, and hosts as they may be, whatever it comes to: also where it is refused for
   -- a cause that is not in the state.
-  abbrev pub StepsKeep : Host → Type 0
+  abbrev pub StepsKeep : HostSignatures → Type 0
   StepsKeep host =
       (budget : ℕ) (request : Request) (state : State) (hosts : Hosts) (one : Step Fault)
       → ReadsSound host embedding
@@ -79,8 +79,8 @@ module _ {Fault : Type 0} (embedding : Embedding Fault) where
       → IsWellFormedState host one.state × AreHosts one.hosts
 
   -- and so do requests one after another
-  abbrev pub RunsKeep : Host → Type 0
-  RunsKeep host =
+  abbrev pub RunsKeepWellFormed : HostSignatures → Type 0
+  RunsKeepWellFormed host =
       (budget : ℕ) (requests : List Request) (state : State) (hosts : Hosts) (history : History Fault)
       → ReadsSound host embedding
       → IsWellFormedState host state
@@ -89,8 +89,8 @@ module _ {Fault : Type 0} (embedding : Embedding Fault) where
       → IsWellFormedState host history.state × AreHosts history.hosts
 
   -- Where the host offers nothing, each request has a step in a well-formed state.
-  abbrev pub HaveSteps : Host → Type 0
-  HaveSteps host =
+  abbrev pub WellFormedHaveSteps : HostSignatures → Type 0
+  WellFormedHaveSteps host =
       (budget : ℕ) (request : Request) (state : State) (hosts : Hosts)
       → OffersNothing host
       → ReadsSound host embedding
@@ -99,7 +99,7 @@ module _ {Fault : Type 0} (embedding : Embedding Fault) where
       → IsSome (step embedding budget request state hosts)
 
   -- and requests one after another have a run
-  abbrev pub HaveRuns : Host → Type 0
+  abbrev pub HaveRuns : HostSignatures → Type 0
   HaveRuns host =
       (budget : ℕ) (requests : List Request) (state : State) (hosts : Hosts)
       → OffersNothing host

@@ -2,9 +2,9 @@
 ghost use Rattle.std.specs.Prelude.{[]};
 ghost use Rattle.ash_steps.specs.States.{empty};
 ghost use Rattle.ash_steps.specs.Premises.{ReadsSound};
-ghost use Rattle.ash_wellformed.specs.Laws.{OffersNothing};
+ghost use Rattle.ash_wellformed.specs.WellFormedLaws.{OffersNothing};
 ghost use Rattle.ash_wellformed_states.specs.WellFormedStates.{IsWellFormedState};
-ghost use Rattle.ash_wellformed_states.specs.Examples.{no_host, read_adding};
+ghost use Rattle.ash_wellformed_states.specs.ModuleExample.{no_host, read_adding};
 
 /// Where each source is read as one small module, sources are read as sound modules, so that whatever requests leave is
 /// well-formed; and a host that offers nothing has no function, construction, method or property for scripts.

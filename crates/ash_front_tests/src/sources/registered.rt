@@ -5,7 +5,7 @@ use crate::compare::check_text;
 use crate::sources::checks::{checked, parts_of, read};
 use ash_registry::Registry;
 use ash_sources::sources::{AdmittedScripts, Sources};
-use ash_steps::sources::Sources as ReadSources;
+use ash_steps::sources::SourceReader;
 use std::alloc::{AllocError, Global};
 use std::process::Abort;
 use std::test::Fail;
@@ -86,8 +86,8 @@ fn read_by_steps(
         registry,
         admitted: AdmittedScripts::UsingNothingRegistered,
     };
-    let name = ReadSources::name_of_kind(&sources, alloc, kind)?;
-    let is_read = ReadSources::read(&sources, alloc, source)?.is_ok();
+    let name = SourceReader::name_of_kind(&sources, alloc, kind)?;
+    let is_read = SourceReader::read(&sources, alloc, source)?.is_ok();
     format!(in alloc; "{is_read} {name}")
 }
 

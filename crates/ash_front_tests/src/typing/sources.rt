@@ -2,7 +2,7 @@
 //! the source ends (`ok`, or its fault with the offset), or what another question asks.
 
 ghost use Rattle.std.specs.Prelude.{IfOk};
-ghost use Rattle.ash_tree.specs.Views.{module_of};
+ghost use Rattle.ash_tree.specs.TreeViews.{module_of};
 ghost use Rattle.ash_typing.specs.Nesting.{ItemsDeclareInBlocks};
 
 use crate::typing::cycles::cycle_of;

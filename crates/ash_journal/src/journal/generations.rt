@@ -6,7 +6,7 @@ ghost use Rattle.ash_journal.specs.Journal.{IsReady, HasFailed, Holds, CountsFai
 ghost use Rattle.ash_journal.specs.Journal.{LeavesCurrent};
 ghost use Rattle.ash_journal.specs.Installing.{IsNext};
 ghost use Rattle.ash_journal.specs.Current.{IsContents, HoldsOneOf};
-ghost use Rattle.ash_journal.specs.Runs.{HoldsSince};
+ghost use Rattle.ash_journal.specs.SettledSince.{HoldsSince};
 
 use crate::bytes::generation_bytes;
 use crate::error::InstallError;

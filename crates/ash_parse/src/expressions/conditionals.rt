@@ -1,9 +1,9 @@
 //! Reads the branches of a conditional.
 
 ghost use Rattle.std.specs.Prelude.{◌≡◌, ◌≤◌, IfOk};
-ghost use Rattle.ash_tree.specs.Tokens.{tokens_of};
+ghost use Rattle.ash_tree.specs.GrammarTokens.{tokens_of};
 ghost use Rattle.ash_tree.specs.Tree.{Conditional};
-ghost use Rattle.ash_tree.specs.Views.{expr_of};
+ghost use Rattle.ash_tree.specs.TreeViews.{expr_of};
 ghost use Rattle.ash_parse.specs.Readers.{ParsesAs};
 ghost use Rattle.ash_parse.specs.ExpressionReader as reader;
 
@@ -11,12 +11,12 @@ use super::{MAX_DEPTH, nested_assign};
 use crate::cursor::expect;
 use crate::error::ParseResult;
 use ash_lex::{Sign, Token};
-use ash_tree::{Expr, ExprKind, Place};
+use ash_tree::{Expr, ExprKind, Position};
 use std::alloc::{AllocError, Global};
 
 /// A condition with the first of its branches, and where they are.
 struct FirstBranch {
-    place: Place,
+    place: Position,
     condition: Box<Expr>,
     then: Box<Expr>,
 }
@@ -72,7 +72,7 @@ fn other_branch<'a>(
 }
 
 /// A condition with both its branches.
-fn conditional(place: Place, condition: Box<Expr>, then: Box<Expr>, otherwise: Box<Expr>) -> Expr
+fn conditional(place: Position, condition: Box<Expr>, then: Box<Expr>, otherwise: Box<Expr>) -> Expr
     ensures { expr_of result ≡ Conditional place (expr_of condition.value) (expr_of then.value)
         (expr_of otherwise.value) }
 {

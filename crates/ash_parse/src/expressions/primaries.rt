@@ -1,8 +1,8 @@
 //! Reads a primary: an operand without what goes before and after it.
 
 ghost use Rattle.std.specs.Prelude.{◌≤◌};
-ghost use Rattle.ash_tree.specs.Tokens.{tokens_of};
-ghost use Rattle.ash_tree.specs.Views.{expr_of};
+ghost use Rattle.ash_tree.specs.GrammarTokens.{tokens_of};
+ghost use Rattle.ash_tree.specs.TreeViews.{expr_of};
 ghost use Rattle.ash_parse.specs.Readers.{ParsesAs};
 ghost use Rattle.ash_parse.specs.ExpressionReader as reader;
 
@@ -12,7 +12,7 @@ use crate::data_types::{element, target};
 use crate::error::{ParseError, ParseResult};
 use crate::operators::primitive;
 use ash_lex::{ReservedWord, Sign, Token, TokenKind};
-use ash_tree::{Expr, ExprKind, Place, nodes};
+use ash_tree::{Expr, ExprKind, Position, nodes};
 use std::alloc::Global;
 
 /// `NUMBER | "true" | "false" | "null" | "this" | NAME [args] | "(" assign ")" | prim "(" assign ")"`, or
@@ -53,7 +53,7 @@ pub(super) fn primary(alloc: Global, room: u32, tokens: &[Token]) -> ParseResult
 /// `"<" elem ">" args`, after the word `array`
 #[cycle(expressions)]
 #[tactic(auto, unfolding(crate::specs::ExpressionReader::new_array_with))]
-fn new_array(alloc: Global, room: u32, place: Place, tokens: &[Token]) -> ParseResult<'_, Expr>
+fn new_array(alloc: Global, room: u32, place: Position, tokens: &[Token]) -> ParseResult<'_, Expr>
     requires { room ≤ MAX_DEPTH }
     ensures { ParsesAs expr_of result
         (reader.new_array_with (reader.below_at room) place (tokens_of tokens.now)) }
@@ -66,7 +66,7 @@ fn new_array(alloc: Global, room: u32, place: Place, tokens: &[Token]) -> ParseR
 /// `"<" NAME ">" "(" assign ")"`, after the word `cast`
 #[cycle(expressions)]
 #[tactic(auto, unfolding(crate::specs::ExpressionReader::cast_with))]
-fn cast(alloc: Global, room: u32, place: Place, tokens: &[Token]) -> ParseResult<'_, Expr>
+fn cast(alloc: Global, room: u32, place: Position, tokens: &[Token]) -> ParseResult<'_, Expr>
     requires { room ≤ MAX_DEPTH }
     ensures { ParsesAs expr_of result
         (reader.cast_with (reader.below_at room) place (tokens_of tokens.now)) }
@@ -82,7 +82,7 @@ fn cast(alloc: Global, room: u32, place: Place, tokens: &[Token]) -> ParseResult
 fn name_or_call<'a>(
     alloc: Global,
     room: u32,
-    place: Place,
+    place: Position,
     text: &str,
     tokens: &'a [Token],
 ) -> ParseResult<'a, Expr>

@@ -1,8 +1,8 @@
 //! Reads loops.
 
 ghost use Rattle.std.specs.Prelude.{◌≤◌};
-ghost use Rattle.ash_tree.specs.Tokens.{tokens_of};
-ghost use Rattle.ash_tree.specs.Views.{stmt_of};
+ghost use Rattle.ash_tree.specs.GrammarTokens.{tokens_of};
+ghost use Rattle.ash_tree.specs.TreeViews.{stmt_of};
 ghost use Rattle.ash_parse.specs.Readers.{ParsesAs};
 ghost use Rattle.ash_parse.specs.ExpressionReader as exprs;
 ghost use Rattle.ash_parse.specs.StatementReader as reader;
@@ -14,7 +14,7 @@ use crate::expressions::{MAX_DEPTH, bracketed, expressions};
 use crate::for_heads::{first, test};
 use crate::stmt_tokens::expect_while;
 use ash_lex::{Sign, Token};
-use ash_tree::{Place, Stmt, StmtKind, nodes};
+use ash_tree::{Position, Stmt, StmtKind, nodes};
 use std::alloc::Global;
 
 /// `"(" assign ")" stmt`, after the `while`
@@ -23,7 +23,7 @@ use std::alloc::Global;
 pub(super) fn while_statement<'a>(
     alloc: Global,
     room: u32,
-    place: Place,
+    place: Position,
     tokens: &'a [Token],
 ) -> ParseResult<'a, Stmt>
     requires { room ≤ MAX_DEPTH }
@@ -46,7 +46,7 @@ pub(super) fn while_statement<'a>(
 pub(super) fn do_statement<'a>(
     alloc: Global,
     room: u32,
-    place: Place,
+    place: Position,
     tokens: &'a [Token],
 ) -> ParseResult<'a, Stmt>
     requires { room ≤ MAX_DEPTH }
@@ -63,7 +63,7 @@ pub(super) fn do_statement<'a>(
 fn do_end<'a>(
     alloc: Global,
     room: u32,
-    place: Place,
+    place: Position,
     body: Box<Stmt>,
     tokens: &'a [Token],
 ) -> ParseResult<'a, Stmt>
@@ -88,7 +88,7 @@ fn do_end<'a>(
 pub(super) fn for_statement<'a>(
     alloc: Global,
     room: u32,
-    place: Place,
+    place: Position,
     tokens: &'a [Token],
 ) -> ParseResult<'a, Stmt>
     requires { room ≤ MAX_DEPTH }

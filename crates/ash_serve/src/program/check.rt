@@ -1,11 +1,11 @@
 //! Checking a script: its bytes are read and judged, and the verdict is written.
 
-ghost use Rattle.ash_registry.specs.Registered.{registered};
+ghost use Rattle.ash_registry.specs.RegistryViews.{registered};
 ghost use Rattle.ash_serve.specs.CheckRun.{EndsCheck, ChecksFile, ChecksScript};
 ghost use Rattle.ash_serve.specs.CheckRun.{Judges, WritesVerdict, check_state, streams_with, verdict_of};
 
-use super::ending::{End, Ending};
-use super::fault::Fault;
+use super::ending::{Ending, ProgramEnd};
+use super::fault::ProgramFault;
 use crate::fault::RunFault;
 use crate::run::MAX_BUFFERED_BYTES;
 use ash_lines::bytes::{MAX_PREFIX_BYTES, read_bytes};
@@ -30,12 +30,12 @@ pub fn run_check<R: Read + Drop, W: Write>(
     registry: &Registry,
     reader: R,
     writer: &mut W,
-) -> End
+) -> ProgramEnd
     ensures ends { EndsCheck (registered registry.now)
         (check_state (R.remaining reader) (W.contents writer.old)) result
         (W.contents writer.new) }
 {
-    End::by(check_file(alloc, registry, reader, writer))
+    ProgramEnd::by(check_file(alloc, registry, reader, writer))
 }
 
 /// Checks the script that a reader gives, with this registry, and writes a line: `ok`, or its refusal as the reply to a
@@ -48,7 +48,7 @@ pub fn check_file<R: Read + Drop, W: Write>(
     registry: &Registry,
     reader: R,
     writer: &mut W,
-) -> Result<Ending, Fault>
+) -> Result<Ending, ProgramFault>
     ensures checks { ChecksFile (registered registry.now)
         (check_state (R.remaining reader) (W.contents writer.old)) result
         (W.contents writer.new) }
@@ -70,13 +70,13 @@ pub fn check_script<S: Source, K: Sink>(
     registry: &Registry,
     input: &mut S,
     output: &mut K,
-) -> Result<Ending, Fault>
+) -> Result<Ending, ProgramFault>
     ensures checks { ChecksScript (streams_with S.feed K.outlet) (registered registry.now)
         (check_state input.old output.old) result (check_state input.new output.new) }
 {
     let mut script = Vec::with_capacity(alloc, MAX_PREFIX_BYTES)?;
     match read_bytes(input, MAX_SCRIPT_BYTES, &mut script) {
-        Err(fault) => Err(Fault::Run(RunFault::from(fault))),
+        Err(fault) => Err(ProgramFault::Run(RunFault::from(fault))),
         Ok(_) => {
             let verdict = judge(alloc, registry, script.as_slice())?;
             write_verdict(output, &verdict)
@@ -85,18 +85,25 @@ pub fn check_script<S: Source, K: Sink>(
 }
 
 /// Why this source is refused, if it is.
-fn judge(alloc: Global, registry: &Registry, source: &[u8]) -> Result<Option<SourceFault>, Fault>
+fn judge(
+    alloc: Global,
+    registry: &Registry,
+    source: &[u8],
+) -> Result<Option<SourceFault>, ProgramFault>
     ensures verdict { Judges (registered registry.now) source.now result }
 {
     match check_source(alloc, registry, source) {
         Ok(()) => Ok(None),
-        Err(SourceError::NoMemory) => Err(Fault::NoMemory),
+        Err(SourceError::NoMemory) => Err(ProgramFault::NoMemory),
         Err(SourceError::Fault(fault)) => Ok(Some(fault)),
     }
 }
 
 /// Writes the verdict on a script as a line, and returns how the program ends by it.
-fn write_verdict<K: Sink>(output: &mut K, verdict: &Option<SourceFault>) -> Result<Ending, Fault>
+fn write_verdict<K: Sink>(
+    output: &mut K,
+    verdict: &Option<SourceFault>,
+) -> Result<Ending, ProgramFault>
     ensures line { WritesVerdict K.outlet output.old (verdict_of verdict.now) result output.new }
 {
     let (written, ending) = match verdict {
@@ -105,6 +112,6 @@ fn write_verdict<K: Sink>(output: &mut K, verdict: &Option<SourceFault>) -> Resu
     };
     match written {
         Ok(()) => Ok(ending),
-        Err(_) => Err(Fault::Run(RunFault::Write)),
+        Err(_) => Err(ProgramFault::Run(RunFault::Write)),
     }
 }

@@ -3,7 +3,7 @@
 ghost use Rattle.std.specs.Prelude.{◌≡◌};
 ghost use Rattle.ash_serve.specs.Program.{end_of, ending_status};
 
-use super::fault::Fault;
+use super::fault::ProgramFault;
 
 /// How the program ends where no fault ends it.
 #[derive(Clone, Copy, Debug, PartialEq, Eq)]
@@ -28,22 +28,22 @@ impl Ending {
 
 /// How the program ends: its status, and the fault that it writes on standard error, if one ends it.
 #[derive(Debug, Drop)]
-pub struct End {
+pub struct ProgramEnd {
     pub status: u8,
-    pub fault: Option<Fault>,
+    pub fault: Option<ProgramFault>,
 }
 
-impl End {
+impl ProgramEnd {
     /// How the program ends by what it did.
-    pub fn by(done: Result<Ending, Fault>) -> End
+    pub fn by(done: Result<Ending, ProgramFault>) -> ProgramEnd
         ensures end { result ≡ end_of done }
     {
         match done {
-            Ok(ending) => End {
+            Ok(ending) => ProgramEnd {
                 status: ending.status(),
                 fault: None,
             },
-            Err(fault) => End {
+            Err(fault) => ProgramEnd {
                 status: fault.status(),
                 fault: Some(fault),
             },

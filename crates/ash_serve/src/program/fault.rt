@@ -11,7 +11,7 @@ use thiserror::Error;
 
 /// Why the program ends with another status than 0.
 #[derive(Debug, Drop, Error)]
-pub enum Fault {
+pub enum ProgramFault {
     /// The words ask for nothing that the program does.
     #[error("the words ask for nothing that the program does")]
     Usage,
@@ -29,17 +29,17 @@ pub enum Fault {
     Run(RunFault),
 }
 
-impl Fault {
+impl ProgramFault {
     /// What the program writes of it: its number and its name; for wrong words, `usage`.
     pub fn code(&self) -> &'static str
         ensures coded { result.now ≡ code_of self.now }
     {
         match self {
-            Fault::Usage => "usage",
-            Fault::NoMemory => "509 NoMemory",
-            Fault::Registry(fault) => fault.code(),
-            Fault::Store(fault) => fault.code(),
-            Fault::Run(fault) => fault.code(),
+            ProgramFault::Usage => "usage",
+            ProgramFault::NoMemory => "509 NoMemory",
+            ProgramFault::Registry(fault) => fault.code(),
+            ProgramFault::Store(fault) => fault.code(),
+            ProgramFault::Run(fault) => fault.code(),
         }
     }
 
@@ -48,33 +48,36 @@ impl Fault {
         ensures status { result ≡ status_of self.now }
     {
         match self {
-            Fault::Usage => 2,
-            Fault::NoMemory | Fault::Registry(_) | Fault::Store(_) | Fault::Run(_) => 1,
+            ProgramFault::Usage => 2,
+            ProgramFault::NoMemory
+            | ProgramFault::Registry(_)
+            | ProgramFault::Store(_)
+            | ProgramFault::Run(_) => 1,
         }
     }
 }
 
-impl From<AllocError> for Fault {
-    ghost use Rattle.ash_serve.specs.declared.program.fault.Fault.TheVariants as faults;
+impl From<AllocError> for ProgramFault {
+    ghost use Rattle.ash_serve.specs.declared.program.fault.ProgramFault.TheVariants as faults;
 
     ghost from_gives = { λ _ fault. fault ≡ faults.NoMemory };
 
     fn from(_: AllocError) -> Self {
-        Fault::NoMemory
+        ProgramFault::NoMemory
     }
 }
 
-impl From<RegistryFault> for Fault {
+impl From<RegistryFault> for ProgramFault {
     fn from(fault: RegistryFault) -> Self {
         match fault {
-            RegistryFault::NoMemory => Fault::NoMemory,
-            fault => Fault::Registry(fault),
+            RegistryFault::NoMemory => ProgramFault::NoMemory,
+            fault => ProgramFault::Registry(fault),
         }
     }
 }
 
-impl<D: Drop> From<HostRefused<D>> for Fault {
+impl<D: Drop> From<HostRefused<D>> for ProgramFault {
     fn from(refused: HostRefused<D>) -> Self {
-        Fault::Store(refused.fault)
+        ProgramFault::Store(refused.fault)
     }
 }

@@ -3,12 +3,12 @@
 ghost use Rattle.std.specs.Prelude.{◌≡◌, Err};
 ghost use Rattle.ash_durable.specs.OpenedStore.{Opens};
 ghost use Rattle.ash_durable.specs.Store.{Creates};
-ghost use Rattle.ash_registry.specs.Registered.{registered};
+ghost use Rattle.ash_registry.specs.RegistryViews.{registered};
 ghost use Rattle.ash_serve.specs.Service.{ServesHost, ServesFrom, service_remains, service_start};
 ghost use Rattle.ash_serve.specs.Serving.{run_state};
-ghost use Rattle.ash_serve.specs.declared.program.fault.Fault.TheVariants as faults;
+ghost use Rattle.ash_serve.specs.declared.program.fault.ProgramFault.TheVariants as faults;
 
-use super::fault::Fault;
+use super::fault::ProgramFault;
 use crate::run::run;
 use ash_disk::Disk;
 use ash_durable::{Host, HostRefused};
@@ -28,7 +28,7 @@ pub struct Service<D> {
 /// How serving ended, and the disks as they are left.
 #[derive(Drop)]
 pub struct ServiceEnd<D> {
-    pub end: Result<(), Fault>,
+    pub end: Result<(), ProgramFault>,
     pub a: D,
     pub b: D,
 }
@@ -95,7 +95,7 @@ fn serve_host<D: Disk, R: Read + Drop, W: Write>(
 {
     let end = match run(alloc, reader, writer, &mut host, budget) {
         Ok(()) => Ok(()),
-        Err(fault) => Err(Fault::Run(fault)),
+        Err(fault) => Err(ProgramFault::Run(fault)),
     };
     let (a, b) = host.close();
     ServiceEnd { end, a, b }
@@ -109,7 +109,7 @@ fn end_without_host<D>(refused: HostRefused<D>) -> ServiceEnd<D>
 {
     let HostRefused { fault, a, b } = refused;
     ServiceEnd {
-        end: Err(Fault::Store(fault)),
+        end: Err(ProgramFault::Store(fault)),
         a,
         b,
     }

@@ -1,6 +1,6 @@
 //! The files of a store in a folder.
 
-use super::fault::Fault;
+use super::fault::ProgramFault;
 use ash_disk::FileDisk;
 use ash_durable::{CreateFault, OpenFault, StoreFault};
 use std::alloc::{AllocError, Global};
@@ -22,13 +22,13 @@ impl Store {
     pub(super) fn open<R: Files<File = File> + AllocGlobal>(
         rt: &R,
         folder: &str,
-    ) -> Result<Store, Fault> {
+    ) -> Result<Store, ProgramFault> {
         let (first, second) = paths(rt.alloc(), folder)?;
         let a = FileDisk::open(rt, first.as_str()).map_err(open_fault)?;
         let b = FileDisk::open(rt, second.as_str()).map_err(open_fault)?;
         match lock_file(rt, first.as_str()).map_err(open_fault)? {
             Some(lock) => Ok(Store { a, b, lock }),
-            None => Err(Fault::Store(StoreFault::Open(OpenFault::DeviceFailed))),
+            None => Err(ProgramFault::Store(StoreFault::Open(OpenFault::DeviceFailed))),
         }
     }
 
@@ -37,13 +37,13 @@ impl Store {
     pub(super) fn make<R: Files<File = File> + AllocGlobal>(
         rt: &R,
         folder: &str,
-    ) -> Result<Store, Fault> {
+    ) -> Result<Store, ProgramFault> {
         let (first, second) = paths(rt.alloc(), folder)?;
         let a = FileDisk::open_or_make(rt, first.as_str()).map_err(make_fault)?;
         let b = FileDisk::open_or_make(rt, second.as_str()).map_err(make_fault)?;
         match lock_file(rt, first.as_str()).map_err(make_fault)? {
             Some(lock) => Ok(Store { a, b, lock }),
-            None => Err(Fault::Store(StoreFault::Create(CreateFault::AlreadyThere))),
+            None => Err(ProgramFault::Store(StoreFault::Create(CreateFault::AlreadyThere))),
         }
     }
 }
@@ -67,17 +67,17 @@ fn lock_file<R: Files<File = File>>(rt: &R, path: &str) -> io::Result<Option<Fil
 }
 
 /// Why a store is not opened whose file could not be.
-fn open_fault(error: io::Error) -> Fault {
+fn open_fault(error: io::Error) -> ProgramFault {
     match error.kind() {
-        io::ErrorKind::OutOfMemory => Fault::NoMemory,
-        _ => Fault::Store(StoreFault::Open(OpenFault::DeviceFailed)),
+        io::ErrorKind::OutOfMemory => ProgramFault::NoMemory,
+        _ => ProgramFault::Store(StoreFault::Open(OpenFault::DeviceFailed)),
     }
 }
 
 /// Why a store is not made whose file could not be opened or made.
-fn make_fault(error: io::Error) -> Fault {
+fn make_fault(error: io::Error) -> ProgramFault {
     match error.kind() {
-        io::ErrorKind::OutOfMemory => Fault::NoMemory,
-        _ => Fault::Store(StoreFault::Create(CreateFault::DeviceFailed)),
+        io::ErrorKind::OutOfMemory => ProgramFault::NoMemory,
+        _ => ProgramFault::Store(StoreFault::Create(CreateFault::DeviceFailed)),
     }
 }

@@ -1,6 +1,6 @@
 //! What the words of a command line ask for.
 
-use super::fault::Fault;
+use super::fault::ProgramFault;
 use clap::error::ErrorKind;
 use clap::{Arg, ArgAction, ArgMatches, Command};
 use std::alloc::{AllocError, Global};
@@ -13,7 +13,7 @@ const MAX_DIGITS: usize = 20;
 
 /// What the words of a command line ask for.
 #[derive(Clone, Copy, Debug)]
-pub enum Task<'a> {
+pub enum ProgramTask<'a> {
     /// Serve standard input and output, with the store in memory.
     Try { limits: Limits },
     /// Make a store in this folder.
@@ -34,28 +34,28 @@ pub struct Limits {
     pub counters: u64,
 }
 
-impl<'a> Task<'a> {
+impl<'a> ProgramTask<'a> {
     /// What the words of a command line ask for, the first of them being the program's name.
-    pub fn read(alloc: Global, words: &'a [String]) -> Result<Task<'a>, Fault> {
+    pub fn read(alloc: Global, words: &'a [String]) -> Result<ProgramTask<'a>, ProgramFault> {
         let matches = match command(alloc)?.try_get_matches_from(words) {
             Ok(matches) => matches,
             Err(error) => return Err(fault_of_words(error.kind())),
         };
         match matches.subcommand() {
-            Some(("try", matches)) => Ok(Task::Try {
+            Some(("try", matches)) => Ok(ProgramTask::Try {
                 limits: limits_of(matches)?,
             }),
-            Some(("create", matches)) => Ok(Task::Create {
+            Some(("create", matches)) => Ok(ProgramTask::Create {
                 folder: folder_of(matches)?,
             }),
-            Some(("serve", matches)) => Ok(Task::Serve {
+            Some(("serve", matches)) => Ok(ProgramTask::Serve {
                 folder: folder_of(matches)?,
                 limits: limits_of(matches)?,
             }),
-            Some(("check", matches)) => Ok(Task::Check {
+            Some(("check", matches)) => Ok(ProgramTask::Check {
                 file: file_of(matches)?,
             }),
-            _ => Err(Fault::Usage),
+            _ => Err(ProgramFault::Usage),
         }
     }
 }
@@ -99,40 +99,40 @@ fn file_word<'a>(alloc: Global) -> Arg<'a> {
 }
 
 /// Why words are refused. A request for help is a use of words like any other wrong one.
-fn fault_of_words(kind: ErrorKind) -> Fault {
+fn fault_of_words(kind: ErrorKind) -> ProgramFault {
     match kind {
-        ErrorKind::OutOfMemory => Fault::NoMemory,
-        _ => Fault::Usage,
+        ErrorKind::OutOfMemory => ProgramFault::NoMemory,
+        _ => ProgramFault::Usage,
     }
 }
 
 /// The folder that is named. An empty name would mean the root of all folders.
-fn folder_of<'a>(matches: &ArgMatches<'a>) -> Result<&'a str, Fault> {
+fn folder_of<'a>(matches: &ArgMatches<'a>) -> Result<&'a str, ProgramFault> {
     match matches.get_str("folder") {
         Some(folder) if !folder.is_empty() => Ok(folder),
-        _ => Err(Fault::Usage),
+        _ => Err(ProgramFault::Usage),
     }
 }
 
 /// The file that is named. An empty name is one that no file has.
-fn file_of<'a>(matches: &ArgMatches<'a>) -> Result<&'a str, Fault> {
-    matches.get_str("file").ok_or(Fault::Usage)
+fn file_of<'a>(matches: &ArgMatches<'a>) -> Result<&'a str, ProgramFault> {
+    matches.get_str("file").ok_or(ProgramFault::Usage)
 }
 
-fn limits_of(matches: &ArgMatches) -> Result<Limits, Fault> {
+fn limits_of(matches: &ArgMatches) -> Result<Limits, ProgramFault> {
     let budget = number(matches, "budget")?;
     let counters = number(matches, "counters")?;
     if counters > MAX_COUNTERS {
-        return Err(Fault::Usage);
+        return Err(ProgramFault::Usage);
     }
     Ok(Limits { budget, counters })
 }
 
 /// The number that an option is given: 1 to 20 digits, below 2^64.
-fn number(matches: &ArgMatches, option: &str) -> Result<u64, Fault> {
-    let text = matches.get_str(option).ok_or(Fault::Usage)?;
+fn number(matches: &ArgMatches, option: &str) -> Result<u64, ProgramFault> {
+    let text = matches.get_str(option).ok_or(ProgramFault::Usage)?;
     if text.len() > MAX_DIGITS || !text.bytes().all(|byte| byte.is_ascii_digit()) {
-        return Err(Fault::Usage);
+        return Err(ProgramFault::Usage);
     }
-    text.parse::<u64>().map_err(|_| Fault::Usage)
+    text.parse::<u64>().map_err(|_| ProgramFault::Usage)
 }

@@ -2,7 +2,7 @@
 //! left is refused, or is the image of the host that is restored. `reads_as` asks in the order in which a store does.
 
 ghost use Rattle.ash_state_image.specs.Rules.{IsShaped};
-ghost use Rattle.ash_state_image.specs.Views.{snapshot_of};
+ghost use Rattle.ash_state_image.specs.SnapshotViews.{snapshot_of};
 
 use crate::stored::compare::{check_bytes, check_count, check_true};
 use crate::stored::images::{

@@ -1,14 +1,14 @@
 //! Expressions (AngelScript manual, "Expressions").
 
 use crate::tree::operators::{AssignOp, BinaryOp, UnaryOp};
-use crate::tree::places::Place;
+use crate::tree::places::Position;
 use crate::tree::types::{Element, Primitive, TypeName};
 
 /// An expression, at its first token.
 #[cycle(expressions)]
 #[derive(Debug, PartialEq, Drop)]
 pub struct Expr {
-    pub place: Place,
+    pub place: Position,
     pub kind: ExprKind,
 }
 
@@ -77,12 +77,12 @@ pub enum ExprKind {
 pub enum Suffix {
     /// `.name`, at the name
     Field {
-        place: Place,
+        place: Position,
         name: String,
     },
     /// `.name(arguments)`, at the name
     Method {
-        place: Place,
+        place: Position,
         name: String,
         arguments: Vec<Expr>,
     },

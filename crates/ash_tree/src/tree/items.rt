@@ -1,6 +1,6 @@
 //! What a script declares, and what a host registers.
 
-use crate::tree::places::Place;
+use crate::tree::places::Position;
 use crate::tree::statements::{Stmt, Vars};
 use crate::tree::types::{Type, TypeName};
 
@@ -22,7 +22,7 @@ pub enum Item {
 /// A class, at its name, with the interfaces that it lists.
 #[derive(Debug, PartialEq, Drop)]
 pub struct Class {
-    pub place: Place,
+    pub place: Position,
     pub name: String,
     pub interfaces: Vec<TypeName>,
     pub members: Vec<Member>,
@@ -31,7 +31,7 @@ pub struct Class {
 /// An interface, at its name.
 #[derive(Debug, PartialEq, Drop)]
 pub struct Interface {
-    pub place: Place,
+    pub place: Position,
     pub name: String,
     pub methods: Vec<InterfaceMethod>,
 }
@@ -39,7 +39,7 @@ pub struct Interface {
 /// A method that an interface declares, at its name. Without a result type it is `void`.
 #[derive(Debug, PartialEq, Drop)]
 pub struct InterfaceMethod {
-    pub place: Place,
+    pub place: Position,
     pub result: Option<Type>,
     pub name: String,
     pub parameters: Vec<Parameter>,
@@ -56,7 +56,7 @@ pub enum Member {
 /// A function, at its name. Without a result type it is `void`.
 #[derive(Debug, PartialEq, Drop)]
 pub struct Function {
-    pub place: Place,
+    pub place: Position,
     pub result: Option<Type>,
     pub name: String,
     pub parameters: Vec<Parameter>,
@@ -66,7 +66,7 @@ pub struct Function {
 /// `name(parameters) { body }` in a class, at the name.
 #[derive(Debug, PartialEq, Drop)]
 pub struct Constructor {
-    pub place: Place,
+    pub place: Position,
     pub name: String,
     pub parameters: Vec<Parameter>,
     pub body: Vec<Stmt>,
@@ -76,7 +76,7 @@ pub struct Constructor {
 #[derive(Debug, PartialEq, Drop)]
 pub struct Parameter {
     pub of: Type,
-    pub place: Place,
+    pub place: Position,
     pub name: String,
 }
 
@@ -90,7 +90,7 @@ pub enum Declaration {
 /// A function without a body, at its name. Its parameters have no names.
 #[derive(Debug, Drop)]
 pub struct Signature {
-    pub place: Place,
+    pub place: Position,
     pub result: Option<Type>,
     pub name: String,
     pub parameters: Vec<Type>,
@@ -99,7 +99,7 @@ pub struct Signature {
 /// A property, at its name.
 #[derive(Debug, Drop)]
 pub struct Property {
-    pub place: Place,
+    pub place: Position,
     pub of: Type,
     pub name: String,
 }

@@ -1,7 +1,7 @@
 //! Declarations of variables, and statements (AngelScript manual, "Statements").
 
 use crate::tree::expressions::Expr;
-use crate::tree::places::Place;
+use crate::tree::places::Position;
 use crate::tree::types::Type;
 
 /// Variables of one type, one at the least: `type decl, ..;`
@@ -14,7 +14,7 @@ pub struct Vars {
 /// A variable, at its name.
 #[derive(Debug, PartialEq, Drop)]
 pub struct Decl {
-    pub place: Place,
+    pub place: Position,
     pub name: String,
     pub initializer: Initializer,
 }
@@ -34,7 +34,7 @@ pub enum Initializer {
 #[cycle(statements)]
 #[derive(Debug, PartialEq, Drop)]
 pub struct Stmt {
-    pub place: Place,
+    pub place: Position,
     pub kind: StmtKind,
 }
 
@@ -87,7 +87,7 @@ pub enum StmtKind {
 #[cycle(statements)]
 #[derive(Debug, PartialEq, Drop)]
 pub struct Case {
-    pub place: Place,
+    pub place: Position,
     pub label: Label,
     pub body: Vec<Stmt>,
 }

@@ -1,6 +1,6 @@
 //! Types as they are written (AngelScript manual, "Data types").
 
-use crate::tree::places::Place;
+use crate::tree::places::Position;
 
 /// A type that is no object type.
 #[derive(Clone, Copy, Debug, PartialEq, Eq)]
@@ -20,7 +20,7 @@ pub enum Primitive {
 /// A type, at its first token.
 #[derive(Debug, PartialEq, Drop)]
 pub struct Type {
-    pub place: Place,
+    pub place: Position,
     pub kind: TypeKind,
 }
 
@@ -41,7 +41,7 @@ pub enum TypeKind {
 /// The type of an array's elements, at its first token.
 #[derive(Debug, PartialEq, Drop)]
 pub struct Element {
-    pub place: Place,
+    pub place: Position,
     pub kind: ElementKind,
 }
 
@@ -56,6 +56,6 @@ pub enum ElementKind {
 /// The name of a class or an interface where a script refers to it.
 #[derive(Debug, PartialEq, Drop)]
 pub struct TypeName {
-    pub place: Place,
+    pub place: Position,
     pub name: String,
 }

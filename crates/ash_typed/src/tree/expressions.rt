@@ -4,7 +4,8 @@
 //! long.
 
 use crate::tree::operations::{
-    Calculation, Change, Conversion, IncrementOp, Lazy, Member, Method, Operation, Target, Variable,
+    Calculation, CallTarget, Change, Conversion, IncrementOp, Lazy, Method, ObjectMember,
+    Operation, Variable,
 };
 use crate::types::{Element, ObjectType, VarType};
 use ash_integers::IntType;
@@ -78,7 +79,7 @@ pub enum Expr {
     },
     /// The parameters are the types of the arguments, in order.
     Call {
-        target: Target,
+        target: CallTarget,
         parameters: Vec<VarType>,
         arguments: Vec<Expr>,
     },
@@ -91,7 +92,7 @@ pub enum Place {
     Variable(Variable),
     Member {
         object: Box<Expr>,
-        member: Member,
+        member: ObjectMember,
     },
     /// `array[index]`, with an index of type `uint`.
     Element {
@@ -106,7 +107,7 @@ pub enum Place {
 #[derive(Drop)]
 pub enum Link {
     /// What it holds.
-    Member(Member),
+    Member(ObjectMember),
     /// What an array has at an index of type `uint`.
     Index {
         index: Box<Expr>,

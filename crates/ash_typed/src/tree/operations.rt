@@ -14,7 +14,7 @@ pub enum Variable {
 
 /// What an object holds.
 #[derive(Clone, Copy)]
-pub enum Member {
+pub enum ObjectMember {
     /// A field of a class, by the place of the class and its own among the fields, with its type.
     Field {
         class: usize,
@@ -69,7 +69,7 @@ pub enum ArrayMethod {
 
 /// What a call calls, but for methods. What gives no value has no result.
 #[derive(Clone, Copy)]
-pub enum Target {
+pub enum CallTarget {
     /// A function of the module, by its place among them, with what it gives.
     Function {
         function: usize,

@@ -3,15 +3,15 @@ use Rattle.std.specs.declared.vec.Vec.{Vec}
 use Rattle.std.specs.declared.alloc.Global.{Global}
 use Rattle.ash_registrations.specs.declared.registrations.Registrations.{Registrations}
 use Rattle.ash_registrations.specs.Registered.{registered}
-use Rattle.ash_tree.specs.Views.{module_of as written_module}
+use Rattle.ash_tree.specs.TreeViews.{module_of as written_module}
 use Rattle.ash_typed.specs.Modules.{module_of}
 use Rattle.ash_classes.specs.declared.cycles.Cycle.{Cycle}
-use Rattle.ash_classes.specs.References.{Refers, classes_of}
+use Rattle.ash_classes.specs.ClassReferences.{DeclaredClassRefers, classes_of}
 use Rattle.ash_classes.specs.ReportedCycle.{reported_cycle}
-use Rattle.ash_classes.specs.Paths.{IsReportedCycle, AreRanks}
+use Rattle.ash_classes.specs.Paths.{IsReportedCycle, AreRanksAlong}
 use Rattle.ash_check.specs.CheckedModules.{IsChecked}
 use Rattle.ash_check.specs.Checks.{checked, Cyclic, IsNamedCycle}
-use Rattle.ash_check.specs.Faults.{fault_of_error}
+use Rattle.ash_check.specs.CheckFaults.{fault_of_error}
 use Rattle.ash_check.proofs.CheckedLaws.{is_checked}
 use Rattle.ash_check.proofs.CheckLaws.{error_is_reported, reported_if_err, typed_is_checked, cycle_is_reported}
 use Rattle.ash_check.proofs.CheckLaws.{path_begins_within, path_is_within, named_cycle}
@@ -26,13 +26,13 @@ returns-in_err-module-clause-answer c =
 pub cycle_names-requires-clause-first : goal.cycle_names-requires-clause-first
 cycle_names-requires-clause-first c =
     let classes = classes_of (written_module c.args.script.now) in
-    let reported : IsReportedCycle (Refers classes) c.in-Err.cycle.first c.in-Err.cycle.others.items = subst (λ r. IfErr r (λ (cycle : Cycle). IsReportedCycle (Refers classes) cycle.first cycle.others.items)) c.in-Err.is c.in_ok-ranks.ensures.cycle in
+    let reported : IsReportedCycle (DeclaredClassRefers classes) c.in-Err.cycle.first c.in-Err.cycle.others.items = subst (λ r. IfErr r (λ (cycle : Cycle). IsReportedCycle (DeclaredClassRefers classes) cycle.first cycle.others.items)) c.in-Err.is c.in_ok-ranks.ensures.cycle in
     path_begins_within classes c.in-Err.cycle.first c.in-Err.cycle.others.items c.in-Err.cycle.first reported.cycle.path
 
 pub cycle_names-requires-clause-others : goal.cycle_names-requires-clause-others
 cycle_names-requires-clause-others c =
     let classes = classes_of (written_module c.args.script.now) in
-    let reported : IsReportedCycle (Refers classes) c.in-Err.cycle.first c.in-Err.cycle.others.items = subst (λ r. IfErr r (λ (cycle : Cycle). IsReportedCycle (Refers classes) cycle.first cycle.others.items)) c.in-Err.is c.in_ok-ranks.ensures.cycle in
+    let reported : IsReportedCycle (DeclaredClassRefers classes) c.in-Err.cycle.first c.in-Err.cycle.others.items = subst (λ r. IfErr r (λ (cycle : Cycle). IsReportedCycle (DeclaredClassRefers classes) cycle.first cycle.others.items)) c.in-Err.is c.in_ok-ranks.ensures.cycle in
     path_is_within classes c.in-Err.cycle.first c.in-Err.cycle.others.items c.in-Err.cycle.first reported.cycle.path
 
 pub returns-in-Ok-clause-answer : goal.returns-in-Ok-clause-answer
@@ -54,7 +54,7 @@ pub returns-in_ok-cycle_names-in-Err-clause-cycle :
     goal.returns-in_ok-cycle_names-in-Err-clause-cycle
 returns-in_ok-cycle_names-in-Err-clause-cycle c =
     let classes = classes_of (written_module c.args.script.now) in
-    let reported : IsReportedCycle (Refers classes) c.in-Err.cycle.first c.in-Err.cycle.others.items = subst (λ r. IfErr r (λ (cycle : Cycle). IsReportedCycle (Refers classes) cycle.first cycle.others.items)) c.in-Err.is c.in_ok-ranks.ensures.cycle in
+    let reported : IsReportedCycle (DeclaredClassRefers classes) c.in-Err.cycle.first c.in-Err.cycle.others.items = subst (λ r. IfErr r (λ (cycle : Cycle). IsReportedCycle (DeclaredClassRefers classes) cycle.first cycle.others.items)) c.in-Err.is c.in_ok-ranks.ensures.cycle in
     subst (IsNamedCycle classes) (sym c.in_ok-cycle_names-in-Err.ensures) (named_cycle classes c.in-Err.cycle.first c.in-Err.cycle.others.items reported.cycle.path)
 
 pub returns-in-Ok-clause-typed : goal.returns-in-Ok-clause-typed
@@ -63,11 +63,11 @@ returns-in-Ok-clause-typed c = (check_module-exact (registered c.args.registry.n
 pub returns-in-Ok-clause-sound : goal.returns-in-Ok-clause-sound
 returns-in-Ok-clause-sound c =
     let items = written_module c.args.script.now in
-    let are = subst (λ r. IfOk r (λ (ranks : Vec ℕ Global). AreRanks (Refers (classes_of items)) (length (classes_of items)) ranks.items)) c.in-Ok.is c.in_ok-ranks.ensures.ranks in
+    let are = subst (λ r. IfOk r (λ (ranks : Vec ℕ Global). AreRanksAlong (DeclaredClassRefers (classes_of items)) (length (classes_of items)) ranks.items)) c.in-Ok.is c.in_ok-ranks.ensures.ranks in
     is_checked (registered c.args.registry.now) items (module_of c.in_ok-module.module) c.in-Ok.ranks.items c.requires.nested c.in_ok-module.ensures are
 
 pub invariant_of-result : goal.invariant_of-result
 invariant_of-result c =
     let items = written_module c.args.script.now in
-    let are = subst (λ r. IfOk r (λ (ranks : Vec ℕ Global). AreRanks (Refers (classes_of items)) (length (classes_of items)) ranks.items)) c.in-Ok.is c.in_ok-ranks.ensures.ranks in
+    let are = subst (λ r. IfOk r (λ (ranks : Vec ℕ Global). AreRanksAlong (DeclaredClassRefers (classes_of items)) (length (classes_of items)) ranks.items)) c.in-Ok.is c.in_ok-ranks.ensures.ranks in
     subst (λ (r : Registrations). IsChecked (registered r) (module_of c.in_ok-module.module) c.in-Ok.ranks.items) (sym c.of.ensures) (is_checked (registered c.args.registry.now) items (module_of c.in_ok-module.module) c.in-Ok.ranks.items c.requires.nested c.in_ok-module.ensures are)

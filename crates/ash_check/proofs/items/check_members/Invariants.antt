@@ -1,7 +1,7 @@
 use Rattle.std.proofs.Common.{◌≡◌, map, drop}
-use Rattle.ash_tree.specs.Views.{member_of}
-use Rattle.ash_typing.specs.Items.{check_members}
-use Rattle.ash_environment.specs.Views.{environment_of}
+use Rattle.ash_tree.specs.TreeViews.{member_of}
+use Rattle.ash_typing.specs.ItemRules.{check_members}
+use Rattle.ash_environment.specs.EnvironmentViews.{environment_of}
 use Rattle.ash_check.specs.WalkViews.{names_of, members_of}
 use Rattle.ash_check.proofs.items.check_members.Given as goal
 

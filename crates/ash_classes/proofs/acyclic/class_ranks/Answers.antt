@@ -1,9 +1,9 @@
 use Rattle.std.proofs.Common.{◌≡◌, ◌∙◌, ◌↔◌, ℕ, List, length, map, ap, subst, arith, refl}
 use Rattle.ash_tree.specs.declared.tree.items.Item as code_item
-use Rattle.ash_tree.specs.Views.{module_of, item_of}
-use Rattle.ash_classes.specs.Paths.{AreRanks}
+use Rattle.ash_tree.specs.TreeViews.{module_of, item_of}
+use Rattle.ash_classes.specs.Paths.{AreRanksAlong}
 use Rattle.ash_classes.specs.Marking.{rows_of, Goes}
-use Rattle.ash_classes.specs.References.{Refers, classes_of, borrowed_classes}
+use Rattle.ash_classes.specs.ClassReferences.{DeclaredClassRefers, classes_of, borrowed_classes}
 use Rattle.ash_classes.proofs.ReferenceLaws.{length-borrowed_classes}
 use Rattle.ash_classes.proofs.CycleLaws.{same_rows, rows_within, same_ranks, same_acyclic, same_cycle, only_cycle}
 use Rattle.ash_classes.proofs.CycleLaws.{in_ok, in_err, on_ok}
@@ -25,7 +25,7 @@ returns-clause-ranks c =
     let e : borrowed_classes c.deref-2.result.now ≡ all =
     ap borrowed_classes c.deref-2.ensures.value ∙ c.in_ok-classes.ensures.in_order
     ∙ ap (λ (xs : List code_item.Item). classes_of (map item_of xs)) c.deref.ensures.value in
-    let same : (from to : ℕ) → R from to ↔ Refers all from to =
+    let same : (from to : ℕ) → R from to ↔ DeclaredClassRefers all from to =
     same_rows c.in_ok-referrers.referrers.items c.deref-3.result.now (borrowed_classes c.deref-2.result.now) all
     c.deref-3.ensures.value e c.in_ok-referrers.ensures.rows in
     let long : length c.deref-3.result.now ≡ length all =
@@ -38,8 +38,8 @@ returns-clause-ranks c =
     ) in
     in_ok c.ranks.result _ _
     (λ answer. in_ok answer _ _
-    (λ ranks h. same_ranks R (Refers all) (length all) ranks.items same
-    (subst (λ (n : ℕ). AreRanks R n ranks.items) long h))) c.ranks.ensures.ranks
+    (λ ranks h. same_ranks R (DeclaredClassRefers all) (length all) ranks.items same
+    (subst (λ (n : ℕ). AreRanksAlong R n ranks.items) long h))) c.ranks.ensures.ranks
 
 pub returns-clause-acyclic : goal.returns-clause-acyclic
 returns-clause-acyclic c =
@@ -48,11 +48,11 @@ returns-clause-acyclic c =
     let e : borrowed_classes c.deref-2.result.now ≡ all =
     ap borrowed_classes c.deref-2.ensures.value ∙ c.in_ok-classes.ensures.in_order
     ∙ ap (λ (xs : List code_item.Item). classes_of (map item_of xs)) c.deref.ensures.value in
-    let same : (from to : ℕ) → R from to ↔ Refers all from to =
+    let same : (from to : ℕ) → R from to ↔ DeclaredClassRefers all from to =
     same_rows c.in_ok-referrers.referrers.items c.deref-3.result.now (borrowed_classes c.deref-2.result.now) all
     c.deref-3.ensures.value e c.in_ok-referrers.ensures.rows in
     in_ok c.ranks.result _ _
-    (λ answer. on_ok answer _ _ (λ h. same_acyclic R (Refers all) same h)) c.ranks.ensures.acyclic
+    (λ answer. on_ok answer _ _ (λ h. same_acyclic R (DeclaredClassRefers all) same h)) c.ranks.ensures.acyclic
 
 pub returns-clause-cycle : goal.returns-clause-cycle
 returns-clause-cycle c =
@@ -61,11 +61,11 @@ returns-clause-cycle c =
     let e : borrowed_classes c.deref-2.result.now ≡ all =
     ap borrowed_classes c.deref-2.ensures.value ∙ c.in_ok-classes.ensures.in_order
     ∙ ap (λ (xs : List code_item.Item). classes_of (map item_of xs)) c.deref.ensures.value in
-    let same : (from to : ℕ) → R from to ↔ Refers all from to =
+    let same : (from to : ℕ) → R from to ↔ DeclaredClassRefers all from to =
     same_rows c.in_ok-referrers.referrers.items c.deref-3.result.now (borrowed_classes c.deref-2.result.now) all
     c.deref-3.ensures.value e c.in_ok-referrers.ensures.rows in
     in_ok c.ranks.result _ _
-    (λ answer. in_err answer _ _ (λ cycle h. same_cycle R (Refers all) cycle.first cycle.others.items same h))
+    (λ answer. in_err answer _ _ (λ cycle h. same_cycle R (DeclaredClassRefers all) cycle.first cycle.others.items same h))
     c.ranks.ensures.cycle
 
 pub returns-clause-only : goal.returns-clause-only
@@ -75,13 +75,13 @@ returns-clause-only c =
     let e : borrowed_classes c.deref-2.result.now ≡ all =
     ap borrowed_classes c.deref-2.ensures.value ∙ c.in_ok-classes.ensures.in_order
     ∙ ap (λ (xs : List code_item.Item). classes_of (map item_of xs)) c.deref.ensures.value in
-    let same : (from to : ℕ) → R from to ↔ Refers all from to =
+    let same : (from to : ℕ) → R from to ↔ DeclaredClassRefers all from to =
     same_rows c.in_ok-referrers.referrers.items c.deref-3.result.now (borrowed_classes c.deref-2.result.now) all
     c.deref-3.ensures.value e c.in_ok-referrers.ensures.rows in
     in_ok c.ranks.result _ _
     (λ answer. in_err answer _ _
-    (λ cycle h. only_cycle (Refers all) cycle.first cycle.others.items
-    (same_cycle R (Refers all) cycle.first cycle.others.items same h))) c.ranks.ensures.cycle
+    (λ cycle h. only_cycle (DeclaredClassRefers all) cycle.first cycle.others.items
+    (same_cycle R (DeclaredClassRefers all) cycle.first cycle.others.items same h))) c.ranks.ensures.cycle
 
 pub returns-clause-none : goal.returns-clause-none
 returns-clause-none c =
@@ -90,11 +90,11 @@ returns-clause-none c =
     let e : borrowed_classes c.deref-2.result.now ≡ all =
     ap borrowed_classes c.deref-2.ensures.value ∙ c.in_ok-classes.ensures.in_order
     ∙ ap (λ (xs : List code_item.Item). classes_of (map item_of xs)) c.deref.ensures.value in
-    let same : (from to : ℕ) → R from to ↔ Refers all from to =
+    let same : (from to : ℕ) → R from to ↔ DeclaredClassRefers all from to =
     same_rows c.in_ok-referrers.referrers.items c.deref-3.result.now (borrowed_classes c.deref-2.result.now) all
     c.deref-3.ensures.value e c.in_ok-referrers.ensures.rows in
     in_ok c.ranks.result _ _
-    (λ answer. on_ok answer _ _ (λ h. none_if_acyclic all (same_acyclic R (Refers all) same h)))
+    (λ answer. on_ok answer _ _ (λ h. none_if_acyclic all (same_acyclic R (DeclaredClassRefers all) same h)))
     c.ranks.ensures.acyclic
 
 pub returns-clause-reported : goal.returns-clause-reported
@@ -104,10 +104,10 @@ returns-clause-reported c =
     let e : borrowed_classes c.deref-2.result.now ≡ all =
     ap borrowed_classes c.deref-2.ensures.value ∙ c.in_ok-classes.ensures.in_order
     ∙ ap (λ (xs : List code_item.Item). classes_of (map item_of xs)) c.deref.ensures.value in
-    let same : (from to : ℕ) → R from to ↔ Refers all from to =
+    let same : (from to : ℕ) → R from to ↔ DeclaredClassRefers all from to =
     same_rows c.in_ok-referrers.referrers.items c.deref-3.result.now (borrowed_classes c.deref-2.result.now) all
     c.deref-3.ensures.value e c.in_ok-referrers.ensures.rows in
     in_ok c.ranks.result _ _
     (λ answer. in_err answer _ _
     (λ cycle h. some_if_cycle all cycle.first cycle.others.items
-    (same_cycle R (Refers all) cycle.first cycle.others.items same h))) c.ranks.ensures.cycle
+    (same_cycle R (DeclaredClassRefers all) cycle.first cycle.others.items same h))) c.ranks.ensures.cycle

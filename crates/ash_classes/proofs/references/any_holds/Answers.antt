@@ -1,16 +1,16 @@
 use Rattle.std.proofs.Common.{◌≡◌, refl, true, List, map}
 use Rattle.std.specs.List.{Any}
 use Rattle.ash_tree.specs.declared.tree.items.Member as code_member
-use Rattle.ash_tree.specs.Views.{class_of, member_of}
-use Rattle.ash_classes.specs.References.{Holds}
+use Rattle.ash_tree.specs.TreeViews.{class_of, member_of}
+use Rattle.ash_classes.specs.ClassReferences.{MemberHolds}
 use Rattle.ash_classes.proofs.Searches.{found, passed_by, missed}
 use Rattle.ash_classes.proofs.ReferenceLaws.{any_of}
 use Rattle.ash_classes.proofs.references.any_holds.Goals as goal
 
 pub returns-then-holds : goal.returns-then-holds
 returns-then-holds c = let class = class_of c.args.class.now in (
-  λ u. found (λ (xs : List code_member.Member). Any (λ m. Holds m class) (map member_of xs))
-      (λ x. Holds (member_of x) class) (any_of (λ m. Holds m class) member_of) c.args.members.now
+  λ u. found (λ (xs : List code_member.Member). Any (λ m. MemberHolds m class) (map member_of xs))
+      (λ x. MemberHolds (member_of x) class) (any_of (λ m. MemberHolds m class) member_of) c.args.members.now
       c.loop-member.member-index c.member-item.result c.loop-member-test.true c.member-item.is
       (c.holds.ensures.0 c.if-holds.true),
   λ b. refl,
@@ -18,8 +18,8 @@ returns-then-holds c = let class = class_of c.args.class.now in (
 
 pub loop-member-preserved : goal.loop-member-preserved
 loop-member-preserved c = let class = class_of c.args.class.now in
-    passed_by (λ (xs : List code_member.Member). Any (λ m. Holds m class) (map member_of xs))
-    (λ x. Holds (member_of x) class) (any_of (λ m. Holds m class) member_of) c.args.members.now
+    passed_by (λ (xs : List code_member.Member). Any (λ m. MemberHolds m class) (map member_of xs))
+    (λ x. MemberHolds (member_of x) class) (any_of (λ m. MemberHolds m class) member_of) c.args.members.now
     c.loop-member.member-index c.member-item.result c.loop-member-test.true c.member-item.is
     (λ b. let e : c.holds.result ≡ true = c.holds.ensures.1 b in cc) c.loop-member.invariant
 
@@ -27,7 +27,7 @@ pub returns : goal.returns
 returns c = let class = class_of c.args.class.now in (
   λ u. cc,
   λ b.
-      absurd (missed (λ (xs : List code_member.Member). Any (λ m. Holds m class) (map member_of xs))
-      (λ x. Holds (member_of x) class) (any_of (λ m. Holds m class) member_of) c.args.members.now
+      absurd (missed (λ (xs : List code_member.Member). Any (λ m. MemberHolds m class) (map member_of xs))
+      (λ x. MemberHolds (member_of x) class) (any_of (λ m. MemberHolds m class) member_of) c.args.members.now
       c.loop-member.member-index c.loop-member-test.false c.loop-member.invariant b),
 )

@@ -2,7 +2,7 @@ use Rattle.std.proofs.Common.{◌≡◌, refl, true, List, map, sym, ◌∙◌, 
 use Rattle.std.proofs.lemmas.Slice.Eq.{bytes_eq-Decides}
 use Rattle.std.specs.List.{Any}
 use Rattle.ash_tree.specs.declared.tree.types.TypeName as code_name
-use Rattle.ash_tree.specs.Views.{type_name_of}
+use Rattle.ash_tree.specs.TreeViews.{type_name_of}
 use Rattle.ash_classes.proofs.Searches.{found, passed_by, missed}
 use Rattle.ash_classes.proofs.ReferenceLaws.{any_of}
 use Rattle.ash_classes.proofs.references.any_named.Goals as goal

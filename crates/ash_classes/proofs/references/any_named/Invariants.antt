@@ -1,6 +1,6 @@
 use Rattle.std.proofs.Common.{◌≡◌, drop, map}
 use Rattle.std.specs.List.{Any}
-use Rattle.ash_tree.specs.Views.{type_name_of}
+use Rattle.ash_tree.specs.TreeViews.{type_name_of}
 use Rattle.ash_classes.proofs.references.any_named.Given as goal
 
 abbrev pub invariant-loop-interface : goal.invariant-loop-interface

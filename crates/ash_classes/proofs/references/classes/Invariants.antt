@@ -1,6 +1,6 @@
 use Rattle.std.proofs.Common.{◌≡◌, ◌++◌, drop, map}
-use Rattle.ash_tree.specs.Views.{item_of}
-use Rattle.ash_classes.specs.References.{classes_of, borrowed_classes}
+use Rattle.ash_tree.specs.TreeViews.{item_of}
+use Rattle.ash_classes.specs.ClassReferences.{classes_of, borrowed_classes}
 use Rattle.ash_classes.proofs.references.classes.Given as goal
 
 abbrev pub invariant-loop-item : goal.invariant-loop-item

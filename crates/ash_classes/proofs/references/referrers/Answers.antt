@@ -1,7 +1,7 @@
 use Rattle.std.proofs.Common.{◌≡◌, ◌+◌, ◌∙◌, ℕ, List, sym, subst, arith, Some, slice_get, ap}
-use Rattle.ash_tree.specs.Views.{class_of}
+use Rattle.ash_tree.specs.TreeViews.{class_of}
 use Rattle.ash_classes.specs.Marking.{rows_of}
-use Rattle.ash_classes.specs.References.{borrowed_classes}
+use Rattle.ash_classes.specs.ClassReferences.{borrowed_classes}
 use Rattle.ash_classes.proofs.ReferenceLaws.{AreRowsBefore, rows_more, rows_end, rows_of-push, borrowed_at, length-borrowed_classes}
 use Rattle.ash_classes.proofs.references.referrers.Goals as goal
 

@@ -1,4 +1,4 @@
-use Rattle.ash_classes.specs.References.{borrowed_classes}
+use Rattle.ash_classes.specs.ClassReferences.{borrowed_classes}
 use Rattle.ash_classes.specs.Marking.{rows_of}
 use Rattle.ash_classes.proofs.ReferenceLaws.{AreRowsBefore}
 use Rattle.ash_classes.proofs.references.referrers.Given as goal

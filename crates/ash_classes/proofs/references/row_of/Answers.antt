@@ -1,6 +1,6 @@
 use Rattle.std.proofs.Common.{◌≡◌, ◌+◌, ◌∙◌, ℕ, List, sym, subst, arith, Some, slice_get, true, false, ap}
-use Rattle.ash_tree.specs.Views.{class_of}
-use Rattle.ash_classes.specs.References.{borrowed_classes}
+use Rattle.ash_tree.specs.TreeViews.{class_of}
+use Rattle.ash_classes.specs.ClassReferences.{borrowed_classes}
 use Rattle.ash_classes.proofs.ReferenceLaws.{IsRowBefore, row_more, row_same, row_end, borrowed_at, length-borrowed_classes}
 use Rattle.ash_classes.proofs.references.row_of.Goals as goal
 use Rattle.ash_classes.proofs.references.row_of.Goals.{then-refers+in_ok-push, else-refers}

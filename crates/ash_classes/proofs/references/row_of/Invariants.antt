@@ -1,5 +1,5 @@
-use Rattle.ash_tree.specs.Views.{class_of}
-use Rattle.ash_classes.specs.References.{borrowed_classes}
+use Rattle.ash_tree.specs.TreeViews.{class_of}
+use Rattle.ash_classes.specs.ClassReferences.{borrowed_classes}
 use Rattle.ash_classes.proofs.ReferenceLaws.{IsRowBefore}
 use Rattle.ash_classes.proofs.references.row_of.Given as goal
 

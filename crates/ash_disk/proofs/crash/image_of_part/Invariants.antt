@@ -1,5 +1,5 @@
 use Rattle.std.proofs.Common.{◌≡◌, take, reverse}
-use Rattle.ash_disk.specs.Calls.{file_after, MayLeave}
+use Rattle.ash_disk.specs.DiskCalls.{file_after, MayLeave}
 use Rattle.ash_disk.proofs.crash.image_of_part.Given as goal
 
 abbrev pub invariant-loop-call : goal.invariant-loop-call

@@ -1,5 +1,5 @@
 use Rattle.std.proofs.Common.{◌≡◌, ℕ, ◌<◌, length, get_or}
-use Rattle.ash_disk.specs.Image.{IsOutside}
+use Rattle.ash_disk.specs.DiskImage.{IsOutside}
 use Rattle.ash_disk.proofs.crash.mix.Given as goal
 
 -- what is outside the range is as it was

@@ -1,6 +1,6 @@
 use Rattle.std.proofs.Common.{IsTrue, length, sym, subst}
 use Rattle.std.proofs.lemmas.Result.{on_ok_weaker}
-use Rattle.ash_disk.specs.Image.{TornFrom}
+use Rattle.ash_disk.specs.DiskImage.{TornFrom}
 use Rattle.ash_disk.proofs.MomentLaws.{at_end, goes_on, weaker}
 use Rattle.ash_disk.proofs.durably.write_durably.Goals as goal
 

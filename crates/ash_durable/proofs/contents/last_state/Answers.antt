@@ -2,8 +2,8 @@ use Rattle.std.proofs.Common.{rules, ◌≡◌, ◌+◌, ◌∙◌, List, Ok, Er
 use Rattle.std.specs.List.{AllByRecursion}
 use Rattle.ash_journal.specs.declared.record.Record.{Record}
 use Rattle.ash_journal.specs.Reading.{bodies_of}
-use Rattle.ash_registry.specs.Registrations.{Registration}
-use Rattle.ash_registry.specs.Text.{text_of}
+use Rattle.ash_registry.specs.AcceptedRegistrations.{Registration}
+use Rattle.ash_registry.specs.RegistryText.{text_of}
 use Rattle.ash_durable.specs.Contents.{IsBodyWith, LeadsOn, LeadsThrough}
 use Rattle.ash_durable.proofs.Reading.{left_from, through_more, through_none}
 use Rattle.ash_durable.proofs.contents.last_state.Goals as goal

@@ -3,8 +3,8 @@ use Rattle.std.specs.List.{AllByRecursion}
 use Rattle.ash_journal.specs.declared.error.OpenFault.{OpenFault}
 use Rattle.ash_journal.specs.Reading.{bodies_of}
 use Rattle.ash_state_image.specs.declared.version.Version.{Version}
-use Rattle.ash_states.specs.States.{HostState}
-use Rattle.ash_registry.specs.Text.{text_of}
+use Rattle.ash_states.specs.HostStates.{HostState}
+use Rattle.ash_registry.specs.RegistryText.{text_of}
 use Rattle.ash_durable.specs.Contents.{IsBodyWith, LeadsThrough}
 use Rattle.ash_durable.proofs.contents.last_state.Given as goal
 

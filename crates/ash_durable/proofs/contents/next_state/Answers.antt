@@ -1,9 +1,9 @@
 use Rattle.std.proofs.Common.{◌≡◌, ◌∙◌, ℕ, List, true, false, ap, sym, subst}
-use Rattle.ash_registry.specs.Registered.{registered}
-use Rattle.ash_registry.specs.Text.{text_of}
-use Rattle.ash_state_image.specs.Rules.{IsBody}
+use Rattle.ash_registry.specs.RegistryViews.{registered}
+use Rattle.ash_registry.specs.RegistryText.{text_of}
+use Rattle.ash_state_image.specs.Rules.{IsImageBody}
 use Rattle.ash_state_image.specs.Snapshots.{Snapshot}
-use Rattle.ash_state_image.specs.Views.{snapshot_of}
+use Rattle.ash_state_image.specs.SnapshotViews.{snapshot_of}
 use Rattle.ash_durable.specs.Contents.{IsBodyWith}
 use Rattle.ash_durable.proofs.ContentsStates.{body_once}
 use Rattle.ash_durable.proofs.Reading.{image_shaped, leads_on, no_body_with}
@@ -20,7 +20,7 @@ returns-in-Some c =
     let stored = c.in-Some.stored in
     let s = snapshot_of stored.state in
     let body = c.args.next.now.body.items in
-    let is_body : IsBody body stored.version s = subst (λ (bytes : List ℕ). IsBody bytes stored.version s)
+    let is_body : IsImageBody body stored.version s = subst (λ (bytes : List ℕ). IsImageBody bytes stored.version s)
     c.deref.ensures.value (rw c.in-Some.is at c.in_ok-stored.ensures.found) in
     let text : s.registered ≡ text_of (registered c.args.registry) =
     ap (λ (t : Snapshot). t.registered)

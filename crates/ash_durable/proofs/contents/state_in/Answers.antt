@@ -3,10 +3,10 @@ use Rattle.std.proofs.lemmas.Result.{err_from_is_err_and}
 use Rattle.std.specs.List.{AllByRecursion}
 use Rattle.ash_journal.specs.Reading.{bodies_of}
 use Rattle.ash_journal.proofs.ReadLaws.{differ}
-use Rattle.ash_registry.specs.Registered.{registered}
-use Rattle.ash_registry.specs.Registrations.{Registration}
-use Rattle.ash_registry.specs.Text.{text_of}
-use Rattle.ash_state_image.specs.Views.{snapshot_of}
+use Rattle.ash_registry.specs.RegistryViews.{registered}
+use Rattle.ash_registry.specs.AcceptedRegistrations.{Registration}
+use Rattle.ash_registry.specs.RegistryText.{text_of}
+use Rattle.ash_state_image.specs.SnapshotViews.{snapshot_of}
 use Rattle.ash_durable.specs.Contents.{IsBodyWith, IsNoImage}
 use Rattle.ash_durable.proofs.Reading.{no_failure, reads_damage, reads_misshapen, reads_unadmitted, image_shaped}
 use Rattle.ash_durable.proofs.Reading.{image_restored, reads_through, reads_none, through_registered}

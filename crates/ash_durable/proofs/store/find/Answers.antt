@@ -1,4 +1,4 @@
-use Rattle.ash_registry.specs.Registered.{registered}
+use Rattle.ash_registry.specs.RegistryViews.{registered}
 use Rattle.ash_durable.specs.OpenedStore.{NotFound}
 use Rattle.ash_durable.proofs.Finding.{finds, not_opened}
 use Rattle.ash_durable.proofs.store.find.Goals as goal

@@ -1,6 +1,6 @@
 use Rattle.std.proofs.Common.{◌≡◌, map, drop}
 use Rattle.ash_typing.specs.Environment.{first_from, declares}
-use Rattle.ash_environment.specs.Views.{binding_of}
+use Rattle.ash_environment.specs.EnvironmentViews.{binding_of}
 use Rattle.ash_environment.proofs.lookup.first_binding.Given as goal
 
 abbrev pub invariant-loop-i : goal.invariant-loop-i

@@ -1,6 +1,6 @@
 use Rattle.std.proofs.Common.{◌≡◌, map, drop}
 use Rattle.ash_typing.specs.Environment.{first_from, is_called}
-use Rattle.ash_environment.specs.Views.{function_signature_of}
+use Rattle.ash_environment.specs.EnvironmentViews.{function_signature_of}
 use Rattle.ash_environment.proofs.lookup.first_function.Given as goal
 
 abbrev pub invariant-loop-i : goal.invariant-loop-i

@@ -2,7 +2,7 @@ use Rattle.std.proofs.Common.{◌-◌, [], None, Some, ◌∙◌, ap, sym, cond,
 use Rattle.ash_typing.specs.declared.types.Ty.TheVariants as ty
 use Rattle.ash_typing.specs.Environment.{last_named}
 use Rattle.ash_environment.specs.declared.signatures.Binding as code
-use Rattle.ash_environment.specs.Views.{binding_of}
+use Rattle.ash_environment.specs.EnvironmentViews.{binding_of}
 use Rattle.ash_environment.proofs.Locals.{nearest}
 use Rattle.ash_environment.proofs.lookup.last_binding.Goals as goal
 

@@ -1,6 +1,6 @@
 use Rattle.std.proofs.Common.{◌≡◌, None, map, take}
 use Rattle.ash_typing.specs.Environment.{last_named}
-use Rattle.ash_environment.specs.Views.{binding_of}
+use Rattle.ash_environment.specs.EnvironmentViews.{binding_of}
 use Rattle.ash_environment.proofs.lookup.last_binding.Given as goal
 
 -- none of the bindings after this one has the name

@@ -1,5 +1,5 @@
 use Rattle.std.proofs.Common.{◌≡◌, ◌++◌, map, drop}
-use Rattle.ash_typing.specs.Types.{var_type, ty_of}
+use Rattle.ash_typing.specs.TypeRules.{var_type, ty_of}
 use Rattle.ash_environment.proofs.parameters.host_types.Given as goal
 
 abbrev pub invariant-loop-primitive : goal.invariant-loop-primitive

@@ -1,5 +1,5 @@
 use Rattle.std.proofs.Common.{◌≡◌, ◌++◌, map, drop}
-use Rattle.ash_typing.specs.Types.{var_type}
+use Rattle.ash_typing.specs.TypeRules.{var_type}
 use Rattle.ash_environment.proofs.parameters.script_types.Given as goal
 
 abbrev pub invariant-loop-of : goal.invariant-loop-of

@@ -1,9 +1,9 @@
 use Rattle.std.proofs.Common.{subst, ap, ◌∙◌, rules, string_bytes, Option}
 use Rattle.ash_phrases.specs.Activity.{Activity}
-use Rattle.ash_phrases.specs.Laws.{initialized}
+use Rattle.ash_phrases.specs.MeaningLaws.{initialized}
 use Rattle.ash_phrases.specs.Ends.{Outcome, outcome_of}
 use Rattle.ash_plain_data.specs.ClassViews.{program_seen}
-use Rattle.ash_plain.specs.Views.{world_seen, activity_seen}
+use Rattle.ash_plain.specs.ActivityViews.{world_seen, activity_seen}
 use Rattle.ash_evaluator.specs.Entering.{without_value}
 use Rattle.ash_evaluator.specs.EndViews.{EndsAs}
 use Rattle.ash_evaluator.proofs.Loading.{load_is}

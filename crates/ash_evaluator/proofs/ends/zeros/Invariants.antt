@@ -1,7 +1,7 @@
 use Rattle.std.proofs.Common.{◌≡◌, ◌++◌, map, drop}
 use Rattle.ash_typed.specs.Modules.{variables_of}
 use Rattle.ash_typed.specs.Signatures.{types_of_globals}
-use Rattle.ash_phrases.specs.Operators.{zero_of}
+use Rattle.ash_phrases.specs.OperatorMeaning.{zero_of}
 use Rattle.ash_evaluator.proofs.ends.zeros.Given as goal
 
 abbrev pub invariant-loop-declaration : goal.invariant-loop-declaration

@@ -4,7 +4,7 @@ use Rattle.std.specs.Prelude.{is_none}
 use Rattle.std.proofs.lemmas.Bool.Decides.{nat_tests}
 use Rattle.ash_typed.specs.declared.tree.statements.Case as case_code
 use Rattle.ash_typed.specs.declared.tree.statements.Case.{size-Case}
-use Rattle.ash_phrases.specs.Statements.{is_constant}
+use Rattle.ash_phrases.specs.StatementMeaning.{is_constant}
 use Rattle.ash_evaluator.specs.Choosing.{from_case}
 use Rattle.ash_evaluator.proofs.Switching.{chosen_first, chosen_default, from_most}
 use Rattle.ash_evaluator.proofs.switches.chosen.Goals as goal

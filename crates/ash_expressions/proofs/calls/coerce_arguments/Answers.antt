@@ -2,9 +2,9 @@ use Rattle.std.proofs.Common.{◌≡◌, ◌≤◌, ◌∷◌, None, Some, sym, 
 use Rattle.std.proofs.lemmas.List.{length-map}
 use Rattle.std.proofs.lemmas.Result.{err_from_is_err_and}
 use Rattle.std.specs.Vec.Iter.{into_iter_items}
-use Rattle.ash_typed.specs.Views.{expr_of}
-use Rattle.ash_environment.specs.Views.{parameters_of, classes_of, first_and_rest}
-use Rattle.ash_expressions.specs.Views.{typed_of}
+use Rattle.ash_typed.specs.TypedTreeViews.{expr_of}
+use Rattle.ash_environment.specs.EnvironmentViews.{parameters_of, classes_of, first_and_rest}
+use Rattle.ash_expressions.specs.TypedExprViews.{typed_of}
 use Rattle.ash_expressions.proofs.Loops.{no_argument, no_parameter, stops, goes_on}
 use Rattle.ash_expressions.proofs.calls.coerce_arguments.Goals as goal
 

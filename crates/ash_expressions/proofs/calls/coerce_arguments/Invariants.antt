@@ -1,9 +1,9 @@
 use Rattle.std.proofs.Common.{◌≡◌, map}
 use Rattle.std.specs.Vec.Iter.{into_iter_items}
-use Rattle.ash_typed.specs.Views.{expr_of}
-use Rattle.ash_typing.specs.Expressions.{all_coerced}
-use Rattle.ash_environment.specs.Views.{parameters_of, classes_of}
-use Rattle.ash_expressions.specs.Views.{typed_of}
+use Rattle.ash_typed.specs.TypedTreeViews.{expr_of}
+use Rattle.ash_typing.specs.ExpressionRules.{all_coerced}
+use Rattle.ash_environment.specs.EnvironmentViews.{parameters_of, classes_of}
+use Rattle.ash_expressions.specs.TypedExprViews.{typed_of}
 use Rattle.ash_expressions.proofs.Loops.{coerced_after}
 use Rattle.ash_expressions.proofs.calls.coerce_arguments.Given as goal
 

@@ -1,5 +1,5 @@
-use Rattle.ash_environment.specs.Views.{environment_of}
-use Rattle.ash_expressions.specs.Views.{is_target}
+use Rattle.ash_environment.specs.EnvironmentViews.{environment_of}
+use Rattle.ash_expressions.specs.TypedExprViews.{is_target}
 use Rattle.ash_expressions.proofs.Nodes.{typed_call, typed_new_array, typed_postfix, typed_binary, typed_method}
 use Rattle.ash_expressions.proofs.expressions.+expressions.Goals as goal
 

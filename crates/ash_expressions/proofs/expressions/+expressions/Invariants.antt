@@ -4,11 +4,11 @@ use Rattle.ash_tree.specs.declared.tree.expressions.Expr.{size-Expr}
 use Rattle.ash_tree.specs.declared.tree.expressions.Link.{size-Link}
 use Rattle.ash_tree.specs.declared.tree.expressions.Suffix.{size-Suffix}
 use Rattle.ash_tree.specs.Tree as written
-use Rattle.ash_tree.specs.Views as views
+use Rattle.ash_tree.specs.TreeViews as views
 use Rattle.ash_typing.specs.TypingResult.{◌>>=◌}
-use Rattle.ash_typing.specs.Expressions.{check_expr, check_exprs, check_links, check_suffixes}
-use Rattle.ash_environment.specs.Views.{environment_of}
-use Rattle.ash_expressions.specs.Views.{typed_of}
+use Rattle.ash_typing.specs.ExpressionRules.{check_expr, check_exprs, check_links, check_suffixes}
+use Rattle.ash_environment.specs.EnvironmentViews.{environment_of}
+use Rattle.ash_expressions.specs.TypedExprViews.{typed_of}
 use Rattle.ash_expressions.proofs.Loops.{typed_after}
 use Rattle.ash_expressions.proofs.expressions.+expressions.Given as goal
 

@@ -1,5 +1,5 @@
 use Rattle.std.proofs.Common.{subst, arith}
-use Rattle.ash_disk.specs.Image.{TornFrom}
+use Rattle.ash_disk.specs.DiskImage.{TornFrom}
 use Rattle.ash_disk.proofs.MomentLaws.{weaker}
 use Rattle.ash_journal.specs.Reading.{ShutIs}
 use Rattle.ash_journal.specs.Writes.{IsUnused}

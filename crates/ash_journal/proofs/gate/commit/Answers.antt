@@ -1,5 +1,5 @@
 use Rattle.std.proofs.Common.{◌∙◌, ◌+◌, ◌∷◌, ◌++◌, [], IsTrue, length, drop, refl, ap, sym, subst}
-use Rattle.ash_disk.specs.Image.{after_write}
+use Rattle.ash_disk.specs.DiskImage.{after_write}
 use Rattle.ash_disk.proofs.MomentLaws.{goes_on}
 use Rattle.ash_disk.proofs.TornLaws.{byte_written}
 use Rattle.ash_journal.specs.Writes.{WhileCommitted}

@@ -1,5 +1,5 @@
 use Rattle.std.proofs.Common.{◌∙◌, ◌∷◌, [], ap}
-use Rattle.ash_disk.specs.Image.{after_write}
+use Rattle.ash_disk.specs.DiskImage.{after_write}
 use Rattle.ash_journal.specs.Writes.{WhileShut}
 use Rattle.ash_journal.proofs.GateLaws.{within, shut_written, shut_torn, while_written, on_ok_both, one_written}
 use Rattle.ash_journal.proofs.gate.shut_gate.Goals as goal

@@ -1,6 +1,6 @@
 use Rattle.std.proofs.Common.{◌∙◌, ◌+◌, ◌++◌, ◌≤◌, IsTrue, List, ℕ, length, sym, ap, subst, arith}
 use Rattle.std.specs.Option.{option_to_list}
-use Rattle.ash_disk.specs.Image.{bytes_at}
+use Rattle.ash_disk.specs.DiskImage.{bytes_at}
 use Rattle.ash_journal.proofs.ReadLaws.{cut_block, whole_block}
 use Rattle.ash_journal.proofs.one_file.read_block.Goals as goal
 

@@ -1,6 +1,6 @@
 use Rattle.std.proofs.Common.{◌≡◌, ◌∙◌, ◌+◌, [], ℕ, List, IsTrue, length, sym, ap, subst, arith}
 use Rattle.ash_journal.specs.Layout.{committed_bytes}
-use Rattle.ash_journal.specs.Reading.{IsRead, IsCutFault}
+use Rattle.ash_journal.specs.Reading.{IsFileRead, IsCutFault}
 use Rattle.ash_journal.proofs.ReadLaws.{image_cut, image_read, length-no_records}
 use Rattle.ash_journal.proofs.one_file.read_current.Goals as goal
 
@@ -25,7 +25,7 @@ returns-in-Ok-clause-answer g c generation honest len_is marked =
     let answer =
     c.in-Ok.ensures.answer generation image read.1 honest' (len_is ∙ ap length (sym same)) read.0 (same ∙ read.2)
     at_is in
-    subst (λ (l : List ℕ). IsRead generation image c.in-Ok.tail.records.items c.in-Ok.tail.end c.in-Ok.tail.gate l) same
+    subst (λ (l : List ℕ). IsFileRead generation image c.in-Ok.tail.records.items c.in-Ok.tail.end c.in-Ok.tail.gate l) same
     answer
 
 pub returns-in-Err-read_records-clause-answer : goal.returns-in-Err-read_records-clause-answer

@@ -1,7 +1,7 @@
 use Rattle.std.proofs.Common.{◌∙◌, ◌+◌, ℕ, List, IsTrue, length, drop, refl, sym, ap, subst, arith}
 use Rattle.ash_journal.specs.declared.record.Record.{Record}
-use Rattle.ash_journal.specs.Layout.{IsCut}
-use Rattle.ash_journal.specs.Reading.{IsBlock, IsReadTo}
+use Rattle.ash_journal.specs.Layout.{IsCutShort}
+use Rattle.ash_journal.specs.Reading.{IsFileBlock, IsReadTo}
 use Rattle.ash_disk.proofs.DeviceLaws.{read_none, read_on}
 use Rattle.ash_journal.proofs.ReadLaws.{read_start, read_cut, read_more}
 use Rattle.ash_journal.proofs.one_file.read_records.Goals as goal
@@ -27,7 +27,7 @@ returns-in-Ok-None-clause-answer g c generation image rest honest len_is fits is
     let cut = rw c.in-Ok-None.field-0-is at found in
     read_cut generation image (d.seen c.args.disk.now) c.loop-gate.records.items c.loop-gate.end c.loop-gate.gate
     c.loop-gate-test.true so_far
-    (subst (λ (l : List ℕ). IsCut (drop (c.loop-gate.end + 1) l)) same cut)
+    (subst (λ (l : List ℕ). IsCutShort (drop (c.loop-gate.end + 1) l)) same cut)
 
 pub loop-gate-preserved : goal.loop-gate-preserved
 loop-gate-preserved g c = record {
@@ -49,7 +49,7 @@ loop-gate-preserved g c = record {
       let more = read_more generation image (d.seen c.args.disk.now) c.loop-gate.records.items r c.loop-gate.end
       c.loop-gate.gate c.in-Ok-Some.block.gate (c.loop-gate.end + (5 + c.len.result)) c.loop-gate-test.true so_far
       (subst (λ (l : List ℕ).
-      IsBlock c.in-Ok-Some.block.body.items c.in-Ok-Some.block.gate (drop (c.loop-gate.end + 1) l)) same block) refl
+      IsFileBlock c.in-Ok-Some.block.body.items c.in-Ok-Some.block.gate (drop (c.loop-gate.end + 1) l)) same block) refl
       (omega (arith, c.len.ensures, c.in-Ok-Some.block.body.ok.0)) in
       subst (λ (found : List Record).
       IsReadTo generation image found (c.loop-gate.end + (5 + c.len.result)) c.in-Ok-Some.block.gate

@@ -2,7 +2,7 @@ use Rattle.std.proofs.Common.{List, ℕ, codes, sym, ◌∙◌, subst}
 use Rattle.std.proofs.lemmas.Result.{err_from_is_err_and}
 use Rattle.std.specs.List.{flat_map}
 use Rattle.ash_lines.specs.Sink.{Writes, FailsPartway}
-use Rattle.ash_lines.specs.Replies.{drop_text}
+use Rattle.ash_lines.specs.ReplyText.{drop_text}
 use Rattle.ash_lines.proofs.SinkLemmas.{fails-more, writes-then}
 use Rattle.ash_lines.proofs.TextLemmas.{some-drops}
 use Rattle.ash_lines.proofs.answer.write_drops.Goals as goal

@@ -1,6 +1,6 @@
 use Rattle.std.proofs.Common.{codes, string_bytes}
 use Rattle.std.proofs.lemmas.Result.{err_from_is_err_and}
-use Rattle.ash_lines.specs.Replies.{place_text}
+use Rattle.ash_lines.specs.ReplyText.{place_text}
 use Rattle.ash_lines.proofs.SinkLemmas.{fails-more, writes-then}
 use Rattle.ash_lines.proofs.answer.write_end.Goals as goal
 

@@ -1,6 +1,6 @@
 use Rattle.std.proofs.Common.{◌++◌, codes}
 use Rattle.std.proofs.lemmas.Result.{err_from_is_err_and}
-use Rattle.ash_lines.specs.Replies.{exception_text, place_text}
+use Rattle.ash_lines.specs.ReplyText.{exception_text, place_text}
 use Rattle.ash_lines.proofs.SinkLemmas.{fails-more, accepts-fails, writes-then}
 use Rattle.ash_lines.proofs.answer.write_exception_at.Goals as goal
 

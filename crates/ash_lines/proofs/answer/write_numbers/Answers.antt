@@ -1,6 +1,6 @@
 use Rattle.std.proofs.Common.{refl}
 use Rattle.std.proofs.lemmas.Result.{err_from_is_err_and}
-use Rattle.ash_lines.specs.Replies.{drop_text}
+use Rattle.ash_lines.specs.ReplyText.{drop_text}
 use Rattle.ash_lines.proofs.ItemLemmas.{wrote-none, wrote-more, wrote-failed, wrote-all}
 use Rattle.ash_lines.proofs.answer.write_numbers.Goals as goal
 

@@ -1,4 +1,4 @@
-use Rattle.ash_lines.specs.Replies.{drop_text}
+use Rattle.ash_lines.specs.ReplyText.{drop_text}
 use Rattle.ash_lines.proofs.ItemLemmas.{WroteUpTo}
 use Rattle.ash_lines.proofs.answer.write_numbers.Given as goal
 

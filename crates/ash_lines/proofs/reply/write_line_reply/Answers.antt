@@ -1,4 +1,4 @@
-use Rattle.ash_lines.specs.Replies.{reply_line}
+use Rattle.ash_lines.specs.ReplyText.{reply_line}
 use Rattle.ash_lines.proofs.reply.write_line_reply.Goals as goal
 
 pub returns-in-Host : goal.returns-in-Host

@@ -1,5 +1,5 @@
 use Rattle.std.proofs.Common.{◌≡◌, ◌∙◌, sym, ap, true, false, length, arith}
-use Rattle.ash_lines.specs.Words.{is_none_left}
+use Rattle.ash_lines.specs.LineWords.{is_none_left}
 use Rattle.ash_lines.proofs.WordLemmas.{parse_line-bad, parse_line-good, pieces-left, length-pieces}
 use Rattle.ash_lines.proofs.request_line.parse_line.Goals as goal
 

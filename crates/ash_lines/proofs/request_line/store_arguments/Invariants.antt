@@ -1,6 +1,6 @@
 use Rattle.std.proofs.Common.{◌≡◌, ◌≤◌, ◌+◌, length, vec_capacity}
 use Rattle.ash_lines.specs.Lines.{max_arguments, arguments_of}
-use Rattle.ash_lines.specs.Words.{words_left}
+use Rattle.ash_lines.specs.LineWords.{words_left}
 use Rattle.ash_lines.proofs.WordLemmas.{prepend}
 use Rattle.ash_lines.proofs.request_line.store_arguments.Given as goal
 

@@ -1,7 +1,7 @@
 use Rattle.std.proofs.Common.{◌≡◌, length}
 use Rattle.std.specs.List.{list_all}
 use Rattle.ash_lines.specs.Lines.{is_word}
-use Rattle.ash_lines.specs.Words.{words_left}
+use Rattle.ash_lines.specs.LineWords.{words_left}
 use Rattle.ash_lines.proofs.words.is_all_words.Given as goal
 
 abbrev pub invariant-loop-word : goal.invariant-loop-word

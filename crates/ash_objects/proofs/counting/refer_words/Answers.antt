@@ -3,7 +3,7 @@ use Rattle.std.specs.Prelude.{slice_get, IfSome}
 use Rattle.ash_host.specs.declared.word.Word.{Word}
 use Rattle.ash_host.specs.Objects.{Lives, handle}
 use Rattle.ash_slots.specs.Store.{SlotEntry}
-use Rattle.ash_slots.specs.Counting.{counted, change_handle, incremented}
+use Rattle.ash_slots.specs.SlotCounting.{counted, change_handle, incremented}
 use Rattle.ash_objects.specs.Counting.{refer_all, words_at}
 use Rattle.ash_objects.proofs.Fields.{face_more, in_face}
 use Rattle.ash_objects.proofs.Referring.{rest_at, rest_none, word_alive, alive_face, more_most, words_item, word_within, word_got, words_at_face}

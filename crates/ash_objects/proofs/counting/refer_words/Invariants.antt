@@ -1,6 +1,6 @@
 use Rattle.std.proofs.Common.{◌≡◌, ◌≤◌, ◌+◌, ℕ, drop}
 use Rattle.ash_slots.specs.Store.{IsIn}
-use Rattle.ash_slots.specs.Counting.{counted}
+use Rattle.ash_slots.specs.SlotCounting.{counted}
 use Rattle.ash_objects.specs.Counting.{refer_all, words_at, face_at}
 use Rattle.ash_objects.proofs.counting.refer_words.Given as goal
 

@@ -1,6 +1,6 @@
 use Rattle.std.proofs.Common.{◌≡◌, ◌≤◌, ℕ, drop}
 use Rattle.ash_host.specs.Objects.{handles_to}
-use Rattle.ash_slots.specs.Counting.{counted}
+use Rattle.ash_slots.specs.SlotCounting.{counted}
 use Rattle.ash_objects.specs.Counting.{release_all}
 use Rattle.ash_objects.proofs.counting.release_words.Given as goal
 

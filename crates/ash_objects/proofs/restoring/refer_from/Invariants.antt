@@ -1,5 +1,5 @@
 use Rattle.std.proofs.Common.{◌≡◌, ◌≤◌, ◌*◌, ℕ, drop}
-use Rattle.ash_slots.specs.Counting.{counted}
+use Rattle.ash_slots.specs.SlotCounting.{counted}
 use Rattle.ash_objects.specs.Counting.{face_at}
 use Rattle.ash_objects.specs.Restoring.{refer_objects}
 use Rattle.ash_objects.proofs.restoring.refer_from.Given as goal

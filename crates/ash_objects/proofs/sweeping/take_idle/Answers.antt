@@ -1,6 +1,6 @@
 use Rattle.std.proofs.Common.{◌≡◌, ℕ, sym, ap, ◌∙◌}
 use Rattle.ash_host.specs.Objects.{object_at}
-use Rattle.ash_slots.specs.Counting.{counted}
+use Rattle.ash_slots.specs.SlotCounting.{counted}
 use Rattle.ash_slots.proofs.Placing.{in_from_idle}
 use Rattle.ash_objects.proofs.Collecting.{taken_covers, idle_zero}
 use Rattle.ash_objects.proofs.sweeping.take_idle.Goals as goal

@@ -1,8 +1,8 @@
 use Rattle.std.proofs.Common.{◌≡◌, ◌∙◌, sym, map, arith, true, false}
 use Rattle.std.proofs.lemmas.List.{length-map}
 use Rattle.std.proofs.lemmas.Result.{err_from_is_err_and}
-use Rattle.ash_tree.specs.Tokens.{tokens_of, placed}
-use Rattle.ash_tree.specs.Views.{member_of}
+use Rattle.ash_tree.specs.GrammarTokens.{tokens_of, placed}
+use Rattle.ash_tree.specs.TreeViews.{member_of}
 use Rattle.ash_parse.specs.StatementReader.{goes_on}
 use Rattle.ash_parse.specs.ItemReader.{members_at, member_at}
 use Rattle.ash_parse.proofs.Loop.{goes_on as go_on, ends, is_done}

@@ -1,6 +1,6 @@
 use Rattle.std.proofs.Common.{◌≡◌, length, map}
-use Rattle.ash_tree.specs.Tokens.{tokens_of}
-use Rattle.ash_tree.specs.Views.{member_of}
+use Rattle.ash_tree.specs.GrammarTokens.{tokens_of}
+use Rattle.ash_tree.specs.TreeViews.{member_of}
 use Rattle.ash_parse.specs.ItemReader.{members_at}
 use Rattle.ash_parse.proofs.Loop.{with_prefix}
 use Rattle.ash_parse.proofs.classes.members.Given as goal

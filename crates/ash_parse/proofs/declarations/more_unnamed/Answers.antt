@@ -2,8 +2,8 @@ use Rattle.std.proofs.Common.{◌≡◌, ◌∙◌, sym, map, arith, true, false
 use Rattle.std.proofs.lemmas.List.{length-map}
 use Rattle.std.proofs.lemmas.Result.{err_from_is_err_and}
 use Rattle.ash_lex.specs.declared.signs.Sign.TheVariants as signs
-use Rattle.ash_tree.specs.Tokens.{tokens_of, placed}
-use Rattle.ash_tree.specs.Views.{type_of}
+use Rattle.ash_tree.specs.GrammarTokens.{tokens_of, placed}
+use Rattle.ash_tree.specs.TreeViews.{type_of}
 use Rattle.ash_parse.specs.Readers.{put, next_is_sign}
 use Rattle.ash_parse.specs.ItemReader.{more_unnamed_at, next_unnamed_at}
 use Rattle.ash_parse.proofs.Loop.{goes_on as go_on, ends, is_done}

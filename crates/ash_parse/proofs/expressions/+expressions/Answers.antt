@@ -2,8 +2,8 @@ use Rattle.std.proofs.Common.{◌≡◌, ◌<◌, ◌≤◌, ◌∙◌, refl, sy
 use Rattle.std.proofs.lemmas.List.{length-map}
 use Rattle.std.proofs.lemmas.Result.{err_from_is_err_and}
 use Rattle.ash_lex.specs.declared.signs.Sign.TheVariants as signs
-use Rattle.ash_tree.specs.Tokens.{tokens_of, placed}
-use Rattle.ash_tree.specs.Views.{expr_of, suffix_of, operation_of}
+use Rattle.ash_tree.specs.GrammarTokens.{tokens_of, placed}
+use Rattle.ash_tree.specs.TreeViews.{expr_of, suffix_of, operation_of}
 use Rattle.ash_parse.specs.Readers.{put, next_is_sign}
 use Rattle.ash_parse.specs.ExpressionReader.{below_at, binary_with, is_link, link_by, links_by, is_suffix, suffix_with, suffixes_with, postfix_with, next_expr_with, more_exprs_with}
 use Rattle.ash_parse.proofs.Loop.{loop_done, goes_on, ends, is_done}

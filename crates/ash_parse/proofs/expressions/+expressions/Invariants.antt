@@ -1,6 +1,6 @@
 use Rattle.std.proofs.Common.{◌≡◌, ◌+◌, ◌-◌, ◌*◌, length, map}
-use Rattle.ash_tree.specs.Tokens.{tokens_of}
-use Rattle.ash_tree.specs.Views.{expr_of, suffix_of, operation_of}
+use Rattle.ash_tree.specs.GrammarTokens.{tokens_of}
+use Rattle.ash_tree.specs.TreeViews.{expr_of, suffix_of, operation_of}
 use Rattle.ash_parse.specs.Readers.{put}
 use Rattle.ash_parse.specs.ExpressionReader.{next_level, more_exprs_with, suffixes_with, links_by, binary_with, below_at}
 use Rattle.ash_parse.proofs.Loop.{with_prefix}

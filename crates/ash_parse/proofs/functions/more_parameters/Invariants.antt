@@ -1,6 +1,6 @@
 use Rattle.std.proofs.Common.{◌≡◌, length, map}
-use Rattle.ash_tree.specs.Tokens.{tokens_of}
-use Rattle.ash_tree.specs.Views.{parameter_of}
+use Rattle.ash_tree.specs.GrammarTokens.{tokens_of}
+use Rattle.ash_tree.specs.TreeViews.{parameter_of}
 use Rattle.ash_parse.specs.Readers.{put}
 use Rattle.ash_parse.specs.ItemReader.{more_parameters_at}
 use Rattle.ash_parse.proofs.Loop.{with_prefix}

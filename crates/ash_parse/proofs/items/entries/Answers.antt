@@ -1,8 +1,8 @@
 use Rattle.std.proofs.Common.{◌≡◌, ◌∙◌, sym, map, arith, true, false}
 use Rattle.std.proofs.lemmas.List.{length-map}
 use Rattle.std.proofs.lemmas.Result.{err_from_is_err_and}
-use Rattle.ash_tree.specs.Tokens.{tokens_of, placed}
-use Rattle.ash_tree.specs.Views.{item_of}
+use Rattle.ash_tree.specs.GrammarTokens.{tokens_of, placed}
+use Rattle.ash_tree.specs.TreeViews.{item_of}
 use Rattle.ash_parse.specs.ItemReader.{entries_at, entry_at, is_left}
 use Rattle.ash_parse.proofs.Loop.{goes_on as go_on, ends, is_done}
 use Rattle.ash_parse.proofs.ItemShorter.{entry_shrinks, no_more_left, left_is_none}

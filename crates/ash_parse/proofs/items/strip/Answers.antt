@@ -1,7 +1,7 @@
 use Rattle.std.proofs.Common.{◌≡◌, ◌∙◌, ap, sym, true, false, length, ◌<◌, arith}
 use Rattle.std.proofs.lemmas.List.{length-map}
 use Rattle.ash_lex.specs.declared.signs.Sign.TheVariants as signs
-use Rattle.ash_tree.specs.Tokens.{tokens_of, placed}
+use Rattle.ash_tree.specs.GrammarTokens.{tokens_of, placed}
 use Rattle.ash_parse.specs.Readers.{next_is_sign}
 use Rattle.ash_parse.specs.ItemReader.{strip, without_first}
 use Rattle.ash_parse.proofs.ItemShorter.{strip-more, strip-done, without_first-shorter}

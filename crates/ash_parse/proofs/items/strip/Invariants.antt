@@ -1,5 +1,5 @@
 use Rattle.std.proofs.Common.{◌≡◌, length}
-use Rattle.ash_tree.specs.Tokens.{tokens_of}
+use Rattle.ash_tree.specs.GrammarTokens.{tokens_of}
 use Rattle.ash_parse.specs.ItemReader.{strip}
 use Rattle.ash_parse.proofs.items.strip.Given as goal
 

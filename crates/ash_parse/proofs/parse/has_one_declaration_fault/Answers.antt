@@ -1,4 +1,4 @@
-use Rattle.ash_tree.specs.Tokens.{tokens_of}
+use Rattle.ash_tree.specs.GrammarTokens.{tokens_of}
 use Rattle.ash_parse.proofs.FirstFaults.{declaration_or_fault}
 use Rattle.ash_parse.proofs.parse.has_one_declaration_fault.Goals as goal
 

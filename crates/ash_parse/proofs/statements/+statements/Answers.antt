@@ -1,10 +1,10 @@
 use Rattle.std.proofs.Common.{◌≡◌, ◌∙◌, sym, map, arith, true, false}
 use Rattle.std.proofs.lemmas.List.{length-map}
 use Rattle.std.proofs.lemmas.Result.{err_from_is_err_and}
-use Rattle.ash_tree.specs.Tokens.{tokens_of, placed}
+use Rattle.ash_tree.specs.GrammarTokens.{tokens_of, placed}
 use Rattle.ash_parse.specs.ExpressionReader.{below_at}
 use Rattle.ash_parse.proofs.Loop.{goes_on as go_on, ends, is_done}
-use Rattle.ash_tree.specs.Views.{stmt_of, case_of}
+use Rattle.ash_tree.specs.TreeViews.{stmt_of, case_of}
 use Rattle.ash_parse.specs.StatementReader.{nested_at, goes_on, case_goes_on, case_with, cases_with, stmts_with, local_with, locals_with}
 use Rattle.ash_parse.proofs.StatementLoops.{goes_on-none, case_goes_on-none, nested_shrinks, local_shrinks, case_shrinks, nested-some, nested-none}
 use Rattle.ash_parse.proofs.statements.+statements.Goals as goal

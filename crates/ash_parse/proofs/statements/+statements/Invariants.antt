@@ -1,6 +1,6 @@
 use Rattle.std.proofs.Common.{◌≡◌, ◌+◌, ◌*◌, length, map}
-use Rattle.ash_tree.specs.Tokens.{tokens_of}
-use Rattle.ash_tree.specs.Views.{stmt_of, case_of}
+use Rattle.ash_tree.specs.GrammarTokens.{tokens_of}
+use Rattle.ash_tree.specs.TreeViews.{stmt_of, case_of}
 use Rattle.ash_parse.specs.ExpressionReader.{below_at}
 use Rattle.ash_parse.specs.StatementReader.{nested_at, cases_with, stmts_with, locals_with}
 use Rattle.ash_parse.proofs.Loop.{with_prefix}

@@ -2,10 +2,10 @@ use Rattle.std.proofs.Common.{◌≡◌, ◌∙◌, sym, map, arith, true, false
 use Rattle.std.proofs.lemmas.List.{length-map}
 use Rattle.std.proofs.lemmas.Result.{err_from_is_err_and}
 use Rattle.ash_lex.specs.declared.signs.Sign.TheVariants as signs
-use Rattle.ash_tree.specs.Tokens.{tokens_of, placed}
+use Rattle.ash_tree.specs.GrammarTokens.{tokens_of, placed}
 use Rattle.ash_parse.specs.ExpressionReader.{below_at}
 use Rattle.ash_parse.proofs.Loop.{goes_on as go_on, ends, is_done}
-use Rattle.ash_tree.specs.Views.{decl_of}
+use Rattle.ash_tree.specs.TreeViews.{decl_of}
 use Rattle.ash_parse.specs.Readers.{put, next_is_sign}
 use Rattle.ash_parse.specs.StatementReader.{next_decl_with, more_decls_with}
 use Rattle.ash_parse.proofs.ExpressionLoops.{no_sign_left}

@@ -1,6 +1,6 @@
 use Rattle.std.proofs.Common.{◌≡◌, length, map}
-use Rattle.ash_tree.specs.Tokens.{tokens_of}
-use Rattle.ash_tree.specs.Views.{decl_of}
+use Rattle.ash_tree.specs.GrammarTokens.{tokens_of}
+use Rattle.ash_tree.specs.TreeViews.{decl_of}
 use Rattle.ash_parse.specs.Readers.{put}
 use Rattle.ash_parse.specs.ExpressionReader.{below_at}
 use Rattle.ash_parse.specs.StatementReader.{more_decls_with}

@@ -1,7 +1,7 @@
 use Rattle.std.proofs.Common.{◌≡◌, nat_eq, map, drop}
 use Rattle.std.specs.List.{position_from}
 use Rattle.ash_phrases.specs.Activity.{FreeBox}
-use Rattle.ash_plain.specs.Views.{box_seen}
+use Rattle.ash_plain.specs.ActivityViews.{box_seen}
 use Rattle.ash_plain.proofs.host_steps.place_in.Given as goal
 
 abbrev pub invariant-loop-place : goal.invariant-loop-place

@@ -1,7 +1,7 @@
 use Rattle.std.proofs.Common.{◌≡◌, ◌++◌, map, drop}
 use Rattle.std.specs.Prelude.{flat_map}
 use Rattle.ash_phrases.specs.Releases.{roots_of_frame}
-use Rattle.ash_plain.specs.Views.{frame_seen}
+use Rattle.ash_plain.specs.ActivityViews.{frame_seen}
 use Rattle.ash_plain.proofs.releases.push_roots.Given as goal
 
 abbrev pub invariant-loop-frame : goal.invariant-loop-frame

@@ -61,7 +61,7 @@ pub returns-in_err-words : goal.returns-in_err-words
 returns-in_err-words g c m =
     let p = err_from_is_err_and c.from_residual.result c.from_residual.ensures.1 in
     let so : is_callable (function_of c.in-Some-get.function.now) ≡ true = search rules in
-    rw (p.1, p.2) (words_take g.S.Sources.TakesMemory m (module_of c.args.tree.now) c.args.name.now c.args.arguments.now c.in-Some.place (function_of c.in-Some-get.function.now)
+    rw (p.1, p.2) (words_take g.S.SourceReader.TakesMemory m (module_of c.args.tree.now) c.args.name.now c.args.arguments.now c.in-Some.place (function_of c.in-Some-get.function.now)
     (c.in-Some.ensures ∙ ap (λ (l : List _). position_from (λ (f : Function). bytes_eq f.name c.args.name.now) 0 (map function_of l)) c.deref.ensures.value)
     (ap (λ (l : List _). slice_get (map function_of l) c.in-Some.place) (sym c.deref-2.ensures.value)
     ∙ slice_get-map function_of c.deref-2.result.now c.in-Some.place

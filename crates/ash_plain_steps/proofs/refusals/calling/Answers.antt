@@ -20,8 +20,8 @@ returns-in-Ok-clause-task g c embedding known =
     let got : slice_get ms c.in-Some.module ≡ Some m = ap (λ (l : List _). slice_get l c.in-Some.module) (sym c.deref-2.ensures.value) ∙ got_item c.deref-2.result.now c.in-Some.module m c.in-Some-get.ensures.lookup.3.0 c.in-Some-get.ensures.lookup.3.1 in
     let is = call_there embedding c.args.state.now c.args.module.now c.args.function.now c.args.arguments.now c.in-Some.module m (omega (arith, c.if-state-ge-MAX_SEQ.false)) known
     (sym (c.in-Some.ensures ∙ ap (λ (l : List _). place_in c.args.module.now l) c.deref.ensures.value)) got in
-    ap (λ (o : _). option_map (λ (one : Task). let r : TaskResult g.S.Sources.FaultSeen = Ok one in r) (option_map (λ (m : LoadedModule). Invoke (loaded_seen m) (module_of m.tree) c.in-Ok.function c.in-Ok.args.items) o)) got
-    ∙ ap (λ (r : TaskResult g.S.Sources.FaultSeen). Some r) (sym (is ∙ c.in-Ok.ensures (loaded_seen m)))
+    ap (λ (o : _). option_map (λ (one : Task). let r : TaskResult g.S.SourceReader.FaultSeen = Ok one in r) (option_map (λ (m : LoadedModule). Invoke (loaded_seen m) (module_of m.tree) c.in-Ok.function c.in-Ok.args.items) o)) got
+    ∙ ap (λ (r : TaskResult g.S.SourceReader.FaultSeen). Some r) (sym (is ∙ c.in-Ok.ensures (loaded_seen m)))
 
 pub returns-in-Err-clause-task : goal.returns-in-Err-clause-task
 returns-in-Err-clause-task g c embedding known =
@@ -30,4 +30,4 @@ returns-in-Err-clause-task g c embedding known =
     let got : slice_get ms c.in-Some.module ≡ Some m = ap (λ (l : List _). slice_get l c.in-Some.module) (sym c.deref-2.ensures.value) ∙ got_item c.deref-2.result.now c.in-Some.module m c.in-Some-get.ensures.lookup.3.0 c.in-Some-get.ensures.lookup.3.1 in
     let is = call_there embedding c.args.state.now c.args.module.now c.args.function.now c.args.arguments.now c.in-Some.module m (omega (arith, c.if-state-ge-MAX_SEQ.false)) known
     (sym (c.in-Some.ensures ∙ ap (λ (l : List _). place_in c.args.module.now l) c.deref.ensures.value)) got in
-    subst (λ (r : TaskResult g.S.Sources.FaultSeen). RefusesAs g.S.Sources.fault_seen g.S.Sources.TakesMemory c.in-Err.refusal r) (sym is) (c.in-Err.ensures (loaded_seen m))
+    subst (λ (r : TaskResult g.S.SourceReader.FaultSeen). RefusesAs g.S.SourceReader.fault_seen g.S.SourceReader.TakesMemory c.in-Err.refusal r) (sym is) (c.in-Err.ensures (loaded_seen m))

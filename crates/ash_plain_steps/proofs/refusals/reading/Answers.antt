@@ -16,7 +16,7 @@ returns-in-Some-word_named-clause-task g c embedding known =
     let m = c.in-Some-get.loaded.now in
     let ms = c.args.state.now.modules.items in
     let got : slice_get ms c.in-Some.place ≡ Some m = ap (λ (l : List _). slice_get l c.in-Some.place) (sym c.deref-2.ensures.value) ∙ got_item c.deref-2.result.now c.in-Some.place m c.in-Some-get.ensures.lookup.3.0 c.in-Some-get.ensures.lookup.3.1 in
-    ap (λ (r : TaskResult g.S.Sources.FaultSeen). Some r) (sym (global_there embedding c.args.state.now c.args.module.now c.args.name.now c.in-Some.place m c.in-Some-word_named.word known
+    ap (λ (r : TaskResult g.S.SourceReader.FaultSeen). Some r) (sym (global_there embedding c.args.state.now c.args.module.now c.args.name.now c.in-Some.place m c.in-Some-word_named.word known
     (sym (c.in-Some.ensures ∙ ap (λ (l : List _). place_in c.args.module.now l) c.deref.ensures.value)) got
     (c.in-Some-word_named.ensures ∙ (λ i. word_among c.args.name.now (map variables_of (c.deref-3.ensures.value i)) (c.deref-4.ensures.value i)))))
 

@@ -7,15 +7,15 @@ use Rattle.ash_plain_steps.specs.TaskViews.{GivesTask}
 use Rattle.ash_plain_steps.proofs.refusals.task_of.Goals as goal
 
 pub returns-in-Call-clause-performable : goal.returns-in-Call-clause-performable
-returns-in-Call-clause-performable g c = c.calling.ensures.performable (g.S.Sources.embedding c.args.sources.now)
+returns-in-Call-clause-performable g c = c.calling.ensures.performable (g.S.SourceReader.embedding c.args.sources.now)
 
 pub returns-in-Discard-clause-performable : goal.returns-in-Discard-clause-performable
-returns-in-Discard-clause-performable g c = c.discarding.ensures.performable (g.S.Sources.embedding c.args.sources.now)
+returns-in-Discard-clause-performable g c = c.discarding.ensures.performable (g.S.SourceReader.embedding c.args.sources.now)
 
 pub returns-in-Discard-clause-task : goal.returns-in-Discard-clause-task
 returns-in-Discard-clause-task g c known =
-    subst (λ (r : request.Request). GivesTask g.S.Sources.fault_seen g.S.Sources.TakesMemory c.args.state.now.modules.items c.discarding.result (task_of (g.S.Sources.embedding c.args.sources.now) (request_seen r) (state_seen c.args.state.now))) (sym c.in-Discard.is)
-    (c.discarding.ensures.task (g.S.Sources.embedding c.args.sources.now))
+    subst (λ (r : request.Request). GivesTask g.S.SourceReader.fault_seen g.S.SourceReader.TakesMemory c.args.state.now.modules.items c.discarding.result (task_of (g.S.SourceReader.embedding c.args.sources.now) (request_seen r) (state_seen c.args.state.now))) (sym c.in-Discard.is)
+    (c.discarding.ensures.task (g.S.SourceReader.embedding c.args.sources.now))
 
 pub returns-in-Get-clause-performable : goal.returns-in-Get-clause-performable
-returns-in-Get-clause-performable g c = c.reading.ensures.performable (g.S.Sources.embedding c.args.sources.now)
+returns-in-Get-clause-performable g c = c.reading.ensures.performable (g.S.SourceReader.embedding c.args.sources.now)

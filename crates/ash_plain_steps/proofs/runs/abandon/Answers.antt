@@ -2,7 +2,7 @@ use Rattle.std.proofs.Common.{List, [], ◌∙◌, ap}
 use Rattle.ash_host.specs.declared.word.Word.{Word}
 use Rattle.ash_phrases.specs.Activity.{World}
 use Rattle.ash_phrases.specs.Releases.{sweep}
-use Rattle.ash_plain.specs.Views.{world_seen}
+use Rattle.ash_plain.specs.ActivityViews.{world_seen}
 use Rattle.ash_evaluator.specs.EndViews.{end_seen}
 use Rattle.ash_steps.specs.Steps.{answered}
 use Rattle.ash_plain_steps.specs.StateViews.{modules_seen}
@@ -11,6 +11,6 @@ use Rattle.ash_plain_steps.proofs.runs.abandon.Goals as goal
 pub returns-clause-stepped : goal.returns-clause-stepped
 returns-clause-stepped g c old e =
     c.answered.ensures.stepped old e
-    ∙ ap (λ (w : World). answered {Fault = g.S.Sources.FaultSeen} (end_seen c.args.end) (modules_seen c.args.rest.modules.items) w old)
+    ∙ ap (λ (w : World). answered {Fault = g.S.SourceReader.FaultSeen} (end_seen c.args.end) (modules_seen c.args.rest.modules.items) w old)
     (c.in_ok-give_up_frames.ensures.swept
     ∙ ap (λ (l : List Word). let w : World = record (world_seen c.args.world) { globals = l } in sweep [] w) c.new.ensures.items)

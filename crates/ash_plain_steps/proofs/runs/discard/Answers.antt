@@ -1,6 +1,6 @@
 use Rattle.std.proofs.Common.{◌≡◌, List, [], ◌∙◌, ap, sym, subst}
 use Rattle.std.specs.List.{remove}
-use Rattle.ash_plain.specs.Views.{world_seen}
+use Rattle.ash_plain.specs.ActivityViews.{world_seen}
 use Rattle.std.proofs.lemmas.Option.{slice_get-get_or}
 use Rattle.std.specs.Prelude.{slice_get}
 use Rattle.std.proofs.Common.{get_or}
@@ -17,8 +17,8 @@ pub returns-clause-stepped : goal.returns-clause-stepped
 returns-clause-stepped g c budget m there up =
     let ms = c.args.state.modules.items in
     let rest : modules_seen c.in_ok-rest.rest.modules.items ≡ modules_seen (remove ms c.args.place) = ap (λ (v : _). modules_seen v.items) c.in_ok-rest.ensures.modules ∙ ap (λ (l : List code_module.LoadedModule). modules_seen l) c.remove.ensures.items in
-    discarded g.S.Sources.fault_seen budget (loaded_seen m).name (state_seen c.args.state) (hosts_seen c.args.hosts)
-    (modules_seen c.in_ok-rest.rest.modules.items) (world_seen c.in_ok-rest.world) (world_seen c.give_up_frames.new.self) (step_seen g.S.Sources.fault_seen c.answered.result)
+    discarded g.S.SourceReader.fault_seen budget (loaded_seen m).name (state_seen c.args.state) (hosts_seen c.args.hosts)
+    (modules_seen c.in_ok-rest.rest.modules.items) (world_seen c.in_ok-rest.world) (world_seen c.give_up_frames.new.self) (step_seen g.S.SourceReader.fault_seen c.answered.result)
     (rest ∙ removed_there ms c.args.place m up there)
     (c.in_ok-rest.ensures.world
     ∙ (λ i. world_of (c.new.ensures.items i) (modules_seen (c.remove.ensures.items i)) (state_seen c.args.state) (hosts_seen c.args.hosts))

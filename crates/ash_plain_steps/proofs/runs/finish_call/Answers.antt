@@ -1,5 +1,5 @@
 use Rattle.std.proofs.Common.{◌∙◌, ap, set}
-use Rattle.ash_plain.specs.Views.{world_seen}
+use Rattle.ash_plain.specs.ActivityViews.{world_seen}
 use Rattle.ash_evaluator.specs.EndViews.{end_seen}
 use Rattle.ash_steps.specs.Steps.{answered}
 use Rattle.ash_plain_steps.specs.declared.state.LoadedModule.{LoadedModule}
@@ -12,5 +12,5 @@ returns g c m old there e = record {
   globals = ap (λ (v : _). v.items) c.answered.ensures.modules ∙ (c.replace_globals.ensures m there).1
       ∙ ap (λ (v : _). let changed : LoadedModule = record m { globals = v } in set c.args.rest.modules.items c.args.place changed) c.replace-globals.ensures.value;
   stepped = c.answered.ensures.stepped old e
-      ∙ ap (λ (v : _). answered {Fault = g.S.Sources.FaultSeen} (end_seen c.args.outcome.end) (modules_seen v.items) (world_seen c.args.outcome.world) old) (sym c.answered.ensures.modules);
+      ∙ ap (λ (v : _). answered {Fault = g.S.SourceReader.FaultSeen} (end_seen c.args.outcome.end) (modules_seen v.items) (world_seen c.args.outcome.world) old) (sym c.answered.ensures.modules);
 }

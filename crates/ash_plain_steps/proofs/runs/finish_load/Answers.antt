@@ -2,7 +2,7 @@ use Rattle.std.proofs.Common.{◌≡◌, List, sym, subst}
 use Rattle.std.specs.Prelude.{IfOk}
 use Rattle.ash_evaluator.specs.declared.ends.End as end
 use Rattle.ash_evaluator.specs.declared.ends.End.TheVariants as ends
-use Rattle.ash_plain.specs.Views.{world_seen}
+use Rattle.ash_plain.specs.ActivityViews.{world_seen}
 use Rattle.ash_evaluator.specs.EndViews.{end_seen}
 use Rattle.ash_steps.specs.Steps.{answered, after_load_with, without_globals}
 use Rattle.ash_steps.specs.States.{LoadedModule}
@@ -11,17 +11,17 @@ use Rattle.ash_plain_steps.proofs.runs.finish_load.Goals as goal
 
 pub returns-in-Finished-clause-stepped : goal.returns-in-Finished-clause-stepped
 returns-in-Finished-clause-stepped g c old e is =
-    subst (λ (x : end.End). IfOk c.keep.result (λ s. step_seen g.S.Sources.fault_seen s ≡ after_load_with {Fault = g.S.Sources.FaultSeen} c.args.new.name.now c.args.new.source.now old (end_seen x) (world_seen c.args.outcome.world))) (sym c.in-Finished.is)
+    subst (λ (x : end.End). IfOk c.keep.result (λ s. step_seen g.S.SourceReader.fault_seen s ≡ after_load_with {Fault = g.S.SourceReader.FaultSeen} c.args.new.name.now c.args.new.source.now old (end_seen x) (world_seen c.args.outcome.world))) (sym c.in-Finished.is)
     (c.keep.ensures.stepped old e is)
 
 pub returns-in-Threw-clause-stepped : goal.returns-in-Threw-clause-stepped
 returns-in-Threw-clause-stepped g c old e is =
-    subst (λ (x : end.End). IfOk c.abandon.result (λ s. step_seen g.S.Sources.fault_seen s ≡ after_load_with {Fault = g.S.Sources.FaultSeen} c.args.new.name.now c.args.new.source.now old (end_seen x) (world_seen c.args.outcome.world))) (sym c.in-Threw.is)
-    (subst (λ (l : List LoadedModule). IfOk c.abandon.result (λ s. step_seen g.S.Sources.fault_seen s ≡ answered {Fault = g.S.Sources.FaultSeen} (end_seen (ends.Threw c.in-Threw.exception c.in-Threw.function c.in-Threw.line)) l (without_globals (world_seen c.args.outcome.world)) old)) (sym is)
+    subst (λ (x : end.End). IfOk c.abandon.result (λ s. step_seen g.S.SourceReader.fault_seen s ≡ after_load_with {Fault = g.S.SourceReader.FaultSeen} c.args.new.name.now c.args.new.source.now old (end_seen x) (world_seen c.args.outcome.world))) (sym c.in-Threw.is)
+    (subst (λ (l : List LoadedModule). IfOk c.abandon.result (λ s. step_seen g.S.SourceReader.fault_seen s ≡ answered {Fault = g.S.SourceReader.FaultSeen} (end_seen (ends.Threw c.in-Threw.exception c.in-Threw.function c.in-Threw.line)) l (without_globals (world_seen c.args.outcome.world)) old)) (sym is)
     (c.abandon.ensures.stepped old e))
 
 pub returns-in-Aborted-clause-stepped : goal.returns-in-Aborted-clause-stepped
 returns-in-Aborted-clause-stepped g c old e is =
-    subst (λ (x : end.End). IfOk c.abandon-in-Aborted.result (λ s. step_seen g.S.Sources.fault_seen s ≡ after_load_with {Fault = g.S.Sources.FaultSeen} c.args.new.name.now c.args.new.source.now old (end_seen x) (world_seen c.args.outcome.world))) (sym c.in-Aborted.is)
-    (subst (λ (l : List LoadedModule). IfOk c.abandon-in-Aborted.result (λ s. step_seen g.S.Sources.fault_seen s ≡ answered {Fault = g.S.Sources.FaultSeen} (end_seen (ends.Aborted c.in-Aborted.function c.in-Aborted.line)) l (without_globals (world_seen c.args.outcome.world)) old)) (sym is)
+    subst (λ (x : end.End). IfOk c.abandon-in-Aborted.result (λ s. step_seen g.S.SourceReader.fault_seen s ≡ after_load_with {Fault = g.S.SourceReader.FaultSeen} c.args.new.name.now c.args.new.source.now old (end_seen x) (world_seen c.args.outcome.world))) (sym c.in-Aborted.is)
+    (subst (λ (l : List LoadedModule). IfOk c.abandon-in-Aborted.result (λ s. step_seen g.S.SourceReader.fault_seen s ≡ answered {Fault = g.S.SourceReader.FaultSeen} (end_seen (ends.Aborted c.in-Aborted.function c.in-Aborted.line)) l (without_globals (world_seen c.args.outcome.world)) old)) (sym is)
     (c.abandon-in-Aborted.ensures.stepped old e))

@@ -3,7 +3,7 @@ use Rattle.std.specs.Prelude.{slice_get, option_map, string_bytes}
 use Rattle.std.proofs.lemmas.Option.{get_or_from_slice_get, slice_get-get_or}
 use Rattle.ash_typed.specs.Modules.{module_of}
 use Rattle.ash_phrases.specs.Ends.{Outcome, call_function}
-use Rattle.ash_plain.specs.Views.{world_seen}
+use Rattle.ash_plain.specs.ActivityViews.{world_seen}
 use Rattle.ash_evaluator.specs.EndViews.{end_seen, outcome_seen}
 use Rattle.ash_steps.specs.States.{LoadedModule, without_module, update_globals, world_of}
 use Rattle.ash_steps.specs.Steps.{Step, answered, after_call}
@@ -46,8 +46,8 @@ returns-in_err-outcome-clause-stepped g c m there up =
     ∙ (λ i. world_of ((c.replace_globals-globals.ensures m there).0 i).items (modules_seen ((c.replace_globals-globals.ensures m there).1 i)) state hosts)
     ∙ world_lent ms place m lending state hosts up there refl c.new-none.ensures.items in
     let failed : c.from_residual-in_err-outcome.result ≡ Err c.in_err-outcome.field-0.0 = search rules in
-    subst (λ (r : Result (code_step.Step g.row.S-Fault.Denot) StepError). ComesTo (step_seen g.S.Sources.fault_seen) r (option_map (after_call {Fault = g.S.Sources.FaultSeen} (loaded_seen m) state) (call_function (record { name = string_bytes m.name; tree = module_of m.tree }) c.args.call.function c.args.call.args.items c.args.budget (world_of m.globals.items (without_module (loaded_seen m).name (modules_seen ms)) state hosts)))) (sym failed)
-    (no_outcome g.S.Sources.fault_seen c.in_err-outcome.field-0.0 (after_call (loaded_seen m) state) (call_function (record { name = string_bytes m.name; tree = module_of m.tree }) c.args.call.function c.args.call.args.items c.args.budget (world_of m.globals.items (without_module (loaded_seen m).name (modules_seen ms)) state hosts))
+    subst (λ (r : Result (code_step.Step g.row.S-Fault.Denot) StepError). ComesTo (step_seen g.S.SourceReader.fault_seen) r (option_map (after_call {Fault = g.S.SourceReader.FaultSeen} (loaded_seen m) state) (call_function (record { name = string_bytes m.name; tree = module_of m.tree }) c.args.call.function c.args.call.args.items c.args.budget (world_of m.globals.items (without_module (loaded_seen m).name (modules_seen ms)) state hosts)))) (sym failed)
+    (no_outcome g.S.SourceReader.fault_seen c.in_err-outcome.field-0.0 (after_call (loaded_seen m) state) (call_function (record { name = string_bytes m.name; tree = module_of m.tree }) c.args.call.function c.args.call.args.items c.args.budget (world_of m.globals.items (without_module (loaded_seen m).name (modules_seen ms)) state hosts))
     (subst (λ (o : Option Outcome). ComesTo outcome_seen (Err c.in_err-outcome.field-0.0) o)
     (λ i. call_function (record { name = name i; tree = module_of (at i).tree }) c.args.call.function c.args.call.args.items c.args.budget (world i))
     (c.in_err-outcome.ensures _ c.call_function.ensures.outcome)))
@@ -71,11 +71,11 @@ returns-clause-stepped g c m there up =
     let after = c.finish_call.ensures lending state (ap (λ (l : List code_module.LoadedModule). slice_get l place) items ∙ got_set ms place m lending there) (sym c.in_ok-rest.ensures.seq) in
     let left : modules_seen c.finish_call.result.state.modules.items ≡ update_globals (loaded_seen m).name outcome.world.globals.items (modules_seen ms) =
     ap (λ (l : List code_module.LoadedModule). modules_seen l) (after.globals ∙ ap (λ (l : List code_module.LoadedModule). set l place new) items) ∙ given_back ms place m lending new up there refl in
-    ap (λ (o : Option Outcome). option_map (after_call {Fault = g.S.Sources.FaultSeen} (loaded_seen m) state) o)
+    ap (λ (o : Option Outcome). option_map (after_call {Fault = g.S.SourceReader.FaultSeen} (loaded_seen m) state) o)
     (sym (λ i. call_function (record { name = name i; tree = module_of (at i).tree }) c.args.call.function c.args.call.args.items c.args.budget (world i))
     ∙ c.in_ok-outcome.ensures _ c.call_function.ensures.outcome)
-    ∙ ap (λ (s : Step g.S.Sources.FaultSeen). Some s)
-    (sym (after.stepped ∙ ap (λ (l : List LoadedModule). answered {Fault = g.S.Sources.FaultSeen} (end_seen outcome.end) l (world_seen outcome.world) state) left))
+    ∙ ap (λ (s : Step g.S.SourceReader.FaultSeen). Some s)
+    (sym (after.stepped ∙ ap (λ (l : List LoadedModule). answered {Fault = g.S.SourceReader.FaultSeen} (end_seen outcome.end) l (world_seen outcome.world) state) left))
 
 pub returns-clause-consistent : goal.returns-clause-consistent
 returns-clause-consistent g c embedding known =

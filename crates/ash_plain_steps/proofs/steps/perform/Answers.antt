@@ -13,7 +13,7 @@ use Rattle.ash_plain_steps.proofs.steps.perform.Goals as goal
 pub returns-in-Remove-clause-stepped : goal.returns-in-Remove-clause-stepped
 returns-in-Remove-clause-stepped g c one e =
     let ms = c.args.state.modules.items in
-    performs_at g.S.Sources.fault_seen c.args.budget (state_seen c.args.state) (hosts_seen c.args.hosts) c.discard.result
+    performs_at g.S.SourceReader.fault_seen c.args.budget (state_seen c.args.state) (hosts_seen c.args.hosts) c.discard.result
     (λ (m : LoadedModule). Remove (loaded_seen m).name) (slice_get ms c.in-Remove.place) one
     (ap (λ (t : task.Task). task_seen ms t) (sym c.in-Remove.is) ∙ e)
     (λ m there. c.discard.ensures.stepped c.args.budget m there c.requires.consistent.ascending)
@@ -21,14 +21,14 @@ returns-in-Remove-clause-stepped g c one e =
 pub returns-in-Initialize-clause-memory : goal.returns-in-Initialize-clause-memory
 returns-in-Initialize-clause-memory g c =
     subst (λ (t : task.Task). LosesMemory c.initialize.result (ChangesState t)) (sym c.in-Initialize.is)
-    (loses_changing g.S.Sources.fault_seen c.initialize.result (tasks.Initialize c.in-Initialize.new) tt)
+    (loses_changing g.S.SourceReader.fault_seen c.initialize.result (tasks.Initialize c.in-Initialize.new) tt)
 
 pub returns-in-Invoke-clause-memory : goal.returns-in-Invoke-clause-memory
 returns-in-Invoke-clause-memory g c =
     subst (λ (t : task.Task). LosesMemory c.invoke.result (ChangesState t)) (sym c.in-Invoke.is)
-    (loses_changing g.S.Sources.fault_seen c.invoke.result (tasks.Invoke c.in-Invoke.call) tt)
+    (loses_changing g.S.SourceReader.fault_seen c.invoke.result (tasks.Invoke c.in-Invoke.call) tt)
 
 pub returns-in-Remove-clause-memory : goal.returns-in-Remove-clause-memory
 returns-in-Remove-clause-memory g c =
     subst (λ (t : task.Task). LosesMemory c.discard.result (ChangesState t)) (sym c.in-Remove.is)
-    (loses_changing g.S.Sources.fault_seen c.discard.result (tasks.Remove c.in-Remove.place) tt)
+    (loses_changing g.S.SourceReader.fault_seen c.discard.result (tasks.Remove c.in-Remove.place) tt)

@@ -1,6 +1,6 @@
 use Rattle.std.proofs.Common.{◌∙◌, sym, refl, inl, inr, Ok}
 use Rattle.std.proofs.lemmas.Result.{err_from_is_err_and}
-use Rattle.ash_lines.specs.Replies.{line_reply_of}
+use Rattle.ash_lines.specs.ReplyText.{line_reply_of}
 use Rattle.ash_serve.specs.Serving.{handling_with, request_state, run_state, serving_with}
 use Rattle.ash_serve.specs.declared.fault.RunFault.TheVariants as faults
 use Rattle.ash_serve.proofs.ServingLemmas.{ongoing-nil, ongoing-more, served-falls, serves_fault, fault_ends}

@@ -1,6 +1,6 @@
 use Rattle.std.proofs.Common.{ap, ◌∙◌, ◌++◌, ◌-◌, replicate, length}
 use Rattle.ash_host.specs.declared.word.Word.{Word}
-use Rattle.ash_slots.specs.Arrays.{lengthened}
+use Rattle.ash_slots.specs.SlotArrays.{lengthened}
 use Rattle.ash_slots.proofs.Filling.{refilled_at, item_same, array_mine}
 use Rattle.ash_slots.proofs.Options.{if_some, on_err}
 use Rattle.ash_slots.proofs.elements.grow_elements.Goals as goal

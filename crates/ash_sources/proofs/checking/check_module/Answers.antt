@@ -1,6 +1,6 @@
 use Rattle.std.proofs.lemmas.Result.{err_from_is_err_and}
-use Rattle.ash_registry.specs.Registered.{registered}
-use Rattle.ash_tree.specs.Views.{module_of as items_of}
+use Rattle.ash_registry.specs.RegistryViews.{registered}
+use Rattle.ash_tree.specs.TreeViews.{module_of as items_of}
 use Rattle.ash_sources.proofs.CheckedAnswers.{items_unchecked}
 use Rattle.ash_sources.proofs.checking.check_module.Goals as goal
 

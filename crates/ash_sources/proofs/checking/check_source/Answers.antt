@@ -1,5 +1,5 @@
-use Rattle.ash_registry.specs.Registered.{registered}
-use Rattle.ash_tree.specs.Views.{module_of as items_of}
+use Rattle.ash_registry.specs.RegistryViews.{registered}
+use Rattle.ash_tree.specs.TreeViews.{module_of as items_of}
 use Rattle.ash_sources.proofs.CheckedAnswers.{found_accepted, accepted_only, cycle_reported, cycle_not_found}
 use Rattle.ash_sources.proofs.CheckedAnswers.{cycle_only}
 use Rattle.ash_sources.proofs.checking.check_source.Goals as goal

@@ -1,5 +1,5 @@
-use Rattle.ash_registry.specs.Registered.{registered}
-use Rattle.ash_tree.specs.Views.{module_of as items_of}
+use Rattle.ash_registry.specs.RegistryViews.{registered}
+use Rattle.ash_tree.specs.TreeViews.{module_of as items_of}
 use Rattle.ash_typing.proofs.SoundnessNesting.{derived_proper}
 use Rattle.ash_sources.specs.CheckedSource.{items_checked, checked_source}
 use Rattle.ash_sources.proofs.CheckedAnswers.{spelled_checked, source_refused}

@@ -1,4 +1,4 @@
-use Rattle.ash_tree.specs.Views.{module_of as items_of}
+use Rattle.ash_tree.specs.TreeViews.{module_of as items_of}
 use Rattle.ash_sources.proofs.ScriptAnswers.{items_derived, fault_read}
 use Rattle.ash_sources.proofs.parsing.script_with_tokens.Goals as goal
 

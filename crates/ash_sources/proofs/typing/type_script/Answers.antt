@@ -1,5 +1,5 @@
-use Rattle.ash_registry.specs.Registered.{registered}
-use Rattle.ash_tree.specs.Views.{module_of as items_of}
+use Rattle.ash_registry.specs.RegistryViews.{registered}
+use Rattle.ash_tree.specs.TreeViews.{module_of as items_of}
 use Rattle.ash_sources.proofs.TypedSourceLaws.{items_untyped}
 use Rattle.ash_sources.proofs.typing.type_script.Goals as goal
 

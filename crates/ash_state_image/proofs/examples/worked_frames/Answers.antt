@@ -2,14 +2,14 @@ use Rattle.std.proofs.Common.{refl, ◌∷◌, [], ◌++◌, take, arith}
 use Rattle.ash_host.specs.Reach.{leads}
 use Rattle.ash_state_image.specs.declared.version.Version.TheVariants.{One, Two}
 use Rattle.ash_state_image.specs.Fields.{times_at}
-use Rattle.ash_state_image.specs.Words.{value_at, word_at}
+use Rattle.ash_state_image.specs.ImageWords.{value_at, word_at}
 use Rattle.ash_state_image.specs.ObjectBytes.{element_case, element_at, fields_at, elements_at, state_at, kind_and_state_at}
 use Rattle.ash_state_image.specs.ObjectBytes.{script_at, array_at, plain_case, plain_at}
 use Rattle.ash_state_image.specs.ImageReading.{name_at, source_at, globals_at, module_at, modules_at, services_at, body_at}
 use Rattle.ash_state_image.specs.ImageReading.{object_at, objects_at}
 use Rattle.ash_state_image.specs.ImageReading.{version_at, image_at}
 use Rattle.std.specs.Str.{is_utf8, chars}
-use Rattle.ash_state_image.specs.Examples.{nothing_rest, of_each_rest, registered, without_text}
+use Rattle.ash_state_image.specs.ImageExamples.{nothing_rest, of_each_rest, registered, without_text}
 use Rattle.ash_state_image.proofs.ExampleLaws.{all_reached, read_rest, ascii_fits, damaged_at_once, damaged_by_test, damaged_by_text}
 use Rattle.ash_state_image.proofs.examples.worked_frames.Goals as goal
 

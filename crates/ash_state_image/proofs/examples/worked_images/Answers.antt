@@ -2,12 +2,12 @@ use Rattle.std.proofs.Common.{refl, []}
 use Rattle.ash_host.specs.Reach.{leads}
 use Rattle.ash_state_image.specs.declared.version.Version.TheVariants.{One, Two}
 use Rattle.ash_state_image.specs.Fields.{times_at}
-use Rattle.ash_state_image.specs.Words.{value_at, word_at}
+use Rattle.ash_state_image.specs.ImageWords.{value_at, word_at}
 use Rattle.ash_state_image.specs.ObjectBytes.{element_case, element_at, fields_at, elements_at, state_at, kind_and_state_at}
 use Rattle.ash_state_image.specs.ObjectBytes.{script_at, array_at, plain_case, plain_at}
 use Rattle.ash_state_image.specs.ImageReading.{name_at, source_at, globals_at, module_at, modules_at, services_at, body_at}
 use Rattle.ash_state_image.specs.ImageReading.{object_at, objects_at}
-use Rattle.ash_state_image.specs.Examples.{nothing, nothing_rest, of_each, of_each_rest, of_types, of_types_rest, one_type, registered, without_arrays, without_arrays_rest}
+use Rattle.ash_state_image.specs.ImageExamples.{nothing, nothing_rest, of_each, of_each_rest, of_types, of_types_rest, one_type, registered, without_arrays, without_arrays_rest}
 use Rattle.ash_state_image.proofs.ExampleLaws.{all_reached, read_rest, ascii_fits, image_by_test}
 use Rattle.ash_state_image.proofs.examples.worked_images.Goals as goal
 

@@ -3,12 +3,12 @@ use Rattle.std.specs.Prelude.{codes}
 use Rattle.ash_host.specs.Reach.{leads}
 use Rattle.ash_state_image.specs.declared.version.Version.TheVariants.{Two}
 use Rattle.ash_state_image.specs.Fields.{times_at}
-use Rattle.ash_state_image.specs.Words.{value_at, word_at}
+use Rattle.ash_state_image.specs.ImageWords.{value_at, word_at}
 use Rattle.ash_state_image.specs.ObjectBytes.{element_case, element_at, fields_at, elements_at, state_at, kind_and_state_at}
 use Rattle.ash_state_image.specs.ObjectBytes.{script_at, array_at, plain_case, plain_at}
 use Rattle.ash_state_image.specs.ImageReading.{name_at, source_at, globals_at, module_at, modules_at, services_at, body_at}
 use Rattle.ash_state_image.specs.ImageReading.{object_at, objects_at}
-use Rattle.ash_state_image.specs.Examples.{none4, none8}
+use Rattle.ash_state_image.specs.ImageExamples.{none4, none8}
 use Rattle.ash_state_image.specs.Damage.{modules_named, one_global, one_named, so_many_modules, so_many_services}
 use Rattle.ash_state_image.proofs.ExampleLaws.{all_reached, read_rest, ascii_fits, damaged_by_test, some_image_by_test}
 use Rattle.ash_state_image.proofs.examples.worked_modules.Goals as goal

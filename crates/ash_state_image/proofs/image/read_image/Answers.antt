@@ -2,9 +2,9 @@ use Rattle.std.proofs.Common.{◌≡◌, ◌∙◌, ℕ, List, Option, Some, Non
 use Rattle.std.specs.Prelude.{option_map}
 use Rattle.ash_state_image.specs.declared.version.Version.{Version}
 use Rattle.ash_state_image.specs.Snapshots.{Snapshot}
-use Rattle.ash_state_image.specs.Image.{Spells, state_bytes}
+use Rattle.ash_state_image.specs.Image.{IsSpelling, state_bytes}
 use Rattle.ash_state_image.specs.ImageReading.{version_at}
-use Rattle.ash_state_image.specs.Views.{image_read, snapshot_of}
+use Rattle.ash_state_image.specs.SnapshotViews.{image_read, snapshot_of}
 use Rattle.ash_state_image.proofs.ImageLaws.{version_again}
 use Rattle.ash_state_image.proofs.RuleLaws.{only_kept}
 use Rattle.ash_state_image.proofs.image.read_image.Goals as goal
@@ -13,7 +13,7 @@ none_some : (x : Version × List ℕ) → None ≡ Some x → ⊥
 none_some x e = absurd cc
 
 -- what is spelled has a version
-has_version : (bytes : List ℕ) (version : Version) (s : Snapshot) → Spells bytes version s → version_at bytes ≡ None → ⊥
+has_version : (bytes : List ℕ) (version : Version) (s : Snapshot) → IsSpelling bytes version s → version_at bytes ≡ None → ⊥
 has_version bytes version s h none =
     none_some (version, state_bytes s) (sym none ∙ (ap version_at h.1 ∙ version_again version (state_bytes s) tt))
 

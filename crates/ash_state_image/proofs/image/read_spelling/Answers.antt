@@ -1,5 +1,5 @@
 use Rattle.std.proofs.Common.{sym, ◌∙◌, arith}
-use Rattle.ash_state_image.specs.Views.{image_read}
+use Rattle.ash_state_image.specs.SnapshotViews.{image_read}
 use Rattle.ash_state_image.proofs.ImageLaws.{is_spelled, is_read}
 use Rattle.ash_state_image.proofs.image.read_spelling.Goals as goal
 

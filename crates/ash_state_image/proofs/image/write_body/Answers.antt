@@ -2,7 +2,7 @@ use Rattle.std.proofs.Common.{◌≡◌, ℕ, List, ◌∷◌, ◌<◌, ◌^◌,
 use Rattle.ash_state_image.specs.Fields.{number}
 use Rattle.ash_state_image.specs.Image.{image_of}
 use Rattle.ash_state_image.specs.Rules.{image_tag}
-use Rattle.ash_state_image.specs.Views.{snapshot_in}
+use Rattle.ash_state_image.specs.SnapshotViews.{snapshot_in}
 use Rattle.ash_state_image.specs.declared.version.Version.TheVariants.{Two}
 use Rattle.ash_state_image.proofs.ImageLengths.{image_short}
 use Rattle.ash_state_image.proofs.image.write_body.Goals as goal

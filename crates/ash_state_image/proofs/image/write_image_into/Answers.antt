@@ -2,7 +2,7 @@ use Rattle.std.proofs.Common.{◌++◌}
 use Rattle.std.proofs.lemmas.Result.{on_ok_weaker}
 use Rattle.ash_state_image.specs.Fields.{number, text, items}
 use Rattle.ash_state_image.specs.Image.{loaded_module, service, object}
-use Rattle.ash_state_image.specs.Views.{snapshot_in}
+use Rattle.ash_state_image.specs.SnapshotViews.{snapshot_in}
 use Rattle.ash_state_image.proofs.Appended.{appended2, appended6}
 use Rattle.ash_state_image.proofs.image.write_image_into.Goals as goal
 

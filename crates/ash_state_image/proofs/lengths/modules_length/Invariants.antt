@@ -1,7 +1,7 @@
 use Rattle.std.proofs.Common.{◌≡◌, ◌≤◌, ◌*◌, ◌^◌, length, take}
 use Rattle.std.specs.List.{flat_map}
 use Rattle.ash_state_image.specs.Image.{loaded_module}
-use Rattle.ash_state_image.specs.Views.{modules_in}
+use Rattle.ash_state_image.specs.SnapshotViews.{modules_in}
 use Rattle.ash_state_image.proofs.lengths.modules_length.Given as goal
 
 abbrev pub invariant-loop-parts : goal.invariant-loop-parts

@@ -1,6 +1,6 @@
 use Rattle.ash_state_image.specs.declared.version.Version.TheVariants.{Two}
 use Rattle.ash_state_image.specs.Image.{FitsObject}
-use Rattle.ash_state_image.specs.Views.{object_in}
+use Rattle.ash_state_image.specs.SnapshotViews.{object_in}
 use Rattle.ash_state_image.proofs.Listed.{all_map_at}
 use Rattle.ash_state_image.proofs.lengths.objects_length.Goals as goal
 

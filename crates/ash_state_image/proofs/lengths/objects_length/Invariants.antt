@@ -1,7 +1,7 @@
 use Rattle.std.proofs.Common.{◌≡◌, ◌≤◌, ◌*◌, ◌^◌, length, take}
 use Rattle.std.specs.List.{flat_map}
 use Rattle.ash_state_image.specs.Image.{object}
-use Rattle.ash_state_image.specs.Views.{objects_in}
+use Rattle.ash_state_image.specs.SnapshotViews.{objects_in}
 use Rattle.ash_state_image.proofs.lengths.objects_length.Given as goal
 
 abbrev pub invariant-loop-parts : goal.invariant-loop-parts

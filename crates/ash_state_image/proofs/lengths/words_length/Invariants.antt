@@ -1,6 +1,6 @@
 use Rattle.std.proofs.Common.{◌≡◌, ◌≤◌, ◌*◌, length, take}
 use Rattle.std.specs.List.{flat_map}
-use Rattle.ash_state_image.specs.Words.{word}
+use Rattle.ash_state_image.specs.ImageWords.{word}
 use Rattle.ash_state_image.proofs.lengths.words_length.Given as goal
 
 abbrev pub invariant-loop-word : goal.invariant-loop-word

@@ -1,7 +1,7 @@
 use Rattle.std.proofs.Common.{◌≡◌, ◌-◌}
 use Rattle.ash_state_image.specs.Fields.{times_at}
 use Rattle.ash_state_image.specs.ImageReading.{module_at}
-use Rattle.ash_state_image.specs.Views.{modules_of}
+use Rattle.ash_state_image.specs.SnapshotViews.{modules_of}
 use Rattle.ash_state_image.proofs.ItemLoop.{with_prefix}
 use Rattle.ash_state_image.proofs.modules.counted_modules.Given as goal
 

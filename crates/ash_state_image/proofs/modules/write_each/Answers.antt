@@ -1,5 +1,5 @@
 use Rattle.ash_state_image.specs.Image.{FitsModule}
-use Rattle.ash_state_image.specs.Views.{module_in}
+use Rattle.ash_state_image.specs.SnapshotViews.{module_in}
 use Rattle.ash_state_image.proofs.Listed.{all_map_at}
 use Rattle.ash_state_image.proofs.modules.write_each.Goals as goal
 

@@ -5,7 +5,7 @@ use Rattle.std.specs.declared.cmp.Ordering.{Ordering}
 use Rattle.std.specs.declared.cmp.Ordering.TheVariants.{Less, Equal, Greater}
 use Rattle.std.specs.Ordering.{is_lt, is_ge}
 use Rattle.ash_state_image.specs.declared.stored.StoredModule.{StoredModule}
-use Rattle.ash_state_image.specs.Views.{module_of, modules_of}
+use Rattle.ash_state_image.specs.SnapshotViews.{module_of, modules_of}
 use Rattle.ash_state_image.specs.Image.{compare_names, are_ascending, names_of}
 use Rattle.ash_state_image.proofs.names.are_ascending.Goals as goal
 

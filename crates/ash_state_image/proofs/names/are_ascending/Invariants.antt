@@ -1,5 +1,5 @@
 use Rattle.std.proofs.Common.{◌≡◌, ◌∷◌, drop, map}
-use Rattle.ash_state_image.specs.Views.{module_of, modules_of}
+use Rattle.ash_state_image.specs.SnapshotViews.{module_of, modules_of}
 use Rattle.ash_state_image.specs.Image.{are_ascending, names_of}
 use Rattle.ash_state_image.proofs.names.are_ascending.Given as goal
 

@@ -3,7 +3,7 @@ use Rattle.std.proofs.lemmas.List.{map-append}
 use Rattle.std.proofs.lemmas.Result.{err_from_is_err_and}
 use Rattle.ash_state_image.specs.Fields.{times_at}
 use Rattle.ash_state_image.specs.ImageReading.{object_at}
-use Rattle.ash_state_image.specs.Views.{object_of, objects_of}
+use Rattle.ash_state_image.specs.SnapshotViews.{object_of, objects_of}
 use Rattle.ash_state_image.proofs.ItemLoop.{goes_on, ends, is_done}
 use Rattle.ash_state_image.proofs.numbered.counted_objects.Goals as goal
 

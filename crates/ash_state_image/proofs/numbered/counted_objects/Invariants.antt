@@ -1,7 +1,7 @@
 use Rattle.std.proofs.Common.{◌≡◌, ◌-◌}
 use Rattle.ash_state_image.specs.Fields.{times_at}
 use Rattle.ash_state_image.specs.ImageReading.{object_at}
-use Rattle.ash_state_image.specs.Views.{objects_of}
+use Rattle.ash_state_image.specs.SnapshotViews.{objects_of}
 use Rattle.ash_state_image.proofs.ItemLoop.{with_prefix}
 use Rattle.ash_state_image.proofs.numbered.counted_objects.Given as goal
 

@@ -4,7 +4,7 @@ use Rattle.std.proofs.lemmas.Bool.{lt-ltb}
 use Rattle.ash_host.specs.Objects.{numbers}
 use Rattle.ash_state_image.specs.declared.stored.StoredObject.{StoredObject}
 use Rattle.ash_state_image.specs.Image.{do_rise}
-use Rattle.ash_state_image.specs.Views.{object_of, objects_of}
+use Rattle.ash_state_image.specs.SnapshotViews.{object_of, objects_of}
 use Rattle.ash_state_image.proofs.numbered.do_rise.Goals as goal
 
 -- an object whose number is above the last one's is passed over

@@ -1,7 +1,7 @@
 use Rattle.std.proofs.Common.{◌≡◌, ◌∷◌, drop, map}
 use Rattle.ash_host.specs.Objects.{numbers}
 use Rattle.ash_state_image.specs.Image.{do_rise}
-use Rattle.ash_state_image.specs.Views.{object_of, objects_of}
+use Rattle.ash_state_image.specs.SnapshotViews.{object_of, objects_of}
 use Rattle.ash_state_image.proofs.numbered.do_rise.Given as goal
 
 abbrev pub invariant-loop-object : goal.invariant-loop-object

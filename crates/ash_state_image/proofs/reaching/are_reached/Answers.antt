@@ -2,8 +2,8 @@ use Rattle.std.proofs.Common.{◌≡◌, Bool, List, length, subst, ◌∙◌, a
 use Rattle.std.specs.List.{list_all}
 use Rattle.ash_state_image.specs.declared.stored.StoredModule.{StoredModule}
 use Rattle.ash_state_image.specs.Rules.{held_by}
-use Rattle.ash_state_image.specs.Views.{modules_of}
-use Rattle.ash_state_image.specs.Search.{Progress, Visited, progress_of}
+use Rattle.ash_state_image.specs.SnapshotViews.{modules_of}
+use Rattle.ash_state_image.specs.Search.{SearchProgress, Visited, progress_of}
 use Rattle.ash_state_image.proofs.Searching.{begins, ends}
 use Rattle.ash_state_image.proofs.reaching.are_reached.Goals as goal
 
@@ -18,8 +18,8 @@ pub follow-requires-clause-searches : goal.follow-requires-clause-searches
 follow-requires-clause-searches c =
     let many : c.len.result ≡ length c.args.state.now.objects.items =
     omega (arith, c.len.ensures, c.args.state.now.objects.ok.0) in
-    let old : Progress = record { marked = c.in_ok-marked.marked.items; pending = c.new.result.items } in
-    let new : Progress = progress_of c.visit_globals.new.search in
+    let old : SearchProgress = record { marked = c.in_ok-marked.marked.items; pending = c.new.result.items } in
+    let new : SearchProgress = progress_of c.visit_globals.new.search in
     begins (held_by (modules_of c.args.state.now.modules.items)) c.args.state.now.objects.items c.args.alive.now
     c.len.result old new many c.in_ok-marked.ensures c.new.ensures.items c.requires.alive
     (subst (λ (ms : List StoredModule). Visited c.args.alive.now (held_by (modules_of ms)) old new)

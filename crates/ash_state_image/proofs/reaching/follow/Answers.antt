@@ -4,8 +4,8 @@ use Rattle.ash_host.specs.Objects.{handles, fields_of}
 use Rattle.ash_state_image.specs.declared.stored.StoredObject.{StoredObject}
 use Rattle.ash_state_image.specs.Image.{do_rise}
 use Rattle.ash_state_image.specs.Rules.{held_by}
-use Rattle.ash_state_image.specs.Views.{modules_of, object_of}
-use Rattle.ash_state_image.specs.Search.{Progress, Visited, progress_of}
+use Rattle.ash_state_image.specs.SnapshotViews.{modules_of, object_of}
+use Rattle.ash_state_image.specs.Search.{SearchProgress, Visited, progress_of}
 use Rattle.ash_state_image.proofs.Searching.{next_within, next_searches}
 use Rattle.ash_state_image.proofs.reaching.follow.Goals as goal
 
@@ -23,7 +23,7 @@ loop-index-preserved c =
     let new = progress_of c.visit.new.search in
     let same : c.words_of.result.now ≡ fields_of (object_of (get_or xs c.in-Some.index c.index.result.now)).1 =
     c.words_of.ensures.exact ∙ ap (λ (o : StoredObject). fields_of (object_of o).1) c.index.ensures in
-    let old : Progress = record { marked = c.loop-index.search.marked.items; pending = c.pop.new.self.items } in
+    let old : SearchProgress = record { marked = c.loop-index.search.marked.items; pending = c.pop.new.self.items } in
     let visited = subst (λ (ns : List ℕ). Visited ns (handles (fields_of (object_of (get_or xs c.in-Some.index c.index.result.now)).1))
     old new) c.requires.alive
     (subst (λ (ws : List Word). Visited c.args.alive.now (handles ws) old new) same c.in_ok-visit.ensures) in

@@ -1,6 +1,6 @@
 use Rattle.std.proofs.Common.{◌+◌, length}
 use Rattle.ash_state_image.specs.Rules.{held_by}
-use Rattle.ash_state_image.specs.Views.{modules_of, objects_of}
+use Rattle.ash_state_image.specs.SnapshotViews.{modules_of, objects_of}
 use Rattle.ash_state_image.specs.Search.{Searches, unmarked, progress_of}
 use Rattle.ash_state_image.proofs.reaching.follow.Given as goal
 

@@ -1,6 +1,6 @@
 use Rattle.std.proofs.Common.{take}
 use Rattle.ash_state_image.specs.Rules.{held_by}
-use Rattle.ash_state_image.specs.Views.{modules_of}
+use Rattle.ash_state_image.specs.SnapshotViews.{modules_of}
 use Rattle.ash_state_image.specs.Search.{Visited, progress_of}
 use Rattle.ash_state_image.proofs.reaching.visit_globals.Given as goal
 

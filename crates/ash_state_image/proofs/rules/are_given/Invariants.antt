@@ -1,6 +1,6 @@
 use Rattle.std.proofs.Common.{◌≡◌, drop}
 use Rattle.std.specs.List.{list_all}
-use Rattle.ash_state_image.specs.Views.{objects_of}
+use Rattle.ash_state_image.specs.SnapshotViews.{objects_of}
 use Rattle.ash_state_image.specs.Rules.{is_given}
 use Rattle.ash_state_image.proofs.rules.are_given.Given as goal
 

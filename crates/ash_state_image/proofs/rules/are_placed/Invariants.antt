@@ -2,7 +2,7 @@ use Rattle.std.proofs.Common.{◌≡◌, drop}
 use Rattle.std.specs.List.{list_all}
 use Rattle.std.proofs.Common.{ℕ}
 use Rattle.ash_host.specs.Objects.{Plain}
-use Rattle.ash_state_image.specs.Views.{objects_of}
+use Rattle.ash_state_image.specs.SnapshotViews.{objects_of}
 use Rattle.ash_state_image.specs.Rules.{is_placed}
 use Rattle.ash_state_image.proofs.rules.are_placed.Given as goal
 

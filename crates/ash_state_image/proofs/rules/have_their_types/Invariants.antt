@@ -1,7 +1,7 @@
 use Rattle.std.proofs.Common.{◌≡◌, ℕ, drop}
 use Rattle.std.specs.List.{list_all}
 use Rattle.ash_host.specs.Objects.{Plain}
-use Rattle.ash_state_image.specs.Views.{objects_of}
+use Rattle.ash_state_image.specs.SnapshotViews.{objects_of}
 use Rattle.ash_state_image.specs.Rules.{are_elements}
 use Rattle.ash_state_image.proofs.rules.have_their_types.Given as goal
 

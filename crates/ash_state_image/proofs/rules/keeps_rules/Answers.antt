@@ -2,7 +2,7 @@ use Rattle.std.proofs.Common.{◌≡◌, true, false, arith}
 use Rattle.std.proofs.lemmas.Result.{IfOk-weaker}
 use Rattle.ash_host.specs.Objects.{numbers}
 use Rattle.ash_state_image.specs.Rules.{is_whole}
-use Rattle.ash_state_image.specs.Views.{snapshot_of, objects_of}
+use Rattle.ash_state_image.specs.SnapshotViews.{snapshot_of, objects_of}
 use Rattle.ash_state_image.proofs.OrderLaws.{increasing}
 use Rattle.ash_state_image.proofs.RuleLaws.{rules_say, broken_whole, with_reached}
 use Rattle.ash_state_image.proofs.rules.keeps_rules.Goals as goal

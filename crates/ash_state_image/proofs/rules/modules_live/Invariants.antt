@@ -1,6 +1,6 @@
 use Rattle.std.proofs.Common.{◌≡◌, drop}
 use Rattle.std.specs.List.{list_all}
-use Rattle.ash_state_image.specs.Views.{modules_of}
+use Rattle.ash_state_image.specs.SnapshotViews.{modules_of}
 use Rattle.ash_state_image.specs.Rules.{module_lives}
 use Rattle.ash_state_image.proofs.rules.modules_live.Given as goal
 

@@ -1,6 +1,6 @@
 use Rattle.std.proofs.Common.{◌≡◌, take}
 use Rattle.ash_host.specs.Objects.{numbers}
-use Rattle.ash_state_image.specs.Views.{objects_of}
+use Rattle.ash_state_image.specs.SnapshotViews.{objects_of}
 use Rattle.ash_state_image.proofs.rules.numbers_of.Given as goal
 
 abbrev pub invariant-loop-object : goal.invariant-loop-object

@@ -3,8 +3,8 @@ use Rattle.std.proofs.lemmas.List.{map-append}
 use Rattle.std.proofs.lemmas.Result.{err_from_is_err_and}
 use Rattle.ash_state_image.specs.Fields.{times_at}
 use Rattle.ash_state_image.specs.ObjectBytes.{kind_and_state_at}
-use Rattle.ash_state_image.specs.ObjectViews.{service_of}
-use Rattle.ash_state_image.specs.Views.{services_of}
+use Rattle.ash_state_image.specs.ImageObjectViews.{service_of}
+use Rattle.ash_state_image.specs.SnapshotViews.{services_of}
 use Rattle.ash_state_image.proofs.ItemLoop.{goes_on, ends, is_done}
 use Rattle.ash_state_image.proofs.services.counted_services.Goals as goal
 

@@ -1,7 +1,7 @@
 use Rattle.std.proofs.Common.{◌≡◌, ◌-◌}
 use Rattle.ash_state_image.specs.Fields.{times_at}
 use Rattle.ash_state_image.specs.ObjectBytes.{kind_and_state_at}
-use Rattle.ash_state_image.specs.Views.{services_of}
+use Rattle.ash_state_image.specs.SnapshotViews.{services_of}
 use Rattle.ash_state_image.proofs.ItemLoop.{with_prefix}
 use Rattle.ash_state_image.proofs.services.counted_services.Given as goal
 

@@ -1,6 +1,6 @@
 use Rattle.std.proofs.Common.{ℕ, List}
 use Rattle.ash_state_image.specs.ObjectBytes.{FitsHost}
-use Rattle.ash_state_image.specs.Views.{service_in}
+use Rattle.ash_state_image.specs.SnapshotViews.{service_in}
 use Rattle.ash_state_image.proofs.Listed.{all_map_at}
 use Rattle.ash_state_image.proofs.services.write_each.Goals as goal
 

@@ -1,6 +1,6 @@
 use Rattle.std.proofs.lemmas.Result.{err_from_is_err_and}
 use Rattle.ash_state_image.specs.Fields.{times_at}
-use Rattle.ash_state_image.specs.Words.{word_at}
+use Rattle.ash_state_image.specs.ImageWords.{word_at}
 use Rattle.ash_state_image.proofs.ItemLoop.{goes_on, ends, is_done}
 use Rattle.ash_state_image.proofs.words.words_of.Goals as goal
 

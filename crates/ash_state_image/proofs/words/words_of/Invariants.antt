@@ -1,6 +1,6 @@
 use Rattle.std.proofs.Common.{◌≡◌, ◌-◌}
 use Rattle.ash_state_image.specs.Fields.{times_at}
-use Rattle.ash_state_image.specs.Words.{word_at}
+use Rattle.ash_state_image.specs.ImageWords.{word_at}
 use Rattle.ash_state_image.proofs.ItemLoop.{with_prefix}
 use Rattle.ash_state_image.proofs.words.words_of.Given as goal
 

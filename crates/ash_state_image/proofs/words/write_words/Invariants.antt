@@ -1,6 +1,6 @@
 use Rattle.std.proofs.Common.{◌≡◌, ◌++◌, take}
 use Rattle.std.specs.List.{flat_map}
-use Rattle.ash_state_image.specs.Words.{word}
+use Rattle.ash_state_image.specs.ImageWords.{word}
 use Rattle.ash_state_image.proofs.words.write_words.Given as goal
 
 abbrev pub invariant-loop-word : goal.invariant-loop-word

@@ -1,7 +1,7 @@
 use Rattle.std.proofs.Common.{◌≡◌, ◌++◌, map, drop}
-use Rattle.ash_tree.specs.Views.{decl_of}
+use Rattle.ash_tree.specs.TreeViews.{decl_of}
 use Rattle.ash_typing.specs.ModuleDeclarations.{declared}
-use Rattle.ash_typing.specs.Statements as definition
+use Rattle.ash_typing.specs.StatementRules as definition
 use Rattle.ash_statements.specs.StatementViews.{locals_of, scope_of, values_of}
 use Rattle.ash_statements.proofs.StatementLaws.{values_after}
 use Rattle.ash_statements.proofs.locals.check_local_decls.Given as goal

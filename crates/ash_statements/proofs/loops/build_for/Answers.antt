@@ -1,7 +1,7 @@
 use Rattle.std.proofs.Common.{◌≡◌, Ok, Err, ap, Result, Bool}
 use Rattle.ash_typing.specs.TypingResult.{TypingResult, ◌>>=◌}
 use Rattle.ash_typed.specs.StatementTree.{Stmt}
-use Rattle.ash_typing.specs.Statements as definition
+use Rattle.ash_typing.specs.StatementRules as definition
 use Rattle.ash_environment.specs.declared.error.CheckError.{CheckError}
 use Rattle.ash_environment.specs.declared.error.CheckError.TheVariants as errors
 use Rattle.ash_environment.specs.Agreement.{FailsWith}

@@ -1,8 +1,8 @@
 use Rattle.std.proofs.Common.{◌≡◌, ◌++◌, map}
 use Rattle.std.specs.Vec.Iter.{into_iter_items}
-use Rattle.ash_typed.specs.Views.{expr_of}
-use Rattle.ash_typing.specs.Statements.{tree_of}
-use Rattle.ash_expressions.specs.Views.{typed_of, all_typed_of}
+use Rattle.ash_typed.specs.TypedTreeViews.{expr_of}
+use Rattle.ash_typing.specs.StatementRules.{tree_of}
+use Rattle.ash_expressions.specs.TypedExprViews.{typed_of, all_typed_of}
 use Rattle.ash_statements.proofs.loops.trees_of.Given as goal
 
 abbrev pub invariant-loop-one : goal.invariant-loop-one

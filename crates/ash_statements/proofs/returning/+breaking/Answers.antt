@@ -1,7 +1,7 @@
 use Rattle.std.proofs.Common.{◌≡◌, ◌∙◌, ap, sym, List, map}
 use Rattle.ash_tree.specs.declared.tree.statements.Stmt as code_stmt
 use Rattle.ash_tree.specs.Tree.{stmts}
-use Rattle.ash_tree.specs.Views.{stmt_at, stmt_of}
+use Rattle.ash_tree.specs.TreeViews.{stmt_at, stmt_of}
 use Rattle.ash_tree.proofs.Rows.{block_is}
 use Rattle.ash_typing.specs.Returning as definition
 use Rattle.ash_statements.proofs.returning.+breaking.Goals as goal

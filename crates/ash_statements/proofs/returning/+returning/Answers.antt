@@ -2,7 +2,7 @@ use Rattle.std.proofs.Common.{◌≡◌, ◌∙◌, ap, refl, false, true, List,
 use Rattle.ash_tree.specs.declared.tree.statements.Stmt as code_stmt
 use Rattle.ash_tree.specs.declared.tree.statements.Case as code_case
 use Rattle.ash_tree.specs.Tree.{stmts, cases}
-use Rattle.ash_tree.specs.Views.{stmt_at, stmt_of, case_of}
+use Rattle.ash_tree.specs.TreeViews.{stmt_at, stmt_of, case_of}
 use Rattle.ash_tree.proofs.Rows.{block_is, switch_is}
 use Rattle.ash_typing.specs.Returning as definition
 use Rattle.ash_statements.proofs.returning.+returning.Goals as goal

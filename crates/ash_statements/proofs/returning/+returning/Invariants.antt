@@ -1,6 +1,6 @@
 use Rattle.std.proofs.Common.{◌≡◌, drop, map}
 use Rattle.ash_tree.specs.Tree.{stmts}
-use Rattle.ash_tree.specs.Views.{stmt_of}
+use Rattle.ash_tree.specs.TreeViews.{stmt_of}
 use Rattle.ash_typing.specs.Returning.{any_returns}
 use Rattle.ash_statements.proofs.returning.+returning.Given as goal
 

@@ -1,6 +1,6 @@
 use Rattle.std.proofs.Common.{◌≡◌, drop, map}
 use Rattle.ash_tree.specs.Tree.{cases}
-use Rattle.ash_tree.specs.Views.{case_of}
+use Rattle.ash_tree.specs.TreeViews.{case_of}
 use Rattle.ash_typing.specs.Returning as definition
 use Rattle.ash_statements.proofs.returning.breaks_out.Given as goal
 

@@ -1,7 +1,7 @@
 use Rattle.std.proofs.Common.{◌≡◌, map, drop}
 use Rattle.std.specs.List.{list_any}
 use Rattle.ash_typing.specs.Environment.{declares}
-use Rattle.ash_environment.specs.Views.{binding_of}
+use Rattle.ash_environment.specs.EnvironmentViews.{binding_of}
 use Rattle.ash_statements.proofs.scopes.any_declares.Given as goal
 
 abbrev pub invariant-loop-declared : goal.invariant-loop-declared

@@ -3,14 +3,14 @@ use Rattle.std.proofs.lemmas.List.{length-map}
 use Rattle.std.proofs.lemmas.Result.{err_from_is_err_and}
 use Rattle.ash_tree.specs.declared.tree.statements.Case as code_case
 use Rattle.ash_tree.specs.Tree as written
-use Rattle.ash_tree.specs.Views.{stmt_of, case_of}
+use Rattle.ash_tree.specs.TreeViews.{stmt_of, case_of}
 use Rattle.ash_typed.specs.BodyViews as typed_views
 use Rattle.ash_typing.specs.Labels.{is_last}
-use Rattle.ash_typing.specs.Statements as definition
-use Rattle.ash_typing.specs.Statements.{check_stmts}
+use Rattle.ash_typing.specs.StatementRules as definition
+use Rattle.ash_typing.specs.StatementRules.{check_stmts}
 use Rattle.ash_typing.specs.Switches.{check_label}
 use Rattle.ash_environment.specs.Agreement.{Agrees, FailsWith}
-use Rattle.ash_environment.specs.Views.{binding_of}
+use Rattle.ash_environment.specs.EnvironmentViews.{binding_of}
 use Rattle.ash_statements.specs.StatementViews.{locals_of, scope_of}
 use Rattle.ash_statements.proofs.StatementLaws.{Extends, at_first, extends_itself, extends_next, locals_go, block_step}
 use Rattle.ash_statements.proofs.StatementLaws.{block_end, block_of_source, switch_of_source, for_of_source}

@@ -3,9 +3,9 @@ use denote.Param.Weighed.{most}
 use Rattle.ash_tree.specs.declared.tree.statements.Stmt.{size-Stmt}
 use Rattle.ash_tree.specs.declared.tree.statements.Case.{size-Case}
 use Rattle.ash_tree.specs.Tree.{stmts, cases}
-use Rattle.ash_tree.specs.Views as written
+use Rattle.ash_tree.specs.TreeViews as written
 use Rattle.ash_typed.specs.BodyViews.{stmt_of, case_of}
-use Rattle.ash_typing.specs.Statements as definition
+use Rattle.ash_typing.specs.StatementRules as definition
 use Rattle.ash_statements.specs.StatementViews.{locals_of, scope_of}
 use Rattle.ash_statements.proofs.StatementLaws.{stmts_after, cases_after, Extends}
 use Rattle.ash_statements.proofs.statements.+statements.Given as goal

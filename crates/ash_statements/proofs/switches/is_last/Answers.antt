@@ -1,7 +1,7 @@
 use Rattle.std.proofs.Common.{◌≡◌, ℕ, zero, suc, ◌+◌, ◌≤◌, List, [], ◌∷◌, length, drop, map, refl, sym, arith, nat_eq}
 use Rattle.ash_tree.specs.declared.tree.statements.Case as code_case
 use Rattle.ash_tree.specs.Tree.{cases}
-use Rattle.ash_tree.specs.Views.{case_of}
+use Rattle.ash_tree.specs.TreeViews.{case_of}
 use Rattle.ash_typing.specs.Labels.{is_last}
 use Rattle.ash_statements.proofs.switches.is_last.Goals as goal
 

@@ -5,9 +5,9 @@ use Rattle.std.specs.Vec.Iter.{into_iter_items}
 use Rattle.ash_typed.specs.Modules.{Module}
 use Rattle.ash_steps.specs.States.{LoadedModule}
 use Rattle.ash_plain_steps.specs.StateViews.{modules_seen}
-use Rattle.ash_state_image.specs.Views.{module_of, modules_of}
+use Rattle.ash_state_image.specs.SnapshotViews.{module_of, modules_of}
 use Rattle.ash_states.specs.Images.{loaded_of, loaded_modules_of}
-use Rattle.ash_states.specs.Restoring.{HasTree}
+use Rattle.ash_states.specs.StateRestoring.{HasTree}
 use Rattle.ash_states.proofs.Lists.{all_map}
 use Rattle.ash_states.proofs.modules.read_modules.Goals as goal
 
@@ -18,8 +18,8 @@ one_of P (other ∷ done) more one h = one_of P done more one h.1
 
 pub returns-in_default : goal.returns-in_default
 returns-in_default g c =
-    let Reads : LoadedModule → Type 0 = λ (m : LoadedModule). (tree : Module) × ((g.S.Sources.embedding c.args.sources.now).read m.source ≡ Ok tree) in
-    let not_this : HasTree (g.S.Sources.embedding c.args.sources.now) (module_of c.in-Some.module) → ⊥ =
+    let Reads : LoadedModule → Type 0 = λ (m : LoadedModule). (tree : Module) × ((g.S.SourceReader.embedding c.args.sources.now).read m.source ≡ Ok tree) in
+    let not_this : HasTree (g.S.SourceReader.embedding c.args.sources.now) (module_of c.in-Some.module) → ⊥ =
     rw c.in_default.is at c.in_ok-module.ensures.exact in
     let split : modules_seen c.loop-module.modules.items ++ loaded_of (module_of c.in-Some.module) ∷ loaded_modules_of (modules_of (into_iter_items c.next.new.self)) ≡ loaded_modules_of (modules_of c.args.stored.items) =
     ap (λ (left : List _). modules_seen c.loop-module.modules.items ++ loaded_modules_of (modules_of left))

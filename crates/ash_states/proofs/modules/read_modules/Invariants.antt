@@ -2,8 +2,8 @@ use Rattle.std.proofs.Common.{◌≡◌, ◌++◌}
 use Rattle.std.specs.List.{AllByRecursion}
 use Rattle.std.specs.Vec.Iter.{into_iter_items}
 use Rattle.ash_plain_steps.specs.StateViews.{modules_seen}
-use Rattle.ash_plain_steps.specs.Consistency.{IsRead}
-use Rattle.ash_state_image.specs.Views.{modules_of}
+use Rattle.ash_plain_steps.specs.Consistency.{IsReadFromSource}
+use Rattle.ash_state_image.specs.SnapshotViews.{modules_of}
 use Rattle.ash_states.specs.Images.{loaded_modules_of}
 use Rattle.ash_states.proofs.modules.read_modules.Given as goal
 
@@ -11,5 +11,5 @@ use Rattle.ash_states.proofs.modules.read_modules.Given as goal
 abbrev pub invariant-loop-module : goal.invariant-loop-module
 invariant-loop-module g l = record {
   same : modules_seen l.modules.items ++ loaded_modules_of (modules_of (into_iter_items l.module-iterator)) ≡ loaded_modules_of (modules_of l.fn.stored.items);
-  read : AllByRecursion (IsRead (g.S.Sources.embedding l.sources)) l.modules.items;
+  read : AllByRecursion (IsReadFromSource (g.S.SourceReader.embedding l.sources)) l.modules.items;
 }

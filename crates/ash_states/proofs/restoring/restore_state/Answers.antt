@@ -2,21 +2,21 @@ use Rattle.std.proofs.Common.{rules, ◌≡◌, ◌↔◌, true, false, List, []
 use Rattle.std.proofs.lemmas.Grind.{common_steps}
 use Rattle.std.specs.Prelude.{option_map}
 use Rattle.std.specs.Vec.{vec_items}
-use Rattle.ash_registry.specs.Registrations.{Registration}
-use Rattle.ash_registry.specs.Registered.{registered}
-use Rattle.ash_typed.specs.Signatures.{Host}
+use Rattle.ash_registry.specs.AcceptedRegistrations.{Registration}
+use Rattle.ash_registry.specs.RegistryViews.{registered}
+use Rattle.ash_typed.specs.Signatures.{HostSignatures}
 use Rattle.ash_steps.specs.States.{LoadedModule}
 use Rattle.ash_plain_steps.specs.declared.state.LoadedModule as code_module
 use Rattle.ash_plain_steps.specs.declared.state.PlainState.{PlainState}
 use Rattle.ash_plain_steps.specs.StateViews.{modules_seen, state_seen}
 use Rattle.ash_sources.specs.Sources.{SourceRules, embedding_of}
-use Rattle.ash_admission.specs.Admission.{ConstructsNothing, IsWellTyped}
+use Rattle.ash_admission.specs.Admission.{ConstructsNothing, AreWellTypedObjects}
 use Rattle.ash_state_image.specs.Snapshots.{Snapshot}
-use Rattle.ash_state_image.specs.ObjectViews.{service_of}
-use Rattle.ash_state_image.specs.Views.{services_of, modules_of, objects_of, snapshot_of}
-use Rattle.ash_states.specs.States.{embedding_for}
+use Rattle.ash_state_image.specs.ImageObjectViews.{service_of}
+use Rattle.ash_state_image.specs.SnapshotViews.{services_of, modules_of, objects_of, snapshot_of}
+use Rattle.ash_states.specs.HostStates.{embedding_for}
 use Rattle.ash_states.specs.Images.{name_at, entry_named, state_of}
-use Rattle.ash_states.specs.Restoring.{ReadsModules}
+use Rattle.ash_states.specs.StateRestoring.{ReadsModules}
 use Rattle.ash_states.proofs.Restored.{unread, read_consistent, mistyped_read, typed_read, restored}
 use Rattle.ash_states.proofs.Typed.{typed_if}
 use Rattle.ash_states.proofs.restoring.restore_state.Goals as goal
@@ -49,7 +49,7 @@ returns-then-not-is_well_typed c =
     ∙ ap (λ (all : List LoadedModule). map (entry_named (name_at all)) (objects_of c.args.stored.objects.items)) some.0 in
     let test = typed_if registrations ms c.in_ok-objects.objects c.is_well_typed.result
     (read_consistent registrations snapshot c.requires.shaped ms some)
-    (subst (λ (all : List code_module.LoadedModule). (host : Host) → ConstructsNothing host → ((c.is_well_typed.result ≡ true) ↔ IsWellTyped host all c.in_ok-objects.objects)) c.deref-2.ensures.value c.is_well_typed.ensures.exact) in
+    (subst (λ (all : List code_module.LoadedModule). (host : HostSignatures) → ConstructsNothing host → ((c.is_well_typed.result ≡ true) ↔ AreWellTypedObjects host all c.in_ok-objects.objects)) c.deref-2.ensures.value c.is_well_typed.ensures.exact) in
     let fails : c.is_well_typed.result ≡ false = search rules in
     record {
       exact = mistyped_read registrations snapshot (modules_seen ms) c.in_ok-objects.objects some.0 objects
@@ -71,7 +71,7 @@ returns c =
     ∙ ap (λ (all : List LoadedModule). map (entry_named (name_at all)) (objects_of c.args.stored.objects.items)) some.0 in
     let test = typed_if registrations ms c.in_ok-objects.objects c.is_well_typed.result
     (read_consistent registrations snapshot c.requires.shaped ms some)
-    (subst (λ (all : List code_module.LoadedModule). (host : Host) → ConstructsNothing host → ((c.is_well_typed.result ≡ true) ↔ IsWellTyped host all c.in_ok-objects.objects)) c.deref-2.ensures.value c.is_well_typed.ensures.exact) in
+    (subst (λ (all : List code_module.LoadedModule). (host : HostSignatures) → ConstructsNothing host → ((c.is_well_typed.result ≡ true) ↔ AreWellTypedObjects host all c.in_ok-objects.objects)) c.deref-2.ensures.value c.is_well_typed.ensures.exact) in
     let holds : c.is_well_typed.result ≡ true = search rules in
     let count : length c.args.stored.services.items ≡ 0 = grind (arith, common_steps) in
     let none : services_of c.args.stored.services.items ≡ [] = none_seen service_of c.args.stored.services.items count in

@@ -1,5 +1,5 @@
 use Rattle.std.proofs.Common.{rules, sym, subst}
-use Rattle.ash_registry.specs.Registered.{registered}
+use Rattle.ash_registry.specs.RegistryViews.{registered}
 use Rattle.ash_plain_steps.specs.Consistency.{AreConsistent}
 use Rattle.ash_plain_steps.specs.RequestViews.{request_seen}
 use Rattle.ash_sources.specs.Sources.{SourceRules, rules_of, embedding_of}

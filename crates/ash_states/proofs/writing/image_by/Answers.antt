@@ -1,6 +1,6 @@
 use Rattle.std.proofs.lemmas.Result.{IfOk-weaker}
-use Rattle.ash_registry.specs.Registered.{registered}
-use Rattle.ash_states.specs.States.{HostState}
+use Rattle.ash_registry.specs.RegistryViews.{registered}
+use Rattle.ash_states.specs.HostStates.{HostState}
 use Rattle.ash_states.specs.Holding.{held_with}
 use Rattle.ash_states.proofs.Depicted.{image_by_parts}
 use Rattle.ash_states.proofs.writing.image_by.Goals as goal

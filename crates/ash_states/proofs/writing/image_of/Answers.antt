@@ -1,7 +1,7 @@
 use Rattle.std.proofs.Common.{ℕ, List, sym, subst}
 use Rattle.std.specs.List.{AllByRecursion}
 use Rattle.ash_host.specs.Objects.{Plain}
-use Rattle.ash_registry.specs.Registered.{registered}
+use Rattle.ash_registry.specs.RegistryViews.{registered}
 use Rattle.ash_plain_steps.specs.declared.state.LoadedModule as code_module
 use Rattle.ash_plain_steps.specs.StateViews.{modules_seen}
 use Rattle.ash_states.specs.Holding.{held_with}

@@ -1,4 +1,4 @@
-use Rattle.ash_registry.specs.Registered.{registered}
+use Rattle.ash_registry.specs.RegistryViews.{registered}
 use Rattle.ash_states.specs.Holding.{held_with}
 use Rattle.ash_states.proofs.Depicted.{parts_fit}
 use Rattle.ash_states.proofs.writing.state_parts.Goals as goal

@@ -1,7 +1,7 @@
 use Rattle.std.proofs.Common.{◌<◌, ◌∙◌, sym, ap, length, map, arith}
 use Rattle.std.proofs.lemmas.Grind.{common_steps}
 use Rattle.ash_tree.specs.Tree.{Binary, links}
-use Rattle.ash_tree.specs.Views.{expr_of, operation_of}
+use Rattle.ash_tree.specs.TreeViews.{expr_of, operation_of}
 use Rattle.ash_tree.proofs.Rows.{place_is, binary_is, chained-some}
 use Rattle.ash_tree.proofs.nodes.binary.Goals as goal
 

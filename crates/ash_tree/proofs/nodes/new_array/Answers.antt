@@ -1,6 +1,6 @@
 use Rattle.std.proofs.Common.{◌∙◌, ap, map}
 use Rattle.ash_tree.specs.Tree.{NewArray, exprs}
-use Rattle.ash_tree.specs.Views.{element_of, expr_of}
+use Rattle.ash_tree.specs.TreeViews.{element_of, expr_of}
 use Rattle.ash_tree.proofs.Rows.{new_array_is}
 use Rattle.ash_tree.proofs.nodes.new_array.Goals as goal
 

@@ -1,7 +1,7 @@
 use Rattle.std.proofs.Common.{◌<◌, ◌∙◌, sym, ap, length, map, arith}
 use Rattle.std.proofs.lemmas.Grind.{common_steps}
 use Rattle.ash_tree.specs.Tree.{Postfix, suffixes}
-use Rattle.ash_tree.specs.Views.{expr_of, suffix_of}
+use Rattle.ash_tree.specs.TreeViews.{expr_of, suffix_of}
 use Rattle.ash_tree.proofs.Rows.{place_is, postfix_is, suffixed-some}
 use Rattle.ash_tree.proofs.nodes.postfix.Goals as goal
 

@@ -1,6 +1,6 @@
 use Rattle.std.proofs.Common.{◌≡◌, IfOk}
-use Rattle.ash_typed.specs.Tree.{Expr}
-use Rattle.ash_typed.specs.Views.{expr_of}
+use Rattle.ash_typed.specs.TypedTree.{Expr}
+use Rattle.ash_typed.specs.TypedTreeViews.{expr_of}
 use Rattle.std.proofs.Common.{subst}
 use Rattle.ash_typed.proofs.Rows.{invoke_is}
 use Rattle.ash_typed.proofs.nodes.invoke.Goals as goal

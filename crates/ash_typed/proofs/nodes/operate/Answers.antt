@@ -1,5 +1,5 @@
 use Rattle.std.proofs.Common.{rules, ◌≡◌, [], ◌∷◌, ◌++◌, IfOk, List}
-use Rattle.ash_typed.specs.Views.{expr_of, linked, chained}
+use Rattle.ash_typed.specs.TypedTreeViews.{expr_of, linked, chained}
 use Rattle.ash_typed.specs.Flat.{base_of, links_of, first_of, operands_of}
 use Rattle.ash_typed.specs.declared.tree.expressions.Expr.TheViews as views
 use Rattle.ash_typed.proofs.FlatLaws.{operands_of-other, first_of-other}

@@ -1,5 +1,5 @@
 use Rattle.std.proofs.Common.{sym, ◌∙◌}
-use Rattle.ash_typing.specs.Items.{check_module}
+use Rattle.ash_typing.specs.ItemRules.{check_module}
 use Rattle.ash_typing.proofs.TypingWords.{answered, no_fault_at, same_ok}
 use Rattle.ash_typing.proofs.ModuleLaws.{typed_known, check_module-exact}
 use Rattle.ash_typing.proofs.modules.typing_of_modules.Goals as goal

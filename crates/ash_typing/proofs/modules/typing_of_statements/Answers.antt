@@ -1,5 +1,5 @@
 use Rattle.std.proofs.Common.{sym, ◌∙◌}
-use Rattle.ash_typing.specs.Statements.{check_stmts}
+use Rattle.ash_typing.specs.StatementRules.{check_stmts}
 use Rattle.ash_typing.proofs.TypingWords.{answered, no_fault_at, same_ok}
 use Rattle.ash_typing.proofs.StatementsComplete.{stmts_complete}
 use Rattle.ash_typing.proofs.StatementsSound.{stmts_sound}

@@ -1,4 +1,4 @@
-use Rattle.ash_typing.specs.Expressions.{check_exprs, all_placed}
+use Rattle.ash_typing.specs.ExpressionRules.{check_exprs, all_placed}
 use Rattle.ash_typing.proofs.TypingWords.{answered, no_fault_at}
 use Rattle.ash_typing.proofs.TypingComplete.{terms, all_complete}
 use Rattle.ash_typing.proofs.TypingSound.{all_sound}

@@ -1,5 +1,5 @@
 use Rattle.std.proofs.Common.{sym, ap, ◌∙◌}
-use Rattle.ash_typing.specs.Expressions.{check_expr, placed, term_of, first_at}
+use Rattle.ash_typing.specs.ExpressionRules.{check_expr, placed, term_of, first_at}
 use Rattle.ash_typing.specs.Typing.{is_known}
 use Rattle.ash_typing.proofs.TypingWords.{answered, no_fault_at, same_ok}
 use Rattle.ash_typing.proofs.TypingKnown.{known_type}

@@ -6,11 +6,11 @@ use Rattle.ash_typed.specs.Signatures as signatures
 use Rattle.ash_typed.specs.SoundExpressions as expressions
 use Rattle.ash_typed.specs.SoundStatements as statements
 use Rattle.ash_typed.specs.SoundModules.{IsSound}
-use Rattle.ash_typed.specs.Returning.{returned, first_returns, later_returns}
-use Rattle.ash_steps.specs.Examples.{adding}
-use Rattle.ash_wellformed.specs.Laws.{OffersNothing, a_function, a_construction, a_method, a_property}
+use Rattle.ash_typed.specs.TypedReturning.{returned, first_returns, later_returns}
+use Rattle.ash_steps.specs.StepExamples.{adding}
+use Rattle.ash_wellformed.specs.WellFormedLaws.{OffersNothing, a_function, a_construction, a_method, a_property}
 use Rattle.ash_wellformed.proofs.Values.{none_in}
-use Rattle.ash_wellformed_states.specs.Examples.{no_host, read_adding}
+use Rattle.ash_wellformed_states.specs.ModuleExample.{no_host, read_adding}
 use Rattle.ash_wellformed_states.proofs.First.{empty_well}
 use Rattle.ash_wellformed_states.proofs.examples.worked_premises.Goals as goal
 

@@ -3,7 +3,7 @@ use Rattle.ash_journal.specs.OtherState.{first_of, second_of}
 use Rattle.ash_journal.specs.Current.{Contents, IsContents}
 use Rattle.ash_journal.specs.Journal.{second_disk, Holds}
 use Rattle.ash_journal.specs.Reading.{bodies_of}
-use Rattle.ash_journal.specs.Runs.{HoldsSince}
+use Rattle.ash_journal.specs.SettledSince.{HoldsSince}
 use Rattle.ash_journal.proofs.RunLaws.{represented}
 use Rattle.ash_disk_tests.proofs.journal.composed.reopened.Goals as goal
 

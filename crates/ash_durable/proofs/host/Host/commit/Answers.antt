@@ -1,6 +1,6 @@
 use Rattle.std.proofs.Common.{Some, IsSome, Ok, Err, sym, subst}
 use Rattle.ash_durable.specs.Hosting.{Hosted, state_unless}
-use Rattle.ash_durable.specs.Requests.{Commits}
+use Rattle.ash_durable.specs.HostRequests.{Commits}
 use Rattle.ash_durable.proofs.HandledRequests.{seen_host}
 use Rattle.ash_durable.proofs.Requesting.{commit_ok, commit_err}
 use Rattle.ash_durable.proofs.host.Host.commit.Goals as goal

@@ -1,6 +1,6 @@
 use Rattle.std.proofs.Common.{Some, ap, subst}
-use Rattle.ash_states.specs.States.{HostState}
-use Rattle.ash_registry.specs.Registered.{registered}
+use Rattle.ash_states.specs.HostStates.{HostState}
+use Rattle.ash_registry.specs.RegistryViews.{registered}
 use Rattle.ash_durable.specs.Store.{WasMade}
 use Rattle.ash_durable.proofs.Opened.{created}
 use Rattle.ash_durable.proofs.host.Host.create.Goals as goal

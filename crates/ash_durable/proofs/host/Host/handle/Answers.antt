@@ -1,6 +1,6 @@
 use Rattle.ash_plain_steps.specs.RequestViews.{request_seen, reply_seen}
 use Rattle.ash_sources.specs.SourceFaults.{fault_of}
-use Rattle.ash_durable.specs.Replies.{refused_by}
+use Rattle.ash_durable.specs.HostReplies.{refused_by}
 use Rattle.ash_durable.proofs.HandledRequests.{handles_seen_stopped}
 use Rattle.ash_durable.proofs.Refusing.{refuses_first}
 use Rattle.ash_durable.proofs.host.Host.handle.Goals as goal

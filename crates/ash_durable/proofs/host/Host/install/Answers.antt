@@ -1,7 +1,7 @@
 use Rattle.std.proofs.Common.{Some, IsSome, Ok, Err, sym, subst}
 use Rattle.ash_plain_steps.specs.declared.request.Refusal.TheVariants as the
 use Rattle.ash_durable.specs.Hosting.{Hosted, state_unless}
-use Rattle.ash_durable.specs.Requests.{TriesInstall}
+use Rattle.ash_durable.specs.HostRequests.{TriesInstall}
 use Rattle.ash_durable.proofs.HandledRequests.{seen_host}
 use Rattle.ash_durable.proofs.Requesting.{install_ok, install_refused, install_failed}
 use Rattle.ash_durable.proofs.host.Host.install.Goals as goal

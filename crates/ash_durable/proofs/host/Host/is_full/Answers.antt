@@ -1,5 +1,5 @@
 use Rattle.std.proofs.Common.{◌≡◌, Some, subst}
-use Rattle.ash_states.specs.States.{HostState}
+use Rattle.ash_states.specs.HostStates.{HostState}
 use Rattle.ash_durable.specs.Hosting.{Hosted, IsRunning}
 use Rattle.ash_durable.proofs.Requesting.{runs_seen}
 use Rattle.ash_durable.proofs.host.Host.is_full.Goals as goal

@@ -1,5 +1,5 @@
 use Rattle.std.proofs.Common.{refl, Some}
-use Rattle.ash_registry.specs.Registered.{registered}
+use Rattle.ash_registry.specs.RegistryViews.{registered}
 use Rattle.ash_durable.proofs.Opened.{opened}
 use Rattle.ash_durable.proofs.host.Host.open.Goals as goal
 

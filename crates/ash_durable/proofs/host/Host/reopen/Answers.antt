@@ -1,6 +1,6 @@
 use Rattle.std.proofs.Common.{List, subst}
-use Rattle.ash_registry.specs.Registrations.{Registration}
-use Rattle.ash_registry.specs.Registered.{registered}
+use Rattle.ash_registry.specs.AcceptedRegistrations.{Registration}
+use Rattle.ash_registry.specs.RegistryViews.{registered}
 use Rattle.ash_durable.specs.Hosting.{first, second}
 use Rattle.ash_durable.specs.OpenedStore.{Opens}
 use Rattle.ash_durable.proofs.Opened.{opens_again}

@@ -1,7 +1,7 @@
 use Rattle.std.proofs.Common.{None, Some, ◌∙◌, ap, sym, slice_get}
 use Rattle.std.specs.Option.{option_map}
 use Rattle.ash_typing.specs.Environment.{is_class}
-use Rattle.ash_environment.specs.Views.{class_signature_of, placed_class}
+use Rattle.ash_environment.specs.EnvironmentViews.{class_signature_of, placed_class}
 use Rattle.ash_environment.proofs.IndexLaws.{first_placed, place_mapped}
 use Rattle.ash_environment.proofs.signatures.Signatures.class.Goals as goal
 

@@ -1,7 +1,7 @@
 use Rattle.std.proofs.Common.{None, Some, ◌∙◌, ap, sym, slice_get}
 use Rattle.std.specs.Option.{option_map}
 use Rattle.ash_typing.specs.Environment.{is_called}
-use Rattle.ash_environment.specs.Views.{function_signature_of, placed_function}
+use Rattle.ash_environment.specs.EnvironmentViews.{function_signature_of, placed_function}
 use Rattle.ash_environment.proofs.IndexLaws.{first_placed, place_mapped}
 use Rattle.ash_environment.proofs.signatures.Signatures.function.Goals as goal
 

@@ -1,7 +1,7 @@
 use Rattle.std.proofs.Common.{None, Some, ◌∙◌, ap, sym, slice_get}
 use Rattle.std.specs.Option.{option_map}
 use Rattle.ash_typing.specs.Environment.{declares}
-use Rattle.ash_environment.specs.Views.{binding_of, placed_type}
+use Rattle.ash_environment.specs.EnvironmentViews.{binding_of, placed_type}
 use Rattle.ash_environment.proofs.IndexLaws.{first_placed, place_mapped}
 use Rattle.ash_environment.proofs.signatures.Signatures.global.Goals as goal
 

@@ -1,6 +1,6 @@
 use Rattle.std.proofs.Common.{sym, ◌∙◌, rules}
-use Rattle.ash_plain.specs.Views.{activity_seen}
-use Rattle.ash_evaluator.specs.Views.{calls_seen}
+use Rattle.ash_plain.specs.ActivityViews.{activity_seen}
+use Rattle.ash_evaluator.specs.EvaluatorViews.{calls_seen}
 use Rattle.ash_evaluator.proofs.Failing.{fails_onward}
 use Rattle.ash_evaluator.proofs.Walks.{path_follows, chain_follows, lazy_follows, call_follows, invoke_follows, arguments_begin, arguments_step, arguments_end}
 use Rattle.ash_evaluator.proofs.evaluator.Evaluator.+expressions.Goals as goal

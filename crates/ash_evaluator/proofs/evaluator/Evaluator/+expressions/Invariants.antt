@@ -4,12 +4,12 @@ use Rattle.ash_typed.specs.declared.tree.expressions.Expr.{size-Expr}
 use Rattle.ash_typed.specs.declared.tree.expressions.Place.{size-Place}
 use Rattle.ash_typed.specs.declared.tree.expressions.Link.{size-Link}
 use Rattle.ash_typed.specs.declared.tree.expressions.Operand.{size-Operand}
-use Rattle.ash_typed.specs.Tree.{exprs}
-use Rattle.ash_typed.specs.Views.{expr_of}
-use Rattle.ash_phrases.specs.Expressions.{arguments}
-use Rattle.ash_plain.specs.Views.{activity_seen}
-use Rattle.ash_evaluator.specs.Views.{calls_seen}
-use Rattle.ash_evaluator.specs.Phrases.{operands_run, links_run, lazies_run, arguments_after}
+use Rattle.ash_typed.specs.TypedTree.{exprs}
+use Rattle.ash_typed.specs.TypedTreeViews.{expr_of}
+use Rattle.ash_phrases.specs.ExpressionMeaning.{arguments}
+use Rattle.ash_plain.specs.ActivityViews.{activity_seen}
+use Rattle.ash_evaluator.specs.EvaluatorViews.{calls_seen}
+use Rattle.ash_evaluator.specs.WalkedPhrases.{operands_run, links_run, lazies_run, arguments_after}
 use Rattle.ash_evaluator.proofs.evaluator.Evaluator.+expressions.Given as goal
 
 -- the depth of what a function goes down, and how near it is to the next expression

@@ -1,7 +1,7 @@
 use Rattle.std.proofs.Common.{sym, ◌∙◌, rules}
-use Rattle.ash_plain.specs.Views.{activity_seen}
-use Rattle.ash_evaluator.specs.Views.{calls_seen}
-use Rattle.ash_evaluator.specs.Views.{turn_seen}
+use Rattle.ash_plain.specs.ActivityViews.{activity_seen}
+use Rattle.ash_evaluator.specs.EvaluatorViews.{calls_seen}
+use Rattle.ash_evaluator.specs.EvaluatorViews.{turn_seen}
 use Rattle.ash_evaluator.proofs.Failing.{fails_onward}
 use Rattle.ash_evaluator.proofs.Turns.{turns_more}
 use Rattle.ash_evaluator.proofs.StatementWalks.{block_follows, declare_follows, switch_follows}

@@ -4,11 +4,11 @@ use Rattle.ash_typed.specs.declared.tree.statements.Stmt.{size-Stmt}
 use Rattle.ash_typed.specs.declared.tree.statements.Loop.{size-Loop}
 use Rattle.ash_typed.specs.declared.tree.statements.Case.{size-Case}
 use Rattle.ash_typed.specs.BodyViews.{body_of}
-use Rattle.ash_phrases.specs.Statements.{statements, turns}
-use Rattle.ash_plain.specs.Views.{activity_seen}
-use Rattle.ash_evaluator.specs.Views.{calls_seen}
-use Rattle.ash_evaluator.specs.Views.{turn_seen}
-use Rattle.ash_evaluator.specs.Phrases.{fall_run}
+use Rattle.ash_phrases.specs.StatementMeaning.{statements, turns}
+use Rattle.ash_plain.specs.ActivityViews.{activity_seen}
+use Rattle.ash_evaluator.specs.EvaluatorViews.{calls_seen}
+use Rattle.ash_evaluator.specs.EvaluatorViews.{turn_seen}
+use Rattle.ash_evaluator.specs.WalkedPhrases.{fall_run}
 use Rattle.ash_evaluator.proofs.evaluator.Evaluator.+statements.Given as goal
 
 -- the depth of what a function goes down, and how near it is to the next statement

@@ -1,8 +1,8 @@
 use Rattle.std.proofs.Common.{◌≡◌, map, drop}
 use Rattle.ash_typed.specs.BodyViews.{value_of}
 use Rattle.ash_phrases.specs.Functions.{initialize_fields}
-use Rattle.ash_plain.specs.Views.{activity_seen}
-use Rattle.ash_evaluator.specs.Views.{calls_seen}
+use Rattle.ash_plain.specs.ActivityViews.{activity_seen}
+use Rattle.ash_evaluator.specs.EvaluatorViews.{calls_seen}
 use Rattle.ash_evaluator.proofs.evaluator.Evaluator.initialize_fields.Given as goal
 
 -- what is left gives what the whole gives

@@ -7,7 +7,7 @@ use Rattle.ash_journal.specs.Writes.{IsOn, WhileReplaced}
 use Rattle.ash_journal.specs.OtherState.{is_older, first_of, second_of}
 use Rattle.ash_journal.specs.Current.{IsContents, HoldsOneOf}
 use Rattle.ash_journal.specs.Journal.{FilesAre}
-use Rattle.ash_journal.specs.Runs.{HoldsSince}
+use Rattle.ash_journal.specs.SettledSince.{HoldsSince}
 use Rattle.ash_journal.proofs.LayoutLaws.{length-mark, length-block}
 use Rattle.ash_journal.proofs.RunLaws.{run_swapped}
 use Rattle.ash_journal.proofs.FilesLaws.{shut_other, install_files, install_run, ready_run}

@@ -1,6 +1,6 @@
 use Rattle.std.proofs.Common.{◌≡◌, ◌-◌, IsTrue, length, sym, subst, arith}
 use Rattle.ash_journal.specs.OtherState.{first_of}
-use Rattle.ash_journal.specs.Runs.{Extends, NoContents}
+use Rattle.ash_journal.specs.SettledSince.{Extends, NoContents}
 use Rattle.ash_journal.proofs.OpenLaws.{open_files, open_represented, placed}
 use Rattle.ash_journal.proofs.RunLaws.{read_extends}
 use Rattle.ash_journal.proofs.journal.Journal.open.Goals as goal

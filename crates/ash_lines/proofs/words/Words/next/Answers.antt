@@ -1,5 +1,5 @@
 use Rattle.std.proofs.Common.{◌∙◌, ap}
-use Rattle.ash_lines.specs.Words.{words_left}
+use Rattle.ash_lines.specs.LineWords.{words_left}
 use Rattle.ash_lines.proofs.LineLemmas.{pieces-at, pieces-none, none-space}
 use Rattle.ash_lines.proofs.words.Words.next.Goals as goal
 

@@ -1,6 +1,6 @@
 use Rattle.std.proofs.Common.{refl, Some}
 use Rattle.ash_slots.specs.Store.{change_at}
-use Rattle.ash_slots.specs.Counting.{incremented}
+use Rattle.ash_slots.specs.SlotCounting.{incremented}
 use Rattle.ash_objects.proofs.Counts.{view_more}
 use Rattle.ash_objects.proofs.Views.{in_view, fits_view, few_view, table_more}
 use Rattle.ash_objects.proofs.Fields.{face_more}

@@ -1,6 +1,6 @@
 use Rattle.std.proofs.Common.{◌∙◌, refl}
 use Rattle.ash_host.specs.declared.event.Target.TheVariants.{Object}
-use Rattle.ash_slots.specs.Responses.{boxed}
+use Rattle.ash_slots.specs.SlotResponses.{boxed}
 use Rattle.ash_objects.proofs.Views.{in_view}
 use Rattle.ash_objects.proofs.Boxes.{some_box, table_box, view_box, box_view, called_is}
 use Rattle.ash_objects.proofs.Listed.{slot_within, listed_change, listed_covers}

@@ -1,7 +1,7 @@
 use Rattle.std.proofs.Common.{refl, sym, subst, ◌∙◌}
 use Rattle.std.specs.Prelude.{IsSome}
 use Rattle.ash_host.specs.Objects.{IsInOrder}
-use Rattle.ash_slots.specs.Arrays.{refilled, lengthened}
+use Rattle.ash_slots.specs.SlotArrays.{refilled, lengthened}
 use Rattle.ash_slots.proofs.Options.{some_if}
 use Rattle.ash_objects.specs.Table.{Table}
 use Rattle.ash_objects.proofs.Views.{in_view}

@@ -3,7 +3,7 @@ use Rattle.std.specs.Prelude.{All}
 use Rattle.std.proofs.lemmas.Result.{err_from_is_err_and}
 use Rattle.ash_host.specs.Objects.{numbers, Lives}
 use Rattle.ash_objects.specs.declared.restoring.TableFault.{TableFault}
-use Rattle.ash_objects.specs.declared.restoring.StoredObject.{StoredObject}
+use Rattle.ash_objects.specs.declared.restoring.SavedObject.{SavedObject}
 use Rattle.ash_objects.specs.Counting.{words_at, AllLive}
 use Rattle.ash_objects.specs.Restoring.{stored_in, states_in, Enough, draw_boxes, RestoresBoxes, BoxRefused, IsRefused, Service, Object, refer_objects}
 use Rattle.ash_objects.proofs.Drawing.{fit_drawn, fit_length, fit_restored}
@@ -48,7 +48,7 @@ returns-in_err-restore_boxes-clause-refused g c = λ number is.
     let p = err_from_is_err_and c.from_residual-in_err-restore_boxes.result c.from_residual-in_err-restore_boxes.ensures.1 in
     let reported : c.in_err-restore_boxes.field-0.0 ≡ TableFault.RestoreRefused number = cc in
     let r = c.in_err-restore_boxes.ensures.refused number (ap Err reported) in
-    Object number before left c.restore_services.new.services.items drawn c.in_ok-restore_services.ensures.restored (subst (λ (os : List StoredObject). BoxRefused G os before number) c.deref-2.ensures.value r)
+    Object number before left c.restore_services.new.services.items drawn c.in_ok-restore_services.ensures.restored (subst (λ (os : List SavedObject). BoxRefused G os before number) c.deref-2.ensures.value r)
 
 pub insert_objects-requires-clause-fit : goal.insert_objects-requires-clause-fit
 insert_objects-requires-clause-fit g c =
@@ -59,7 +59,7 @@ insert_objects-requires-clause-fit g c =
     let before = c.in_ok-boxes.boxes.items in
     let drawn : draw_boxes G objects pool ≡ Enough before left = rw c.deref.ensures.value at c.in_ok-boxes.ensures.enough in
     let after = c.restore_boxes.new.boxes.items in
-    let back : RestoresBoxes G objects before after = subst (λ (os : List StoredObject). RestoresBoxes G os before after) c.deref-2.ensures.value c.in_ok-restore_boxes.ensures.restored in
+    let back : RestoresBoxes G objects before after = subst (λ (os : List SavedObject). RestoresBoxes G os before after) c.deref-2.ensures.value c.in_ok-restore_boxes.ensures.restored in
     fit_restored G objects before after (fit_drawn G objects pool before left drawn) back
 
 pub refer_from-requires-clause-there : goal.refer_from-requires-clause-there
@@ -68,7 +68,7 @@ refer_from-requires-clause-there g c =
     let after = c.restore_boxes.new.boxes.items in
     let l = c.insert_objects.new.store.objects in
     let few : length objects ≤ 4096 = omega (arith, c.requires.few, c.args.stored.objects.ok.0) in
-    let all : c.deref-4.result.now ≡ numbers l = c.deref-4.ensures.value ∙ c.in_ok-list.ensures.numbers ∙ ap (λ (os : List StoredObject). numbers (stored_in os)) c.deref-3.ensures.value ∙ sym (put_numbers objects after l c.in_ok-insert_objects.ensures.inserted) in
+    let all : c.deref-4.result.now ≡ numbers l = c.deref-4.ensures.value ∙ c.in_ok-list.ensures.numbers ∙ ap (λ (os : List SavedObject). numbers (stored_in os)) c.deref-3.ensures.value ∙ sym (put_numbers objects after l c.in_ok-insert_objects.ensures.inserted) in
     subst (λ (ns : List ℕ). All (λ number. Lives l number × AllLive l (words_at number l) × (length (words_at number l) ≤ 4096)) ns) (sym all) (stock_there objects after l c.args.stored.last c.in_ok-insert_objects.ensures.inserted c.requires.numbered few c.requires.short c.requires.alive)
 
 pub refer_from-requires-clause-uncounted : goal.refer_from-requires-clause-uncounted
@@ -85,7 +85,7 @@ invariant_of-result g c =
     let after = c.restore_boxes.new.boxes.items in
     let l = c.insert_objects.new.store.objects in
     let few : length objects ≤ 4096 = omega (arith, c.requires.few, c.args.stored.objects.ok.0) in
-    let all : c.deref-4.result.now ≡ numbers l = c.deref-4.ensures.value ∙ c.in_ok-list.ensures.numbers ∙ ap (λ (os : List StoredObject). numbers (stored_in os)) c.deref-3.ensures.value ∙ sym (put_numbers objects after l c.in_ok-insert_objects.ensures.inserted) in
+    let all : c.deref-4.result.now ≡ numbers l = c.deref-4.ensures.value ∙ c.in_ok-list.ensures.numbers ∙ ap (λ (os : List SavedObject). numbers (stored_in os)) c.deref-3.ensures.value ∙ sym (put_numbers objects after l c.in_ok-insert_objects.ensures.inserted) in
     rw (c.refer_from.ensures, all) (record {
       listed =
           listed_faces (refer_objects (numbers l) l) l _
@@ -106,6 +106,6 @@ returns-clause-objects g c =
     let after = c.restore_boxes.new.boxes.items in
     let l = c.insert_objects.new.store.objects in
     let few : length objects ≤ 4096 = omega (arith, c.requires.few, c.args.stored.objects.ok.0) in
-    let back : RestoresBoxes G objects before after = subst (λ (os : List StoredObject). RestoresBoxes G os before after) c.deref-2.ensures.value c.in_ok-restore_boxes.ensures.restored in
-    let all : c.deref-4.result.now ≡ numbers l = c.deref-4.ensures.value ∙ c.in_ok-list.ensures.numbers ∙ ap (λ (os : List StoredObject). numbers (stored_in os)) c.deref-3.ensures.value ∙ sym (put_numbers objects after l c.in_ok-insert_objects.ensures.inserted) in
+    let back : RestoresBoxes G objects before after = subst (λ (os : List SavedObject). RestoresBoxes G os before after) c.deref-2.ensures.value c.in_ok-restore_boxes.ensures.restored in
+    let all : c.deref-4.result.now ≡ numbers l = c.deref-4.ensures.value ∙ c.in_ok-list.ensures.numbers ∙ ap (λ (os : List SavedObject). numbers (stored_in os)) c.deref-3.ensures.value ∙ sym (put_numbers objects after l c.in_ok-insert_objects.ensures.inserted) in
     rw (c.refer_from.ensures, all) (is_restored G objects pool left before after l c.args.stored.last drawn back c.in_ok-insert_objects.ensures.inserted c.requires.numbered few c.requires.short c.requires.alive c.restore_services.new.services.items c.new.result.items)

@@ -2,7 +2,7 @@ use Rattle.std.proofs.Common.{◌≡◌, ◌<◌, refl, sym, ap, ◌∙◌, List
 use Rattle.std.specs.Prelude.{slice_get, IfSome}
 use Rattle.ash_host.specs.Objects.{handle}
 use Rattle.ash_slots.specs.Store.{SlotEntry, change_at}
-use Rattle.ash_slots.specs.Counting.{counted, change_handle, incremented, decremented, written}
+use Rattle.ash_slots.specs.SlotCounting.{counted, change_handle, incremented, decremented, written}
 use Rattle.ash_objects.proofs.Fields.{before_counted, view_field, face_more, handle_face, in_face, words_face}
 use Rattle.ash_objects.proofs.Views.{in_view, place_view, alive_view, fits_view, table_field}
 use Rattle.ash_objects.proofs.Listed.{slot_within, listed_change, listed_covers, listed_faces}

@@ -1,7 +1,7 @@
 use Rattle.std.proofs.Common.{◌≡◌, ℕ, List, [], refl, sym, ap, ◌∙◌, subst, take, drop}
 use Rattle.std.specs.Prelude.{IsSome}
 use Rattle.ash_host.specs.declared.word.Word.{Word}
-use Rattle.ash_slots.specs.Arrays.{stored_array, refilled}
+use Rattle.ash_slots.specs.SlotArrays.{stored_array, refilled}
 use Rattle.ash_slots.specs.Store.{SlotEntry, IsIn, change_at}
 use Rattle.ash_objects.specs.Counting.{release_all}
 use Rattle.ash_objects.proofs.Views.{in_view}

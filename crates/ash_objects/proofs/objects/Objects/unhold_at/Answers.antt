@@ -1,6 +1,6 @@
 use Rattle.std.proofs.Common.{refl, arith, Some}
 use Rattle.ash_slots.specs.Store.{change_at}
-use Rattle.ash_slots.specs.Counting.{decremented}
+use Rattle.ash_slots.specs.SlotCounting.{decremented}
 use Rattle.ash_objects.proofs.Counts.{view_less}
 use Rattle.ash_objects.proofs.Views.{in_view, holds_view, table_less}
 use Rattle.ash_objects.proofs.Fields.{handle_face}

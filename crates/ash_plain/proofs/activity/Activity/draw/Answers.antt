@@ -3,7 +3,7 @@ use Rattle.ash_host.specs.Objects.{Host}
 use Rattle.ash_phrases.specs.Activity.{Activity}
 use Rattle.ash_phrases.specs.Runs.{Progress, Done, onward}
 use Rattle.ash_phrases.specs.ObjectSteps.{make}
-use Rattle.ash_plain.specs.Views.{activity_seen, box_seen}
+use Rattle.ash_plain.specs.ActivityViews.{activity_seen, box_seen}
 use Rattle.ash_plain.proofs.Pools.{draw_empty, draw_box, noted}
 use Rattle.ash_plain.proofs.activity.Activity.draw.Goals as goal
 

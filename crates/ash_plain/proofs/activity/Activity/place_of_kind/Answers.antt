@@ -1,7 +1,7 @@
 use Rattle.std.proofs.Common.{◌≡◌, List, sym, ap, ◌∙◌, nat_eq, map}
 use Rattle.std.specs.List.{position_from}
 use Rattle.ash_phrases.specs.Activity.{FreeBox}
-use Rattle.ash_plain.specs.Views.{activity_seen, box_seen}
+use Rattle.ash_plain.specs.ActivityViews.{activity_seen, box_seen}
 use Rattle.ash_plain_data.proofs.Positions.{position_is}
 use Rattle.ash_plain.proofs.activity.Activity.place_of_kind.Goals as goal
 

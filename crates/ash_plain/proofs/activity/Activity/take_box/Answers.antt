@@ -1,6 +1,6 @@
 use Rattle.std.proofs.Common.{List, ap, ◌∙◌, map}
 use Rattle.ash_phrases.specs.Activity.{FreeBox, World, in_world}
-use Rattle.ash_plain.specs.Views.{activity_seen, box_seen}
+use Rattle.ash_plain.specs.ActivityViews.{activity_seen, box_seen}
 use Rattle.ash_plain.proofs.Pools.{remove_map}
 use Rattle.ash_plain.proofs.activity.Activity.take_box.Goals as goal
 

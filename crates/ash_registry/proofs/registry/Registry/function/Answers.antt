@@ -3,7 +3,7 @@ use Rattle.std.proofs.lemmas.Bool.Decides.{nat_tests}
 use Rattle.ash_registry.specs.declared.fault.RegistryFault.TheVariants.{NoService}
 use Rattle.ash_registrations.specs.Registrations.{is_service}
 use Rattle.ash_registry.specs.Refusals.{refusal_of_declared_function, function_registration}
-use Rattle.ash_registry.specs.Registered.{registered}
+use Rattle.ash_registry.specs.RegistryViews.{registered}
 use Rattle.ash_registry.proofs.Verdicts.{for_declared}
 use Rattle.ash_registry.proofs.registry.Registry.function.Goals as goal
 

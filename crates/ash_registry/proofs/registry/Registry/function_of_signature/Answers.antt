@@ -1,11 +1,11 @@
 use Rattle.std.proofs.Common.{◌≡◌, ◌∙◌, Bool, true, false, ◌||◌, sym}
 use Rattle.std.proofs.lemmas.Bool.{or_parts}
 use Rattle.std.specs.List.{list_any}
-use Rattle.ash_tree.specs.Views.{signature_of}
+use Rattle.ash_tree.specs.TreeViews.{signature_of}
 use Rattle.ash_registry.specs.declared.fault.RegistryFault.TheVariants.{UnknownType, NotPrimitive, NameTaken}
 use Rattle.ash_registrations.specs.Registrations.{takes_name, takes_function}
 use Rattle.ash_registry.specs.Refusals.{is_unknown, is_object, types_of}
-use Rattle.ash_registry.specs.Registered.{registered}
+use Rattle.ash_registry.specs.RegistryViews.{registered}
 use Rattle.ash_registry.proofs.Verdicts.{skip_cause, refused_by_cause}
 use Rattle.ash_registry.proofs.registry.Registry.function_of_signature.Goals as goal
 

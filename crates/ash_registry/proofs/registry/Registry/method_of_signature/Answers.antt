@@ -1,10 +1,10 @@
 use Rattle.std.proofs.Common.{◌≡◌, ◌∙◌, Bool, true, ◌||◌, sym}
 use Rattle.std.specs.List.{list_any}
-use Rattle.ash_tree.specs.Views.{signature_of}
+use Rattle.ash_tree.specs.TreeViews.{signature_of}
 use Rattle.ash_registry.specs.declared.fault.RegistryFault.TheVariants.{UnknownType, NotPrimitive, NameTaken}
 use Rattle.ash_registrations.specs.Registrations.{takes_member, takes_method}
 use Rattle.ash_registry.specs.Refusals.{is_unknown, is_object, types_of}
-use Rattle.ash_registry.specs.Registered.{registered}
+use Rattle.ash_registry.specs.RegistryViews.{registered}
 use Rattle.ash_registry.proofs.Verdicts.{skip_cause, refused_by_cause}
 use Rattle.ash_registry.proofs.registry.Registry.method_of_signature.Goals as goal
 

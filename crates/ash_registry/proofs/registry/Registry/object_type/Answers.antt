@@ -1,5 +1,5 @@
 use Rattle.ash_registry.specs.Refusals.{refusal_of_type}
-use Rattle.ash_registry.specs.Registered.{registered}
+use Rattle.ash_registry.specs.RegistryViews.{registered}
 use Rattle.ash_registry.proofs.Verdicts.{for_name_class}
 use Rattle.ash_registry.proofs.registry.Registry.object_type.Goals as goal
 

@@ -2,7 +2,7 @@ use Rattle.std.proofs.Common.{arith, not}
 use Rattle.std.proofs.lemmas.Bool.Decides.{nat_tests}
 use Rattle.ash_registry.specs.declared.fault.RegistryFault.TheVariants.{UnknownType}
 use Rattle.ash_registry.specs.Refusals.{is_known, refusal_of_declared_property, property_registration}
-use Rattle.ash_registry.specs.Registered.{registered}
+use Rattle.ash_registry.specs.RegistryViews.{registered}
 use Rattle.ash_registry.proofs.Verdicts.{for_declared}
 use Rattle.ash_registry.proofs.registry.Registry.property.Goals as goal
 

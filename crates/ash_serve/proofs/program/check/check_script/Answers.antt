@@ -1,6 +1,6 @@
 use Rattle.std.proofs.Common.{sym, subst, List, ℕ}
 use Rattle.std.proofs.lemmas.Result.{err_from_is_err_and}
-use Rattle.ash_registry.specs.Registered.{registered}
+use Rattle.ash_registry.specs.RegistryViews.{registered}
 use Rattle.ash_serve.specs.CheckRun.{ReadsScript, streams_with, verdict_of}
 use Rattle.ash_serve.proofs.CheckRunLemmas.{script_read, script_unjudged, script_reported}
 use Rattle.ash_serve.proofs.program.check.check_script.Goals as goal

@@ -1,5 +1,5 @@
 use Rattle.std.proofs.Common.{refl}
-use Rattle.ash_registry.specs.Registered.{registered}
+use Rattle.ash_registry.specs.RegistryViews.{registered}
 use Rattle.ash_durable.specs.Store.{Creates}
 use Rattle.ash_serve.specs.Service.{service_remains, service_start}
 use Rattle.ash_serve.proofs.ServiceLemmas.{serves_from, serves_refused}

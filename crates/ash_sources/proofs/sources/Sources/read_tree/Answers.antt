@@ -1,4 +1,4 @@
-use Rattle.ash_tree.specs.Views.{module_of as items_of}
+use Rattle.ash_tree.specs.TreeViews.{module_of as items_of}
 use Rattle.ash_typed.specs.Modules.{module_of}
 use Rattle.ash_typing.proofs.SoundnessNesting.{derived_proper}
 use Rattle.ash_sources.specs.Sources.{rules_of}

@@ -2,7 +2,7 @@ use Rattle.std.proofs.Common.{ap, sym, ◌∙◌, map}
 use Rattle.std.proofs.lemmas.List.{drop-map}
 use Rattle.std.specs.List.{list_any}
 use Rattle.ash_typing.specs.Environment.{declares}
-use Rattle.ash_environment.specs.Views.{binding_of}
+use Rattle.ash_environment.specs.EnvironmentViews.{binding_of}
 use Rattle.ash_statements.proofs.scopes.Scope.is_taken.Goals as goal
 
 pub returns : goal.returns

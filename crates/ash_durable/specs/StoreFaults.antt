@@ -1,0 +1,32 @@
+-- The faults of a store: the codes by which they are reported, and which of them are mishaps.
+use Rattle.std.specs.Prelude.{ℕ, List, codes}
+use Rattle.ash_journal.specs.JournalCodes.{create_code, open_code}
+use Rattle.ash_journal.specs.declared.error.CreateFault.TheVariants as creating
+use Rattle.ash_journal.specs.declared.error.OpenFault.TheVariants as opening
+use Rattle.ash_durable.specs.declared.fault.StoreFault.{StoreFault}
+use Rattle.ash_durable.specs.declared.fault.StoreFault.TheVariants as faults
+
+-- the number and the name of a fault
+abbrev pub code_of : StoreFault → List ℕ
+code_of (faults.Create fault) = create_code fault
+code_of (faults.Open fault) = open_code fault
+code_of faults.OtherInterface = codes "504 OtherInterface"
+code_of faults.GenerationSpent = codes "511 GenerationSpent"
+
+-- a device failed
+abbrev pub IsFailed : StoreFault → Type 0
+IsFailed (faults.Create creating.DeviceFailed) = Unit {0}
+IsFailed (faults.Open opening.DeviceFailed) = Unit {0}
+IsFailed _ = ⊥
+
+-- an opening is refused because memory ran out or a disk failed
+abbrev pub IsMishap : StoreFault → Type 0
+IsMishap (faults.Open opening.NoMemory) = Unit {0}
+IsMishap (faults.Open opening.DeviceFailed) = Unit {0}
+IsMishap _ = ⊥
+
+-- an opening is refused for what there may be where a store is: besides these, that it is of version 1, and that the
+-- number of its generation is the last
+abbrev pub MayRefuse : StoreFault → Type 0
+MayRefuse faults.GenerationSpent = Unit {0}
+MayRefuse fault = IsMishap fault
