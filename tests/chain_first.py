@@ -2,13 +2,13 @@
 """`rt ci`, with the processors shared out so that the longest chain of crates gets most of them.
 
 The crates build on each other in one long chain, and `rt ci` shares the processors evenly among the proofs that are ready,
-those of tests among them. So the crate that all others wait for would be proved at one job.
-Here a task at the head of one of the longest chains that are left begins with a job for each processor, even where others
-still have some of these, since many wait for it; any other task gets the jobs that are left, but one where another is ready.
-A check with several jobs leaves some of them idle for part of its time, so twice as many jobs are given out as there are
-processors, and the operating system gives the longest chain what it can use: all other tasks are nice to it, and edits to
-these. So they fill what the chain leaves free. An edit has one job, which is never idle, so only one more than there are
-processors run at once.
+those of tests among them. So the crate that all others wait for would be proved at one job. And a check with several jobs
+takes a quarter more of the processors than one with a single job, since each copy of rattle loads what it needs anew.
+Here a task at the head of one of the longest chains that are left begins with half of the processors, or with all of them
+where nothing else can run, even where others still have some of these, since many wait for it; any other task gets one job.
+A check leaves some of its jobs idle for part of its time, so one job more is given out than there are processors, and the
+operating system gives the longest chain what it can use: all other tasks are nice to it, and edits to these. So they fill
+what the chain leaves free.
 Only the order of the work is another one: what is proved, tried and run, and the verdict, are those of `rt ci`. Under a
 toolchain that was not tried with this, plain `rt ci` runs.
 """
@@ -23,8 +23,6 @@ import threading
 from concurrent.futures import FIRST_COMPLETED, Future, wait
 
 TRIED_WITH = "rattle-kit-13f logic dac8208d650f15bf"
-MAX_JOBS = 4
-JOBS_FOR_A_PROCESSOR = 2
 # How much of the memory that rt reckons for a check it takes at the most, as measured; what each further job of the check
 # adds to that; and how much of the free memory is given out.
 MEMORY_TAKEN = 0.3
@@ -62,12 +60,11 @@ def lines_ahead(tasks):
     return lines
 
 
-def jobs_for(spare, others, needs, room, least):
-    """How many jobs a task gets: those that are to spare, but one where another task is ready, and no fewer than the least, as
-    far as memory goes."""
-    by_processors = max(spare - min(others, 1), least)
+def jobs_for(others, processors, needs, room):
+    """How many jobs the head of a longest chain gets beside so many other tasks, as far as memory goes."""
+    by_processors = processors - others if others < 2 else processors // 2
     by_memory = 1 + int((room / needs - 1) / MEMORY_OF_A_JOB)
-    return max(1, min(MAX_JOBS, by_processors, by_memory))
+    return max(1, min(by_processors, by_memory))
 
 
 def begin(call, given, jobs, niceness):
@@ -108,16 +105,14 @@ def in_lanes(tasks, processors, memory):
                 break
             _, _, reckoned, call = tasks[key]
             needs = MEMORY_TAKEN * reckoned
-            most = processors + 1 if fills(key) else int(JOBS_FOR_A_PROCESSOR * processors)
-            spare = most - sum(jobs for _, _, jobs in running.values())
+            spare = processors + 1 - sum(jobs for _, _, jobs in running.values())
             room = memory - sum(taken for _, taken, _ in running.values())
             rivals = [order[it] for it in ready if it != key and not fills(it)]
             rivals += [order[it] - tasks[it][1] for it, _, _ in running.values() if not fills(it)]
             is_near = not fills(key) and all(NEAR * it <= order[key] for it in rivals)
             if spare > (-processors if is_near else 0) and (needs <= room or not running):
-                least = processors if is_near else 1
-                others = sum(not fills(it) for it in ready[number:])
-                jobs = 1 if fills(key) else jobs_for(spare, others, needs, room, least)
+                others = len(running) + sum(not fills(it) for it in ready[number:])
+                jobs = jobs_for(others, processors, needs, room) if is_near else 1
                 taken = needs * (1 + MEMORY_OF_A_JOB * (jobs - 1))
                 niceness = NICE_OF_EDITS if fills(key) else 0 if is_near else NICE
                 left.remove(key)
