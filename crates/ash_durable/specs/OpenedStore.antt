@@ -42,8 +42,9 @@ pub record IsSpent (registered : List Registration) (x y : List ℕ) : Type 0 wh
   pub in_one : AreIn One contents
   pub last : HasMark last_generation x ⊎ HasMark last_generation y
 
--- The files have this fault, with this registered, the first that holds: that of the journal in them, or of what it
--- holds.
+-- The files have this fault, with this registered: that of the journal in them, or of what it holds, the first that
+-- holds. But a device may fail at any time, and memory may be refused once the current file is known: where a device
+-- failed nothing is said of the files, and where memory was refused only that one of them is current.
 abbrev pub StoreFaultIs : List Registration → StoreFault → List ℕ → List ℕ → Type 0
 StoreFaultIs registered (faults.Open (opening.Damaged at)) x y =
     FaultIs (opening.Damaged at) x y

@@ -25,8 +25,8 @@ IsMishap (faults.Open opening.NoMemory) = Unit {0}
 IsMishap (faults.Open opening.DeviceFailed) = Unit {0}
 IsMishap _ = ⊥
 
--- an opening is refused for what there may be where a store is: besides these, that it is of version 1, and that the
--- number of its generation is the last
+-- Why an opening may be refused where a host with the same registry made the store: memory ran out, a disk failed, or
+-- the store is of version 1 and the number of its generation is the last.
 abbrev pub MayRefuse : StoreFault → Type 0
 MayRefuse faults.GenerationSpent = Unit {0}
 MayRefuse fault = IsMishap fault

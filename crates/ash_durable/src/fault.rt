@@ -9,12 +9,14 @@ pub enum StoreFault {
     /// The store is not made.
     #[error("{0}")]
     Create(CreateFault),
-    /// The store is not opened: its files are not those of a store, or could not be read. Damage may also be that bytes
-    /// of a journal are none of a state, or none of one that a host with the registry may be in. Its offset, in bytes,
-    /// is that of the gate before the record that is damaged, or 0 for what is before the first record.
+    /// The store is not opened: its files are not those of a store, memory was refused, or a device failed while the
+    /// files were read, while gates that a crash left were written over, or while a new generation was written. Damage
+    /// may also be that bytes of a journal are none of a state, or none of one that a host with the registry may be in.
+    /// Its offset, in bytes, is that of the gate before the record that is damaged, or 0 for what is before the first
+    /// record.
     #[error("{0}")]
     Open(OpenFault),
-    /// The store was made with another registration.
+    /// The store was made with another text of registrations: with others, or with the same ones in another order.
     #[error("the store was made with another registration")]
     OtherInterface,
     /// The store is of version 1, and its generation is the last that a number can have: there is none for a generation

@@ -1,10 +1,13 @@
 //! What names and types mean where a phrase of a script is.
 //!
 //! A phrase is in an environment, which has what a module declares, what is registered, the class whose object runs,
-//! and the locals. Each function returns what a definition of `ash_typing` gives, unless memory runs out. In its
-//! `specs/`, `Environment` has what a name means in an environment: a variable, what a call calls, a member or a method
-//! of an object; `ModuleDeclarations`, which type a name is; `TypeRules`, what two types have in common; and
-//! `Coercions`, what may be stored in which variable. The crate uses `ash_tree`, which has types as they are written,
+//! and the locals. Each function that says what a name or a type means returns what a definition of `ash_typing` gives,
+//! unless memory runs out. In its `specs/`, `Environment` has what a name means in an environment: a variable, what a
+//! call calls, a member or a method of an object; `ModuleDeclarations`, which type a name is; `TypeRules`, what two
+//! types have in common; `Coercions`, what may be stored in which variable; `Terms`, how a value is converted to
+//! another type; and `ExpressionRules`, which type is `void`. Beside these, `Signatures::new` makes the indexes of what
+//! a module declares, `Parameters::len` and `Parameters::split_first` go over the parameters of a call, and `fault_at`
+//! makes the error of a rule that is broken. The crate uses `ash_tree`, which has types as they are written,
 //! `ash_registrations`, `ash_typed`, which has what names become in a typed tree, and the rules of `ash_typing`.
 //!
 //! Nothing is checked here. But the crate has the error that ends checking, and `Agrees` of `specs/Agreement.antt`,

@@ -13,9 +13,13 @@ use std::alloc::{AllocError, Global};
 /// The parameters of a call.
 #[derive(Clone, Copy)]
 pub enum Parameters<'a> {
+    /// No parameter.
     Nothing,
+    /// One parameter, of this type.
     One(Ty),
+    /// Those that a script declares, in order.
     Script(&'a [Ty]),
+    /// Those of what is registered, in order.
     Host(&'a [Primitive]),
 }
 

@@ -68,7 +68,8 @@ impl<'a> Signatures<'a> {
     ghost use Rattle.ash_environment.specs.EnvironmentViews.{class_signature_of, placed_type, placed_function};
     ghost use Rattle.ash_environment.specs.EnvironmentViews.{placed_interface, placed_class};
 
-    /// What is declared.
+    /// Takes what a module declares, and makes an index of each kind, by name: the first of a name is found. `Err` is
+    /// that memory was refused for the indexes; what was declared is dropped then.
     pub fn new(
         alloc: Global,
         interfaces: Vec<InterfaceSignature<'a>>,

@@ -70,7 +70,8 @@ fn element_of_object(object: ObjectType) -> Option<Element>
     }
 }
 
-/// The element type of an array, by its name.
+/// The element type of an array, as it is written: a primitive type, or a handle of objects whose type has this name.
+/// `None` is that no type of objects has it.
 #[tactic(auto, unfolding(ash_typing::specs::ModuleDeclarations::element_named))]
 pub fn element_named(
     registry: &Registrations,

@@ -136,7 +136,7 @@ pub fn is_same(one: Ty, other: Ty) -> bool
     }
 }
 
-/// The type of an array's elements.
+/// The type of an array's elements. Of objects an array holds handles.
 pub fn ty_of_element(of: Element) -> Ty
     ensures element_type { result ≡ types.ty_of_element of }
 {
@@ -162,7 +162,7 @@ pub fn ty_of(primitive: Primitive) -> Ty
     }
 }
 
-/// The type of a variable, as a typed tree has it.
+/// The type of a variable, as a typed tree has it. `Null`, `Void` and `Unknown` become `Bool`.
 pub fn var_type(of: Ty) -> VarType
     ensures variable_type { result ≡ types.var_type of }
 {

@@ -69,7 +69,8 @@ pub enum OpenFault {
     #[error("neither file is open: nothing was ever stored in them")]
     NoGeneration,
     /// The bytes are no generation: at 0 the magic, the number or the image, elsewhere the record after the gate at
-    /// this offset in the current file.
+    /// this offset in the current file. A store of states reports so, too, an image or a record that is whole but no
+    /// state, or none that its host may be in.
     #[error("the file is damaged at byte {0}")]
     Damaged(u64),
     /// Memory was refused.

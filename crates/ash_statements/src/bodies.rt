@@ -16,7 +16,9 @@ use ash_environment::{Binding, CheckResult, Environment};
 use ash_tree::Stmt;
 use ash_typing::Ty;
 
-/// Checks the body of a function that returns this type, whose parameters are the locals.
+/// Checks the body of a function that returns this type. Its parameters are `locals`; those of `env` are ignored. That
+/// a body may end without a value is no fault of it: `check_routine` of `ash_check` asks `body_returns`, and adds the
+/// fault `NoReturn`.
 #[tactic(auto, unfolding(ash_typing::specs::StatementRules::check_body))]
 pub fn check_body<'a>(
     env: &Environment<'_, 'a>,

@@ -242,7 +242,8 @@ fn check_initializer(
     }
 }
 
-/// Checks a variable of this type.
+/// Checks what a variable of this type is initialized with, and gives the variable with its first value. It tests
+/// neither whether the type is known, as `check_variable_type` does, nor whether the name is free.
 #[tactic(auto, unfolding(ash_typing::specs::Declarations::check_decl))]
 pub fn check_decl(
     env: &Environment,
