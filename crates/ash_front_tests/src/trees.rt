@@ -40,7 +40,7 @@ fn replaced(alloc: Global, text: String, parts: &[(&str, &str)]) -> Result<Strin
 /// `place` and `kind`.
 fn short(alloc: Global, source: &str) -> Result<String, AllocError> {
     let parts = &[
-        ("Place { at: ", "@"),
+        ("Position { at: ", "@"),
         (", line: 1 }", ""),
         (", line: 2 }", "/2"),
         (", line: 3 }", "/3"),
