@@ -118,11 +118,11 @@ pub(crate) fn interface_method_callee<'a>(
 }
 
 /// A method of a registered type, as it is called.
-pub(crate) fn host_method_callee(call: &Registration) -> Option<MethodCallee<'_>>
+pub(crate) fn host_method_callee(registration: &Registration) -> Option<MethodCallee<'_>>
     ensures { option_map method_callee_of result
-        ≡ environment.host_method (registration_of call.now) }
+        ≡ environment.host_method (registration_of registration.now) }
 {
-    match call {
+    match registration {
         Registration::Method { id, operation, .. } => {
             let result = operation_result(operation.result);
             Some(MethodCallee {
@@ -139,11 +139,11 @@ pub(crate) fn host_method_callee(call: &Registration) -> Option<MethodCallee<'_>
 }
 
 /// A function of a registered service, as it is called.
-pub(crate) fn service_callee(call: &Registration) -> Option<Callee<'_>>
+pub(crate) fn service_callee(registration: &Registration) -> Option<Callee<'_>>
     ensures { option_map callee_of result
-        ≡ environment.service_function (registration_of call.now) }
+        ≡ environment.service_function (registration_of registration.now) }
 {
-    match call {
+    match registration {
         Registration::Function {
             service,
             id,
@@ -165,11 +165,11 @@ pub(crate) fn service_callee(call: &Registration) -> Option<Callee<'_>>
 }
 
 /// The parameters of a factory.
-pub(crate) fn factory_parameters(call: &Registration) -> Option<Parameters<'_>>
+pub(crate) fn factory_parameters(registration: &Registration) -> Option<Parameters<'_>>
     ensures { option_map parameters_of result
-        ≡ environment.factory_parameters (registration_of call.now) }
+        ≡ environment.factory_parameters (registration_of registration.now) }
 {
-    match call {
+    match registration {
         Registration::Factory { parameters, .. } => Some(Parameters::Host(parameters)),
         _ => None,
     }

@@ -1,6 +1,6 @@
 //! The environment of an expression, and what its names mean in it.
 
-ghost use Rattle.std.specs.Prelude.{◌≡◌, map, option_map, IfOk};
+ghost use Rattle.std.specs.Prelude.{◌≡◌, map, option_map, IfOk, OnErr, IsSome, IsNone};
 ghost use Rattle.std.specs.Option.{option_copied};
 ghost use Rattle.ash_registrations.specs.Registered.{registered};
 ghost use Rattle.ash_registrations.specs.Registrations.{registration_of};
@@ -75,10 +75,10 @@ fn global_named(signatures: &Signatures, name: &str) -> Option<(Expr, Ty)>
 }
 
 /// A property of a registered type, with its type.
-fn host_property(call: &Registration) -> Option<(ObjectMember, Ty)>
-    ensures { result ≡ environment.property (registration_of call.now) }
+fn host_property(registration: &Registration) -> Option<(ObjectMember, Ty)>
+    ensures { result ≡ environment.property (registration_of registration.now) }
 {
-    match call {
+    match registration {
         Registration::Property { id, value, .. } => {
             let of = ty_of(*value);
             let property = ObjectMember::Property {
@@ -102,11 +102,13 @@ impl<'a, 'n> Environment<'a, 'n> {
         Some((place, class))
     }
 
-    /// A field of the object that runs, with its type.
+    /// A field of the object that runs, with its type. Memory is taken only where there is one.
     fn own_field(&self, name: &str) -> Result<Option<(Expr, Ty)>, AllocError>
-        ensures { IfOk result
+        ensures field_found { IfOk result
             (λ found. option_map known_of found
             ≡ environment.own_field_in (environment_of self.now) name.now) }
+        ensures memory { OnErr result
+            (IsSome (environment.own_field_in (environment_of self.now) name.now)) }
     {
         let Some((place, class)) = self.this_class() else {
             return Ok(None);
@@ -117,12 +119,16 @@ impl<'a, 'n> Environment<'a, 'n> {
         Ok(Some((nodes::member(self.alloc, Expr::This(place), member)?, of)))
     }
 
-    /// A name alone: a local, else a field of the object that runs, else a global.
+    /// A name alone, with its type: the last local of the name, else a field of the object that runs, else a global.
+    /// `None` is that it is none of these; `Err`, that memory was refused, which only a field takes.
     #[tactic(auto, unfolding(ash_typing::specs::Environment::variable_in))]
     pub fn variable(&self, name: &str) -> Result<Option<(Expr, Ty)>, AllocError>
         ensures variable_found { IfOk result
             (λ found. option_map known_of found
             ≡ environment.variable_in (environment_of self.now) name.now) }
+        ensures memory { OnErr result
+            (IsNone (environment.local_in (map binding_of self.now.locals.now) name.now)
+            × IsSome (environment.own_field_in (environment_of self.now) name.now)) }
     {
         if let Some(local) = local_named(self.locals, name) {
             return Ok(Some(local));
@@ -153,11 +159,12 @@ impl<'a, 'n> Environment<'a, 'n> {
     }
 
     /// A registered type, as it is constructed.
-    pub fn host_type_callee(&self, call: &Registration) -> Option<Callee<'a>>
+    pub fn host_type_callee(&self, registration: &Registration) -> Option<Callee<'a>>
         ensures constructs_host_object { option_map callee_of result
-            ≡ environment.host_type (registered self.now.registry.now) (registration_of call.now) }
+            ≡ environment.host_type (registered self.now.registry.now)
+            (registration_of registration.now) }
     {
-        match call {
+        match registration {
             Registration::Type { name, kind } => Some(Callee {
                 target: Callable::Target(CallTarget::Host(*kind)),
                 result: Ty::Handle(ObjectType::Host(*kind)),
@@ -198,8 +205,8 @@ impl<'a, 'n> Environment<'a, 'n> {
             ≡ environment.callee_beside (environment_of self.now) name.now }
     {
         let registered = self.registry.named(name);
-        if let Some(call) = registered
-            && let Some(function) = service_callee(call)
+        if let Some(registration) = registered
+            && let Some(function) = service_callee(registration)
         {
             return Some(function);
         }
@@ -272,8 +279,8 @@ impl<'a, 'n> Environment<'a, 'n> {
         ensures { option_map method_callee_of result
             ≡ environment.method_of_kind (registered self.now.registry.now) kind name.now }
     {
-        let call = self.host_member(kind, name)?;
-        host_method_callee(call)
+        let registration = self.host_member(kind, name)?;
+        host_method_callee(registration)
     }
 
     /// A method of an object.

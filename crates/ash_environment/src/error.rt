@@ -6,13 +6,16 @@ ghost use Rattle.ash_environment.specs.Agreement.{error_at};
 
 use ash_typing::{Fault, Rule};
 use std::alloc::{AllocError, AllocFailed};
+use thiserror::Error;
 
 /// Why checking ended.
-#[derive(Clone, Copy)]
+#[derive(Clone, Copy, Debug, PartialEq, Eq, Error)]
 pub enum CheckError {
     /// A rule of typing is broken.
+    #[error("{0}")]
     Fault(Fault),
-    /// Memory ran out.
+    /// Memory was refused, which says nothing of the script.
+    #[error("memory was refused")]
     NoMemory,
 }
 

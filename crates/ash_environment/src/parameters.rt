@@ -1,6 +1,6 @@
 //! The parameters of a call.
 
-ghost use Rattle.std.specs.Prelude.{◌≡◌, [], ◌∷◌, length, map, option_map, IfOk};
+ghost use Rattle.std.specs.Prelude.{◌≡◌, [], ◌∷◌, length, map, option_map, IfOk, IsOk};
 ghost use Rattle.ash_typing.specs.TypeRules as definition;
 ghost use Rattle.ash_environment.specs.EnvironmentViews.{parameters_of, first_and_rest, split_of};
 
@@ -55,10 +55,11 @@ impl<'a> Parameters<'a> {
         }
     }
 
-    /// The types, as the tree of a call has them.
+    /// The types, as the tree of a call has them. `Err` is that memory was refused: `Nothing` takes none.
     pub fn types(&self, alloc: Global) -> Result<Vec<VarType>, AllocError>
         ensures types_in_order { IfOk result
             (λ types. types.items ≡ map definition.var_type (parameters_of self.now)) }
+        ensures nothing_takes_no_memory { self.now ≡ Parameters.Nothing → IsOk result }
     {
         match self {
             Parameters::Nothing => Ok(Vec::new(alloc)),

@@ -15,10 +15,10 @@ use ash_typed::{Element, IntType, ObjectType};
 use ash_typing::Ty;
 
 /// The type of a registered type's objects.
-fn host_object_type(call: &Registration) -> Option<ObjectType>
-    ensures { result ≡ definition.host_object (registration_of call.now) }
+fn host_object_type(registration: &Registration) -> Option<ObjectType>
+    ensures { result ≡ definition.host_object (registration_of registration.now) }
 {
-    match call {
+    match registration {
         Registration::Type { kind, .. } => Some(ObjectType::Host(*kind)),
         _ => None,
     }

@@ -1,10 +1,11 @@
 //! Typed expressions, and conversions of their values.
 
-ghost use Rattle.std.specs.Prelude.{◌≡◌, IfOk};
+ghost use Rattle.std.specs.Prelude.{◌≡◌, IfOk, IsErrOf};
 ghost use Rattle.ash_typed.specs.TypedTree.{converted};
 ghost use Rattle.ash_typed.specs.TypedTreeViews.{expr_of};
 ghost use Rattle.ash_typing.specs.Terms as terms;
 ghost use Rattle.ash_typing.specs.ExpressionRules as typing;
+ghost use Rattle.ash_environment.specs.declared.error.CheckError.TheVariants.{NoMemory};
 ghost use Rattle.ash_environment.specs.Agreement.{Agrees};
 ghost use Rattle.ash_environment.specs.EnvironmentViews.{classes_of};
 ghost use Rattle.ash_expressions.specs.TypedExprViews.{typed_of};
@@ -84,9 +85,10 @@ pub fn coerce_for_assignment(env: &Environment, to: Ty, typed: TypedExpr) -> Che
     Ok(coerce(env.alloc, to, typed)?)
 }
 
-/// The integer type of an operand.
+/// The integer type of an operand. No memory is taken.
 pub fn integer_type(at: usize, of: Ty) -> CheckResult<IntType>
     ensures integer_or_mismatch { Agrees (λ k. k) result (typing.integer_of at of) }
+    ensures no_memory { IsErrOf result NoMemory → ⊥ }
 {
     match of {
         Ty::Integer(int_type) => Ok(int_type),
@@ -95,9 +97,10 @@ pub fn integer_type(at: usize, of: Ty) -> CheckResult<IntType>
     }
 }
 
-/// Requires that an operand is a truth value.
+/// Requires that an operand is a truth value. No memory is taken.
 pub fn check_bool(at: usize, of: Ty) -> CheckResult<bool>
     ensures bool_or_mismatch { Agrees (λ k. k) result (typing.bool_of at of) }
+    ensures no_memory { IsErrOf result NoMemory → ⊥ }
 {
     match of {
         Ty::Bool | Ty::Unknown => Ok(true),

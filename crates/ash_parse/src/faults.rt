@@ -21,7 +21,7 @@ pub enum UnsupportedPart {
 impl UnsupportedPart {
     /// The word or sign by which it is reported.
     pub fn as_str(self) -> &'static str
-        ensures { result.now ≡ part_text self }
+        ensures text { result.now ≡ part_text self }
     {
         match self {
             UnsupportedPart::Word(word) => word.as_str(),

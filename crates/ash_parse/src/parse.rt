@@ -147,7 +147,7 @@ fn whole_declaration(alloc: Global, tokens: &[Token]) -> ParseResult<'_, Declara
 /// That the tokens of a script have one tree at most: the grammar is unambiguous. It does nothing when it runs.
 #[tactic(auto, using(crate::proofs::ItemComplete::one_module))]
 pub fn has_one_module(tokens: &[Token])
-    ensures { HasOneModule (tokens_of tokens.now) }
+    ensures one_tree { HasOneModule (tokens_of tokens.now) }
 {
     let _tokens = tokens;
 }
@@ -155,7 +155,7 @@ pub fn has_one_module(tokens: &[Token])
 /// That the tokens of a registered declaration have one tree at most. It does nothing when it runs.
 #[tactic(auto, using(crate::proofs::ItemComplete::one_declaration))]
 pub fn has_one_declaration(tokens: &[Token])
-    ensures { HasOneDeclaration (tokens_of tokens.now) }
+    ensures one_tree { HasOneDeclaration (tokens_of tokens.now) }
 {
     let _tokens = tokens;
 }

@@ -1,6 +1,6 @@
 //! Declared variables, and their initial values.
 
-ghost use Rattle.std.specs.Prelude.{◌≡◌, map, option_map, IfOk};
+ghost use Rattle.std.specs.Prelude.{◌≡◌, map, option_map, IfOk, IsErrOf};
 ghost use Rattle.ash_registrations.specs.Registered.{registered};
 ghost use Rattle.ash_tree.specs.Tree.{place_of_type};
 ghost use Rattle.ash_tree.specs.TreeViews.{element_of, type_of, initializer_of, decl_of};
@@ -9,6 +9,7 @@ ghost use Rattle.ash_typing.specs.Environment as environment;
 ghost use Rattle.ash_typing.specs.ModuleDeclarations as type_names;
 ghost use Rattle.ash_typing.specs.ExpressionRules as typing;
 ghost use Rattle.ash_typing.specs.Declarations as definition;
+ghost use Rattle.ash_environment.specs.declared.error.CheckError.TheVariants.{NoMemory};
 ghost use Rattle.ash_environment.specs.Agreement.{Agrees};
 ghost use Rattle.ash_environment.specs.EnvironmentViews.{class_signature_of, classes_of, callee_of};
 ghost use Rattle.ash_environment.specs.EnvironmentViews.{environment_of};
@@ -55,11 +56,13 @@ pub fn type_name_offset(of: &Type) -> usize
     }
 }
 
-/// Requires that the type of variables is known, and that it is not that of objects of an interface.
+/// Requires that the type of variables is known, and that it is not that of objects of an interface. No memory is
+/// taken.
 #[tactic(auto, unfolding(ash_typing::specs::Declarations::known_ty))]
 pub fn check_variable_type(written: &Type, of: Ty) -> CheckResult<Ty>
     ensures typed { Agrees (λ t. t) result (definition.known_ty (type_of written.now) of) }
     ensures same { IfOk result (λ known. known ≡ of) }
+    ensures no_memory { IsErrOf result NoMemory → ⊥ }
 {
     match of {
         Ty::Unknown => Err(fault_at(Rule::UnknownType, type_name_offset(written))),

@@ -72,8 +72,9 @@ fn any_is_same(before: &[Label], label: Label) -> bool
 
 /// Whether no label is after this one.
 pub(crate) fn is_last(labels: &[Case], i: usize) -> bool
-    requires { i < length labels.now }
-    ensures { result ≡ constants.is_last (cases (map case_of (drop (i + 1) labels.now))) }
+    requires within { i < length labels.now }
+    ensures none_after { result
+        ≡ constants.is_last (cases (map case_of (drop (i + 1) labels.now))) }
 {
     i + 1 == labels.len()
 }

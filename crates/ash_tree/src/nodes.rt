@@ -18,7 +18,7 @@ use std::alloc::{AllocError, Global};
 
 /// `name(arguments)`
 pub fn call(place: Position, name: String, arguments: Vec<Expr>) -> Expr
-    ensures { expr_of result
+    ensures calls_name { expr_of result
         ≡ Call place (string_bytes name) (exprs (map expr_of arguments.items)) }
 {
     Expr {
@@ -29,7 +29,7 @@ pub fn call(place: Position, name: String, arguments: Vec<Expr>) -> Expr
 
 /// `.name(arguments)`
 pub fn method(place: Position, name: String, arguments: Vec<Expr>) -> Suffix
-    ensures { suffix_of result
+    ensures calls_method { suffix_of result
         ≡ Method place (string_bytes name) (exprs (map expr_of arguments.items)) }
 {
     Suffix::Method {
@@ -46,7 +46,7 @@ pub fn new_array(
     of: Element,
     arguments: Vec<Expr>,
 ) -> Result<Expr, AllocError>
-    ensures { IfOk result (λ e. expr_of e
+    ensures makes_array { IfOk result (λ e. expr_of e
         ≡ NewArray place (element_of of) (exprs (map expr_of arguments.items))) }
 {
     let of = Box::new(alloc, of)?;
@@ -58,7 +58,7 @@ pub fn new_array(
 
 /// The first operand, with the operators after it where there are any.
 pub fn binary(alloc: Global, first: Expr, links: Vec<Link>) -> Result<Expr, AllocError>
-    ensures { IfOk result (λ e. expr_of e
+    ensures operators_in_order { IfOk result (λ e. expr_of e
         ≡ chained (expr_of first) (map operation_of links.items)) }
 {
     if links.is_empty() {
@@ -75,7 +75,7 @@ pub fn binary(alloc: Global, first: Expr, links: Vec<Link>) -> Result<Expr, Allo
 
 /// The operand, with the suffixes after it where there are any.
 pub fn postfix(alloc: Global, operand: Expr, suffixes: Vec<Suffix>) -> Result<Expr, AllocError>
-    ensures { IfOk result (λ e. expr_of e
+    ensures suffixes_in_order { IfOk result (λ e. expr_of e
         ≡ suffixed (expr_of operand) (map suffix_of suffixes.items)) }
 {
     if suffixes.is_empty() {
@@ -92,7 +92,7 @@ pub fn postfix(alloc: Global, operand: Expr, suffixes: Vec<Suffix>) -> Result<Ex
 
 /// `{ body }`
 pub fn block(place: Position, body: Vec<Stmt>) -> Stmt
-    ensures { stmt_of result ≡ Block place (stmts (map stmt_of body.items)) }
+    ensures body_in_order { stmt_of result ≡ Block place (stmts (map stmt_of body.items)) }
 {
     Stmt {
         place,
@@ -102,7 +102,8 @@ pub fn block(place: Position, body: Vec<Stmt>) -> Stmt
 
 /// `switch (value) { labels }`
 pub fn switch(place: Position, value: Expr, labels: Vec<Case>) -> Stmt
-    ensures { stmt_of result ≡ Switch place (expr_of value) (cases (map case_of labels.items)) }
+    ensures cases_in_order { stmt_of result
+        ≡ Switch place (expr_of value) (cases (map case_of labels.items)) }
 {
     Stmt {
         place,
@@ -115,14 +116,15 @@ pub fn switch(place: Position, value: Expr, labels: Vec<Case>) -> Stmt
 
 /// A label of a `switch`, with the statements after it.
 pub fn case(place: Position, label: Label, body: Vec<Stmt>) -> Case
-    ensures { case_of result ≡ labelled place label (stmts (map stmt_of body.items)) }
+    ensures body_after_label { case_of result
+        ≡ labelled place label (stmts (map stmt_of body.items)) }
 {
     Case { place, label, body }
 }
 
 /// `(inner)`
 pub fn brackets(alloc: Global, place: Position, inner: Expr) -> Result<Expr, AllocError>
-    ensures { IfOk result (λ e. expr_of e ≡ Brackets place (expr_of inner)) }
+    ensures in_brackets { IfOk result (λ e. expr_of e ≡ Brackets place (expr_of inner)) }
 {
     let kind = ExprKind::Brackets(Box::new(alloc, inner)?);
     Ok(Expr { place, kind })
@@ -135,7 +137,7 @@ pub fn convert(
     to: Primitive,
     value: Expr,
 ) -> Result<Expr, AllocError>
-    ensures { IfOk result (λ e. expr_of e ≡ Convert place to (expr_of value)) }
+    ensures conversion_applied { IfOk result (λ e. expr_of e ≡ Convert place to (expr_of value)) }
 {
     let value = Box::new(alloc, value)?;
     Ok(Expr {
@@ -146,7 +148,8 @@ pub fn convert(
 
 /// `cast<to>(value)`
 pub fn cast(alloc: Global, place: Position, to: TypeName, value: Expr) -> Result<Expr, AllocError>
-    ensures { IfOk result (λ e. expr_of e ≡ Cast place (type_name_of to) (expr_of value)) }
+    ensures cast_to_type { IfOk result (λ e. expr_of e
+        ≡ Cast place (type_name_of to) (expr_of value)) }
 {
     let value = Box::new(alloc, value)?;
     Ok(Expr {
@@ -157,7 +160,7 @@ pub fn cast(alloc: Global, place: Position, to: TypeName, value: Expr) -> Result
 
 /// `[value]`
 pub fn index(alloc: Global, value: Expr) -> Result<Suffix, AllocError>
-    ensures { IfOk result (λ s. suffix_of s ≡ Index (expr_of value)) }
+    ensures indexed_by_value { IfOk result (λ s. suffix_of s ≡ Index (expr_of value)) }
 {
     Ok(Suffix::Index(Box::new(alloc, value)?))
 }
@@ -169,7 +172,8 @@ pub fn unary(
     operator: UnaryOp,
     operand: Expr,
 ) -> Result<Expr, AllocError>
-    ensures { IfOk result (λ e. expr_of e ≡ Unary place operator (expr_of operand)) }
+    ensures operator_applied { IfOk result (λ e. expr_of e
+        ≡ Unary place operator (expr_of operand)) }
 {
     let operand = Box::new(alloc, operand)?;
     Ok(Expr {
@@ -186,7 +190,7 @@ pub fn assign(
     operator: AssignOp,
     value: Expr,
 ) -> Result<Expr, AllocError>
-    ensures { IfOk result (λ e. expr_of e
+    ensures value_assigned { IfOk result (λ e. expr_of e
         ≡ Assign (place_of (expr_of target)) (expr_of target) operator (expr_of value)) }
 {
     let place = target.place;
@@ -205,7 +209,7 @@ pub fn assign(
 /// The statement that only evaluates an expression.
 #[tactic(auto, using(crate::proofs::Rows::place_is))]
 pub fn evaluate(value: Expr) -> Stmt
-    ensures { stmt_of result ≡ Evaluate (place_of (expr_of value)) (expr_of value) }
+    ensures value_evaluated { stmt_of result ≡ Evaluate (place_of (expr_of value)) (expr_of value) }
 {
     Stmt {
         place: value.place,
@@ -216,7 +220,8 @@ pub fn evaluate(value: Expr) -> Stmt
 /// The declaration of variables in a block.
 #[tactic(auto, using(crate::proofs::Rows::type_place_is))]
 pub fn declare(vars: Vars) -> Stmt
-    ensures { stmt_of result ≡ Declare (place_of_type (type_of vars.of)) (vars_of vars) }
+    ensures variables_declared { stmt_of result
+        ≡ Declare (place_of_type (type_of vars.of)) (vars_of vars) }
 {
     Stmt {
         place: vars.of.place,
@@ -254,7 +259,7 @@ pub fn for_loop(
     head: ForHead,
     body: Stmt,
 ) -> Result<Stmt, AllocError>
-    ensures { IfOk result (λ s. stmt_of s
+    ensures head_before_body { IfOk result (λ s. stmt_of s
         ≡ For place (stmt_of head.first) (option_map expr_of head.condition)
         (map expr_of head.steps.items) (stmt_of body)) }
 {

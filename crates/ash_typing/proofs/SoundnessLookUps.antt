@@ -221,11 +221,11 @@ variable_sound env text =
     if_or Q (local_in env.locals text) (option_or (own_field_in env text) (global_in env.declarations.globals text)) local
     (if_or Q (own_field_in env text) (global_in env.declarations.globals text) own global)
 
-property_found : (env : Environment) (kind : ℕ) (text : List ℕ) (call : host.Registration)
-    → host.takes_member (name_of_kind env.registered kind) text call ≡ true
-    → ((id : ℕ) (of : Primitive) → property_at (name_of_kind env.registered kind) id call ≡ Some of
+property_found : (env : Environment) (kind : ℕ) (text : List ℕ) (registration : host.Registration)
+    → host.takes_member (name_of_kind env.registered kind) text registration ≡ true
+    → ((id : ℕ) (of : Primitive) → property_at (name_of_kind env.registered kind) id registration ≡ Some of
     → Contains ((seen_in env).signatures.host.properties kind id) of)
-    → IfSome (property call) (IsSoundMember env (OfHost kind))
+    → IfSome (property registration) (IsSoundMember env (OfHost kind))
 property_found env kind text (host.PropertyRegistration other id of name) e among =
     let of_type = both (bytes_eq (name_of_kind env.registered kind) other) (bytes_eq text name) e in
     let at : property_at (name_of_kind env.registered kind) id (host.PropertyRegistration other id of name) ≡ Some of =
@@ -246,11 +246,11 @@ member_sound env (OfClass i) text = go (slice_get env.declarations.classes i) re
 member_sound env (OfInterface i) text = tt
 member_sound env (OfHost kind) text =
     let name = name_of_kind env.registered kind in
-    if_then (λ (call : host.Registration). (host.takes_member name text call ≡ true)
-    × ((id : ℕ) (of : Primitive) → property_at name id call ≡ Some of
+    if_then (λ (registration : host.Registration). (host.takes_member name text registration ≡ true)
+    × ((id : ℕ) (of : Primitive) → property_at name id registration ≡ Some of
     → Contains (filter_map (property_at name id) env.registered) of)) (IsSoundMember env (OfHost kind)) property
     (find (host.takes_member name text) env.registered)
-    (λ call h. property_found env kind text call h.0 h.1)
+    (λ registration h. property_found env kind text registration h.0 h.1)
     (found_with (host.takes_member name text) (property_at name) env.registered)
 member_sound env (OfArray of) text = tt
 

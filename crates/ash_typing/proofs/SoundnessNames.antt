@@ -58,11 +58,11 @@ functions_found test fs known =
     go None h k = tt
     go (Some f) h k = (mapped signature_of fs f.0 f.1 h, k.parameters)
 
-host_method_found : (env : Environment) (kind : ℕ) (text : List ℕ) (call : host.Registration)
-    → host.takes_member (name_of_kind env.registered kind) text call ≡ true
-    → ((id : ℕ) (of : HostSignature) → method_at (name_of_kind env.registered kind) id call ≡ Some of
+host_method_found : (env : Environment) (kind : ℕ) (text : List ℕ) (registration : host.Registration)
+    → host.takes_member (name_of_kind env.registered kind) text registration ≡ true
+    → ((id : ℕ) (of : HostSignature) → method_at (name_of_kind env.registered kind) id registration ≡ Some of
     → Contains ((seen_in env).signatures.host.methods kind id) of)
-    → IfSome (host_method call) (IsSoundMethod env (OfHost kind))
+    → IfSome (host_method registration) (IsSoundMethod env (OfHost kind))
 host_method_found env kind text (host.MethodRegistration other id operation) e among =
     let of_type = both (bytes_eq (name_of_kind env.registered kind) other) (bytes_eq text operation.name) e in
     let at : method_at (name_of_kind env.registered kind) id (host.MethodRegistration other id operation)
@@ -116,11 +116,11 @@ method_sound env (OfInterface i) text known =
         (functions_found (is_called text) of.methods k.methods))
 method_sound env (OfHost kind) text known =
     let name = name_of_kind env.registered kind in
-    if_then (λ (call : host.Registration). (host.takes_member name text call ≡ true)
-    × ((id : ℕ) (of : HostSignature) → method_at name id call ≡ Some of
+    if_then (λ (registration : host.Registration). (host.takes_member name text registration ≡ true)
+    × ((id : ℕ) (of : HostSignature) → method_at name id registration ≡ Some of
     → Contains (filter_map (method_at name id) env.registered) of)) (IsSoundMethod env (OfHost kind)) host_method
     (find (host.takes_member name text) env.registered)
-    (λ call h. host_method_found env kind text call h.0 h.1)
+    (λ registration h. host_method_found env kind text registration h.0 h.1)
     (found_with (host.takes_member name text) (method_at name) env.registered)
 method_sound env (OfArray of) text known = let found =
     find (is_array_method text)
@@ -156,11 +156,12 @@ class_takes env class c known e = (
 )
 
 abbrev function_by : ℕ × ℕ → host.Registration → Option HostSignature
-function_by key call = function_at key.0 key.1 call
+function_by key registration = function_at key.0 key.1 registration
 
-service_found : (env : Environment) (call : host.Registration)
-    → ((key : ℕ × ℕ) (of : HostSignature) → function_by key call ≡ Some of
-    → Contains (filter_map (function_by key) env.registered) of) → IfSome (service_function call) (IsSoundCallee env)
+service_found : (env : Environment) (registration : host.Registration)
+    → ((key : ℕ × ℕ) (of : HostSignature) → function_by key registration ≡ Some of
+    → Contains (filter_map (function_by key) env.registered) of)
+    → IfSome (service_function registration) (IsSoundCallee env)
 service_found env (host.FunctionRegistration service id operation) among =
     let at : function_at service id (host.FunctionRegistration service id operation) ≡ Some (host_signature operation) =
     rw (same_number service, same_number id) refl in
@@ -199,10 +200,10 @@ factory_found env name kind among = go (find (host.is_factory_of name) env.regis
         )
     go (Some _) e = tt
 
-pub host_found : (env : Environment) (call : host.Registration)
-    → ((k : ℕ) (of : List Primitive) → factory_at env.registered k call ≡ Some of
+pub host_found : (env : Environment) (registration : host.Registration)
+    → ((k : ℕ) (of : List Primitive) → factory_at env.registered k registration ≡ Some of
     → Contains ((seen_in env).signatures.host.factories k) of)
-    → IfSome (host_type env.registered call) (IsSoundCallee env)
+    → IfSome (host_type env.registered registration) (IsSoundCallee env)
 host_found env (host.TypeRegistration name kind) among = factory_found env name kind among
 host_found env _ among = tt
 
@@ -258,10 +259,11 @@ callee_sound env text known =
     (λ found h. (operations.function h.0, h.1))
     (functions_found (is_called text) env.declarations.functions known.functions)) in
     let service =
-    if_then (λ (call : host.Registration). (host.takes_name text call ≡ true)
-    × ((key : ℕ × ℕ) (of : HostSignature) → function_by key call ≡ Some of
+    if_then (λ (registration : host.Registration). (host.takes_name text registration ≡ true)
+    × ((key : ℕ × ℕ) (of : HostSignature) → function_by key registration ≡ Some of
     → Contains (filter_map (function_by key) env.registered) of)) Q service_function (named_in env.registered text)
-    (λ call h. service_found env call h.1) (found_with (host.takes_name text) function_by env.registered) in
+    (λ registration h. service_found env registration h.1)
+    (found_with (host.takes_name text) function_by env.registered) in
     let class = if_map Q
     (λ (found : ℕ × ClassSignature).
     record {
@@ -271,11 +273,11 @@ callee_sound env text known =
     }) (first_from (is_class text) 0 env.declarations.classes) (if_weaker (first_from (is_class text) 0 env.declarations.classes)
     (λ found h. class_takes env found.0 found.1 known h) (first_place (is_class text) env.declarations.classes)) in
     let kind = if_then
-    (λ (call : host.Registration). (host.takes_name text call ≡ true)
-    × ((k : ℕ) (of : List Primitive) → factory_at env.registered k call ≡ Some of
+    (λ (registration : host.Registration). (host.takes_name text registration ≡ true)
+    × ((k : ℕ) (of : List Primitive) → factory_at env.registered k registration ≡ Some of
     → Contains (filter_map (factory_at env.registered k) env.registered) of)) Q (host_type env.registered)
     (named_in env.registered text)
-    (λ call h. host_found env call h.1)
+    (λ registration h. host_found env registration h.1)
     (found_with (host.takes_name text) (factory_at env.registered) env.registered) in
     if_or Q (own_method_in env text) (option_or (function_in env.declarations.functions text) (callee_beside env text)) own
     (if_or Q (function_in env.declarations.functions text) (callee_beside env text) function
@@ -287,9 +289,10 @@ callee_sound env text known =
 
 -- types that are named
 
-kind_found : (registrations : List host.Registration) (declarations : ModuleDeclarations) (call : host.Registration)
-    → ((kind : ℕ) → kind_in call ≡ Some kind → Contains (filter_map kind_in registrations) kind)
-    → IfSome (host_object call) (IsObjectType (signatures_in registrations declarations))
+kind_found : (registrations : List host.Registration) (declarations : ModuleDeclarations)
+    (registration : host.Registration)
+    → ((kind : ℕ) → kind_in registration ≡ Some kind → Contains (filter_map kind_in registrations) kind)
+    → IfSome (host_object registration) (IsObjectType (signatures_in registrations declarations))
 kind_found registrations declarations (host.TypeRegistration name kind) among = object_host (among kind refl)
 kind_found registrations declarations _ among = tt
 
@@ -314,10 +317,10 @@ object_sound registrations declarations name =
     (mapped signatures_of_interface declarations.interfaces found.0 found.1 h)))
     (first_place (is_interface_named name) declarations.interfaces)) in
     let kind = if_then
-    (λ (call : host.Registration). (host.takes_name name call ≡ true)
-    × ((key : Unit {0}) (kind : ℕ) → kind_in call ≡ Some kind → Contains (filter_map kind_in registrations) kind)) Q
-    host_object (find (host.takes_name name) registrations)
-    (λ call h. kind_found registrations declarations call (h.1 tt))
+    (λ (registration : host.Registration). (host.takes_name name registration ≡ true)
+    × ((key : Unit {0}) (kind : ℕ) → kind_in registration ≡ Some kind
+    → Contains (filter_map kind_in registrations) kind)) Q host_object (find (host.takes_name name) registrations)
+    (λ registration h. kind_found registrations declarations registration (h.1 tt))
     (found_with (host.takes_name name) (λ (key : Unit {0}). kind_in) registrations) in
     if_or Q (class_type declarations.classes name)
     (option_or (interface_type declarations.interfaces name)

@@ -107,10 +107,11 @@ record Builds (env : Environment) (o : ObjectType) (callee : Callee) : Type 0 wh
       operations.IsTarget (seen_in env).signatures target (map var_type parameters) (Some (vars.Handle o))
       × AllByRecursion IsVariableType parameters)
 
-host_built : (env : Environment) (kind : ℕ) (call : host.Registration) → host.takes_kind kind call ≡ true
-    → ((k : ℕ) (of : List Primitive) → factory_at env.registered k call ≡ Some of
+host_built : (env : Environment) (kind : ℕ) (registration : host.Registration)
+    → host.takes_kind kind registration ≡ true
+    → ((k : ℕ) (of : List Primitive) → factory_at env.registered k registration ≡ Some of
     → Contains (filter_map (factory_at env.registered k) env.registered) of)
-    → IfSome (host_type env.registered call) (Builds env (OfHost kind))
+    → IfSome (host_type env.registered registration) (Builds env (OfHost kind))
 host_built env kind (host.TypeRegistration name other) e among =
     subst (λ k. IfSome (host_type env.registered (host.TypeRegistration name other)) (Builds env (OfHost k)))
     (sym (eqb-true kind other e)) (record {
@@ -137,11 +138,11 @@ construction_builds env (OfClass place) count known h = go (slice_get env.declar
     }
 construction_builds env (OfInterface place) count known h = tt
 construction_builds env (OfHost kind) count known h =
-    if_then (λ (call : host.Registration). (host.takes_kind kind call ≡ true)
-    × ((k : ℕ) (of : List Primitive) → factory_at env.registered k call ≡ Some of
+    if_then (λ (registration : host.Registration). (host.takes_kind kind registration ≡ true)
+    × ((k : ℕ) (of : List Primitive) → factory_at env.registered k registration ≡ Some of
     → Contains (filter_map (factory_at env.registered k) env.registered) of)) (Builds env (OfHost kind))
     (host_type env.registered) (find (host.takes_kind kind) env.registered)
-    (λ call k. host_built env kind call k.0 k.1)
+    (λ registration k. host_built env kind registration k.0 k.1)
     (found_with (host.takes_kind kind) (factory_at env.registered) env.registered)
 construction_builds env (OfArray of) count known (signatures.array h) = record {
   target = targets.Array of;

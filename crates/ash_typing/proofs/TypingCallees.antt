@@ -81,19 +81,20 @@ variable_type env text =
     if_or IsTyped (local_in env.locals text) (option_or (own_field_in env text) (global_in env.declarations.globals text))
     local (if_or IsTyped (own_field_in env text) (global_in env.declarations.globals text) own global)
 
-service_type : (call : host.Registration) → IfSome (service_function call) IsTypedCallee
+service_type : (registration : host.Registration) → IfSome (service_function registration) IsTypedCallee
 service_type (host.FunctionRegistration service id operation) = refl
 service_type _ = tt
 
-host_result : (registrations : List host.Registration) (call : host.Registration) → IfSome (host_type registrations call) IsTypedCallee
+host_result : (registrations : List host.Registration) (registration : host.Registration)
+    → IfSome (host_type registrations registration) IsTypedCallee
 host_result registrations (host.TypeRegistration text kind) = refl
 host_result registrations _ = tt
 
-property_type : (call : host.Registration) → IfSome (property call) IsTypedMember
+property_type : (registration : host.Registration) → IfSome (property registration) IsTypedMember
 property_type (host.PropertyRegistration of id primitive text) = refl
 property_type _ = tt
 
-host_method_type : (call : host.Registration) → IfSome (host_method call) IsTypedMethod
+host_method_type : (registration : host.Registration) → IfSome (host_method registration) IsTypedMethod
 host_method_type (host.MethodRegistration of id operation) = refl
 host_method_type _ = tt
 

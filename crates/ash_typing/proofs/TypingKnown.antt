@@ -227,20 +227,22 @@ function_known text fs known =
     if_weaker (first_from (is_called text) 0 fs)
     (λ found h. h.result) (if_first IsKnownFunction (is_called text) 0 fs known)
 
-service_known : (call : host.Registration) → IfSome (service_function call) (λ callee. IsTypeOfResult callee.result)
+service_known : (registration : host.Registration)
+    → IfSome (service_function registration) (λ callee. IsTypeOfResult callee.result)
 service_known (host.FunctionRegistration service id operation) = result_known operation.result
 service_known _ = tt
 
-host_known : (registrations : List host.Registration) (call : host.Registration)
-    → IfSome (host_type registrations call) (λ callee. IsTypeOfResult callee.result)
+host_known : (registrations : List host.Registration) (registration : host.Registration)
+    → IfSome (host_type registrations registration) (λ callee. IsTypeOfResult callee.result)
 host_known registrations (host.TypeRegistration text kind) = refl
 host_known registrations _ = tt
 
-property_known : (call : host.Registration) → IfSome (property call) (λ found. IsVariableType found.1)
+property_known : (registration : host.Registration) → IfSome (property registration) (λ found. IsVariableType found.1)
 property_known (host.PropertyRegistration of id value text) = primitive_known value
 property_known _ = tt
 
-host_method_known : (call : host.Registration) → IfSome (host_method call) (λ m. IsTypeOfResult m.result)
+host_method_known : (registration : host.Registration)
+    → IfSome (host_method registration) (λ m. IsTypeOfResult m.result)
 host_method_known (host.MethodRegistration of id operation) = result_known operation.result
 host_method_known _ = tt
 

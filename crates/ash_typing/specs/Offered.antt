@@ -10,12 +10,12 @@ use Rattle.ash_typing.specs.Environment.{name_of_kind}
 abbrev pub host_signature : host.HostFunction → HostSignature
 host_signature o = record { result = o.result; parameters = o.parameters }
 
--- `kind_in call` is the kind of a registered type.
+-- `kind_in registration` is the kind of a registered type.
 abbrev pub kind_in : host.Registration → Option ℕ
 kind_in (host.TypeRegistration name kind) = Some kind
 kind_in _ = None
 
--- `parameters_of_factory call` is what the factory of a registered type takes.
+-- `parameters_of_factory registration` is what the factory of a registered type takes.
 abbrev pub parameters_of_factory : host.Registration → Option (List Primitive)
 parameters_of_factory (host.FactoryRegistration of parameters) = Some parameters
 parameters_of_factory _ = None

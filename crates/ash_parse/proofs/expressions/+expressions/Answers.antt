@@ -43,7 +43,7 @@ binary-returns-in_err-links t c =
 pub binary-climb-preserved : goal.binary-climb-preserved
 binary-climb-preserved t c = record {
   next = c.next_level-next-in-climb.ensures;
-  so_far = rw c.in_ok-joined-2.ensures (climbs c.args.room c.requires.room c.args.level c.climb.reached c.climb.next (expr_of c.climb.joined) (tokens_of c.climb.rest.now) (tokens_of c.in_ok-links.after.now) (map operation_of c.in_ok-links.links.items) (binary_with (below_at c.args.room) c.args.level (tokens_of c.args.tokens.now)) c.climb.invariant.next (omega arith) (omega arith) c.in_ok-links.ensures c.climb.invariant.so_far);
+  so_far = rw c.in_ok-joined-2.ensures.operators_in_order (climbs c.args.room c.requires.room c.args.level c.climb.reached c.climb.next (expr_of c.climb.joined) (tokens_of c.climb.rest.now) (tokens_of c.in_ok-links.after.now) (map operation_of c.in_ok-links.links.items) (binary_with (below_at c.args.room) c.args.level (tokens_of c.args.tokens.now)) c.climb.invariant.next (omega arith) (omega arith) c.in_ok-links.ensures c.climb.invariant.so_far);
 }
 
 pub binary-returns : goal.binary-returns

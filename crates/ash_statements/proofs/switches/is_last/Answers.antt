@@ -12,4 +12,4 @@ ends (x ∷ xs) zero h = grind arith
 ends (x ∷ xs) (suc n) h = let e : is_last (cases (map case_of (drop n xs))) ≡ nat_eq n (length xs) = ends xs n (omega (arith, h)) in grind (arith, e)
 
 pub returns : goal.returns
-returns c = sym (ends c.args.labels.now (c.args.i + 1) (omega (arith, c.requires)))
+returns c = record { none_after = sym (ends c.args.labels.now (c.args.i + 1) (omega (arith, c.requires.within))) }

@@ -6,11 +6,13 @@ use Rattle.ash_tree.proofs.Rows.{place_is, binary_is, chained-some}
 use Rattle.ash_tree.proofs.nodes.binary.Goals as goal
 
 pub returns : goal.returns
-returns c =
-    let some : 0 < length (map operation_of c.args.links.items) = grind (arith, common_steps) in
-    binary_is c.args.first.place c.in_ok-new.field-0 c.args.links
-    ∙ ap (λ e. Binary c.args.first.place (expr_of e)
-    (links (map operation_of c.args.links.items))) c.in_ok-new.ensures.ok
-    ∙ ap (λ q. Binary q (expr_of c.args.first) (links (map operation_of c.args.links.items)))
-    (sym (place_is c.args.first.place c.args.first.kind))
-    ∙ sym (chained-some (expr_of c.args.first) (map operation_of c.args.links.items) some)
+returns c = record {
+  operators_in_order =
+      let some : 0 < length (map operation_of c.args.links.items) = grind (arith, common_steps) in
+      binary_is c.args.first.place c.in_ok-new.field-0 c.args.links
+      ∙ ap (λ e. Binary c.args.first.place (expr_of e)
+      (links (map operation_of c.args.links.items))) c.in_ok-new.ensures.ok
+      ∙ ap (λ q. Binary q (expr_of c.args.first) (links (map operation_of c.args.links.items)))
+      (sym (place_is c.args.first.place c.args.first.kind))
+      ∙ sym (chained-some (expr_of c.args.first) (map operation_of c.args.links.items) some);
+}

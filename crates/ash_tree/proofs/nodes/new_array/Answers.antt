@@ -5,6 +5,8 @@ use Rattle.ash_tree.proofs.Rows.{new_array_is}
 use Rattle.ash_tree.proofs.nodes.new_array.Goals as goal
 
 pub returns : goal.returns
-returns c =
-    new_array_is c.args.place c.in_ok-of.of c.args.arguments
-    ∙ ap (λ e. NewArray c.args.place (element_of e) (exprs (map expr_of c.args.arguments.items))) c.in_ok-of.ensures.ok
+returns c = record {
+  makes_array =
+      new_array_is c.args.place c.in_ok-of.of c.args.arguments
+      ∙ ap (λ e. NewArray c.args.place (element_of e) (exprs (map expr_of c.args.arguments.items))) c.in_ok-of.ensures.ok;
+}
