@@ -95,7 +95,7 @@ impl HostObject for Counter {
     fn restore(&mut self, bytes: &[u8]) -> Result<(), RestoreFault>
         ensures restored { OnOk result (int_bytes self.new.value ≡ bytes.now) }
         ensures refused { IsErrOf result RestoreFault.Refused ↔ (length bytes.now ≢ 4) }
-        ensures memory { IsErrOf result RestoreFault.NoMemory → ⊥ }
+        ensures no_memory { IsErrOf result RestoreFault.NoMemory → ⊥ }
     {
         self.value = int_from_bytes(bytes).ok_or(RestoreFault::Refused)?;
         Ok(())

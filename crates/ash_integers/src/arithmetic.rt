@@ -5,6 +5,7 @@ ghost use Rattle.ash_integers.specs.Integers.{calculated, in_word, result_of, di
 
 use crate::int_type::IntType;
 use ash_host::Word;
+use thiserror::Error;
 
 /// An operator on two integers of one type that gives an integer of this type.
 #[derive(Clone, Copy, Debug, PartialEq, Eq)]
@@ -28,11 +29,13 @@ pub enum Arithmetic {
 }
 
 /// Why a quotient or a remainder is refused.
-#[derive(Clone, Copy, Debug, PartialEq, Eq)]
+#[derive(Clone, Copy, Debug, PartialEq, Eq, Error)]
 pub enum DivisionFault {
     /// The divisor is zero.
+    #[error("division by zero")]
     ByZero,
     /// The least number of a signed type is divided by -1.
+    #[error("division of the least number of a type by -1")]
     Overflow,
 }
 

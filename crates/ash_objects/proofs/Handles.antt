@@ -1,12 +1,11 @@
 -- The handles among words, before and after one is written.
-use Rattle.std.proofs.Common.{◌≡◌, ℕ, Bool, cond, List, [], ◌∷◌, refl, ap, nat_eq, arith, Option, Some, None, length, zero, suc, ◌+◌, ◌-◌, ◌≤◌, ◌<◌, set, get_or}
+use Rattle.std.proofs.Common.{◌≡◌, ℕ, cond, List, [], ◌∷◌, refl, ap, nat_eq, arith, Option, Some, None, length, zero, suc, ◌+◌, ◌≤◌, ◌<◌, set, get_or}
 use Rattle.std.specs.Prelude.{slice_get}
 use Rattle.std.proofs.lemmas.Bool.Decides.{nat_tests}
 use Rattle.std.proofs.lemmas.List.Sums.{sum_by-set, get_or-le-sum_by}
 use Rattle.ash_host.specs.declared.word.Word.{Word}
 use Rattle.ash_host.specs.declared.word.Word.TheVariants as words
 use Rattle.ash_host.specs.Objects.{handles_to, is_handle_to, handle}
-use Rattle.ash_slots.specs.SlotCounting.{counted, written}
 
 -- whether a handle is to an object, as a number
 abbrev pub hits : Option ℕ → ℕ → ℕ

@@ -14,17 +14,21 @@ use crate::counting::release_words;
 use crate::objects::Objects;
 use ash_host::{MAX_ELEMENTS, NoMemory, Word};
 use ash_slots::{Body, grow_elements, set_elements, take_elements};
+use thiserror::Error;
 
 /// An index is not below the length of an array.
-#[derive(Clone, Copy, Debug, PartialEq, Eq)]
+#[derive(Clone, Copy, Debug, PartialEq, Eq, Error)]
+#[error("the index is not below the length of the array")]
 pub struct IndexOutOfBounds;
 
 /// Why an array does not get a length.
-#[derive(Clone, Copy, Debug, PartialEq, Eq)]
+#[derive(Clone, Copy, Debug, PartialEq, Eq, Error)]
 pub enum LengthFault {
     /// It would have more elements than it may.
+    #[error("the array would have more elements than it may")]
     TooLong,
     /// Memory ran out.
+    #[error("memory was refused")]
     NoMemory,
 }
 

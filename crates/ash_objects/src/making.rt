@@ -15,19 +15,25 @@ use crate::counting::refer_words;
 use crate::objects::Objects;
 use ash_host::{Event, HostObject, MAX_ELEMENTS, MAX_OBJECTS, NoMemory};
 use ash_slots::{Array, Body, ElementTag, Occupant, Script, Words};
+use thiserror::Error;
 
 /// Why no object was made.
-#[derive(Clone, Copy, Debug, PartialEq, Eq)]
+#[derive(Clone, Copy, Debug, PartialEq, Eq, Error)]
 pub enum MakeFault {
     /// As many objects live as may.
+    #[error("as many objects live as may")]
     ObjectLimit,
     /// Every number was given.
+    #[error("every number was given")]
     NumbersSpent,
     /// No free box is of the kind.
+    #[error("no free box is of the kind")]
     PoolEmpty,
     /// An array would be longer than it may be.
+    #[error("the array would be longer than it may be")]
     ArrayLimit,
     /// Memory ran out.
+    #[error("memory was refused")]
     NoMemory,
 }
 
@@ -48,7 +54,7 @@ impl<B> Objects<B> {
             ↔ ((IsFull self.now → ⊥) × IsSpent self.now) }
         ensures pool { IsErrOf result MakeFault.PoolEmpty → ⊥ }
         ensures long { IsErrOf result MakeFault.ArrayLimit → ⊥ }
-        ensures memory { IsErrOf result MakeFault.NoMemory → ⊥ }
+        ensures no_memory { IsErrOf result MakeFault.NoMemory → ⊥ }
     {
         if self.store.len() >= MAX_OBJECTS {
             return Err(MakeFault::ObjectLimit);

@@ -89,10 +89,8 @@ impl<B> Objects<B> {
     pub fn body(&self, number: u64) -> Option<&Body<B>>
         ensures body { option_copied result ≡ body_of number self.now }
     {
-        match self.store.slot(number) {
-            Some(slot) => Some(&self.store.item(slot).body),
-            None => None,
-        }
+        let slot = self.store.slot(number)?;
+        Some(&self.store.item(slot).body)
     }
 
     /// The count of an object: the fields and elements that hold it, and one for each `hold` that was not undone. It

@@ -25,6 +25,7 @@ use crate::objects::Objects;
 use ash_host::{HostObject, RestoreFault};
 use ash_slots::{Body, Occupant, Store};
 use std::alloc::Global;
+use thiserror::Error;
 
 /// A host object as a state has it.
 #[derive(Drop)]
@@ -51,13 +52,16 @@ pub struct SavedObjects {
 }
 
 /// Why no table is made.
-#[derive(Clone, Copy, Debug, PartialEq, Eq)]
+#[derive(Clone, Copy, Debug, PartialEq, Eq, Error)]
 pub enum TableFault {
     /// There are too few free boxes of a kind.
+    #[error("there are too few free boxes of kind {0}")]
     PoolShort(u16),
     /// The host object of a number does not take its state; a service, where the number is 0.
+    #[error("the host object numbered {0} (a service, if 0) does not take its state")]
     RestoreRefused(u64),
     /// Memory ran out.
+    #[error("memory was refused")]
     NoMemory,
 }
 
@@ -82,7 +86,7 @@ fn take_box<B: HostObject>(pool: &mut Vec<B>, object: &SavedObject) -> Result<Op
         → (others : List B → Drawn B)
         → draw_then B.HostObject (kind_wanted object.now) pool.old.items others ≡ Short kind }
     ensures not_refused { (number : ℕ) → IsErrOf result (TableFault.RestoreRefused number) → ⊥ }
-    ensures memory { IsErrOf result TableFault.NoMemory → ⊥ }
+    ensures no_memory { IsErrOf result TableFault.NoMemory → ⊥ }
 {
     let saved = match &object.body {
         Body::Host(saved) => saved,

@@ -114,10 +114,7 @@ impl<B> Store<B> {
         ensures some { IfSome result (λ number. IsIn number slot self.now.objects) }
         ensures none { IfNone result (IsOccupied slot self.now.objects → ⊥) }
     {
-        match self.entries.get(slot) {
-            Some(entry) => Some(entry.number),
-            None => None,
-        }
+        Some(self.entries.get(slot)?.number)
     }
 
     /// Whether the object in a slot is counted nowhere. The slot may be empty.

@@ -29,13 +29,6 @@ impl Words {
         Words { words }
     }
 
-    /// The same words again. It takes no memory.
-    pub fn into_vec(self) -> Vec<Word>
-        ensures words { result.items ≡ self }
-    {
-        self.words
-    }
-
     /// The words, in order.
     pub fn as_slice(&self) -> &[Word]
         ensures words { result.now ≡ self.now }
