@@ -303,10 +303,7 @@ fn open_file(rt: &HostRuntime, path: &str, mode: OpenMode) -> io::Result<FileDis
     match mode {
         OpenMode::Make => FileDisk::open_or_make(rt, path),
         OpenMode::Existing => FileDisk::open(rt, path),
-        OpenMode::ReadOnly => match fs::File::open(rt, path) {
-            Ok(file) => Ok(FileDisk::new(file)),
-            Err(error) => Err(error),
-        },
+        OpenMode::ReadOnly => Ok(FileDisk::new(fs::File::open(rt, path)?)),
     }
 }
 

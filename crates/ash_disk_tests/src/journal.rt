@@ -7,7 +7,9 @@
 use crate::compare::{check_number, check_true};
 use crate::disks::check_disk;
 use ash_disk::{Disk, MemoryDisk};
-use ash_journal::{AppendError, InstallError, Journal, OpenFault, OpenedJournal, Record};
+use ash_journal::{
+    AppendError, InstallError, Journal, OpenFault, OpenedJournal, RECORD_BYTES_LIMIT, Record,
+};
 use std::alloc::{AllocError, Global};
 use std::process::Abort;
 use std::test::Fail;
@@ -40,7 +42,7 @@ fn append<D: Disk>(journal: &mut Journal<D>, body: &[u8]) -> Result<(), AppendEr
     if !journal.is_ready() {
         return Err(AppendError::DeviceFailed);
     }
-    if journal.record_bytes() >= 1 << 62 || body.len() >= 1 << 32 {
+    if journal.record_bytes() >= RECORD_BYTES_LIMIT || body.len() >= 1 << 32 {
         return Err(AppendError::NoMemory);
     }
     journal.append(body)

@@ -1,5 +1,5 @@
 -- These definitions say what a journal shows, and what its files hold.
-use Rattle.std.specs.Prelude.{◌≡◌, ◌≢◌, ℕ, Bool, true, false, IsTrue, List, ◌∷◌, ◌++◌, length}
+use Rattle.std.specs.Prelude.{◌≡◌, ◌≢◌, ◌^◌, ℕ, Bool, true, false, IsTrue, List, ◌∷◌, ◌++◌, length}
 use Rattle.ash_disk.specs.Device.{Device, IsDurable}
 use Rattle.ash_journal.specs.declared.journal.Journal.{Journal}
 use Rattle.ash_journal.specs.declared.other_state.OtherState.{OtherState}
@@ -40,6 +40,10 @@ generation j = j.generation
 -- `record_bytes j` is how many bytes the open records take: their lengths, bodies and gates.
 abbrev pub record_bytes : {D : Type 0} → Journal D → ℕ
 record_bytes j = j.record_bytes
+
+-- A record is added only where the open records take fewer bytes than `record_bytes_limit`.
+abbrev pub record_bytes_limit : ℕ
+record_bytes_limit = 2 ^ 62
 
 -- The gate after the last open record is 0, or it is stray and still to be written over.
 abbrev pub EndIs : Bool → ℕ → Type 0

@@ -2,11 +2,12 @@
 
 ghost use Rattle.std.specs.Prelude.{◌≡◌};
 ghost use Rattle.ash_journal.specs.JournalCodes.{append_code, create_code, install_code, open_code};
+ghost use Rattle.ash_journal.specs.declared.error.AppendError.TheVariants as append_errors;
 ghost use Rattle.ash_journal.specs.declared.error.CreateFault.TheVariants as create_faults;
 ghost use Rattle.ash_journal.specs.declared.error.OpenFault.TheVariants as open_faults;
 
 use ash_disk::DeviceFailed;
-use std::alloc::AllocError;
+use std::alloc::{AllocError, AllocFailed};
 use thiserror::Error;
 
 /// Why no record was added.
@@ -27,8 +28,16 @@ impl AppendError {
     {
         match self {
             AppendError::NoMemory => "509 NoMemory",
-            AppendError::DeviceFailed => "507 DeviceFailed",
+            AppendError::DeviceFailed => DeviceFailed.code(),
         }
+    }
+}
+
+impl From<DeviceFailed> for AppendError {
+    ghost from_gives = { λ _ error. error ≡ append_errors.DeviceFailed };
+
+    fn from(_: DeviceFailed) -> Self {
+        AppendError::DeviceFailed
     }
 }
 
@@ -54,7 +63,7 @@ impl InstallError {
         match self {
             InstallError::GenerationSpent => "511 GenerationSpent",
             InstallError::NoMemory => "509 NoMemory",
-            InstallError::DeviceFailed => "507 DeviceFailed",
+            InstallError::DeviceFailed => DeviceFailed.code(),
         }
     }
 }
@@ -84,7 +93,7 @@ impl OpenFault {
         ensures coded { result.now ≡ open_code self }
     {
         match self {
-            OpenFault::DeviceFailed => "507 DeviceFailed",
+            OpenFault::DeviceFailed => DeviceFailed.code(),
             OpenFault::NoGeneration => "501 NoGeneration",
             OpenFault::Damaged(_) => "503 Damaged",
             OpenFault::NoMemory => "509 NoMemory",
@@ -104,6 +113,14 @@ impl From<AllocError> for OpenFault {
     ghost from_gives = { λ _ fault. fault ≡ open_faults.NoMemory };
 
     fn from(_: AllocError) -> Self {
+        OpenFault::NoMemory
+    }
+}
+
+impl<T: Drop> From<AllocFailed<T>> for OpenFault {
+    ghost from_gives = { λ _ fault. fault ≡ open_faults.NoMemory };
+
+    fn from(_: AllocFailed<T>) -> Self {
         OpenFault::NoMemory
     }
 }
@@ -128,7 +145,7 @@ impl CreateFault {
         ensures coded { result.now ≡ create_code self }
     {
         match self {
-            CreateFault::DeviceFailed => "507 DeviceFailed",
+            CreateFault::DeviceFailed => DeviceFailed.code(),
             CreateFault::AlreadyThere => "502 AlreadyThere",
             CreateFault::NoMemory => "509 NoMemory",
         }

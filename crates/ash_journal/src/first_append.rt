@@ -1,6 +1,7 @@
 //! The first record after an opening.
 ghost use Rattle.std.specs.Prelude.{◌<◌, ◌^◌, ◌∷◌, ◌++◌, [], ℕ, List, length, IsErrOf, OnOk};
-ghost use Rattle.ash_journal.specs.Journal.{record_bytes, HoldsBeforeRepair, Holds, HasFailed, IsReady};
+ghost use Rattle.ash_journal.specs.Journal.{record_bytes, record_bytes_limit};
+ghost use Rattle.ash_journal.specs.Journal.{HoldsBeforeRepair, Holds, HasFailed, IsReady};
 
 use crate::error::AppendError;
 use crate::journal::Journal;
@@ -10,7 +11,7 @@ use ash_disk::Disk;
 /// failed.
 pub fn append_first<D: Disk>(journal: &mut Journal<D>, body: &[u8]) -> Result<(), AppendError>
     requires short { length body.now < 2 ^ 32 }
-    requires room { record_bytes journal.old < 2 ^ 62 }
+    requires room { record_bytes journal.old < record_bytes_limit }
     requires sound { HasFailed journal.old → ⊥ }
     ensures acknowledged { OnOk result ((image : List ℕ) (bodies : List (List ℕ))
         → HoldsBeforeRepair D.Disk journal.old image bodies
@@ -18,9 +19,6 @@ pub fn append_first<D: Disk>(journal: &mut Journal<D>, body: &[u8]) -> Result<()
     ensures ready { (IsErrOf result AppendError.DeviceFailed → ⊥) → IsReady journal.new }
     ensures failed { IsErrOf result AppendError.DeviceFailed → HasFailed journal.new }
 {
-    match journal.settle() {
-        Ok(()) => {}
-        Err(_) => return Err(AppendError::DeviceFailed),
-    }
+    journal.settle()?;
     journal.append(body)
 }

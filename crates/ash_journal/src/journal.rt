@@ -14,6 +14,9 @@ use std::alloc::Global;
 
 mod generations;
 
+/// A record is added only where the open records of a journal take fewer bytes than this.
+pub const RECORD_BYTES_LIMIT: u64 = 1 << 62;
+
 /// A journal over two disks: a generation's image, and records that were added to it.
 #[derive(Drop)]
 pub struct Journal<D> {
@@ -58,7 +61,7 @@ impl<D: Disk> Journal<D> {
     ghost use Rattle.std.specs.Prelude.{OnErr, IsErr, IsErrOf, MatchResult};
     ghost use Rattle.ash_journal.specs.JournalFailures.{CountsFailuresOf};
     ghost use Rattle.ash_journal.specs.Journal.{first_disk, second_disk, generation};
-    ghost use Rattle.ash_journal.specs.Journal.{record_bytes, current_disk};
+    ghost use Rattle.ash_journal.specs.Journal.{record_bytes, record_bytes_limit, current_disk};
     ghost use Rattle.ash_journal.specs.Journal.{IsReady, IsRepaired, HasFailed};
     ghost use Rattle.ash_journal.specs.Journal.{HoldsBeforeRepair, Holds, CountsFailuresIn};
     ghost use Rattle.ash_journal.specs.Journal.{LeavesOther, LeavesRepaired, WritesGates};
@@ -224,12 +227,14 @@ impl<D: Disk> Journal<D> {
     /// Adds a record to the current generation, on a journal that is ready. At `Ok` the record is acknowledged, and
     /// every crash leaves it.
     ///
+    /// The open records take fewer than `RECORD_BYTES_LIMIT` bytes, and the body is shorter than 2^32.
+    ///
     /// `NoMemory` comes before any call of a device, and changes nothing. After `DeviceFailed` the record is there or
     /// not, and the journal is ready no more: it is to be opened again. A record is one write and a sync, twice;
     /// nothing is read.
     pub fn append(&mut self, body: &[u8]) -> Result<(), AppendError>
         requires short { length body.now < 2 ^ 32 }
-        requires room { record_bytes self.old < 2 ^ 62 }
+        requires room { record_bytes self.old < record_bytes_limit }
         requires ready { IsReady self.old }
         ensures acknowledged { OnOk result ((image : List ℕ) (bodies : List (List ℕ))
             → Holds D.Disk self.old image bodies

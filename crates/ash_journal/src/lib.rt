@@ -50,6 +50,6 @@ mod two_files;
 
 pub use error::{AppendError, CreateFault, InstallError, OpenFault};
 pub use first_append::append_first;
-pub use journal::{Journal, NextGeneration, OpenedJournal};
+pub use journal::{Journal, NextGeneration, OpenedJournal, RECORD_BYTES_LIMIT};
 pub use record::Record;
 pub use refusal::{CreateRefused, OpenRefused};

@@ -161,17 +161,11 @@ fn read_block<D: Disk>(
     if room < 4 {
         return Ok(None);
     }
-    let size = match read_size(disk, at) {
-        Ok(size) => size,
-        Err(fault) => return Err(fault),
-    };
+    let size = read_size(disk, at)?;
     if room - 4 <= u64::from(size) {
         return Ok(None);
     }
-    let mut body = match read_bytes(alloc, disk, at + 4, size as usize + 1) {
-        Ok(bytes) => bytes,
-        Err(fault) => return Err(fault),
-    };
+    let mut body = read_bytes(alloc, disk, at + 4, size as usize + 1)?;
     let gate = body.pop().unwrap();
     Ok(Some(Block { body, gate }))
 }
@@ -212,10 +206,8 @@ fn read_records<D: Disk>(
     let mut end = at;
     let mut gate = first;
     while gate == 1 {
-        let block = match read_block(alloc, disk, end + 1, len) {
-            Ok(Some(block)) => block,
-            Ok(None) => return Err(OpenFault::Damaged(end)),
-            Err(fault) => return Err(fault),
+        let Some(block) = read_block(alloc, disk, end + 1, len)? else {
+            return Err(OpenFault::Damaged(end));
         };
         let added = 5 + block.body.len() as u64;
         gate = block.gate;
@@ -223,10 +215,7 @@ fn read_records<D: Disk>(
             gate: end,
             body: block.body,
         };
-        match records.push(record) {
-            Ok(()) => {}
-            Err(_) => return Err(OpenFault::NoMemory),
-        }
+        records.push(record)?;
         end += added;
     }
     Ok(Tail { records, end, gate })
@@ -257,17 +246,13 @@ pub(crate) fn read_current<D: Disk>(
     ensures cause { Counts (IsErrOf result OpenFault.DeviceFailed)
         (D.failures disk.old) (D.failures disk.new) }
 {
-    let block = match read_block(alloc, disk, PREFIX_SIZE as u64, len) {
-        Ok(Some(block)) => block,
-        Ok(None) => return Err(OpenFault::Damaged(0)),
-        Err(fault) => return Err(fault),
+    let Some(block) = read_block(alloc, disk, PREFIX_SIZE as u64, len)? else {
+        return Err(OpenFault::Damaged(0));
     };
     let end = HEADER_SIZE + block.body.len() as u64;
-    match read_records(alloc, disk, len, end, block.gate) {
-        Ok(tail) => Ok(CurrentFile {
-            image: block.body,
-            tail,
-        }),
-        Err(fault) => Err(fault),
-    }
+    let tail = read_records(alloc, disk, len, end, block.gate)?;
+    Ok(CurrentFile {
+        image: block.body,
+        tail,
+    })
 }

@@ -5,7 +5,7 @@ ghost use Rattle.ash_journal.specs.Journal.{Holds, IsReady};
 
 use crate::compare::{check_bytes, check_number};
 use ash_disk::{Disk, MemoryDisk};
-use ash_journal::{Journal, OpenedJournal};
+use ash_journal::{Journal, OpenedJournal, RECORD_BYTES_LIMIT};
 use std::alloc::Global;
 use std::test::Fail;
 
@@ -98,16 +98,10 @@ fn composed<D: Disk + Drop>(
     ensures { IfOk result (λ j. IsTrue (D.honest first) → IsTrue (D.honest second)
         → Holds D.Disk j image.now (body.now ∷ body.now ∷ [])) }
 {
-    let journal = match three_records(alloc, first, second, image, body) {
-        Ok(journal) => journal,
-        Err(error) => return Err(error),
-    };
-    let found = match reopened(alloc, journal, image, body) {
-        Ok(found) => found,
-        Err(error) => return Err(error),
-    };
+    let journal = three_records(alloc, first, second, image, body)?;
+    let found = reopened(alloc, journal, image, body)?;
     let mut journal = found.journal;
-    if journal.record_bytes() >= 1 << 62 {
+    if journal.record_bytes() >= RECORD_BYTES_LIMIT {
         return Err(CallerError::Full);
     }
     match journal.append(body) {

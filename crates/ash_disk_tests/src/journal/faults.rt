@@ -63,10 +63,7 @@ fn read_by_hand(file: &[u8]) -> Result<Shape, OpenFault> {
     let Some(image) = block_end(file, 17) else {
         return Err(OpenFault::Damaged(0));
     };
-    match ends_by_hand(file, image) {
-        Ok(ends) => Ok((generation_in(mark), image, ends)),
-        Err(fault) => Err(fault),
-    }
+    Ok((generation_in(mark), image, ends_by_hand(file, image)?))
 }
 
 // Where the bodies of records end that were found.
@@ -82,17 +79,10 @@ fn ends_of(records: &[Record]) -> [usize; 8] {
 
 // The same, as the journal reads it.
 fn read_by_journal(alloc: Global, file: &[u8]) -> Result<Shape, OpenFault> {
-    match open_bytes(alloc, file, b"") {
-        Ok(found) => {
-            let image = found.image.len().wrapping_add(21);
-            Ok((
-                found.journal.generation(),
-                image,
-                ends_of(found.records.as_slice()),
-            ))
-        }
-        Err(fault) => Err(fault),
-    }
+    let found = open_bytes(alloc, file, b"")?;
+    let image = found.image.len().wrapping_add(21);
+    let ends = ends_of(found.records.as_slice());
+    Ok((found.journal.generation(), image, ends))
 }
 
 const FILE: &[u8] = b"\x01ASHOST01\x07\0\0\0\0\0\0\0\x05\0\0\0image\

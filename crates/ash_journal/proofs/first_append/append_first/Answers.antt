@@ -4,5 +4,5 @@ use Rattle.ash_journal.proofs.first_append.append_first.Goals as goal
 pub returns-clause-acknowledged : goal.returns-clause-acknowledged
 returns-clause-acknowledged g c =
     on_ok_weaker c.append.result
-    (λ added image bodies found. added image bodies (c.in-Ok.ensures.settled image bodies found))
+    (λ added image bodies found. added image bodies (c.in_ok-settle.ensures.settled image bodies found))
     c.append.ensures.acknowledged

@@ -1,46 +1,48 @@
 use Rattle.std.proofs.Common.{◌≡◌, ◌∙◌, ◌+◌, [], ℕ, List, IsTrue, length, sym, ap, subst, arith}
+use Rattle.std.proofs.lemmas.Result.{err_from_is_err_and}
 use Rattle.ash_journal.specs.Layout.{committed_bytes}
 use Rattle.ash_journal.specs.Reading.{IsFileRead, IsCutFault}
 use Rattle.ash_journal.proofs.ReadLaws.{image_cut, image_read, length-no_records}
 use Rattle.ash_journal.proofs.one_file.read_current.Goals as goal
 
-pub returns-in-Ok-None-clause-answer : goal.returns-in-Ok-None-clause-answer
-returns-in-Ok-None-clause-answer g c generation honest len_is marked =
-    let found = c.in-Ok-None.ensures.answer honest len_is in
-    let cut = rw c.in-Ok-None.field-0-is at found in
+pub returns-in_default-clause-answer : goal.returns-in_default-clause-answer
+returns-in_default-clause-answer g c generation honest len_is marked =
+    let found = c.in_ok-block.ensures.answer honest len_is in
+    let cut = rw c.in_default.is at found in
     image_cut generation (g.D.Disk.seen c.args.disk.now) marked cut
 
-pub returns-in-Ok-clause-answer : goal.returns-in-Ok-clause-answer
-returns-in-Ok-clause-answer g c generation honest len_is marked =
+pub returns-clause-answer : goal.returns-clause-answer
+returns-clause-answer g c generation honest len_is marked =
     let d = g.D.Disk in
     let file = d.seen c.args.disk.now in
-    let found = c.in-Ok-Some.ensures.answer honest len_is in
-    let block = rw c.in-Ok-Some.field-0-is at found in
-    let image = c.in-Ok-Some.block.body.items in
-    let read = image_read generation file image c.in-Ok-Some.block.gate marked block in
-    let same = c.in-Ok-Some.ensures.only_read.seen honest in
-    let honest' = subst IsTrue (sym c.in-Ok-Some.ensures.only_read.honesty) honest in
+    let found = c.in_ok-block.ensures.answer honest len_is in
+    let block = rw c.in-Some.is at found in
+    let image = c.in-Some.block.body.items in
+    let read = image_read generation file image c.in-Some.block.gate marked block in
+    let same = c.in_ok-block.ensures.only_read.seen honest in
+    let honest' = subst IsTrue (sym c.in_ok-block.ensures.only_read.honesty) honest in
     let at_is : 21 + c.len.result ≡ length (committed_bytes generation image []) =
-    omega (arith, c.len.ensures, c.in-Ok-Some.block.body.ok.0, length-no_records generation image) in
+    omega (arith, c.len.ensures, c.in-Some.block.body.ok.0, length-no_records generation image) in
     let answer =
-    c.in-Ok.ensures.answer generation image read.1 honest' (len_is ∙ ap length (sym same)) read.0 (same ∙ read.2)
+    c.in_ok-tail.ensures.answer generation image read.1 honest' (len_is ∙ ap length (sym same)) read.0 (same ∙ read.2)
     at_is in
-    subst (λ (l : List ℕ). IsFileRead generation image c.in-Ok.tail.records.items c.in-Ok.tail.end c.in-Ok.tail.gate l) same
+    subst (λ (l : List ℕ). IsFileRead generation image c.in_ok-tail.tail.records.items c.in_ok-tail.tail.end c.in_ok-tail.tail.gate l) same
     answer
 
-pub returns-in-Err-read_records-clause-answer : goal.returns-in-Err-read_records-clause-answer
-returns-in-Err-read_records-clause-answer g c generation honest len_is marked =
+pub returns-in_err-tail-clause-answer : goal.returns-in_err-tail-clause-answer
+returns-in_err-tail-clause-answer g c generation honest len_is marked =
     let d = g.D.Disk in
     let file = d.seen c.args.disk.now in
-    let found = c.in-Ok-Some.ensures.answer honest len_is in
-    let block = rw c.in-Ok-Some.field-0-is at found in
-    let image = c.in-Ok-Some.block.body.items in
-    let read = image_read generation file image c.in-Ok-Some.block.gate marked block in
-    let same = c.in-Ok-Some.ensures.only_read.seen honest in
-    let honest' = subst IsTrue (sym c.in-Ok-Some.ensures.only_read.honesty) honest in
+    let found = c.in_ok-block.ensures.answer honest len_is in
+    let block = rw c.in-Some.is at found in
+    let image = c.in-Some.block.body.items in
+    let read = image_read generation file image c.in-Some.block.gate marked block in
+    let same = c.in_ok-block.ensures.only_read.seen honest in
+    let honest' = subst IsTrue (sym c.in_ok-block.ensures.only_read.honesty) honest in
     let at_is : 21 + c.len.result ≡ length (committed_bytes generation image []) =
-    omega (arith, c.len.ensures, c.in-Ok-Some.block.body.ok.0, length-no_records generation image) in
+    omega (arith, c.len.ensures, c.in-Some.block.body.ok.0, length-no_records generation image) in
     let answer =
-    c.in-Err-read_records.ensures.answer generation image read.1 honest' (len_is ∙ ap length (sym same)) read.0
+    c.in_err-tail.ensures.answer generation image read.1 honest' (len_is ∙ ap length (sym same)) read.0
     (same ∙ read.2) at_is in
-    subst (λ (l : List ℕ). IsCutFault c.in-Err-read_records.fault l) same answer
+    let p = err_from_is_err_and c.from_residual-in_err-tail.result c.from_residual-in_err-tail.ensures.1 in
+    rw (p.1, p.2) (subst (λ (l : List ℕ). IsCutFault c.in_err-tail.field-0.0 l) same answer)

@@ -16,15 +16,15 @@ loop-gate-init g c = record {
       read_start generation image rest _ _ _ _ c.new-records.ensures.items fits is at_is;
 }
 
-pub returns-in-Ok-None-clause-answer : goal.returns-in-Ok-None-clause-answer
-returns-in-Ok-None-clause-answer g c generation image rest honest len_is fits is at_is =
+pub returns-in_default-clause-answer : goal.returns-in_default-clause-answer
+returns-in_default-clause-answer g c generation image rest honest len_is fits is at_is =
     let d = g.D.Disk in
     let i = c.loop-gate.invariant in
     let so_far = i.answer generation image rest honest len_is fits is at_is in
     let honest' = subst IsTrue (sym i.only_read.honesty) honest in
     let same = i.only_read.seen honest in
-    let found = c.in-Ok-None.ensures.answer honest' (len_is ∙ ap length (sym same)) in
-    let cut = rw c.in-Ok-None.field-0-is at found in
+    let found = c.in_ok-block.ensures.answer honest' (len_is ∙ ap length (sym same)) in
+    let cut = rw c.in_default.is at found in
     read_cut generation image (d.seen c.args.disk.now) c.loop-gate.records.items c.loop-gate.end c.loop-gate.gate
     c.loop-gate-test.true so_far
     (subst (λ (l : List ℕ). IsCutShort (drop (c.loop-gate.end + 1) l)) same cut)
@@ -33,9 +33,9 @@ pub loop-gate-preserved : goal.loop-gate-preserved
 loop-gate-preserved g c = record {
   only_read = read_on g.D.Disk c.args.disk.now c.loop-gate.disk c.read_block.new.disk c.loop-gate.invariant.only_read
       c.read_block.ensures.only_read;
-  steady = c.in-Ok-Some.ensures.cause.none (λ failed. cc) ∙ c.loop-gate.invariant.steady;
-  within = let inside = rw c.in-Ok-Some.field-0-is at c.in-Ok-Some.ensures.within in
-      omega (arith, inside, c.len.ensures, c.in-Ok-Some.block.body.ok.0);
+  steady = c.in_ok-block.ensures.cause.none (λ failed. cc) ∙ c.loop-gate.invariant.steady;
+  within = let inside = rw c.in-Some.is at c.in_ok-block.ensures.within in
+      omega (arith, inside, c.len.ensures, c.in-Some.block.body.ok.0);
   goes_on = omega (arith, c.loop-gate.invariant.goes_on);
   answer = λ generation image rest honest len_is fits is at_is.
       let d = g.D.Disk in
@@ -43,15 +43,15 @@ loop-gate-preserved g c = record {
       let so_far = i.answer generation image rest honest len_is fits is at_is in
       let honest' = subst IsTrue (sym i.only_read.honesty) honest in
       let same = i.only_read.seen honest in
-      let found = c.in-Ok-Some.ensures.answer honest' (len_is ∙ ap length (sym same)) in
-      let block = rw c.in-Ok-Some.field-0-is at found in
-      let r : Record = record { gate = c.loop-gate.end; body = c.in-Ok-Some.block.body } in
+      let found = c.in_ok-block.ensures.answer honest' (len_is ∙ ap length (sym same)) in
+      let block = rw c.in-Some.is at found in
+      let r : Record = record { gate = c.loop-gate.end; body = c.in-Some.block.body } in
       let more = read_more generation image (d.seen c.args.disk.now) c.loop-gate.records.items r c.loop-gate.end
-      c.loop-gate.gate c.in-Ok-Some.block.gate (c.loop-gate.end + (5 + c.len.result)) c.loop-gate-test.true so_far
+      c.loop-gate.gate c.in-Some.block.gate (c.loop-gate.end + (5 + c.len.result)) c.loop-gate-test.true so_far
       (subst (λ (l : List ℕ).
-      IsFileBlock c.in-Ok-Some.block.body.items c.in-Ok-Some.block.gate (drop (c.loop-gate.end + 1) l)) same block) refl
-      (omega (arith, c.len.ensures, c.in-Ok-Some.block.body.ok.0)) in
+      IsFileBlock c.in-Some.block.body.items c.in-Some.block.gate (drop (c.loop-gate.end + 1) l)) same block) refl
+      (omega (arith, c.len.ensures, c.in-Some.block.body.ok.0)) in
       subst (λ (found : List Record).
-      IsReadTo generation image found (c.loop-gate.end + (5 + c.len.result)) c.in-Ok-Some.block.gate
-      (d.seen c.args.disk.now)) (sym c.in-Ok.ensures.items) more;
+      IsReadTo generation image found (c.loop-gate.end + (5 + c.len.result)) c.in-Some.block.gate
+      (d.seen c.args.disk.now)) (sym c.in_ok-push.ensures.items) more;
 }

@@ -1,4 +1,4 @@
-use Rattle.std.proofs.Common.{◌≡◌, ◌∙◌, ◌+◌, ◌^◌, ◌<◌, ◌∷◌, ◌++◌, [], List, ℕ, length, drop, not, false, refl}
+use Rattle.std.proofs.Common.{◌≡◌, ◌∙◌, ◌+◌, ◌∷◌, ◌++◌, [], List, ℕ, length, drop, not, false}
 use Rattle.std.proofs.Common.{sym, ap, subst, arith, length-append}
 use Rattle.ash_disk.specs.Device.{HoldsThroughout}
 use Rattle.ash_journal.specs.declared.other_state.OtherState.TheVariants.{Older}
