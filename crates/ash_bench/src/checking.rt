@@ -11,12 +11,12 @@ ghost use Rattle.ash_typing.specs.Nesting.{ItemsDeclareInBlocks};
 use crate::rates::Timing;
 use crate::sources::{LENGTHS, SHAPES, script};
 use anyhow::Result;
-use ash_check::{CheckFault, check};
+use ash_check::{ScriptError, ScriptFault, check};
 use ash_lex::lex;
 use ash_parse::parse_module;
 use ash_registry::Registry;
 use ash_tree::Module;
-use std::alloc::Global;
+use std::alloc::{AllocError, Global};
 use std::io;
 
 /// The tree of a source, with how many tokens it has.
@@ -30,9 +30,13 @@ fn parsed(alloc: Global, text: &str) -> Result<(usize, Module)>
 }
 
 /// The fault of a source, if there is one.
-fn fault(alloc: Global, registry: &Registry, text: &str) -> Result<Option<CheckFault>> {
+fn fault(alloc: Global, registry: &Registry, text: &str) -> Result<Option<ScriptFault>> {
     let (_, tree) = parsed(alloc, text)?;
-    Ok(check(alloc, registry, &tree).err())
+    match check(alloc, registry, &tree) {
+        Ok(_) => Ok(None),
+        Err(ScriptError::Fault(fault)) => Ok(Some(fault)),
+        Err(ScriptError::NoMemory) => Err(AllocError.into()),
+    }
 }
 
 /// Prints what a source has.
@@ -44,7 +48,9 @@ fn describe(rt: &HostRuntime, registry: &Registry, name: &str, text: &str) -> Re
         text.len()
     )?;
     match fault(rt.alloc(), registry, text)? {
-        Some(CheckFault::Broken(fault)) => { println!(rt; "  {} {}", fault.rule.code(), fault.at)? }
+        Some(ScriptFault::Broken(fault)) => {
+            println!(rt; "  {} {}", fault.rule.code(), fault.at)?
+        }
         Some(fault) => println!(rt; "  {}", fault.code())?,
         None => println!(rt; "  ok")?,
     }

@@ -4,7 +4,7 @@
 use crate::rates::Timing;
 use anyhow::Result;
 use ash_disk::{DeviceFailed, Disk, FileDisk, write_durably};
-use ash_journal::{AppendError, CreateFault, Journal};
+use ash_journal::{AppendError, CreateFault, Journal, RECORD_BYTES_LIMIT};
 use std::alloc::Global;
 use std::io;
 
@@ -31,7 +31,7 @@ fn create<D: Disk + Drop>(alloc: Global, first: D, second: D) -> Result<Journal<
 
 fn append_round<D: Disk>(journal: &mut Journal<D>) -> Result<(), AppendError> {
     for _ in 0..RECORDS {
-        if journal.is_ready() && journal.record_bytes() < 1 << 62 {
+        if journal.is_ready() && journal.record_bytes() < RECORD_BYTES_LIMIT {
             journal.append(&BODY)?;
         }
     }

@@ -1,6 +1,6 @@
 -- What checking reports, from what its parts report; and the names of a cycle's classes.
 use Rattle.std.proofs.Common.{◌≡◌, ℕ, zero, suc, ◌+◌, ◌<◌, List, [], ◌∷◌, ◌++◌, length, map, drop, get_or, slice_get}
-use Rattle.std.proofs.Common.{Some, None, Result, Ok, Err, IsErrAnd, MatchResult, String, Global, string_bytes, refl}
+use Rattle.std.proofs.Common.{Some, None, Result, Ok, Err, IsErrAnd, MatchResult, String, Global, string_bytes}
 use Rattle.std.proofs.Common.{sym, ap, ap₂, ◌∙◌, subst, arith, append_assoc}
 use Rattle.std.proofs.Common.{add-one, drop-cons}
 use Rattle.std.proofs.lemmas.Option.{slice_get_within, get_or_from_slice_get}
@@ -17,23 +17,23 @@ use Rattle.ash_environment.specs.Agreement.{FailsWith}
 use Rattle.ash_classes.specs.Paths.{IsPath}
 use Rattle.ash_classes.specs.ClassReferences.{DeclaredClassRefers, classes_of}
 use Rattle.ash_classes.specs.ReportedCycle.{reported_cycle}
-use Rattle.ash_check.specs.declared.faults.CheckFault.{CheckFault}
-use Rattle.ash_check.specs.CheckFaults.{fault_of_error}
-use Rattle.ash_check.specs.Checks.{ScriptFault, Cyclic, name_at, names_of_cycle, unless_cycle, checked_by, checked}
+use Rattle.ash_check.specs.declared.faults.ScriptError.{ScriptError}
+use Rattle.ash_check.specs.ScriptFaults.{ScriptFault, Cyclic, script_error}
+use Rattle.ash_check.specs.Checks.{name_at, names_of_cycle, unless_cycle, checked_by, checked}
 use Rattle.ash_check.specs.Checks.{ReportsFault, HoldsNamed, LeadsTo, IsNamedCycle}
 
 -- faults
 
 -- a fault of the walk is what is reported
-pub error_is_reported : (registrations : List Registration) (items : List Item) (error : CheckError) → FailsWith error (check_module registrations items) → ReportsFault (checked registrations items) (fault_of_error error)
+pub error_is_reported : (registrations : List Registration) (items : List Item) (error : CheckError) → FailsWith error (check_module registrations items) → ReportsFault (checked registrations items) (script_error error)
 unfolding checked
 error_is_reported registrations items (errors.Fault f) fails = ap (checked_by (classes_of items)) fails
 error_is_reported registrations items errors.NoMemory fails = tt
 
 -- and so what is returned
-pub reported_if_err : {T : Type 0} (r : Result T CheckFault) (why : CheckFault) (answer : Result Module ScriptFault) (P : T → Type 0) → IsErrAnd r (λ fault. fault ≡ why) → ReportsFault answer why → MatchResult r P (λ fault. ReportsFault answer fault)
+pub reported_if_err : {T : Type 0} (r : Result T ScriptError) (why : ScriptError) (answer : Result Module ScriptFault) (P : T → Type 0) → IsErrAnd r (λ error. error ≡ why) → ReportsFault answer why → MatchResult r P (ReportsFault answer)
 reported_if_err (Ok done) why answer P is reports = absurd is
-reported_if_err (Err fault) why answer P is reports = subst (λ f. ReportsFault answer f) (sym is) reports
+reported_if_err (Err error) why answer P is reports = subst (ReportsFault answer) (sym is) reports
 
 -- where no rule is broken and no class reaches itself, the typed module
 pub typed_is_checked : (registrations : List Registration) (items : List Item) (typed : Module) → check_module registrations items ≡ Ok typed → reported_cycle (classes_of items) ≡ None → checked registrations items ≡ Ok typed

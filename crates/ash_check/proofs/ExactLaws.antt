@@ -12,7 +12,8 @@ use Rattle.ash_classes.specs.ClassReferences.{DeclaredClassRefers, classes_of}
 use Rattle.ash_classes.specs.ReportedCycle.{reported_cycle}
 use Rattle.ash_classes.specs.Paths.{IsReportedCycle, Reaches}
 use Rattle.ash_classes.proofs.CycleSearches.{reported_is, none_is_reported}
-use Rattle.ash_check.specs.Checks.{ScriptFault, Broken, Cyclic, names_of_cycle, unless_cycle, checked_by, checked}
+use Rattle.ash_check.specs.ScriptFaults.{ScriptFault, Broken, Cyclic}
+use Rattle.ash_check.specs.Checks.{names_of_cycle, unless_cycle, checked_by, checked}
 use Rattle.ash_check.proofs.CheckLaws.{typed_is_checked, cycle_is_reported}
 
 -- outcomes

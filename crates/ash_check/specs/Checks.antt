@@ -5,21 +5,15 @@ use Rattle.std.specs.List.{Contains}
 use Rattle.std.specs.Option.{option_map_or}
 use Rattle.ash_registrations.specs.Registrations.{Registration}
 use Rattle.ash_tree.specs.Tree.{Class, Item}
-use Rattle.ash_typing.specs.declared.fault.Fault.{Fault}
 use Rattle.ash_typing.specs.TypingResult.{TypingResult}
 use Rattle.ash_typed.specs.Modules.{Module}
 use Rattle.ash_typing.specs.ItemRules.{check_module}
 use Rattle.ash_classes.specs.ClassReferences.{RefersTo, classes_of}
 use Rattle.ash_classes.specs.ReportedCycle.{reported_cycle}
-use Rattle.ash_check.specs.declared.faults.CheckFault.{CheckFault}
-use Rattle.ash_check.specs.declared.faults.CheckFault.TheVariants as faults
-
--- why a script is refused, without where names lie in memory
-pub data ScriptFault : Type 0 where
-  -- a rule that is broken at an offset
-  Broken : Fault → ScriptFault
-  -- classes that could form a cycle, by their names: the first one, and the others on the path back to it
-  Cyclic : List (List ℕ) → ScriptFault
+use Rattle.ash_check.specs.declared.faults.ScriptFault.TheVariants as faults
+use Rattle.ash_check.specs.declared.faults.ScriptError.{ScriptError}
+use Rattle.ash_check.specs.declared.faults.ScriptError.TheVariants as errors
+use Rattle.ash_check.specs.ScriptFaults.{ScriptFault, Broken, Cyclic, script_fault_of}
 
 -- the name of the class at this place
 abbrev pub name_at : List Class → ℕ → List ℕ
@@ -42,22 +36,12 @@ checked_by classes (Err fault) = Err (Broken fault)
 unfoldable pub checked : List Registration → List Item → Result Module ScriptFault
 checked registrations items = checked_by (classes_of items) (check_module registrations items)
 
--- what the code's faults report
+-- how the code's check fails
 
--- why a script is refused; none where memory ran out, which says nothing of the script
-abbrev pub script_fault_of : CheckFault → Option ScriptFault
-script_fault_of (faults.Broken fault) = Some (Broken fault)
-script_fault_of (faults.Cyclic names) = Some (Cyclic (map string_bytes names.0.items))
-script_fault_of faults.NoMemory = None
-
--- Checking finds this fault, if there is one.
-abbrev pub IsReportedFault : Option ScriptFault → Result Module ScriptFault → Type 0
-IsReportedFault None answer = Unit {0}
-IsReportedFault (Some why) answer = answer ≡ Err why
-
--- checking finds this fault, unless the fault says nothing of the script
-abbrev pub ReportsFault : Result Module ScriptFault → CheckFault → Type 0
-ReportsFault answer fault = IsReportedFault (script_fault_of fault) answer
+-- The error is the fault that checking finds; or memory was refused, which says nothing of the script.
+abbrev pub ReportsFault : Result Module ScriptFault → ScriptError → Type 0
+ReportsFault answer (errors.Fault fault) = answer ≡ Err (script_fault_of fault)
+ReportsFault answer errors.NoMemory = Unit {0}
 
 -- a cycle as a reader of the script follows it
 
@@ -77,7 +61,9 @@ abbrev pub IsNamedCycle : List Class → List (List ℕ) → Type 0
 IsNamedCycle classes [] = ⊥
 IsNamedCycle classes (first ∷ others) = LeadsTo classes first others first
 
--- The names that a fault has are those of a cycle.
-abbrev pub IsNamedCycleIfCyclic : List Class → Option ScriptFault → Type 0
-IsNamedCycleIfCyclic classes (Some (Cyclic names)) = IsNamedCycle classes names
-IsNamedCycleIfCyclic classes _ = Unit {0}
+-- If the error is a cycle's, its names are those of a cycle.
+abbrev pub IsNamedCycleIfCyclic : List Class → ScriptError → Type 0
+IsNamedCycleIfCyclic classes (errors.Fault (faults.Cyclic names)) =
+    IsNamedCycle classes (map string_bytes names.0.items)
+IsNamedCycleIfCyclic classes (errors.Fault (faults.Broken fault)) = Unit {0}
+IsNamedCycleIfCyclic classes errors.NoMemory = Unit {0}

@@ -1,4 +1,4 @@
-pub mod CheckFaults
+pub mod ScriptFaults
 pub mod WalkViews
 pub mod Checks
 pub mod CheckedModules

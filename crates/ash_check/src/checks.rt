@@ -17,11 +17,12 @@ ghost use Rattle.ash_typing.specs.TypedModules.{IsTyped};
 ghost use Rattle.ash_classes.specs.ClassReferences.{DeclaredClassRefers, classes_of, borrowed_classes};
 ghost use Rattle.ash_classes.specs.Paths.{IsReportedCycle, Reaches, AreRanksAlong};
 ghost use Rattle.ash_check.specs.CheckedModules.{IsChecked};
-ghost use Rattle.ash_check.specs.Checks.{Broken, Cyclic, checked, ReportsFault, script_fault_of};
+ghost use Rattle.ash_check.specs.ScriptFaults.{Broken, Cyclic};
+ghost use Rattle.ash_check.specs.Checks.{checked, ReportsFault};
 ghost use Rattle.ash_check.specs.Checks.{name_at, names_of_cycle, IsNamedCycleIfCyclic};
 
 use crate::checked::CheckedScript;
-use crate::faults::{CheckFault, ClassNames};
+use crate::faults::{ClassNames, ScriptError, ScriptFault};
 use crate::items::check_module;
 use ash_classes::{Cycle, class_ranks, classes};
 use ash_registrations::Registrations;
@@ -74,13 +75,12 @@ fn check_against(
     alloc: Global,
     registry: &Registrations,
     script: &ash_tree::Module,
-) -> Result<CheckedScript, CheckFault>
+) -> Result<CheckedScript, ScriptError>
     requires nested { ItemsDeclareInBlocks (written_module script.now) }
     ensures answer { MatchResult result
         (λ done. checked (table.registered registry.now) (written_module script.now)
         ≡ Ok (module_of done.typed))
-        (λ fault. ReportsFault
-        (checked (table.registered registry.now) (written_module script.now)) fault) }
+        (ReportsFault (checked (table.registered registry.now) (written_module script.now))) }
     ensures typed { IfOk result (λ done.
         IsTyped (table.registered registry.now) (written_module script.now)
         (module_of done.typed)) }
@@ -93,8 +93,7 @@ fn check_against(
     ensures acyclic { OnOk result ((class : ℕ) →
         Reaches (DeclaredClassRefers (classes_of (written_module script.now))) class class → ⊥) }
     ensures cycle { IfErr result
-        (λ fault. IsNamedCycleIfCyclic
-        (classes_of (written_module script.now)) (script_fault_of fault)) }
+        (IsNamedCycleIfCyclic (classes_of (written_module script.now))) }
 {
     let module = check_module(alloc, registry, script)?;
     match class_ranks(alloc, script)? {
@@ -103,7 +102,10 @@ fn check_against(
             ranks,
             registrations: Snapshot::of(registry),
         }),
-        Err(cycle) => Err(CheckFault::Cyclic(cycle_names(alloc, script, &cycle)?)),
+        Err(cycle) => {
+            let names = cycle_names(alloc, script, &cycle)?;
+            Err(ScriptError::Fault(ScriptFault::Cyclic(names)))
+        }
     }
 }
 
@@ -114,19 +116,18 @@ fn check_against(
 /// # Errors
 ///
 /// The first fault in the order of the text: of an item its types and names, then its body; of a phrase its parts, then
-/// the phrase. Its offset is that of a byte of the source. `CheckFault::Cyclic` comes after all others.
-/// `CheckFault::NoMemory` says nothing of the script.
+/// the phrase. Its offset is that of a byte of the source. `ScriptFault::Cyclic` comes after all others. Or memory was
+/// refused, which says nothing of the script.
 pub fn check(
     alloc: Global,
     registry: &Registry,
     script: &ash_tree::Module,
-) -> Result<CheckedScript, CheckFault>
+) -> Result<CheckedScript, ScriptError>
     requires nested { ItemsDeclareInBlocks (written_module script.now) }
     ensures answer { MatchResult result
         (λ done. checked (registered registry.now) (written_module script.now)
         ≡ Ok (module_of done.typed))
-        (λ fault.
-        ReportsFault (checked (registered registry.now) (written_module script.now)) fault) }
+        (ReportsFault (checked (registered registry.now) (written_module script.now))) }
     ensures typed { IfOk result (λ done.
         IsTyped (registered registry.now) (written_module script.now) (module_of done.typed)) }
     ensures ranks { IfOk result (λ done.
@@ -138,8 +139,7 @@ pub fn check(
     ensures acyclic { OnOk result ((class : ℕ) →
         Reaches (DeclaredClassRefers (classes_of (written_module script.now))) class class → ⊥) }
     ensures cycle { IfErr result
-        (λ fault. IsNamedCycleIfCyclic
-        (classes_of (written_module script.now)) (script_fault_of fault)) }
+        (IsNamedCycleIfCyclic (classes_of (written_module script.now))) }
 {
     check_against(alloc, registry.registrations(), script)
 }

@@ -1,8 +1,8 @@
 //! Why a script is refused.
 
 ghost use Rattle.std.specs.Prelude.{◌≡◌};
-ghost use Rattle.ash_check.specs.declared.faults.CheckFault.TheVariants.{NoMemory};
-ghost use Rattle.ash_check.specs.CheckFaults.{code_of, cycle_code, fault_of_error};
+ghost use Rattle.ash_check.specs.declared.faults.ScriptError.TheVariants.{NoMemory};
+ghost use Rattle.ash_check.specs.ScriptFaults.{script_fault_of, code_of, script_error};
 
 use ash_environment::CheckError;
 use ash_typing::Fault;
@@ -12,27 +12,23 @@ use thiserror::Error;
 
 /// Why a script is refused.
 #[derive(Debug, PartialEq, Eq, Drop, Error)]
-pub enum CheckFault {
+pub enum ScriptFault {
     /// A rule of typing that a phrase breaks, and the byte offset of the token that is reported.
     #[error("{0}")]
     Broken(Fault),
     /// A class that reaches itself: it and the classes on a shortest path back.
     #[error("{0}")]
     Cyclic(ClassNames),
-    /// Memory ran out.
-    #[error("memory was refused")]
-    NoMemory,
 }
 
-impl CheckFault {
+impl ScriptFault {
     /// The code by which it is reported: its number and its name, without the offset and the names of classes.
     pub fn code(&self) -> &'static str
-        ensures coded { result.now ≡ code_of self.now }
+        ensures coded { result.now ≡ code_of (script_fault_of self.now) }
     {
         match self {
-            CheckFault::Broken(fault) => fault.rule.code(),
-            CheckFault::Cyclic(names) => names.code(),
-            CheckFault::NoMemory => "509 NoMemory",
+            ScriptFault::Broken(fault) => fault.rule.code(),
+            ScriptFault::Cyclic(_) => "309 CyclicType",
         }
     }
 }
@@ -41,15 +37,6 @@ impl CheckFault {
 /// itself.
 #[derive(Debug, PartialEq, Eq, Drop)]
 pub struct ClassNames(pub Vec<String>);
-
-impl ClassNames {
-    /// The code by which a cycle is reported: its number and its name.
-    pub fn code(&self) -> &'static str
-        ensures coded { result.now ≡ cycle_code }
-    {
-        "309 CyclicType"
-    }
-}
 
 impl fmt::Display for ClassNames {
     fn fmt<W: fmt::Write>(&self, f: &mut fmt::Formatter<W>) -> fmt::Result {
@@ -64,29 +51,40 @@ impl fmt::Display for ClassNames {
     }
 }
 
-impl From<AllocError> for CheckFault {
-    ghost from_gives = { λ _ fault. fault ≡ NoMemory };
+/// Why the check of a script fails.
+#[derive(Debug, PartialEq, Eq, Drop, Error)]
+pub enum ScriptError {
+    /// The script is refused.
+    #[error("{0}")]
+    Fault(ScriptFault),
+    /// Memory was refused, which says nothing of the script.
+    #[error("memory was refused")]
+    NoMemory,
+}
 
-    fn from(_error: AllocError) -> CheckFault {
-        CheckFault::NoMemory
+impl From<AllocError> for ScriptError {
+    ghost from_gives = { λ _ error. error ≡ NoMemory };
+
+    fn from(_error: AllocError) -> ScriptError {
+        ScriptError::NoMemory
     }
 }
 
-impl<T: Drop> From<AllocFailed<T>> for CheckFault {
-    ghost from_gives = { λ _ fault. fault ≡ NoMemory };
+impl<T: Drop> From<AllocFailed<T>> for ScriptError {
+    ghost from_gives = { λ _ error. error ≡ NoMemory };
 
-    fn from(_error: AllocFailed<T>) -> CheckFault {
-        CheckFault::NoMemory
+    fn from(_error: AllocFailed<T>) -> ScriptError {
+        ScriptError::NoMemory
     }
 }
 
-impl From<CheckError> for CheckFault {
-    ghost from_gives = { λ error fault. fault ≡ fault_of_error error };
+impl From<CheckError> for ScriptError {
+    ghost from_gives = { λ part error. error ≡ script_error part };
 
-    fn from(error: CheckError) -> CheckFault {
+    fn from(error: CheckError) -> ScriptError {
         match error {
-            CheckError::Fault(fault) => CheckFault::Broken(fault),
-            CheckError::NoMemory => CheckFault::NoMemory,
+            CheckError::Fault(fault) => ScriptError::Fault(ScriptFault::Broken(fault)),
+            CheckError::NoMemory => ScriptError::NoMemory,
         }
     }
 }

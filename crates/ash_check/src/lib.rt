@@ -33,5 +33,5 @@ mod type_names;
 pub use ash_classes::search_is_exact;
 pub use checked::CheckedScript;
 pub use checks::{check, check_is_exact};
-pub use faults::{CheckFault, ClassNames};
+pub use faults::{ClassNames, ScriptError, ScriptFault};
 pub use limits::{MAX_CLASS_MEMBERS, MAX_GLOBALS, MAX_MODULE_TYPES};

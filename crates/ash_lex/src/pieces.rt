@@ -62,10 +62,7 @@ fn block_comment(text: &[u8]) -> Piece
 fn sign(text: &[u8]) -> Option<Piece>
     ensures { result ≡ spec.sign_piece text.now }
 {
-    match sign_at(text) {
-        Some(sign) => Some(Piece::Sign(sign)),
-        None => None,
-    }
+    Some(Piece::Sign(sign_at(text)?))
 }
 
 /// The comment or the sign that the text begins with, at a `/`.

@@ -3,10 +3,11 @@ use Rattle.std.proofs.Common.{◌≡◌, ℕ, List, Result, Ok, Err, refl, sym, 
 use Rattle.ash_tree.specs.Tree.{Item}
 use Rattle.ash_registry.specs.AcceptedRegistrations.{Registration}
 use Rattle.ash_typed.specs.Modules.{Module as Typed}
-use Rattle.ash_check.specs.declared.faults.CheckFault.{CheckFault}
-use Rattle.ash_check.specs.declared.faults.CheckFault.TheVariants as check_faults
+use Rattle.ash_check.specs.declared.faults.ScriptError.{ScriptError}
+use Rattle.ash_check.specs.declared.faults.ScriptError.TheVariants as script_errors
 use Rattle.ash_classes.specs.ClassReferences.{classes_of}
-use Rattle.ash_check.specs.Checks.{ScriptFault, Cyclic, checked, names_of_cycle, ReportsFault}
+use Rattle.ash_check.specs.ScriptFaults.{ScriptFault, Cyclic}
+use Rattle.ash_check.specs.Checks.{checked, names_of_cycle, ReportsFault}
 use Rattle.ash_check.proofs.ExactLaws.{cyclic_is, cycle_is}
 use Rattle.ash_sources.specs.Lexing.{IsText}
 use Rattle.ash_sources.specs.Scripts.{SpellsScript, HasNoScript}
@@ -15,8 +16,8 @@ use Rattle.ash_sources.specs.CheckedSource.{IsAccepted, HasCycle, ReportsCycle, 
 use Rattle.ash_sources.specs.CheckedSource.{checked_source}
 use Rattle.ash_sources.specs.declared.fault.SourceError.{SourceError}
 use Rattle.ash_sources.specs.declared.fault.SourceError.TheVariants as errors
-use Rattle.ash_sources.specs.SourceFaults.{SourceFault, Lexical, Syntactic, Typing, NotYet, fault_of}
-use Rattle.ash_sources.specs.SourceFaults.{typing_error, RefusesSource, RefusesWhere, IfFault}
+use Rattle.ash_sources.specs.SourceFaults.{SourceFault, Lexical, Syntactic, Checked, NotYet, fault_of}
+use Rattle.ash_sources.specs.SourceFaults.{checked_error, RefusesSource, RefusesWhere, IfFault}
 use Rattle.ash_sources.proofs.CheckedSourceLaws.{parsed, stopped, checked_source-is, checked_source-only}
 use Rattle.ash_sources.proofs.CheckedSourceLaws.{of_tokens, of_no_tokens, takes_items, takes_text}
 
@@ -32,7 +33,7 @@ pub unspelled_checked : (registered : List Registration) (source : List ℕ) (fa
 unspelled_checked registered source (Lexical fault) h = of_no_tokens registered source fault h
 unspelled_checked registered source (Syntactic fault) h = of_tokens registered source h.tokens h.lexed
     ∙ stopped registered h.tokens fault h.first
-unspelled_checked registered source (Typing fault) h = absurd h
+unspelled_checked registered source (Checked fault) h = absurd h
 unspelled_checked registered source NotYet h = absurd h
 
 pub source_refused : (registered : List Registration) (source : List ℕ) (error : SourceError)
@@ -42,15 +43,15 @@ source_refused registered source errors.NoMemory h = takes_text registered sourc
 
 -- what the check of types answers
 
-reports_as : (items : List Item) (answer : Result Typed ScriptFault) (fault : CheckFault) → ReportsFault answer fault
-    → RefusesSource (unless_fault items answer) (typing_error fault)
-reports_as items answer (check_faults.Broken fault) h = ap (unless_fault items) h
-reports_as items answer (check_faults.Cyclic names) h = ap (unless_fault items) h
-reports_as items answer check_faults.NoMemory h = takes_items items answer
+reports_as : (items : List Item) (answer : Result Typed ScriptFault) (error : ScriptError) → ReportsFault answer error
+    → RefusesSource (unless_fault items answer) (checked_error error)
+reports_as items answer (script_errors.Fault fault) h = ap (unless_fault items) h
+reports_as items answer script_errors.NoMemory h = takes_items items answer
 
-pub items_unchecked : (registered : List Registration) (items : List Item) (fault : CheckFault)
-    → ReportsFault (checked registered items) fault → RefusesSource (items_checked registered items) (typing_error fault)
-items_unchecked registered items fault h = reports_as items (checked registered items) fault h
+pub items_unchecked : (registered : List Registration) (items : List Item) (error : ScriptError)
+    → ReportsFault (checked registered items) error
+    → RefusesSource (items_checked registered items) (checked_error error)
+items_unchecked registered items error h = reports_as items (checked registered items) error h
 
 -- what is accepted, and what is refused for a cycle, by the rules
 
@@ -78,8 +79,8 @@ accepted_only registered source (errors.Fault fault) h a =
 accepted_only registered source errors.NoMemory h a = refl
 
 cycle_by : (registered : List Registration) (source : List ℕ) (names : List (List ℕ)) (outcome : SourceResult)
-    → outcome ≡ Err (Typing (Cyclic names)) → Checks registered source outcome
-    → ReportsCycle registered source (Typing (Cyclic names))
+    → outcome ≡ Err (Checked (Cyclic names)) → Checks registered source outcome
+    → ReportsCycle registered source (Checked (Cyclic names))
 cycle_by registered source names outcome is (no_tokens fault e h) = absurd (cc)
 cycle_by registered source names outcome is (has_tokens tokens h checks) =
     record {
@@ -91,7 +92,7 @@ cycle_by registered source names outcome is (has_tokens tokens h checks) =
     }
 
 cycle_is_reported : (registered : List Registration) (source : List ℕ) (fault : SourceFault)
-    → checked_source registered source ≡ Err fault → (names : List (List ℕ)) → fault ≡ Typing (Cyclic names)
+    → checked_source registered source ≡ Err fault → (names : List (List ℕ)) → fault ≡ Checked (Cyclic names)
     → ReportsCycle registered source fault
 cycle_is_reported registered source fault h names is =
     subst (ReportsCycle registered source) (sym is)
@@ -101,7 +102,7 @@ cycle_is_reported registered source fault h names is =
 -- a cycle is answered where there is one, and it is the one that is reported
 pub cycle_reported : (registered : List Registration) (source : List ℕ) (error : SourceError)
     → RefusesSource (checked_source registered source) error
-    → IfFault (λ fault. (names : List (List ℕ)) → fault ≡ Typing (Cyclic names) → ReportsCycle registered source fault)
+    → IfFault (λ fault. (names : List (List ℕ)) → fault ≡ Checked (Cyclic names) → ReportsCycle registered source fault)
     error
 cycle_reported registered source (errors.Fault fault) h = cycle_is_reported registered source (fault_of fault) h
 cycle_reported registered source errors.NoMemory h = tt
@@ -124,8 +125,8 @@ checked_cycle registered source h =
       cycle = k.4;
       reported = refl;
     } in (
-      Typing (Cyclic names),
-      checked_source-only registered source (Err (Typing (Cyclic names))) (has_tokens h.tokens h.lexed script),
+      Checked (Cyclic names),
+      checked_source-only registered source (Err (Checked (Cyclic names))) (has_tokens h.tokens h.lexed script),
       record { tokens = h.tokens; lexed = h.lexed; names = names; reported = refl; script = script },
     )
 

@@ -23,7 +23,8 @@ use Rattle.ash_registry.specs.AcceptedRegistrations.{Registration}
 use Rattle.ash_typing.specs.declared.fault.Fault.{Fault}
 use Rattle.ash_typed.specs.Modules.{Module as Typed}
 use Rattle.ash_classes.specs.ClassReferences.{classes_of}
-use Rattle.ash_check.specs.Checks.{ScriptFault, Broken, Cyclic, checked, names_of_cycle}
+use Rattle.ash_check.specs.ScriptFaults.{ScriptFault, Broken, Cyclic}
+use Rattle.ash_check.specs.Checks.{checked, names_of_cycle}
 use Rattle.ash_check.proofs.ExactLaws.{accepted_is, cycle_is, broken_is}
 use Rattle.ash_sources.specs.Lexing.{IsText, Lexes}
 use Rattle.ash_sources.specs.Scanning.{scan, lexed}
@@ -31,7 +32,7 @@ use Rattle.ash_sources.specs.CheckedSource.{SourceResult, tokens_in, end_by, end
 use Rattle.ash_sources.specs.CheckedSource.{IsTypedScript, IsUntypedScript, IsCyclicScript, HasFault, ChecksTokens}
 use Rattle.ash_sources.specs.CheckedSource.{Checks, no_tokens, has_tokens, unless_fault, items_checked}
 use Rattle.ash_sources.specs.CheckedSource.{script_checked, tokens_checked, checked_on, checked_source}
-use Rattle.ash_sources.specs.SourceFaults.{SourceFault, Lexical, Syntactic, Typing, NotYet}
+use Rattle.ash_sources.specs.SourceFaults.{SourceFault, Lexical, Syntactic, Checked, NotYet}
 use Rattle.ash_sources.specs.SourceFaults.{MayTakeMemory, TakesMemoryFor}
 use Rattle.ash_sources.proofs.LexingLaws.{lexed-is, lexed-only, of_text}
 use Rattle.ash_sources.proofs.ScanLaws.{IsScan, scan-is}
@@ -105,24 +106,24 @@ stopped registered tokens fault h = ap (script_checked registered tokens)
     (first_is_stop (tokens_in tokens) h.halt h.first) ∙ ap (λ (f : ParseFault). Err (Syntactic f)) (sym h.reported)
 
 untyped_only : (registered : List Registration) (tokens : List Lexeme) (fault : Fault)
-    → IsUntypedScript registered tokens fault → tokens_checked registered tokens ≡ Err (Typing (Broken fault))
+    → IsUntypedScript registered tokens fault → tokens_checked registered tokens ≡ Err (Checked (Broken fault))
 untyped_only registered tokens fault h = parsed registered tokens h.items h.derived
     ∙ ap (unless_fault h.items) ((broken_is registered h.items fault).1 h.first)
 
 cyclic_only : (registered : List Registration) (tokens : List Lexeme) (names : List (List ℕ))
-    → IsCyclicScript registered tokens names → tokens_checked registered tokens ≡ Err (Typing (Cyclic names))
+    → IsCyclicScript registered tokens names → tokens_checked registered tokens ≡ Err (Checked (Cyclic names))
 cyclic_only registered tokens names h =
     let found = (cycle_is registered h.items (names_of_cycle (classes_of h.items) (h.first, h.others))).1
     (h.typed, h.first, h.others, h.by_rules, h.cycle, refl) in
     parsed registered tokens h.items h.derived ∙ ap (unless_fault h.items) found
-    ∙ ap (λ (ns : List (List ℕ)). Err (Typing (Cyclic ns))) (sym h.reported)
+    ∙ ap (λ (ns : List (List ℕ)). Err (Checked (Cyclic ns))) (sym h.reported)
 
 fault_only : (registered : List Registration) (tokens : List Lexeme) (fault : SourceFault)
     → HasFault registered tokens fault → tokens_checked registered tokens ≡ Err fault
 fault_only registered tokens (Lexical fault) h = absurd h
 fault_only registered tokens (Syntactic fault) h = stopped registered tokens fault h
-fault_only registered tokens (Typing (Broken fault)) h = untyped_only registered tokens fault h
-fault_only registered tokens (Typing (Cyclic names)) h = cyclic_only registered tokens names h
+fault_only registered tokens (Checked (Broken fault)) h = untyped_only registered tokens fault h
+fault_only registered tokens (Checked (Cyclic names)) h = cyclic_only registered tokens names h
 fault_only registered tokens NotYet h = absurd h
 
 tokens_only : (registered : List Registration) (tokens : List Lexeme) (outcome : SourceResult)

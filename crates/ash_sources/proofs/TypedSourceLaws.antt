@@ -7,9 +7,10 @@ use Rattle.ash_typed.specs.SoundModules.{IsSound}
 use Rattle.ash_typing.specs.Offered.{offered}
 use Rattle.ash_typing.proofs.SoundnessModules.{module_sound}
 use Rattle.ash_typing.proofs.SoundnessNesting.{derived_proper}
-use Rattle.ash_check.specs.declared.faults.CheckFault.{CheckFault}
-use Rattle.ash_check.specs.declared.faults.CheckFault.TheVariants as check_faults
-use Rattle.ash_check.specs.Checks.{ScriptFault, checked, ReportsFault}
+use Rattle.ash_check.specs.declared.faults.ScriptError.{ScriptError}
+use Rattle.ash_check.specs.declared.faults.ScriptError.TheVariants as script_errors
+use Rattle.ash_check.specs.ScriptFaults.{ScriptFault}
+use Rattle.ash_check.specs.Checks.{checked, ReportsFault}
 use Rattle.ash_check.proofs.ExactLaws.{accepted_is}
 use Rattle.ash_sources.specs.Lexing.{IsText}
 use Rattle.ash_sources.specs.CheckedSource.{SourceResult, Checks, no_tokens, has_tokens, unless_fault, checked_source}
@@ -17,7 +18,7 @@ use Rattle.ash_sources.specs.Scripts.{SpellsScript, HasNoScript}
 use Rattle.ash_sources.specs.TypedSource.{IsTypedSource, typed_or_fault, check_items}
 use Rattle.ash_sources.specs.TypedSource.{typed_if_checked, typed_source}
 use Rattle.ash_sources.specs.declared.fault.SourceError.{SourceError}
-use Rattle.ash_sources.specs.SourceFaults.{SourceFault, typing_error, TakesMemoryFor, RefusesSource}
+use Rattle.ash_sources.specs.SourceFaults.{SourceFault, checked_error, TakesMemoryFor, RefusesSource}
 use Rattle.ash_sources.proofs.CheckedSourceLaws.{checked_source-is, takes_text}
 use Rattle.ash_sources.proofs.CheckedAnswers.{spelled_checked, unspelled_checked}
 
@@ -27,17 +28,16 @@ takes_items : (answer : Result Typed ScriptFault) → TakesMemoryFor (typed_or_f
 takes_items (Ok typed) = tt
 takes_items (Err fault) = tt
 
-reports_as : (answer : Result Typed ScriptFault) (fault : CheckFault) → ReportsFault answer fault
-    → RefusesSource (typed_or_fault answer) (typing_error fault)
-reports_as answer (check_faults.Broken fault) h = ap typed_or_fault h
-reports_as answer (check_faults.Cyclic names) h = ap typed_or_fault h
-reports_as answer check_faults.NoMemory h = takes_items answer
+reports_as : (answer : Result Typed ScriptFault) (error : ScriptError) → ReportsFault answer error
+    → RefusesSource (typed_or_fault answer) (checked_error error)
+reports_as answer (script_errors.Fault fault) h = ap typed_or_fault h
+reports_as answer script_errors.NoMemory h = takes_items answer
 
-pub items_untyped : (registered : List Registration) (items : List Item) (fault : CheckFault)
-    → ReportsFault (checked registered items) fault → (error : SourceError) → error ≡ typing_error fault
-    → RefusesSource (check_items registered items) error
-items_untyped registered items fault h error is =
-    subst (RefusesSource (check_items registered items)) (sym is) (reports_as (checked registered items) fault h)
+pub items_untyped : (registered : List Registration) (items : List Item) (error : ScriptError)
+    → ReportsFault (checked registered items) error → (reported : SourceError) → reported ≡ checked_error error
+    → RefusesSource (check_items registered items) reported
+items_untyped registered items error h reported is =
+    subst (RefusesSource (check_items registered items)) (sym is) (reports_as (checked registered items) error h)
 
 -- a source that spells a script is typed as the script is
 

@@ -24,10 +24,11 @@ use Rattle.ash_typing.specs.TypedModules.{IsTyped}
 use Rattle.ash_typed.specs.Modules.{Module}
 use Rattle.ash_classes.specs.ClassReferences.{DeclaredClassRefers, classes_of}
 use Rattle.ash_classes.specs.Paths.{IsReportedCycle, Reaches}
-use Rattle.ash_check.specs.Checks.{ScriptFault, Broken, Cyclic, checked, names_of_cycle}
+use Rattle.ash_check.specs.ScriptFaults.{ScriptFault, Broken, Cyclic}
+use Rattle.ash_check.specs.Checks.{checked, names_of_cycle}
 use Rattle.ash_sources.specs.Lexing.{Lexes}
 use Rattle.ash_sources.specs.Scanning.{lexed}
-use Rattle.ash_sources.specs.SourceFaults.{SourceFault, Lexical, Syntactic, Typing, NotYet}
+use Rattle.ash_sources.specs.SourceFaults.{SourceFault, Lexical, Syntactic, Checked, NotYet}
 
 -- the items of a script that is typed, or a fault
 abbrev pub SourceResult : Type 0
@@ -86,8 +87,8 @@ pub record IsCyclicScript (registered : List Registration) (tokens : List Lexeme
 abbrev pub HasFault : List Registration → List Lexeme → SourceFault → Type 0
 HasFault registered tokens (Lexical fault) = ⊥
 HasFault registered tokens (Syntactic fault) = IsNoScript tokens fault
-HasFault registered tokens (Typing (Broken fault)) = IsUntypedScript registered tokens fault
-HasFault registered tokens (Typing (Cyclic names)) = IsCyclicScript registered tokens names
+HasFault registered tokens (Checked (Broken fault)) = IsUntypedScript registered tokens fault
+HasFault registered tokens (Checked (Cyclic names)) = IsCyclicScript registered tokens names
 HasFault registered tokens NotYet = ⊥
 
 -- what checking the tokens of a source comes to
@@ -127,14 +128,14 @@ pub record ReportsCycle (registered : List Registration) (source : List ℕ) (fa
   pub tokens : List Lexeme
   pub lexed : Lexes source (Ok tokens)
   pub names : List (List ℕ)
-  pub reported : fault ≡ Typing (Cyclic names)
+  pub reported : fault ≡ Checked (Cyclic names)
   pub script : IsCyclicScript registered tokens names
 
 -- The same as a function: that it gives what checking the source comes to is proved of it.
 
 abbrev pub unless_fault : List Item → Result Module ScriptFault → SourceResult
 unless_fault items (Ok typed) = Ok items
-unless_fault items (Err fault) = Err (Typing fault)
+unless_fault items (Err fault) = Err (Checked fault)
 
 abbrev pub items_checked : List Registration → List Item → SourceResult
 items_checked registered items = unless_fault items (checked registered items)

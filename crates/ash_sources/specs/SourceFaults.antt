@@ -1,35 +1,33 @@
 -- Why a source has no typed tree, without where names lie in memory; the code by which that is reported; and how
 -- reading a source fails.
-use Rattle.std.specs.Prelude.{◌≡◌, ℕ, List, map, string_bytes, Result, Ok, Err, codes}
+use Rattle.std.specs.Prelude.{◌≡◌, ℕ, List, Result, Ok, Err, codes}
 use Rattle.ash_lex.specs.LexCodes as lexical
 use Rattle.ash_lex.specs.declared.faults.LexFault.{LexFault}
 use Rattle.ash_lex.specs.declared.faults.LexFault.TheVariants as lex_faults
 use Rattle.ash_parse.specs.ParseFaults as syntactic
 use Rattle.ash_parse.specs.declared.faults.ParseFault.{ParseFault}
 use Rattle.ash_parse.specs.declared.faults.ParseFault.TheVariants as parse_faults
-use Rattle.ash_check.specs.declared.faults.CheckFault.{CheckFault}
-use Rattle.ash_check.specs.declared.faults.CheckFault.TheVariants as check_faults
-use Rattle.ash_typing.specs.RuleCodes as typing
-use Rattle.ash_check.specs.Checks.{ScriptFault, Broken, Cyclic}
-use Rattle.ash_check.specs.CheckFaults.{cycle_code}
+use Rattle.ash_check.specs.ScriptFaults as checking
+use Rattle.ash_check.specs.ScriptFaults.{ScriptFault, script_fault_of}
+use Rattle.ash_check.specs.declared.faults.ScriptError.{ScriptError}
+use Rattle.ash_check.specs.declared.faults.ScriptError.TheVariants as script_errors
 use Rattle.ash_sources.specs.declared.fault.SourceFault as code
 use Rattle.ash_sources.specs.declared.fault.SourceFault.TheVariants as the
 use Rattle.ash_sources.specs.declared.fault.SourceError.{SourceError}
 use Rattle.ash_sources.specs.declared.fault.SourceError.TheVariants as errors
 
--- why a source has no typed tree: the fault of the layer that finds it, or that its script can't be run so far
+-- why a source has no typed tree: the fault of the layer that finds it, whole, or that its script can't be run so far
 pub data SourceFault : Type 0 where
   Lexical : (fault : LexFault) → SourceFault
   Syntactic : (fault : ParseFault) → SourceFault
-  Typing : (fault : ScriptFault) → SourceFault
+  Checked : (fault : ScriptFault) → SourceFault
   NotYet : SourceFault
 
 -- the number and the name of a fault
 abbrev pub code_of : SourceFault → List ℕ
 code_of (Lexical fault) = lexical.code_of fault
 code_of (Syntactic fault) = syntactic.code_of fault
-code_of (Typing (Broken fault)) = typing.code_of fault.rule
-code_of (Typing (Cyclic names)) = cycle_code
+code_of (Checked fault) = checking.code_of fault
 code_of NotYet = codes "199 NotYet"
 
 -- what the code's faults represent
@@ -37,8 +35,7 @@ code_of NotYet = codes "199 NotYet"
 abbrev pub fault_of : code.SourceFault → SourceFault
 fault_of (the.Lexical fault) = Lexical fault
 fault_of (the.Syntactic fault) = Syntactic fault
-fault_of (the.Broken fault) = Typing (Broken fault)
-fault_of (the.Cyclic names) = Typing (Cyclic (map string_bytes names.0.items))
+fault_of (the.Checked fault) = Checked (script_fault_of fault)
 fault_of the.NotYet = NotYet
 
 -- A layer's fault makes this error: it is the source's, unless it says that memory was refused.
@@ -51,10 +48,9 @@ abbrev pub syntactic_error : ParseFault → SourceError
 syntactic_error parse_faults.NoMemory = errors.NoMemory
 syntactic_error fault = errors.Fault (the.Syntactic fault)
 
-abbrev pub typing_error : CheckFault → SourceError
-typing_error (check_faults.Broken fault) = errors.Fault (the.Broken fault)
-typing_error (check_faults.Cyclic names) = errors.Fault (the.Cyclic names)
-typing_error check_faults.NoMemory = errors.NoMemory
+abbrev pub checked_error : ScriptError → SourceError
+checked_error (script_errors.Fault fault) = errors.Fault (the.Checked fault)
+checked_error script_errors.NoMemory = errors.NoMemory
 
 -- how reading a source fails
 

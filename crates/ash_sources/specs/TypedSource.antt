@@ -11,10 +11,11 @@ use Rattle.ash_typing.specs.TypedModules.{IsTyped}
 use Rattle.ash_typed.specs.Modules.{Module}
 use Rattle.ash_classes.specs.ClassReferences.{DeclaredClassRefers, classes_of}
 use Rattle.ash_classes.specs.Paths.{Reaches}
-use Rattle.ash_check.specs.Checks.{ScriptFault, checked}
+use Rattle.ash_check.specs.ScriptFaults.{ScriptFault}
+use Rattle.ash_check.specs.Checks.{checked}
 use Rattle.ash_sources.specs.Lexing.{Lexes}
 use Rattle.ash_sources.specs.CheckedSource.{SourceResult, tokens_in, checked_source}
-use Rattle.ash_sources.specs.SourceFaults.{SourceFault, Typing}
+use Rattle.ash_sources.specs.SourceFaults.{SourceFault, Checked}
 
 -- the typed tree of a source, or a fault
 abbrev pub TypedResult : Type 0
@@ -35,7 +36,7 @@ pub record IsTypedSource (registered : List Registration) (source : List ℕ) (t
 
 abbrev pub typed_or_fault : Result Module ScriptFault → TypedResult
 typed_or_fault (Ok typed) = Ok typed
-typed_or_fault (Err fault) = Err (Typing fault)
+typed_or_fault (Err fault) = Err (Checked fault)
 
 -- what a script is typed as
 abbrev pub check_items : List Registration → List Item → TypedResult

@@ -10,11 +10,11 @@ ghost use Rattle.ash_typed.specs.Modules.{Module as Typed};
 ghost use Rattle.ash_typing.specs.Nesting.{ItemsDeclareInBlocks};
 ghost use Rattle.ash_typing.specs.TypedModules.{IsFree, IsTyped};
 ghost use Rattle.ash_tree.specs.Items.{item_names};
-ghost use Rattle.ash_check.specs.Checks.{Cyclic};
+ghost use Rattle.ash_check.specs.ScriptFaults.{Cyclic};
 ghost use Rattle.ash_sources.specs.CheckedSource.{SourceResult, Checks, IsAccepted};
 ghost use Rattle.ash_sources.specs.CheckedSource.{HasCycle, ReportsCycle};
 ghost use Rattle.ash_sources.specs.CheckedSource.{items_checked, checked_source};
-ghost use Rattle.ash_sources.specs.SourceFaults.{Typing, RefusesSource, IfFault};
+ghost use Rattle.ash_sources.specs.SourceFaults.{Checked, RefusesSource, IfFault};
 ghost use Rattle.ash_sources.specs.declared.fault.SourceError.TheVariants.{NoMemory};
 
 use crate::fault::SourceError;
@@ -75,7 +75,7 @@ pub fn check_source(alloc: Global, registry: &Registry, source: &[u8]) -> Result
         IfErr result (λ error. error ≡ NoMemory) }
     // A cycle is answered where the rules give a typed module and some class reaches itself, and nowhere else.
     ensures cycle { IfErr result (IfFault (λ fault. (names : List (List ℕ))
-        → fault ≡ Typing (Cyclic names) →
+        → fault ≡ Checked (Cyclic names) →
         ReportsCycle (registered registry.now) source.now fault)) }
     ensures cyclic { HasCycle (registered registry.now) source.now
         → MatchResult result (λ _. ⊥)

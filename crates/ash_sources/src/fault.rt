@@ -1,12 +1,11 @@
 //! Why a source has no typed tree.
 
-use ash_check::{CheckFault, ClassNames};
+use ash_check::{ScriptError, ScriptFault};
 use ash_lex::LexFault;
 use ash_parse::ParseFault;
-use ash_typing::Fault;
 use thiserror::Error;
 
-/// Why a source has no typed tree: the fault of the layer that finds it, or that its script can't be run so far.
+/// Why a source has no typed tree: the fault of the layer that finds it, whole, or that its script can't be run so far.
 #[derive(Debug, PartialEq, Eq, Drop, Error)]
 pub enum SourceFault {
     /// The source has no tokens.
@@ -15,12 +14,9 @@ pub enum SourceFault {
     /// Its tokens are no script.
     #[error("{0}")]
     Syntactic(ParseFault),
-    /// Its script breaks a rule of typing.
+    /// Its script breaks a rule of typing, or has a class that reaches itself.
     #[error("{0}")]
-    Broken(Fault),
-    /// Its script has a class that reaches itself.
-    #[error("{0}")]
-    Cyclic(ClassNames),
+    Checked(ScriptFault),
     /// Its script is typed, but uses something registered, which no script that runs can do so far.
     #[error("the script uses something that is registered, which scripts can't do yet")]
     NotYet,
@@ -37,8 +33,7 @@ impl SourceFault {
         match self {
             SourceFault::Lexical(fault) => fault.code(),
             SourceFault::Syntactic(fault) => fault.code(),
-            SourceFault::Broken(fault) => fault.rule.code(),
-            SourceFault::Cyclic(names) => names.code(),
+            SourceFault::Checked(fault) => fault.code(),
             SourceFault::NotYet => "199 NotYet",
         }
     }
@@ -83,17 +78,16 @@ impl From<ParseFault> for SourceError {
     }
 }
 
-impl From<CheckFault> for SourceError {
+impl From<ScriptError> for SourceError {
     ghost use Rattle.std.specs.Prelude.{◌≡◌};
-    ghost use Rattle.ash_sources.specs.SourceFaults.{typing_error};
+    ghost use Rattle.ash_sources.specs.SourceFaults.{checked_error};
 
-    ghost from_gives = { λ fault error. error ≡ typing_error fault };
+    ghost from_gives = { λ script error. error ≡ checked_error script };
 
-    fn from(fault: CheckFault) -> Self {
-        match fault {
-            CheckFault::Broken(fault) => SourceError::Fault(SourceFault::Broken(fault)),
-            CheckFault::Cyclic(names) => SourceError::Fault(SourceFault::Cyclic(names)),
-            CheckFault::NoMemory => SourceError::NoMemory,
+    fn from(error: ScriptError) -> Self {
+        match error {
+            ScriptError::Fault(fault) => SourceError::Fault(SourceFault::Checked(fault)),
+            ScriptError::NoMemory => SourceError::NoMemory,
         }
     }
 }

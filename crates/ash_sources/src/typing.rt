@@ -38,7 +38,7 @@ pub(crate) fn type_script(
 {
     match check(alloc, registry, script) {
         Ok(checked) => Ok(checked.into_module()),
-        Err(fault) => Err(fault.into()),
+        Err(error) => Err(error.into()),
     }
 }
 

@@ -2,6 +2,7 @@
 //! counted by hand.
 
 use crate::compare::check_text;
+use ash_check::ScriptFault;
 use ash_registry::Registry;
 use ash_sources::checking::check_source;
 use ash_sources::fault::{SourceError, SourceFault};
@@ -15,8 +16,10 @@ fn printed_fault(alloc: Global, fault: &SourceFault) -> Result<String, AllocErro
     match fault {
         SourceFault::Lexical(fault) => format!(in alloc; "{fault:?}"),
         SourceFault::Syntactic(fault) => format!(in alloc; "{fault:?}"),
-        SourceFault::Broken(fault) => format!(in alloc; "{:?} {{ at: {} }}", fault.rule, fault.at),
-        SourceFault::Cyclic(names) => format!(in alloc; "{names:?}"),
+        SourceFault::Checked(ScriptFault::Broken(fault)) => {
+            format!(in alloc; "{:?} {{ at: {} }}", fault.rule, fault.at)
+        }
+        SourceFault::Checked(ScriptFault::Cyclic(names)) => format!(in alloc; "{names:?}"),
         SourceFault::NotYet => String::from_str(alloc, "NotYet"),
     }
 }

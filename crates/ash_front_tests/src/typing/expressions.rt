@@ -3,7 +3,7 @@
 
 use crate::typing::declared::module_signatures;
 use crate::typing::sources::{Question, check_rows, coded, printed, tree_of};
-use ash_check::CheckFault;
+use ash_check::ScriptError;
 use ash_environment::Environment;
 use ash_expressions::{AssignmentSide, TypedExpr, check_expr};
 use ash_registrations::Registrations;
@@ -48,7 +48,7 @@ fn check_value(alloc: Global, value: &written::Expr) -> Result<TypedExpr, String
     };
     match check_expr(&env, AssignmentSide::Value, value) {
         Ok(typed) => Ok(typed),
-        Err(error) => Err(coded(alloc, &CheckFault::from(error))),
+        Err(error) => Err(coded(alloc, &ScriptError::from(error))),
     }
 }
 

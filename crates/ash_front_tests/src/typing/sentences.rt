@@ -1,16 +1,16 @@
 //! Faults of scripts as a person reads them.
 
-use ash_check::{CheckFault, ClassNames};
+use ash_check::{ClassNames, ScriptError, ScriptFault};
 use ash_typing::{Fault, Rule};
 use std::alloc::{AllocError, Global};
 
 /// The fault of classes with these names.
-fn cycle(alloc: Global, names: &[&str]) -> Result<CheckFault, AllocError> {
+fn cycle(alloc: Global, names: &[&str]) -> Result<ScriptError, AllocError> {
     let mut texts = Vec::new(alloc);
     for name in names {
         texts.push(String::from_str(alloc, name)?)?;
     }
-    Ok(CheckFault::Cyclic(ClassNames(texts)))
+    Ok(ScriptError::Fault(ScriptFault::Cyclic(ClassNames(texts))))
 }
 
 const SENTENCES: &str = "unknown name at byte 8; class A reaches itself; \
@@ -20,13 +20,13 @@ const SENTENCES: &str = "unknown name at byte 8; class A reaches itself; \
 fn faults_are_sentences(rt: HostRuntime) -> Result<(), AllocError> {
     let found = format!(in rt.alloc();
         "{}; {}; {}; {}",
-        CheckFault::Broken(Fault {
+        ScriptError::Fault(ScriptFault::Broken(Fault {
             rule: Rule::UnknownName,
             at: 8
-        }),
+        })),
         cycle(rt.alloc(), &["A"])?,
         cycle(rt.alloc(), &["A", "B", "C"])?,
-        CheckFault::NoMemory
+        ScriptError::NoMemory
     )?;
     assert_eq!(rt; found.as_str(), SENTENCES);
     Ok(())

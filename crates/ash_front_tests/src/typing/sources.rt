@@ -7,7 +7,7 @@ ghost use Rattle.ash_typing.specs.Nesting.{ItemsDeclareInBlocks};
 
 use crate::typing::cycles::cycle_of;
 use crate::typing::expressions::{operands_of, type_of};
-use ash_check::{CheckFault, CheckedScript, check};
+use ash_check::{CheckedScript, ScriptError, ScriptFault, check};
 use ash_lex::lex;
 use ash_parse::parse_module;
 use ash_registry::{Registry, RegistryFault};
@@ -34,19 +34,27 @@ fn write_names(out: &mut String, names: &[String]) -> Result<(), AllocError> {
 }
 
 /// Writes a fault by its code, with its offset or its classes.
-fn write_fault(out: &mut String, fault: &CheckFault) -> Result<(), AllocError> {
+fn write_fault(out: &mut String, fault: &ScriptFault) -> Result<(), AllocError> {
     write!(out, "{}", fault.code())?;
     match fault {
-        CheckFault::Broken(broken) => write!(out, " {}", broken.at),
-        CheckFault::Cyclic(names) => write_names(out, names.0.as_slice()),
-        CheckFault::NoMemory => Ok(()),
+        ScriptFault::Broken(broken) => write!(out, " {}", broken.at),
+        ScriptFault::Cyclic(names) => write_names(out, names.0.as_slice()),
     }
 }
 
-/// A fault by its code, with its offset or its classes, or what could be written of it where memory is refused.
-pub(crate) fn coded(alloc: Global, fault: &CheckFault) -> String {
+/// Writes why the check fails.
+fn write_error(out: &mut String, error: &ScriptError) -> Result<(), AllocError> {
+    match error {
+        ScriptError::Fault(fault) => write_fault(out, fault),
+        ScriptError::NoMemory => write!(out, "{error}"),
+    }
+}
+
+/// Why a check fails: a fault by its code, with its offset or its classes, or that memory was refused. It is cut short
+/// where memory is refused for the text itself.
+pub(crate) fn coded(alloc: Global, error: &ScriptError) -> String {
     let mut out = String::new(alloc);
-    let _ = write_fault(&mut out, fault);
+    let _ = write_error(&mut out, error);
     out
 }
 
@@ -119,7 +127,7 @@ pub(crate) fn checked(alloc: Global, source: &str) -> Result<CheckedScript, Stri
     let script = tree_of(alloc, source)?;
     match check(alloc, &registry, &script) {
         Ok(found) => Ok(found),
-        Err(fault) => Err(coded(alloc, &fault)),
+        Err(error) => Err(coded(alloc, &error)),
     }
 }
 

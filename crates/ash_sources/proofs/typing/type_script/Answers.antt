@@ -5,4 +5,4 @@ use Rattle.ash_sources.proofs.typing.type_script.Goals as goal
 
 pub returns-in-Err-clause-refused : goal.returns-in-Err-clause-refused
 returns-in-Err-clause-refused c = items_untyped (registered c.args.registry.now) (items_of c.args.script.now)
-    c.in-Err.fault c.in-Err.ensures.answer c.into.result c.into.ensures
+    c.in-Err.error c.in-Err.ensures.answer c.into.result c.into.ensures
