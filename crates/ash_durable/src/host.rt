@@ -29,7 +29,7 @@ use std::alloc::{AllocError, Global};
 use std::marker::Model;
 
 /// How many bytes of records a generation has at the least before a new one is installed in place of a record more.
-const FULL_RECORD_BYTES: u64 = 16_777_216;
+pub const FULL_RECORD_BYTES: u64 = 16_777_216;
 
 /// A host for script modules whose state outlives the process. It has a registry of its own, whose text is in each
 /// image that it writes. Each call is one request. Every answer to a `load`, a `call` or a `discard` but a refusal

@@ -28,4 +28,4 @@ mod store;
 
 pub use ash_journal::{CreateFault, OpenFault};
 pub use fault::{HostRefused, StoreFault};
-pub use host::Host;
+pub use host::{FULL_RECORD_BYTES, Host};

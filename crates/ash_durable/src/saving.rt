@@ -1,7 +1,7 @@
 //! Keeping a state in a journal: as one record more, or as a new generation.
 
-ghost use Rattle.std.specs.Prelude.{◌<◌, ◌^◌};
-ghost use Rattle.ash_journal.specs.Journal.{IsReady, record_bytes};
+ghost use Rattle.std.specs.Prelude.{◌<◌};
+ghost use Rattle.ash_journal.specs.Journal.{IsReady, record_bytes, record_bytes_limit};
 ghost use Rattle.ash_durable.specs.Saving.{Adds, Installs};
 
 use ash_disk::Disk;
@@ -15,7 +15,7 @@ use ash_states::state::{HostRefusal, HostState};
 /// and the journal is to be opened again.
 pub fn add_state<D: Disk>(state: &HostState, journal: &mut Journal<D>) -> Result<(), HostRefusal>
     requires ready { IsReady journal.old }
-    requires room { record_bytes journal.old < 2 ^ 62 }
+    requires room { record_bytes journal.old < record_bytes_limit }
     ensures { Adds D.Disk state.now journal.old result journal.new }
 {
     let body = state.body()?;

@@ -5,8 +5,8 @@ use Rattle.ash_lex.specs.declared.faults.LexFault.TheVariants as lexical
 use Rattle.ash_parse.specs.declared.faults.UnsupportedPart.{UnsupportedPart}
 use Rattle.ash_parse.specs.declared.faults.ParseFault.{ParseFault}
 use Rattle.ash_parse.specs.declared.faults.ParseFault.TheVariants as syntactic
-use Rattle.ash_check.specs.Checks.{ScriptFault, Broken, Cyclic}
-use Rattle.ash_sources.specs.SourceFaults.{SourceFault, Lexical, Syntactic, Typing, NotYet}
+use Rattle.ash_check.specs.ScriptFaults.{ScriptFault, Broken, Cyclic}
+use Rattle.ash_sources.specs.SourceFaults.{SourceFault, Lexical, Syntactic, Checked, NotYet}
 use Rattle.ash_lines.specs.declared.details.Details as code
 use Rattle.ash_lines.specs.declared.details.Details.TheVariants as the
 
@@ -41,16 +41,16 @@ syntactic_details (syntactic.Unsupported word at) = WordAt word at
 syntactic_details (syntactic.TooDeep at) = At at
 syntactic_details syntactic.NoMemory = Nothing
 
--- Faults of typing.
+-- Faults of checking.
 
-abbrev pub typing_details : ScriptFault → Details
-typing_details (Broken fault) = At fault.at
-typing_details (Cyclic names) = Names names
+abbrev pub script_details : ScriptFault → Details
+script_details (Broken fault) = At fault.at
+script_details (Cyclic names) = Names names
 
 -- Faults of sources.
 
 abbrev pub source_details : SourceFault → Details
 source_details (Lexical fault) = lexical_details fault
 source_details (Syntactic fault) = syntactic_details fault
-source_details (Typing fault) = typing_details fault
+source_details (Checked fault) = script_details fault
 source_details NotYet = Nothing

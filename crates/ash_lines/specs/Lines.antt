@@ -58,7 +58,7 @@ abbrev pub value_after : ℕ → List ℕ → ℕ
 value_after number [] = number
 value_after number (digit ∷ digits) = value_after (10 * number + (digit - 48)) digits
 
--- the most digits of a number
+-- the most digits of a number below 2^64
 abbrev pub max_digits : ℕ
 max_digits = 20
 

@@ -1,5 +1,5 @@
 -- A reader as a source of bytes.
-use Rattle.std.specs.Prelude.{◌≡◌, ℕ, ◌+◌, true, List, [], ◌∷◌, ◌++◌, length, Option, Some, None, is_some, refl, ⊤}
+use Rattle.std.specs.Prelude.{◌≡◌, ℕ, ◌+◌, ◌^◌, true, List, [], ◌∷◌, ◌++◌, length, Option, Some, None, is_some, refl, ⊤}
 use Rattle.std.specs.Prelude.{if◌then◌else◌}
 use Rattle.std.specs.Option.{option_to_list}
 use Rattle.std.specs.Io.Buffered.{reader_remaining}
@@ -19,6 +19,10 @@ ReadsByte old byte_reads.Failed new = ⊤
 -- the bytes that are left, where they are known
 abbrev pub left_of : {R : Type 0} → (R → Option (List ℕ)) → Reader R → Option (List ℕ)
 left_of remaining s = prepend_known (option_to_list s.extra) (reader_remaining remaining s.reader)
+
+-- the most bytes that are read in one run
+abbrev pub max_input_bytes : ℕ
+max_input_bytes = 2 ^ 40
 
 -- how many bytes may still be read: none once one came past the allowance
 abbrev pub allowance_of : {R : Type 0} → Reader R → ℕ

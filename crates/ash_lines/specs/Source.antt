@@ -1,5 +1,5 @@
 -- What a source of bytes gives.
-use Rattle.std.specs.Prelude.{◌≡◌, ℕ, ◌+◌, List, [], ◌∷◌, ◌++◌, length, Result, Ok, Err, Option, Some, None}
+use Rattle.std.specs.Prelude.{◌≡◌, ℕ, ◌+◌, List, [], ◌∷◌, ◌++◌, length, codes, Result, Ok, Err, Option, Some, None}
 use Rattle.ash_lines.specs.declared.source.ReadFault.{ReadFault}
 use Rattle.ash_lines.specs.declared.source.ReadFault.TheVariants.{TooLong, Failed}
 
@@ -33,3 +33,8 @@ abbrev pub ReadsNext : {S : Type 0} → Feed S → S → Result (Option ℕ) Rea
 ReadsNext feed old (Ok None) new = feed.reads old [] new × feed.ended new
 ReadsNext feed old (Ok (Some byte)) new = feed.reads old (byte ∷ []) new
 ReadsNext feed old (Err fault) new = Faults feed old [] fault new
+
+-- the code by which a fault is reported
+abbrev pub read_code : ReadFault → List ℕ
+read_code TooLong = codes "604 TooLong"
+read_code Failed = codes "605 Read"

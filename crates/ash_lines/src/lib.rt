@@ -22,3 +22,5 @@ pub mod sink;
 pub mod source;
 mod words;
 pub mod writer;
+
+pub use number::MAX_DIGITS;

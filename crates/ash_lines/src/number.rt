@@ -8,8 +8,8 @@ ghost use Rattle.ash_lines.specs.Lines.{object_number_of, signed_of, argument_of
 
 use ash_steps::Argument;
 
-/// The most digits of a number.
-const MAX_DIGITS: usize = 20;
+/// The most digits of a number below 2^64.
+pub const MAX_DIGITS: usize = 20;
 
 /// Whether two words are the same.
 pub(crate) fn is_same(word: &[u8], text: &[u8]) -> bool

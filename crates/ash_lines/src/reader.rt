@@ -1,10 +1,10 @@
 //! A source over any reader.
 
-ghost use Rattle.std.specs.Prelude.{◌≡◌, ◌^◌, IfOk, None, false};
+ghost use Rattle.std.specs.Prelude.{◌≡◌, IfOk, None, false};
 ghost use Rattle.std.specs.Io.Buffered.{reader_remaining};
 ghost use Rattle.std.specs.Io.KnownBytes.{Keeps};
 ghost use Rattle.ash_lines.specs.Reader.{reader_feed, reader_is_feed, left_of, allowance_of};
-ghost use Rattle.ash_lines.specs.Reader.{ReadsByte};
+ghost use Rattle.ash_lines.specs.Reader.{ReadsByte, max_input_bytes};
 
 use crate::source::{ReadFault, Source};
 use std::alloc::{AllocError, Global};
@@ -38,7 +38,7 @@ impl<R: Read + Drop> Reader<R> {
     /// buffer.
     pub fn new(alloc: Global, reader: R) -> Result<Reader<R>, AllocError>
         ensures left { IfOk result (λ r. left_of R.remaining r ≡ R.remaining reader) }
-        ensures allowance { IfOk result (λ r. allowance_of r ≡ 2 ^ 40) }
+        ensures allowance { IfOk result (λ r. allowance_of r ≡ max_input_bytes) }
         ensures whole { IfOk result (λ r. r.failed ≡ false) }
     {
         match BufReader::new(alloc, reader) {

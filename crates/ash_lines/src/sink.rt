@@ -2,8 +2,11 @@
 
 ghost use Rattle.ash_lines.specs.Sink.{Outlet, IsOutlet, Writes, Flushes};
 
+use thiserror::Error;
+
 /// A write failed, or took no byte.
-#[derive(Clone, Copy, Debug, PartialEq, Eq)]
+#[derive(Clone, Copy, Debug, PartialEq, Eq, Error)]
+#[error("the output could not be written")]
 pub struct WriteFault;
 
 /// Takes bytes, which it may buffer until it is flushed.

@@ -1,14 +1,31 @@
 //! Where requests come from.
 
-ghost use Rattle.ash_lines.specs.Source.{Feed, IsFeed, ReadsNext};
+ghost use Rattle.std.specs.Prelude.{◌≡◌};
+ghost use Rattle.ash_lines.specs.Source.{Feed, IsFeed, ReadsNext, read_code};
+
+use thiserror::Error;
 
 /// Why no byte could be read.
-#[derive(Clone, Copy, Debug, PartialEq, Eq)]
+#[derive(Clone, Copy, Debug, PartialEq, Eq, Error)]
 pub enum ReadFault {
     /// More bytes came than may be read in one run.
+    #[error("more than 2^40 bytes came")]
     TooLong,
     /// The reader failed.
+    #[error("the input could not be read")]
     Failed,
+}
+
+impl ReadFault {
+    /// The code by which it is reported: its number and its name.
+    pub fn code(self) -> &'static str
+        ensures coded { result.now ≡ read_code self }
+    {
+        match self {
+            ReadFault::TooLong => "604 TooLong",
+            ReadFault::Failed => "605 Read",
+        }
+    }
 }
 
 /// Bytes that come one at a time, up to an allowance.

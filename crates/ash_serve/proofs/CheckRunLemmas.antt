@@ -1,5 +1,5 @@
 -- Checking a script: from what was read and written to what that says of the whole check.
-use Rattle.std.proofs.Common.{◌≡◌, ◌<◌, ◌≤◌, ◌⊎◌, ℕ, ◌^◌, List, [], ◌++◌, length, refl, sym, ap, ◌∙◌, subst, arith}
+use Rattle.std.proofs.Common.{◌≡◌, ◌<◌, ◌≤◌, ◌⊎◌, ℕ, List, [], ◌++◌, length, refl, sym, ap, ◌∙◌, subst, arith}
 use Rattle.std.proofs.Common.{Option, Some, None, Ok, Err, Result, inl, inr, ⊎_elim}
 use Rattle.std.proofs.lemmas.List.{append-nil, take_all, take_at}
 use Rattle.std.specs.Io.KnownBytes.{Consumes, IsAtEnd, Appends, Keeps}
@@ -7,12 +7,11 @@ use Rattle.ash_registry.specs.AcceptedRegistrations.{Registration}
 use Rattle.ash_sources.specs.SourceFaults.{SourceFault}
 use Rattle.ash_lines.specs.Source.{Feed}
 use Rattle.ash_lines.specs.Reading.{max_prefix_bytes, source_prefix, ReadsBytes}
-use Rattle.ash_serve.specs.Serving.{run_fault}
 use Rattle.ash_serve.specs.CheckRun.{verdict_line, verdict_on, verdict_status, ending_of, Judges, WritesVerdict}
 use Rattle.ash_serve.specs.CheckRun.{ScriptStreams, ReadsScript, ChecksScript, IsScriptOf, ChecksFile, EndsCheck}
 use Rattle.ash_serve.specs.CheckRun.{KnownCheck, check_state, streams_with}
 use Rattle.ash_serve.specs.Program.{ending_status, end_of}
-use Rattle.ash_lines.specs.Reader.{left_of, allowance_of, reader_feed}
+use Rattle.ash_lines.specs.Reader.{left_of, allowance_of, max_input_bytes, reader_feed}
 use Rattle.ash_lines.specs.Writer.{writer_outlet}
 use Rattle.ash_lines.specs.declared.reader.Reader.{Reader}
 use Rattle.ash_lines.specs.declared.writer.Writer.{Writer}
@@ -42,9 +41,8 @@ script_read feed s t bytes_read.All prefix h = subst (λ (x : List ℕ). ReadsSc
 script_read feed s t bytes_read.Cut prefix h = subst (λ (x : List ℕ). ReadsScript feed s x t) (sym (h.4 ∙ prefix-whole h.0 (omega (arith, h.2)))) (h.1, inr (h.2, h.3))
 
 -- a read failed before that
-pub script_unread : {S K : Type 0} (streams : ScriptStreams S K) (registered : List Registration) (s t : S) (k : K) (fault : ReadFault) (prefix : List ℕ) → ReadsBytes streams.feed s (Err fault) max_prefix_bytes prefix t → ChecksScript streams registered (check_state s k) (Err (program.Run (run_fault fault))) (check_state t k)
-script_unread streams registered s t k read_faults.TooLong prefix h = (h.0, h.2, h.1, refl)
-script_unread streams registered s t k read_faults.Failed prefix h = (h.0, h.2, h.1, refl)
+pub script_unread : {S K : Type 0} (streams : ScriptStreams S K) (registered : List Registration) (s t : S) (k : K) (fault : ReadFault) (prefix : List ℕ) → ReadsBytes streams.feed s (Err fault) max_prefix_bytes prefix t → ChecksScript streams registered (check_state s k) (Err (program.Run (faults.Read fault))) (check_state t k)
+script_unread streams registered s t k fault prefix h = (h.0, h.2, h.1, refl)
 
 -- there was no memory to judge it
 pub script_unjudged : {S K : Type 0} (streams : ScriptStreams S K) (registered : List Registration) (s t : S) (k : K) (script : List ℕ) (fault : ProgramFault) → ReadsScript streams.feed s script t → Judges registered script (Err fault) → ChecksScript streams registered (check_state s k) (Err fault) (check_state t k)
@@ -59,8 +57,7 @@ pub script_reported : {S K : Type 0} (streams : ScriptStreams S K) (registered :
 script_reported streams registered s t k o script verdict (Ok ending) h e w = (script, h, subst (λ (x : Option SourceFault). WritesVerdict streams.outlet k x (Ok ending) o) e w)
 script_reported streams registered s t k o script verdict (Err (program.Run faults.Write)) h e w = (script, h, subst (λ (x : Option SourceFault). WritesVerdict streams.outlet k x (Err (program.Run faults.Write)) o) e w)
 script_reported streams registered s t k o script verdict (Err (program.Run faults.Truncated)) h e w = absurd w
-script_reported streams registered s t k o script verdict (Err (program.Run faults.TooLong)) h e w = absurd w
-script_reported streams registered s t k o script verdict (Err (program.Run faults.Read)) h e w = absurd w
+script_reported streams registered s t k o script verdict (Err (program.Run (faults.Read fault))) h e w = absurd w
 script_reported streams registered s t k o script verdict (Err (program.Run faults.NoMemory)) h e w = absurd w
 script_reported streams registered s t k o script verdict (Err program.Usage) h e w = absurd w
 script_reported streams registered s t k o script verdict (Err program.NoMemory) h e w = absurd w
@@ -87,7 +84,7 @@ keeps-same contents k o e = subst (λ (y : Writer _). Keeps (contents k.writer.n
     keeps None = tt
     keeps (Some xs) = refl
 
-file-checked : {R W : Type 0} (remaining : R → Option (List ℕ)) (contents : W → Option (List ℕ)) (registered : List Registration) (s t : Reader R) (k o : Writer W) (file : Option (List ℕ)) (r : Result Ending ProgramFault) → left_of remaining s ≡ file → allowance_of s ≡ 2 ^ 40 → k.buffer.items ≡ [] → ChecksScript (streams_with (reader_feed remaining) (writer_outlet contents)) registered (check_state s k) r (check_state t o) → ChecksFile registered (check_state file (contents k.writer.now)) r (contents o.writer.now)
+file-checked : {R W : Type 0} (remaining : R → Option (List ℕ)) (contents : W → Option (List ℕ)) (registered : List Registration) (s t : Reader R) (k o : Writer W) (file : Option (List ℕ)) (r : Result Ending ProgramFault) → left_of remaining s ≡ file → allowance_of s ≡ max_input_bytes → k.buffer.items ≡ [] → ChecksScript (streams_with (reader_feed remaining) (writer_outlet contents)) registered (check_state s k) r (check_state t o) → ChecksFile registered (check_state file (contents k.writer.now)) r (contents o.writer.now)
 file-checked remaining contents registered s t k o file (Ok ending) e a b w = (
   w.0,
   script_of file (left_of remaining t) w.0 (subst (λ (y : Option (List ℕ)). Consumes y (left_of remaining t) w.0) e w.1.0.0) w.1.1,
@@ -102,8 +99,8 @@ file-checked remaining contents registered s t k o file (Err (program.Run faults
   w.2.broke.0,
   subst (λ (y : List ℕ). y ++ verdict_line (verdict_on registered w.0) ≡ w.2.out ++ w.2.lost) b w.2.whole,
 )
-file-checked remaining contents registered s t k o file (Err (program.Run faults.Read)) e a b w = keeps-same contents k o w.3
-file-checked remaining contents registered s t k o file (Err (program.Run faults.TooLong)) e a b w = absurd (omega (arith, w.1, w.2.0.1, w.2.1, a))
+file-checked remaining contents registered s t k o file (Err (program.Run (faults.Read read_faults.Failed))) e a b w = keeps-same contents k o w.3
+file-checked remaining contents registered s t k o file (Err (program.Run (faults.Read read_faults.TooLong))) e a b w = absurd (omega (arith, w.1, w.2.0.1, w.2.1, a))
 file-checked remaining contents registered s t k o file (Err (program.Run faults.Truncated)) e a b w = absurd w
 file-checked remaining contents registered s t k o file (Err (program.Run faults.NoMemory)) e a b w = absurd w
 file-checked remaining contents registered s t k o file (Err program.Usage) e a b w = absurd w
@@ -115,8 +112,7 @@ file-checked remaining contents registered s t k o file (Err (program.Store faul
 checked-name : {R W : Type 0} (remaining : R → Option (List ℕ)) (contents : W → Option (List ℕ)) (registered : List Registration) (s t : Reader R) (k o : Writer W) (r : Result Ending ProgramFault) → ChecksScript (streams_with (reader_feed remaining) (writer_outlet contents)) registered (check_state s k) r (check_state t o) → o.writer.ghost_name ≡ k.writer.ghost_name
 checked-name remaining contents registered s t k o (Ok ending) w = w.2.1.written.1
 checked-name remaining contents registered s t k o (Err (program.Run faults.Write)) w = w.2.broke.1
-checked-name remaining contents registered s t k o (Err (program.Run faults.Read)) w = ap (λ (y : Writer _). y.writer.ghost_name) w.3
-checked-name remaining contents registered s t k o (Err (program.Run faults.TooLong)) w = ap (λ (y : Writer _). y.writer.ghost_name) w.3
+checked-name remaining contents registered s t k o (Err (program.Run (faults.Read fault))) w = ap (λ (y : Writer _). y.writer.ghost_name) w.3
 checked-name remaining contents registered s t k o (Err (program.Run faults.Truncated)) w = absurd w
 checked-name remaining contents registered s t k o (Err (program.Run faults.NoMemory)) w = absurd w
 checked-name remaining contents registered s t k o (Err program.Usage) w = absurd w
@@ -125,7 +121,7 @@ checked-name remaining contents registered s t k o (Err (program.Registry fault)
 checked-name remaining contents registered s t k o (Err (program.Store fault)) w = absurd w
 
 -- the script was checked, where x is what the writer ends as
-pub file_checked : {R W : Type 0} (remaining : R → Option (List ℕ)) (contents : W → Option (List ℕ)) (registered : List Registration) (s t : Reader R) (k o : Writer W) (file : Option (List ℕ)) (r : Result Ending ProgramFault) (before x : W) → left_of remaining s ≡ file → allowance_of s ≡ 2 ^ 40 → k.buffer.items ≡ [] → k.writer.now ≡ before → (o.writer.ghost_name ≡ k.writer.ghost_name → x ≡ o.writer.now) → ChecksScript (streams_with (reader_feed remaining) (writer_outlet contents)) registered (check_state s k) r (check_state t o) → ChecksFile registered (check_state file (contents before)) r (contents x)
+pub file_checked : {R W : Type 0} (remaining : R → Option (List ℕ)) (contents : W → Option (List ℕ)) (registered : List Registration) (s t : Reader R) (k o : Writer W) (file : Option (List ℕ)) (r : Result Ending ProgramFault) (before x : W) → left_of remaining s ≡ file → allowance_of s ≡ max_input_bytes → k.buffer.items ≡ [] → k.writer.now ≡ before → (o.writer.ghost_name ≡ k.writer.ghost_name → x ≡ o.writer.now) → ChecksScript (streams_with (reader_feed remaining) (writer_outlet contents)) registered (check_state s k) r (check_state t o) → ChecksFile registered (check_state file (contents before)) r (contents x)
 file_checked remaining contents registered s t k o file r before x e a b n f w =
     let checked = file-checked remaining contents registered s t k o file r e a b w in
     subst (λ (y : _). ChecksFile registered (check_state file (contents y)) r (contents x)) n
@@ -140,8 +136,8 @@ status-verdict (Some fault) = refl
 pub ends_check : (registered : List Registration) (before : KnownCheck) (output : Option (List ℕ)) (r : Result Ending ProgramFault) → ChecksFile registered before r output → EndsCheck registered before (end_of r) output
 ends_check registered before output (Ok ending) h = (h.0, h.1, ap ending_status h.2 ∙ status-verdict (verdict_on registered h.0), h.3)
 ends_check registered before output (Err (program.Run faults.Write)) h = (h.0, h.1, refl, h.2, h.3, h.4, h.5)
-ends_check registered before output (Err (program.Run faults.Read)) h = (refl, h)
-ends_check registered before output (Err (program.Run faults.TooLong)) h = absurd h
+ends_check registered before output (Err (program.Run (faults.Read read_faults.Failed))) h = (refl, h)
+ends_check registered before output (Err (program.Run (faults.Read read_faults.TooLong))) h = absurd h
 ends_check registered before output (Err (program.Run faults.Truncated)) h = absurd h
 ends_check registered before output (Err (program.Run faults.NoMemory)) h = absurd h
 ends_check registered before output (Err program.Usage) h = absurd h

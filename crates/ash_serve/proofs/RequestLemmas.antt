@@ -11,9 +11,8 @@ use Rattle.ash_lines.specs.Reading.{ReadsLinePart, ReadsWholeLine, FaultsInLine,
 use Rattle.ash_lines.specs.Lines.{Line, HostRequest, BadRequest, LineTooLong, parse_line, Complete, LoadHeader, next}
 use Rattle.ash_lines.specs.Lines.{is_unfinished, max_line_bytes}
 use Rattle.ash_lines.specs.ReplyText.{line_reply_of}
-use Rattle.ash_serve.specs.Serving.{Handling, DependsOnPrefix, HandlesRequest, RepliesTo, request_state, run_fault}
+use Rattle.ash_serve.specs.Serving.{Handling, DependsOnPrefix, HandlesRequest, RepliesTo, request_state}
 use Rattle.ash_lines.specs.declared.source.ReadFault.{ReadFault}
-use Rattle.ash_lines.specs.declared.source.ReadFault.TheVariants.{TooLong, Failed}
 use Rattle.ash_serve.specs.declared.fault.RunFault.{RunFault}
 use Rattle.ash_serve.specs.declared.fault.RunFault.TheVariants as faults
 use Rattle.ash_lines.specs.declared.reply.LineReply as code
@@ -23,11 +22,10 @@ use Rattle.ash_serve.proofs.NextLemmas.{next-cut, unfinished-line, spells-long, 
 use Rattle.ash_serve.proofs.NextLemmas.{spells-unended, cut-source, cut-unended}
 
 -- a fault in a request that is unfinished
-handled-fault : {S H : Type 0} (handling : Handling S H) (s t : S) (h : H) (fault : ReadFault) (r : RunFault) (rest : List ℕ) → r ≡ run_fault fault → Faults handling.feed s rest fault t → is_unfinished (next rest) ≡ true → HandlesRequest handling (request_state s h) (Err r) (request_state t h)
-handled-fault handling s t h TooLong r rest e f u = rw e (rest, f, u, refl)
-handled-fault handling s t h Failed r rest e f u = rw e (rest, f, u, refl)
+handled-fault : {S H : Type 0} (handling : Handling S H) (s t : S) (h : H) (fault : ReadFault) (r : RunFault) (rest : List ℕ) → r ≡ faults.Read fault → Faults handling.feed s rest fault t → is_unfinished (next rest) ≡ true → HandlesRequest handling (request_state s h) (Err r) (request_state t h)
+handled-fault handling s t h fault r rest e f u = rw e (rest, f, u, refl)
 
-pub line_fault : {S H : Type 0} (handling : Handling S H) (s t : S) (h : H) (fault : ReadFault) (r : RunFault) → r ≡ run_fault fault → FaultsInLine handling.feed s fault t → HandlesRequest handling (request_state s h) (Err r) (request_state t h)
+pub line_fault : {S H : Type 0} (handling : Handling S H) (s t : S) (h : H) (fault : ReadFault) (r : RunFault) → r ≡ faults.Read fault → FaultsInLine handling.feed s fault t → HandlesRequest handling (request_state s h) (Err r) (request_state t h)
 line_fault handling s t h fault r e f = handled-fault handling s t h fault r f.bytes e f.faults (unfinished-line f.bytes f.line)
 
 pub line_cut : {S H : Type 0} (handling : Handling S H) (s t : S) (h : H) → ((bytes : List ℕ) × ReadsLinePart handling.feed s bytes t × (0 < length bytes) × handling.feed.ended t) → HandlesRequest handling (request_state s h) (Err faults.Truncated) (request_state t h)
@@ -42,7 +40,7 @@ line_replied handling s t h k line request reply w l e a = (request, record { by
 
 -- a source after its line
 
-pub load_fault : {S H : Type 0} (handling : Handling S H) → IsFeed handling.feed → (s t u : S) (h : H) (line name : List ℕ) (count : ℕ) (fault : ReadFault) (r : RunFault) → ReadsWholeLine handling.feed s line t → length line ≤ max_line_bytes → parse_line line ≡ LoadHeader name count → r ≡ run_fault fault → ((bytes : List ℕ) × Faults handling.feed t bytes fault u × (length bytes < count)) → HandlesRequest handling (request_state s h) (Err r) (request_state u h)
+pub load_fault : {S H : Type 0} (handling : Handling S H) → IsFeed handling.feed → (s t u : S) (h : H) (line name : List ℕ) (count : ℕ) (fault : ReadFault) (r : RunFault) → ReadsWholeLine handling.feed s line t → length line ≤ max_line_bytes → parse_line line ≡ LoadHeader name count → r ≡ faults.Read fault → ((bytes : List ℕ) × Faults handling.feed t bytes fault u × (length bytes < count)) → HandlesRequest handling (request_state s h) (Err r) (request_state u h)
 load_fault handling is s t u h line name count fault r w l e q f =
     handled-fault handling s u h fault r _ q (faults_after handling.feed is s t u (line ++ 10 ∷ []) f.0 fault w.took f.1) (ap is_unfinished (cut-source line name f.0 count w.line l e (omega (arith, f.2))))
 
@@ -50,7 +48,7 @@ pub load_cut : {S H : Type 0} (handling : Handling S H) → IsFeed handling.feed
 load_cut handling is s t u h line name count w l e f =
     (_, is.onward s t u (line ++ 10 ∷ []) f.0 w.took f.1, f.3, cut-source line name f.0 count w.line l e (omega (arith, f.2)), refl)
 
-pub load_line_fault : {S H : Type 0} (handling : Handling S H) → IsFeed handling.feed → (s t m u : S) (h : H) (line name prefix : List ℕ) (count : ℕ) (fault : ReadFault) (r : RunFault) → ReadsWholeLine handling.feed s line t → length line ≤ max_line_bytes → parse_line line ≡ LoadHeader name count → r ≡ run_fault fault → ((bytes : List ℕ) × handling.feed.reads t bytes m × (length bytes ≡ count) × (prefix ≡ source_prefix bytes)) → FaultsInLine handling.feed m fault u → HandlesRequest handling (request_state s h) (Err r) (request_state u h)
+pub load_line_fault : {S H : Type 0} (handling : Handling S H) → IsFeed handling.feed → (s t m u : S) (h : H) (line name prefix : List ℕ) (count : ℕ) (fault : ReadFault) (r : RunFault) → ReadsWholeLine handling.feed s line t → length line ≤ max_line_bytes → parse_line line ≡ LoadHeader name count → r ≡ faults.Read fault → ((bytes : List ℕ) × handling.feed.reads t bytes m × (length bytes ≡ count) × (prefix ≡ source_prefix bytes)) → FaultsInLine handling.feed m fault u → HandlesRequest handling (request_state s h) (Err r) (request_state u h)
 load_line_fault handling is s t m u h line name prefix count fault r w l e q b f =
     handled-fault handling s u h fault r _ q
     (faults_after handling.feed is s t u (line ++ 10 ∷ []) (b.0 ++ f.bytes) fault w.took (faults_after handling.feed is t m u b.0 f.bytes fault b.1 f.faults))

@@ -1,5 +1,5 @@
 -- A run over a reader and a writer, from the run over their source and sink.
-use Rattle.std.proofs.Common.{◌≡◌, ◌<◌, ℕ, ◌^◌, true, is_some, length, List, [], ◌∷◌, ◌++◌, refl, sym, ap, ◌∙◌, subst}
+use Rattle.std.proofs.Common.{◌≡◌, ◌<◌, ℕ, true, is_some, length, List, [], ◌∷◌, ◌++◌, refl, sym, ap, ◌∙◌, subst}
 use Rattle.std.proofs.Common.{arith, append_assoc, Option, Some, None, Ok, Err, Result, inl, inr, ⊎_elim, ◌⊎◌}
 use Rattle.std.proofs.lemmas.List.{append-nil}
 use Rattle.std.specs.Option.{option_to_list}
@@ -14,10 +14,11 @@ use Rattle.ash_serve.specs.Serving.{RequestRelation, Serving, RunState, RepliesT
 use Rattle.ash_serve.specs.Serving.{EndsBetweenRequests, Quits, run_state, serving_with}
 use Rattle.ash_serve.specs.StreamRuns.{Run, KnownState, RunEnds, ReadsPrefix, ReadsProperPrefix, ReadsAll, GoOn}
 use Rattle.ash_serve.specs.StreamRuns.{EndsWithQuit}
-use Rattle.ash_lines.specs.Reader.{left_of, allowance_of, reader_feed, reader_is_feed}
+use Rattle.ash_lines.specs.Reader.{left_of, allowance_of, max_input_bytes, reader_feed, reader_is_feed}
 use Rattle.ash_lines.specs.Writer.{writer_outlet, writer_is_outlet, appends-onward}
 use Rattle.ash_lines.specs.declared.reader.Reader.{Reader}
 use Rattle.ash_lines.specs.declared.writer.Writer.{Writer}
+use Rattle.ash_lines.specs.declared.source.ReadFault.TheVariants as read_faults
 use Rattle.ash_serve.specs.declared.fault.RunFault.{RunFault}
 use Rattle.ash_serve.specs.declared.fault.RunFault.TheVariants as faults
 use Rattle.ash_serve.proofs.ServingLemmas.{log-more, consists-more, replies-more}
@@ -56,7 +57,7 @@ abbrev pub serving-over : {R W H : Type 0} → (R → Option (List ℕ)) → (W 
 serving-over remaining contents handles = serving_with (reader_feed remaining) (writer_outlet contents) handles
 
 -- the run so far, and bytes that were read after it
-abbrev run-of : {R W H : Type 0} (remaining : R → Option (List ℕ)) (contents : W → Option (List ℕ)) (handles : RequestRelation H) (before last : RunState (Reader R) (Writer W) H) (t : Reader R) (rest : List ℕ) → allowance_of before.input ≡ 2 ^ 40 → Log (serving-over remaining contents handles) before last → (reader_feed remaining).reads last.input rest t → Run handles before.host last.host
+abbrev run-of : {R W H : Type 0} (remaining : R → Option (List ℕ)) (contents : W → Option (List ℕ)) (handles : RequestRelation H) (before last : RunState (Reader R) (Writer W) H) (t : Reader R) (rest : List ℕ) → allowance_of before.input ≡ max_input_bytes → Log (serving-over remaining contents handles) before last → (reader_feed remaining).reads last.input rest t → Run handles before.host last.host
 run-of remaining contents handles before last t rest a log took =
     let whole = (reader_is_feed remaining).onward before.input last.input t log.read rest log.took took in
     record {
@@ -70,7 +71,7 @@ run-of remaining contents handles before last t rest a log took =
     }
 
 -- the same with nothing after it
-abbrev run-nil : {R W H : Type 0} (remaining : R → Option (List ℕ)) (contents : W → Option (List ℕ)) (handles : RequestRelation H) (before last : RunState (Reader R) (Writer W) H) → allowance_of before.input ≡ 2 ^ 40 → Log (serving-over remaining contents handles) before last → Run handles before.host last.host
+abbrev run-nil : {R W H : Type 0} (remaining : R → Option (List ℕ)) (contents : W → Option (List ℕ)) (handles : RequestRelation H) (before last : RunState (Reader R) (Writer W) H) → allowance_of before.input ≡ max_input_bytes → Log (serving-over remaining contents handles) before last → Run handles before.host last.host
 run-nil remaining contents handles before last a log = record {
   read = log.read;
   lines = log.lines;
@@ -81,7 +82,7 @@ run-nil remaining contents handles before last a log = record {
   bounded = omega (arith, log.took.1, a);
 }
 
-pub run_ends : {R W H : Type 0} (remaining : R → Option (List ℕ)) (contents : W → Option (List ℕ)) (handles : RequestRelation H) (before after : RunState (Reader R) (Writer W) H) (input : Option (List ℕ)) (r : Result (Unit {0}) RunFault) → left_of remaining before.input ≡ input → allowance_of before.input ≡ 2 ^ 40 → Serves (serving-over remaining contents handles) before r after → RunEnds handles (run_state input (contents before.output.writer.now) before.host) r (contents after.output.writer.now) after.host
+pub run_ends : {R W H : Type 0} (remaining : R → Option (List ℕ)) (contents : W → Option (List ℕ)) (handles : RequestRelation H) (before after : RunState (Reader R) (Writer W) H) (input : Option (List ℕ)) (r : Result (Unit {0}) RunFault) → left_of remaining before.input ≡ input → allowance_of before.input ≡ max_input_bytes → Serves (serving-over remaining contents handles) before r after → RunEnds handles (run_state input (contents before.output.writer.now) before.host) r (contents after.output.writer.now) after.host
 run_ends {H = H} remaining contents handles before after input (Ok x) e a w =
     let last = w.0 in let log = w.1.log in
     ⊎_elim
@@ -107,12 +108,12 @@ run_ends remaining contents handles before after input (Err faults.Truncated) e 
     let whole = (reader_is_feed remaining).onward before.input last.input after.input log.read cut.rest log.took cut.took in
     let from : Consumes input (left_of remaining after.input) (log.read ++ cut.rest) = subst (λ (y : Option (List ℕ)). Consumes y (left_of remaining after.input) (log.read ++ cut.rest)) e whole.0 in
     rw (cut.host_same, cut.output_same) (run-of remaining contents handles before last after.input cut.rest a log cut.took, reads_all input (left_of remaining after.input) (log.read ++ cut.rest) from cut.ended, log.written.0, cut.cut, w.1.on)
-run_ends remaining contents handles before after input (Err faults.TooLong) e a w =
+run_ends remaining contents handles before after input (Err (faults.Read read_faults.TooLong)) e a w =
     let last = w.0 in let log = w.1.log in let f = w.2 in
     let whole = (reader_is_feed remaining).onward before.input last.input after.input log.read f.rest log.took f.faults.0 in
     let from : Consumes input (left_of remaining after.input) (log.read ++ f.rest) = subst (λ (y : Option (List ℕ)). Consumes y (left_of remaining after.input) (log.read ++ f.rest)) e whole.0 in
     rw (f.host_same, f.output_same) (run-of remaining contents handles before last after.input f.rest a log f.faults.0, reads_proper_prefix input (left_of remaining after.input) (log.read ++ f.rest) from (has-more after.input.extra (reader_remaining remaining after.input.reader) f.faults.2), log.written.0, f.unfinished, omega (arith, whole.1, a, f.faults.1), w.1.on)
-run_ends remaining contents handles before after input (Err faults.Read) e a w =
+run_ends remaining contents handles before after input (Err (faults.Read read_faults.Failed)) e a w =
     let last = w.0 in let log = w.1.log in let f = w.2 in let end = f.faults.0 in
     let whole = (reader_is_feed remaining).onward before.input last.input end log.read f.rest log.took f.faults.1 in
     let from : Consumes input (left_of remaining end) (log.read ++ f.rest) = subst (λ (y : Option (List ℕ)). Consumes y (left_of remaining end) (log.read ++ f.rest)) e whole.0 in
@@ -151,13 +152,12 @@ serves_name remaining contents handles before after (Ok x) w =
     (λ (left : Quits (serving-over remaining contents handles) w.0 after). left.written.written.1 ∙ w.1.log.written.1)
     w.2
 serves_name remaining contents handles before after (Err faults.Truncated) w = ap (λ (y : Writer _). y.writer.ghost_name) w.2.output_same ∙ w.1.log.written.1
-serves_name remaining contents handles before after (Err faults.TooLong) w = ap (λ (y : Writer _). y.writer.ghost_name) w.2.output_same ∙ w.1.log.written.1
-serves_name remaining contents handles before after (Err faults.Read) w = ap (λ (y : Writer _). y.writer.ghost_name) w.2.output_same ∙ w.1.log.written.1
+serves_name remaining contents handles before after (Err (faults.Read fault)) w = ap (λ (y : Writer _). y.writer.ghost_name) w.2.output_same ∙ w.1.log.written.1
 serves_name remaining contents handles before after (Err faults.Write) w = w.2.3.broke.1 ∙ w.1.log.written.1
 serves_name remaining contents handles before after (Err faults.NoMemory) w = ap (λ (y : Writer _). y.writer.ghost_name) w.1
 
 -- the run, where the writer is lent as `old` and ends as `new`
-pub run_writes : {R W H : Type 0} (remaining : R → Option (List ℕ)) (contents : W → Option (List ℕ)) (handles : RequestRelation H) (before after : RunState (Reader R) (Writer W) H) (input : Option (List ℕ)) (r : Result (Unit {0}) RunFault) (old new : W) → left_of remaining before.input ≡ input → allowance_of before.input ≡ 2 ^ 40 → before.output.writer.now ≡ old → (after.output.writer.ghost_name ≡ before.output.writer.ghost_name → new ≡ after.output.writer.now) → Serves (serving-over remaining contents handles) before r after → RunEnds handles (run_state input (contents old) before.host) r (contents new) after.host
+pub run_writes : {R W H : Type 0} (remaining : R → Option (List ℕ)) (contents : W → Option (List ℕ)) (handles : RequestRelation H) (before after : RunState (Reader R) (Writer W) H) (input : Option (List ℕ)) (r : Result (Unit {0}) RunFault) (old new : W) → left_of remaining before.input ≡ input → allowance_of before.input ≡ max_input_bytes → before.output.writer.now ≡ old → (after.output.writer.ghost_name ≡ before.output.writer.ghost_name → new ≡ after.output.writer.now) → Serves (serving-over remaining contents handles) before r after → RunEnds handles (run_state input (contents old) before.host) r (contents new) after.host
 run_writes remaining contents handles before after input r old new e a b f w =
     let ends = run_ends remaining contents handles before after input r e a w in
     subst (λ (y : _). RunEnds handles (run_state input (contents y) before.host) r (contents new) after.host) b
@@ -199,7 +199,7 @@ all-keep handles holds is (line ∷ lines) (line_reply ∷ replies) old new a h 
 pub run_keeps : {H : Type 0} (handles : RequestRelation H) (holds : H → Type 0) → Preserves handles holds → (before : KnownState H) (r : Result (Unit {0}) RunFault) (output : Option (List ℕ)) (host : H) → RunEnds handles before r output host → holds before.host → holds host
 run_keeps handles holds is before (Ok x) output host w h = all-keep handles holds is w.0.lines w.0.replies before.host host w.0.handled h
 run_keeps handles holds is before (Err faults.Truncated) output host w h = all-keep handles holds is w.0.lines w.0.replies before.host host w.0.handled h
-run_keeps handles holds is before (Err faults.TooLong) output host w h = all-keep handles holds is w.0.lines w.0.replies before.host host w.0.handled h
-run_keeps handles holds is before (Err faults.Read) output host w h = all-keep handles holds is w.0.lines w.0.replies before.host host w.0.handled h
+run_keeps handles holds is before (Err (faults.Read read_faults.TooLong)) output host w h = all-keep handles holds is w.0.lines w.0.replies before.host host w.0.handled h
+run_keeps handles holds is before (Err (faults.Read read_faults.Failed)) output host w h = all-keep handles holds is w.0.lines w.0.replies before.host host w.0.handled h
 run_keeps handles holds is before (Err faults.Write) output host w h = all-keep handles holds is w.0.lines w.0.replies before.host host w.0.handled h
 run_keeps handles holds is before (Err faults.NoMemory) output host w h = subst holds (sym w.0) h

@@ -24,8 +24,7 @@ by_budget feed handles b budget before after r e w = subst (λ (x : ℕ). Handle
 
 pub fault_ends : {S K H : Type 0} (serving : Serving S K H) (before after : RunState S K H) (fault : RunFault) → after.output ≡ before.output → HandlesNext (handling_of serving) (without_output before) (Err fault) (without_output after) → EndsByFault serving before fault after
 fault_ends serving before after faults.Truncated same w = record { rest = w.0; cut = w.3; took = w.1; ended = w.2; output_same = same; host_same = w.4 }
-fault_ends serving before after faults.TooLong same w = record { rest = w.0; unfinished = w.2; faults = w.1; output_same = same; host_same = w.3 }
-fault_ends serving before after faults.Read same w = record { rest = w.0; unfinished = w.2; faults = w.1; output_same = same; host_same = w.3 }
+fault_ends serving before after (faults.Read fault) same w = record { rest = w.0; unfinished = w.2; faults = w.1; output_same = same; host_same = w.3 }
 fault_ends serving before after faults.Write same w = absurd w
 fault_ends serving before after faults.NoMemory same w = absurd w
 
@@ -125,7 +124,6 @@ served-falls handling is before after line line_reply w = let c = is.counted bef
 -- the end of a run by a fault
 pub serves_fault : {S K H : Type 0} (serving : Serving S K H) (before last after : RunState S K H) (fault : RunFault) → OngoingLog serving before last → EndsByFault serving last fault after → Serves serving before (Err fault) after
 serves_fault serving before last after faults.Truncated log w = (last, log, w)
-serves_fault serving before last after faults.TooLong log w = (last, log, w)
-serves_fault serving before last after faults.Read log w = (last, log, w)
+serves_fault serving before last after (faults.Read fault) log w = (last, log, w)
 serves_fault serving before last after faults.Write log w = (last, log, w)
 serves_fault serving before last after faults.NoMemory log w = absurd w

@@ -100,13 +100,9 @@ ChecksScript streams registered before (Err (program.Run faults.Write)) after =
     (script : List ℕ) × ReadsScript streams.feed before.input script after.input
     × FailsPartway streams.outlet before.output (verdict_line (verdict_on registered script))
     after.output
-ChecksScript streams registered before (Err (program.Run faults.Read)) after =
+ChecksScript streams registered before (Err (program.Run (faults.Read fault))) after =
     (script : List ℕ) × (length script < max_prefix_bytes)
-    × Faults streams.feed before.input script read_faults.Failed after.input
-    × (after.output ≡ before.output)
-ChecksScript streams registered before (Err (program.Run faults.TooLong)) after =
-    (script : List ℕ) × (length script < max_prefix_bytes)
-    × Faults streams.feed before.input script read_faults.TooLong after.input
+    × Faults streams.feed before.input script fault after.input
     × (after.output ≡ before.output)
 ChecksScript streams registered before (Err program.NoMemory) after =
     ((after.input ≡ before.input)
@@ -134,7 +130,8 @@ ChecksFile registered before (Err (program.Run faults.Write)) output =
     (script : List ℕ) × IsScriptOf before.input script
     × (out : List ℕ) × (lost : List ℕ) × Appends before.output output out
     × (verdict_line (verdict_on registered script) ≡ out ++ lost)
-ChecksFile registered before (Err (program.Run faults.Read)) output = Keeps before.output output
+ChecksFile registered before (Err (program.Run (faults.Read read_faults.Failed))) output =
+    Keeps before.output output
 ChecksFile registered before (Err program.NoMemory) output = Keeps before.output output
 ChecksFile registered before (Err _) output = ⊥
 
@@ -156,7 +153,7 @@ EndsBy registered before status (Some (program.Run faults.Write)) output =
     (script : List ℕ) × IsScriptOf before.input script × (status ≡ 1)
     × (out : List ℕ) × (lost : List ℕ) × Appends before.output output out
     × (verdict_line (verdict_on registered script) ≡ out ++ lost)
-EndsBy registered before status (Some (program.Run faults.Read)) output =
+EndsBy registered before status (Some (program.Run (faults.Read read_faults.Failed))) output =
     (status ≡ 1) × Keeps before.output output
 EndsBy registered before status (Some program.NoMemory) output =
     (status ≡ 1) × Keeps before.output output

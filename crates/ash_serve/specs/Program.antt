@@ -2,6 +2,7 @@
 use Rattle.std.specs.Prelude.{ℕ, List, Some, None, Result, Ok, Err, codes}
 use Rattle.ash_registry.specs.Refusals as registry
 use Rattle.ash_durable.specs.StoreFaults as store
+use Rattle.ash_lines.specs.Source.{read_code}
 use Rattle.ash_serve.specs.declared.fault.RunFault.{RunFault}
 use Rattle.ash_serve.specs.declared.fault.RunFault.TheVariants as run
 use Rattle.ash_serve.specs.declared.program.ending.ProgramEnd.{ProgramEnd}
@@ -13,8 +14,7 @@ use Rattle.ash_serve.specs.declared.program.fault.ProgramFault.TheVariants.{Usag
 -- the number and the name of what ends a run
 abbrev pub run_code : RunFault → List ℕ
 run_code run.Truncated = codes "603 Truncated"
-run_code run.TooLong = codes "604 TooLong"
-run_code run.Read = codes "605 Read"
+run_code (run.Read fault) = read_code fault
 run_code run.Write = codes "606 Write"
 run_code run.NoMemory = codes "509 NoMemory"
 

@@ -12,14 +12,8 @@ use Rattle.ash_lines.specs.ReplyText.{LineReply, HostReply, QuitReply, BadReques
 use Rattle.ash_lines.specs.ReplyText.{reply_line, text_of}
 use Rattle.ash_lines.specs.declared.reply.LineReply as code
 use Rattle.ash_lines.specs.declared.source.ReadFault.{ReadFault}
-use Rattle.ash_lines.specs.declared.source.ReadFault.TheVariants as read_faults
 use Rattle.ash_serve.specs.declared.fault.RunFault.{RunFault}
 use Rattle.ash_serve.specs.declared.fault.RunFault.TheVariants as faults
-
--- a fault of the source as the fault of the run
-abbrev pub run_fault : ReadFault → RunFault
-run_fault read_faults.TooLong = faults.TooLong
-run_fault read_faults.Failed = faults.Read
 
 -- What a host of one type may do with a request, within a budget: by the request, from the host
 -- before it, to the reply and the host after it.
@@ -96,11 +90,8 @@ HandlesRequest handling before (Ok reply) after =
 HandlesRequest handling before (Err faults.Truncated) after =
     (rest : List ℕ) × handling.feed.reads before.input rest after.input
     × handling.feed.ended after.input × (next rest ≡ Cut) × (after.host ≡ before.host)
-HandlesRequest handling before (Err faults.TooLong) after =
-    (rest : List ℕ) × Faults handling.feed before.input rest read_faults.TooLong after.input
-    × (is_unfinished (next rest) ≡ true) × (after.host ≡ before.host)
-HandlesRequest handling before (Err faults.Read) after =
-    (rest : List ℕ) × Faults handling.feed before.input rest read_faults.Failed after.input
+HandlesRequest handling before (Err (faults.Read fault)) after =
+    (rest : List ℕ) × Faults handling.feed before.input rest fault after.input
     × (is_unfinished (next rest) ≡ true) × (after.host ≡ before.host)
 HandlesRequest handling before (Err faults.Write) after = ⊥
 HandlesRequest handling before (Err faults.NoMemory) after = ⊥
@@ -178,10 +169,7 @@ pub record InputFails {S K H : Type 0} (feed : Feed S) (fault : ReadFault)
 abbrev pub EndsByFault : {S K H : Type 0} → Serving S K H → RunState S K H → RunFault
     → RunState S K H → Type 0
 EndsByFault serving before faults.Truncated after = EndsInsideRequest serving.feed before after
-EndsByFault serving before faults.TooLong after =
-    InputFails serving.feed read_faults.TooLong before after
-EndsByFault serving before faults.Read after =
-    InputFails serving.feed read_faults.Failed before after
+EndsByFault serving before (faults.Read fault) after = InputFails serving.feed fault before after
 EndsByFault serving before faults.Write after =
     (line : Line) × (reply : LineReply)
     × HandlesLine (handling_of serving) (without_output before) line reply (without_output after)

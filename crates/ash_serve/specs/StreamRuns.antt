@@ -1,12 +1,14 @@
 -- A run over a reader and a writer, by their bytes alone, where these are known.
-use Rattle.std.specs.Prelude.{◌≡◌, ◌<◌, ◌≤◌, ◌⊎◌, ℕ, ◌^◌, true, List, [], ◌∷◌, ◌++◌, length, Option, Result, Ok, Err}
+use Rattle.std.specs.Prelude.{◌≡◌, ◌<◌, ◌≤◌, ◌⊎◌, ℕ, true, List, [], ◌∷◌, ◌++◌, length, Option, Result, Ok, Err}
 use Rattle.std.specs.Prelude.{IfSome}
 use Rattle.std.specs.List.{AllByRecursion}
 use Rattle.std.specs.Io.KnownBytes.{Appends, Keeps}
 use Rattle.ash_steps.specs.Requests.{Request, Reply}
 use Rattle.ash_sources.specs.SourceFaults.{SourceFault}
 use Rattle.ash_lines.specs.Lines.{Line, HostRequest, Quit, ContinuesRun, Cut, next, ConsistsOf, is_unfinished}
+use Rattle.ash_lines.specs.Reader.{max_input_bytes}
 use Rattle.ash_lines.specs.ReplyText.{LineReply, HostReply, reply_line, text_of}
+use Rattle.ash_lines.specs.declared.source.ReadFault.TheVariants as read_faults
 use Rattle.ash_serve.specs.Serving.{RequestRelation, RepliesToAll, RunState}
 use Rattle.ash_serve.specs.declared.fault.RunFault.{RunFault}
 use Rattle.ash_serve.specs.declared.fault.RunFault.TheVariants as faults
@@ -31,7 +33,7 @@ pub record Run {H : Type 0} (handles : RequestRelation H) (old new : H) : Type 0
   pub replies : List LineReply
   pub consists : ConsistsOf read lines rest
   pub handled : RepliesToAll handles old lines replies new
-  pub bounded : length read ≤ 2 ^ 40
+  pub bounded : length read ≤ max_input_bytes
 
 -- The input begins with what was read.
 abbrev pub ReadsPrefix : Option (List ℕ) → List ℕ → Type 0
@@ -74,11 +76,11 @@ RunEnds handles before (Err faults.Truncated) output host =
     (run : Run handles before.host host) × ReadsAll before.input run.read
     × Appends before.output output (text_of run.replies)
     × (next run.rest ≡ Cut) × GoOn run.lines
-RunEnds handles before (Err faults.TooLong) output host =
+RunEnds handles before (Err (faults.Read read_faults.TooLong)) output host =
     (run : Run handles before.host host) × ReadsProperPrefix before.input run.read
     × Appends before.output output (text_of run.replies)
-    × (is_unfinished (next run.rest) ≡ true) × (length run.read ≡ 2 ^ 40) × GoOn run.lines
-RunEnds handles before (Err faults.Read) output host =
+    × (is_unfinished (next run.rest) ≡ true) × (length run.read ≡ max_input_bytes) × GoOn run.lines
+RunEnds handles before (Err (faults.Read read_faults.Failed)) output host =
     (run : Run handles before.host host) × ReadsPrefix before.input run.read
     × Appends before.output output (text_of run.replies)
     × (is_unfinished (next run.rest) ≡ true) × GoOn run.lines

@@ -14,12 +14,9 @@ pub enum RunFault {
     /// The input ended inside a request; nothing was written for it.
     #[error("the input ended inside a request")]
     Truncated,
-    /// More than 2^40 bytes came.
-    #[error("more than 2^40 bytes came")]
-    TooLong,
-    /// The reader failed.
-    #[error("the input could not be read")]
-    Read,
+    /// The input could not be read: more than 2^40 bytes came, or the reader failed.
+    #[error("{0}")]
+    Read(ReadFault),
     /// The writer failed, or took no byte.
     #[error("the output could not be written")]
     Write,
@@ -35,8 +32,7 @@ impl RunFault {
     {
         match self {
             RunFault::Truncated => "603 Truncated",
-            RunFault::TooLong => "604 TooLong",
-            RunFault::Read => "605 Read",
+            RunFault::Read(fault) => fault.code(),
             RunFault::Write => "606 Write",
             RunFault::NoMemory => "509 NoMemory",
         }
@@ -44,15 +40,12 @@ impl RunFault {
 }
 
 impl From<ReadFault> for RunFault {
-    ghost use Rattle.ash_serve.specs.Serving.{run_fault};
+    ghost use Rattle.ash_serve.specs.declared.fault.RunFault.TheVariants as faults;
 
-    ghost from_gives = { λ read fault. fault ≡ run_fault read };
+    ghost from_gives = { λ fault result. result ≡ faults.Read fault };
 
     fn from(fault: ReadFault) -> Self {
-        match fault {
-            ReadFault::TooLong => RunFault::TooLong,
-            ReadFault::Failed => RunFault::Read,
-        }
+        RunFault::Read(fault)
     }
 }
 

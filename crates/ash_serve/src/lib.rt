@@ -15,4 +15,5 @@ pub mod run;
 pub mod serve;
 mod session;
 
+pub use ash_lines::source::ReadFault;
 pub use fault::RunFault;

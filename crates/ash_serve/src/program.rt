@@ -11,6 +11,7 @@ pub mod task;
 use crate::fault::RunFault;
 use ash_disk::MemoryDisk;
 use ash_durable::Host;
+use ash_lines::source::ReadFault;
 use check::run_check;
 use ending::{Ending, ProgramEnd};
 use fault::ProgramFault;
@@ -133,6 +134,6 @@ fn check_path<R: Files<File = File> + Print + AllocGlobal>(
 fn open_fault(error: io::Error) -> ProgramFault {
     match error.kind() {
         io::ErrorKind::OutOfMemory => ProgramFault::NoMemory,
-        _ => ProgramFault::Run(RunFault::Read),
+        _ => ProgramFault::Run(RunFault::Read(ReadFault::Failed)),
     }
 }

@@ -24,8 +24,8 @@ pub(crate) const MAX_BUFFERED_BYTES: usize = 8192;
 /// Reads requests, has the host handle each with this budget in ticks, and writes each reply, flushed, before the next
 /// request is read. Ends at the end of the input between two requests, or when the reply to `quit` is written.
 ///
-/// `Truncated` where the input ends inside a request, `TooLong` past 2^40 bytes, `Read` and `Write` where the
-/// reader or the writer fails, `NoMemory` where there is none for the buffers; no other memory is taken. However it
+/// `Truncated` where the input ends inside a request, `Read(TooLong)` past 2^40 bytes, `Read(Failed)` and `Write` where
+/// the reader or the writer fails, `NoMemory` where there is none for the buffers; no other memory is taken. However it
 /// ends, the files of a host that runs hold its state afterwards, if they did before, and every life of its store goes
 /// on: each request of which a byte of the answer was written is in every image that a crash may leave.
 #[tactic(auto, using(crate::proofs::DefinedLemmas::replies_run, crate::proofs::DefinedLemmas::replies_live))]

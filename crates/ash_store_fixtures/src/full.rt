@@ -2,6 +2,7 @@
 
 use crate::files::{ImageModule, add_record, generation, image};
 use crate::hosts::SOURCE;
+use ash_lex::MAX_SOURCE_BYTES;
 use std::alloc::{AllocError, Global};
 
 /// How long the shortest source of the last of 16 records is, of whose modules the others have as long sources as there
@@ -12,12 +13,6 @@ use std::alloc::{AllocError, Global};
 /// makes 15,731,085, and the last, of a module with 45 bytes of source and one global, 6 + 87. Of the 1,046,038 bytes
 /// that are left, 163 are not those of sources, and 15 * 65,536 = 983,040 are those of the others.
 pub const AT_THE_LIMIT: usize = 62_835;
-
-/// As many bytes of records as there are in such a file.
-pub const FULL_RECORD_BYTES: u64 = 16_777_216;
-
-/// The most bytes of a source.
-const MAX_SOURCE_BYTES: usize = 65_536;
 
 static NAMES: [&str; 16] = [
     "A", "B", "C", "D", "E", "F", "G", "H", "I", "J", "K", "L", "M", "N", "O", "P",

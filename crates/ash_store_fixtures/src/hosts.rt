@@ -30,7 +30,7 @@ pub static EMPTY: [u8; 51] = [
 /// How many ticks a request has.
 const BUDGET: u64 = 1000;
 
-/// The most bytes of a line that are buffered.
+/// The most bytes of a line that are buffered, chosen to be as many as `ash_serve` buffers, which is above this crate.
 const MAX_BUFFERED_BYTES: usize = 8192;
 
 /// A value, written out.

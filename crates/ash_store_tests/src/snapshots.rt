@@ -3,10 +3,10 @@
 
 use crate::checks::{RunSeries, check, check_bytes, check_calls, check_lives, check_text};
 use ash_disk::{MemoryDisk, Survives};
-use ash_durable::Host;
+use ash_durable::{FULL_RECORD_BYTES, Host};
 use ash_registry::Registry;
 use ash_store_fixtures::files::{ImageModule, add_record, generation, image};
-use ash_store_fixtures::full::{AT_THE_LIMIT, FULL_RECORD_BYTES, full_file, spaces};
+use ash_store_fixtures::full::{AT_THE_LIMIT, full_file, spaces};
 use ash_store_fixtures::hosts::{
     EMPTY, closed, discard, disk, found_state, image_after, load, need, new_host, opened,
 };

@@ -3,10 +3,10 @@
 use crate::hosts::{check, check_text, closed, ending, new_host, opened, replies};
 use ash_disk::{MemoryDisk, Survives};
 use ash_registry::Registry;
-use ash_serve::RunFault;
 use ash_serve::program::check::run_check;
 use ash_serve::program::fault::ProgramFault;
 use ash_serve::program::service::{Service, ServiceEnd, serve_stored};
+use ash_serve::{ReadFault, RunFault};
 use std::alloc::Global;
 use std::io;
 use std::io::{ErrorKind, Read, Write};
@@ -129,7 +129,7 @@ fn check_reads(rt: &impl Abort, alloc: Global, left: usize) -> Result<(), Fail> 
     let mut written = Vec::new(alloc);
     let reader = Failing { bytes: INPUT, left };
     let found = ending(alloc, reader, &mut written, &mut host, 1000);
-    check_prefix(rt, left, found, RunFault::Read, &written);
+    check_prefix(rt, left, found, RunFault::Read(ReadFault::Failed), &written);
     Ok(())
 }
 
@@ -211,8 +211,8 @@ fn an_answer_of_which_a_byte_was_written_is_found(rt: HostRuntime) -> Result<(),
 
 static NUMBERED: [(RunFault, &str); 5] = [
     (RunFault::Truncated, "603 Truncated"),
-    (RunFault::TooLong, "604 TooLong"),
-    (RunFault::Read, "605 Read"),
+    (RunFault::Read(ReadFault::TooLong), "604 TooLong"),
+    (RunFault::Read(ReadFault::Failed), "605 Read"),
     (RunFault::Write, "606 Write"),
     (RunFault::NoMemory, "509 NoMemory"),
 ];
@@ -226,7 +226,12 @@ fn a_check_whose_file_or_line_fails(rt: HostRuntime) -> Result<(), Fail> {
     };
     let mut written = Vec::new(rt.alloc());
     let end = run_check(rt.alloc(), &registry, unread, &mut written);
-    assert!(rt; matches!(end.fault, Some(ProgramFault::Run(RunFault::Read))));
+    assert!(rt;
+        matches!(
+            end.fault,
+            Some(ProgramFault::Run(RunFault::Read(ReadFault::Failed)))
+        )
+    );
     assert_eq!(rt; end.status, 1);
     assert!(rt; written.is_empty());
     let mut refusing = Refusing {

@@ -6,7 +6,6 @@ ghost use Rattle.ash_serve.specs.CheckRun.{Judges, WritesVerdict, check_state, s
 
 use super::ending::{Ending, ProgramEnd};
 use super::fault::ProgramFault;
-use crate::fault::RunFault;
 use crate::run::MAX_BUFFERED_BYTES;
 use ash_lines::bytes::{MAX_PREFIX_BYTES, read_bytes};
 use ash_lines::reader::Reader;
@@ -41,8 +40,8 @@ pub fn run_check<R: Read + Drop, W: Write>(
 /// Checks the script that a reader gives, with this registry, and writes a line: `ok`, or its refusal as the reply to a
 /// `load` has it. The first 65,537 bytes are judged.
 ///
-/// `Run(Read)` where the reader fails among them, `Run(Write)` where the writer fails, `NoMemory` where there is none
-/// for the buffers or for the check. Nothing is written but the line; of that a prefix where the writer fails.
+/// `Run(Read(Failed))` where the reader fails among them, `Run(Write)` where the writer fails, `NoMemory` where there
+/// is none for the buffers or for the check. Nothing is written but the line; of that a prefix where the writer fails.
 pub fn check_file<R: Read + Drop, W: Write>(
     alloc: Global,
     registry: &Registry,
@@ -63,8 +62,8 @@ pub fn check_file<R: Read + Drop, W: Write>(
     result
 }
 
-/// Checks the script that a source gives, and writes the verdict as a line. `Run(Read)` is returned only where the
-/// source has failed, and `Run(Write)` only where the sink has.
+/// Checks the script that a source gives, and writes the verdict as a line. `Run(Read(Failed))` is returned only where
+/// the source has failed, and `Run(Write)` only where the sink has.
 pub fn check_script<S: Source, K: Sink>(
     alloc: Global,
     registry: &Registry,
@@ -75,13 +74,9 @@ pub fn check_script<S: Source, K: Sink>(
         (check_state input.old output.old) result (check_state input.new output.new) }
 {
     let mut script = Vec::with_capacity(alloc, MAX_PREFIX_BYTES)?;
-    match read_bytes(input, MAX_SCRIPT_BYTES, &mut script) {
-        Err(fault) => Err(ProgramFault::Run(RunFault::from(fault))),
-        Ok(_) => {
-            let verdict = judge(alloc, registry, script.as_slice())?;
-            write_verdict(output, &verdict)
-        }
-    }
+    read_bytes(input, MAX_SCRIPT_BYTES, &mut script)?;
+    let verdict = judge(alloc, registry, script.as_slice())?;
+    write_verdict(output, &verdict)
 }
 
 /// Why this source is refused, if it is.
@@ -110,8 +105,6 @@ fn write_verdict<K: Sink>(
         None => (write_line(output, b"ok"), Ending::Well),
         Some(fault) => (write_fault_line(output, fault), Ending::Refused),
     };
-    match written {
-        Ok(()) => Ok(ending),
-        Err(_) => Err(ProgramFault::Run(RunFault::Write)),
-    }
+    written?;
+    Ok(ending)
 }

@@ -5,6 +5,8 @@ ghost use Rattle.ash_serve.specs.Program.{code_of, status_of};
 
 use crate::fault::RunFault;
 use ash_durable::{HostRefused, StoreFault};
+use ash_lines::sink::WriteFault;
+use ash_lines::source::ReadFault;
 use ash_registry::RegistryFault;
 use std::alloc::AllocError;
 use thiserror::Error;
@@ -64,6 +66,28 @@ impl From<AllocError> for ProgramFault {
 
     fn from(_: AllocError) -> Self {
         ProgramFault::NoMemory
+    }
+}
+
+impl From<ReadFault> for ProgramFault {
+    ghost use Rattle.ash_serve.specs.declared.fault.RunFault.TheVariants as run;
+    ghost use Rattle.ash_serve.specs.declared.program.fault.ProgramFault.TheVariants as faults;
+
+    ghost from_gives = { λ fault result. result ≡ faults.Run (run.Read fault) };
+
+    fn from(fault: ReadFault) -> Self {
+        ProgramFault::Run(RunFault::Read(fault))
+    }
+}
+
+impl From<WriteFault> for ProgramFault {
+    ghost use Rattle.ash_serve.specs.declared.fault.RunFault.TheVariants as run;
+    ghost use Rattle.ash_serve.specs.declared.program.fault.ProgramFault.TheVariants as faults;
+
+    ghost from_gives = { λ _ result. result ≡ faults.Run run.Write };
+
+    fn from(_: WriteFault) -> Self {
+        ProgramFault::Run(RunFault::Write)
     }
 }
 

@@ -1,15 +1,13 @@
 //! What the words of a command line ask for.
 
 use super::fault::ProgramFault;
+use ash_lines::MAX_DIGITS;
 use clap::error::ErrorKind;
 use clap::{Arg, ArgAction, ArgMatches, Command};
 use std::alloc::{AllocError, Global};
 
 /// The most host objects of the kind Counter that may be asked for.
 const MAX_COUNTERS: u64 = 4096;
-
-/// The most digits of an option's number.
-const MAX_DIGITS: usize = 20;
 
 /// What the words of a command line ask for.
 #[derive(Clone, Copy, Debug)]
