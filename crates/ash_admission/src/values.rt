@@ -101,10 +101,7 @@ fn after_values<'a>(
 {
     let mut rest = words;
     for variable in variables {
-        match after_value(loaded, objects, variable.of, rest) {
-            Some(more) => rest = more,
-            None => return None,
-        }
+        rest = after_value(loaded, objects, variable.of, rest)?;
     }
     Some(rest)
 }

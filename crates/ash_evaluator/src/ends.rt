@@ -198,8 +198,6 @@ fn no_value(run: RunResult<()>) -> RunResult<Option<Word>>
     ensures { (p : Progress (Unit {0})) (activity : ActivityData) → RunsAs (λ _. tt) run activity p
         → RunsAs (λ v. v) result activity (without_value p) }
 {
-    match run {
-        Ok(()) => Ok(None),
-        Err(error) => Err(error),
-    }
+    run?;
+    Ok(None)
 }

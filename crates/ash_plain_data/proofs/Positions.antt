@@ -1,4 +1,4 @@
--- The first element that passes a test, found from the front.
+-- The first element that passes a test, found from the beginning.
 use Rattle.std.proofs.Common.{◌≡◌, ◌<◌, ◌≤◌, ℕ, suc, Bool, List, Some, None, ap, map, arith, cond, ◌-◌, ◌+◌}
 use Rattle.std.specs.List.{position, position_from, range_with_len}
 use Rattle.std.proofs.lemmas.Iterator.Adapters.{position_from-zero}

@@ -229,10 +229,8 @@ fn implementation_in(tree: &Module, class: usize, interface: usize) -> Option<&I
     ensures { option_map (λ i. implementation_of i.now) result
         ≡ implementation_in (module_of tree.now) class interface }
 {
-    match tree.classes.get(class) {
-        Some(class) => find_implementation(&class.interfaces, interface),
-        None => None,
-    }
+    let class = tree.classes.get(class)?;
+    find_implementation(&class.interfaces, interface)
 }
 
 fn find_implementation(all: &[Implementation], interface: usize) -> Option<&Implementation>
@@ -251,10 +249,8 @@ fn find_implementation(all: &[Implementation], interface: usize) -> Option<&Impl
 pub fn implemented(tree: &Module, interface: usize, method: usize, class: usize) -> Option<usize>
     ensures method { result ≡ implemented (module_of tree.now) interface method class }
 {
-    match implementation_in(tree, class, interface) {
-        Some(implementation) => implementation.methods.get(method).copied(),
-        None => None,
-    }
+    let implementation = implementation_in(tree, class, interface)?;
+    implementation.methods.get(method).copied()
 }
 
 /// Whether the objects of a class are of this type.

@@ -5,18 +5,23 @@ ghost use Rattle.ash_plain_data.specs.declared.run_error.RunError.TheVariants.{N
 
 use ash_phrases::Exception;
 use std::alloc::{AllocError, AllocFailed};
+use thiserror::Error;
 
 /// Why a run of the code ends before it has its value.
-#[derive(Clone, Copy, Debug)]
+#[derive(Clone, Copy, Debug, Error)]
 pub enum RunError {
     /// The script raised an exception.
+    #[error("the script raised an exception")]
     Raising(Exception),
     /// A tick was to be taken where none was left.
+    #[error("no tick was left for the next step")]
     OutOfTicks,
     /// The meaning has no step: no host answer is left, or the next is of another call, or something is named that is
     /// not there.
+    #[error("the meaning of the script has no step here")]
     NoStep,
     /// Memory ran out.
+    #[error("memory ran out")]
     NoMemory,
 }
 

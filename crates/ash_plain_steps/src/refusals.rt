@@ -78,14 +78,12 @@ fn calling<S: SourceReader>(
     let Some(loaded) = state.modules.get(module) else {
         return Err(Refusal::NoModule);
     };
-    match call_in::<S>(state.alloc, &loaded.tree, function, arguments) {
-        Ok((function, args)) => Ok(Task::Invoke(Invocation {
-            module,
-            function,
-            args,
-        })),
-        Err(refusal) => Err(refusal),
-    }
+    let (function, args) = call_in::<S>(state.alloc, &loaded.tree, function, arguments)?;
+    Ok(Task::Invoke(Invocation {
+        module,
+        function,
+        args,
+    }))
 }
 
 /// Refused with, in this order, `SequenceSpent` and `NoModule`.

@@ -166,11 +166,13 @@ pub struct Step<F: Drop> {
 }
 
 /// Why a request comes to no step.
-#[derive(Clone, Copy, Debug)]
+#[derive(Clone, Copy, Debug, Error)]
 pub enum StepError {
     /// The definitions have no step: hosts gave no answer to a call of the run, or one to another call.
+    #[error("the hosts gave no answer to a call of the run, or one to another call")]
     NoStep,
     /// Memory was refused.
+    #[error("memory was refused")]
     NoMemory,
 }
 

@@ -1,4 +1,6 @@
-//! The limits of an image that no crate below names. Those of the live objects are `ash_host`'s.
+//! The limits of an image that no crate below names. Those of the live objects are `ash_host`'s. They are part of the
+//! stored format: where the language has such a limit too, it is named again here, so that the bytes of a store mean the
+//! same when the language's changes.
 
 /// The most bytes of the text of what is registered.
 pub const MAX_REGISTERED_TEXT_BYTES: usize = 1_048_576;

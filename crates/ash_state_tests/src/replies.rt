@@ -1,5 +1,6 @@
 //! Replies as the program writes them, and events.
 
+use ash_check::ScriptFault;
 use ash_evaluator::ends::End;
 use ash_host::{Event, Target, Word};
 use ash_lex::LexFault;
@@ -147,8 +148,8 @@ fn write_fault(out: &mut String, fault: &SourceFault) -> Result<(), AllocError> 
     match fault {
         SourceFault::Lexical(fault) => write_lexical(out, *fault),
         SourceFault::Syntactic(fault) => write_syntactic(out, *fault),
-        SourceFault::Broken(fault) => write!(out, " {}", fault.at),
-        SourceFault::Cyclic(names) => write_names(out, names.0.as_slice()),
+        SourceFault::Checked(ScriptFault::Broken(fault)) => write!(out, " {}", fault.at),
+        SourceFault::Checked(ScriptFault::Cyclic(names)) => write_names(out, names.0.as_slice()),
         SourceFault::NotYet => Ok(()),
     }
 }

@@ -1,6 +1,22 @@
 //! Comparisons that say what was compared, each in one place, so that the tests that make them are proved quickly.
 
+use ash_state_image::stored::StoredImage;
 use std::process::Abort;
+
+/// What bytes are read as.
+#[derive(Clone, Copy, Debug, PartialEq, Eq)]
+pub(crate) enum ReadAs {
+    Image,
+    Nothing,
+}
+
+/// What was read.
+pub(crate) fn read_as(found: &Option<StoredImage>) -> ReadAs {
+    match found {
+        Some(_) => ReadAs::Image,
+        None => ReadAs::Nothing,
+    }
+}
 
 /// Compares a text with the one that is wanted.
 pub(crate) fn check_text(rt: &impl Abort, found: &str, wanted: &str, what: &str) {
@@ -20,6 +36,13 @@ pub(crate) fn check_bytes(rt: &impl Abort, found: &[u8], wanted: &[u8], what: &s
 pub(crate) fn check_count(rt: &impl Abort, found: usize, wanted: usize, what: &str) {
     if found != wanted {
         panic!(rt; "{what}: found {found}, wanted {wanted}");
+    }
+}
+
+/// Compares what bytes are read as with what is wanted.
+pub(crate) fn check_read_as(rt: &impl Abort, found: ReadAs, wanted: ReadAs, what: &str) {
+    if found != wanted {
+        panic!(rt; "{what}: found {found:?}, wanted {wanted:?}");
     }
 }
 

@@ -1,6 +1,6 @@
 //! Images at their limits, and one step past these.
 
-use crate::stored::compare::check_true;
+use crate::stored::compare::{ReadAs, check_read_as, read_as};
 use crate::stored::images::{ONE, TWO};
 use ash_state_image::image::read_image;
 use std::alloc::{AllocError, Global};
@@ -8,19 +8,31 @@ use std::process::Abort;
 use std::test::Fail;
 
 /// An image that is made up: what it is called, the length of its text, how many spaces there are, how many modules of
-/// one letter each, from `A` on, and whether it is one.
-type MadeUp = (&'static str, u32, usize, u8, bool);
+/// one letter each, from `A` on, and what it is read as.
+type MadeUp = (&'static str, u32, usize, u8, ReadAs);
 
 const MADE_UP: [MadeUp; 7] = [
-    ("a text at its limit", 1_048_576, 1_048_576, 0, true),
-    ("a text beyond its limit", 1_048_577, 1_048_577, 0, false),
+    (
+        "a text at its limit",
+        1_048_576,
+        1_048_576,
+        0,
+        ReadAs::Image,
+    ),
+    (
+        "a text beyond its limit",
+        1_048_577,
+        1_048_577,
+        0,
+        ReadAs::Nothing,
+    ),
     // A length that is one byte more, and one less, than there is.
-    ("a length of 4 and 3 spaces", 4, 3, 0, false),
-    ("a length of 3 and 4 spaces", 3, 4, 0, false),
-    ("a length of 3 and 3 spaces", 3, 3, 0, true),
+    ("a length of 4 and 3 spaces", 4, 3, 0, ReadAs::Nothing),
+    ("a length of 3 and 4 spaces", 3, 4, 0, ReadAs::Nothing),
+    ("a length of 3 and 3 spaces", 3, 3, 0, ReadAs::Image),
     // As many modules as a host has, and one more.
-    ("16 modules", 0, 0, 16, true),
-    ("17 modules", 0, 0, 17, false),
+    ("16 modules", 0, 0, 16, ReadAs::Image),
+    ("17 modules", 0, 0, 17, ReadAs::Nothing),
 ];
 
 /// The image of a state before any request, whose text is so many spaces, with a length of its own, and so many modules
@@ -39,11 +51,22 @@ fn made_up(alloc: Global, version: &[u8], row: &MadeUp) -> Result<Vec<u8>, Alloc
     Ok(image)
 }
 
+/// Compares what bytes are read as.
+fn check_image(
+    rt: &impl Abort,
+    alloc: Global,
+    image: &[u8],
+    wanted: ReadAs,
+    what: &str,
+) -> Result<(), Fail> {
+    check_read_as(rt, read_as(&read_image(alloc, image)?), wanted, what);
+    Ok(())
+}
+
 fn check_made_up(rt: &impl Abort, alloc: Global, row: &MadeUp) -> Result<(), Fail> {
     for version in [ONE, TWO] {
         let image = made_up(alloc, version, row)?;
-        let found = read_image(alloc, &image)?.is_some();
-        check_true(rt, found == row.4, row.0);
+        check_image(rt, alloc, &image, row.4, row.0)?;
     }
     Ok(())
 }
@@ -69,21 +92,20 @@ fn one_module(alloc: Global, spaces: u32, globals: u16) -> Result<Vec<u8>, Alloc
     Ok(image)
 }
 
-/// A module: what it is called, the length of its source, how many globals it has, and whether it is in an image.
-type Sized = (&'static str, u32, u16, bool);
+/// A module: what it is called, the length of its source, how many globals it has, and what its image is read as.
+type Sized = (&'static str, u32, u16, ReadAs);
 
 const SIZED: [Sized; 4] = [
-    ("a source at its limit", 65_536, 0, true),
-    ("a source beyond its limit", 65_537, 0, false),
-    ("256 globals", 0, 256, true),
-    ("257 globals", 0, 257, false),
+    ("a source at its limit", 65_536, 0, ReadAs::Image),
+    ("a source beyond its limit", 65_537, 0, ReadAs::Nothing),
+    ("256 globals", 0, 256, ReadAs::Image),
+    ("257 globals", 0, 257, ReadAs::Nothing),
 ];
 
 fn check_sized(rt: &impl Abort, alloc: Global, row: Sized) -> Result<(), Fail> {
-    let (what, spaces, globals, is_one) = row;
+    let (what, spaces, globals, wanted) = row;
     let image = one_module(alloc, spaces, globals)?;
-    check_true(rt, read_image(alloc, &image)?.is_some() == is_one, what);
-    Ok(())
+    check_image(rt, alloc, &image, wanted, what)
 }
 
 #[test]
@@ -91,18 +113,6 @@ fn sources_and_globals_at_their_limits(rt: HostRuntime) -> Result<(), Fail> {
     for row in &SIZED {
         check_sized(&rt, rt.alloc(), *row)?;
     }
-    Ok(())
-}
-
-/// Compares whether bytes are an image.
-fn check_is_image(
-    rt: &impl Abort,
-    alloc: Global,
-    image: &[u8],
-    is_one: bool,
-    what: &str,
-) -> Result<(), Fail> {
-    check_true(rt, read_image(alloc, image)?.is_some() == is_one, what);
     Ok(())
 }
 
@@ -127,52 +137,52 @@ fn one_object(alloc: Global, object: &[u8]) -> Result<Vec<u8>, AllocError> {
     Ok(image)
 }
 
-/// An object: what it is called, its bytes up to how many parts it has, that number, each part, and whether it is in an
-/// image.
-type Filled = (&'static str, &'static [u8], usize, &'static [u8], bool);
+/// An object: what it is called, its bytes up to how many parts it has, that number, each part, and what its image is
+/// read as.
+type Filled = (&'static str, &'static [u8], usize, &'static [u8], ReadAs);
 
 const FILLED: [Filled; 6] = [
     // Fields that are null, elements of `int`, and the state of a host object.
-    ("32 fields", &[1, 0, 0, 0, 32], 32, &[5], true),
-    ("33 fields", &[1, 0, 0, 0, 33], 33, &[5], false),
+    ("32 fields", &[1, 0, 0, 0, 32], 32, &[5], ReadAs::Image),
+    ("33 fields", &[1, 0, 0, 0, 33], 33, &[5], ReadAs::Nothing),
     (
         "4,096 elements",
         &[3, 1, 0x00, 0x10],
         4096,
         &[1, 0, 0, 0, 0],
-        true,
+        ReadAs::Image,
     ),
     (
         "4,097 elements",
         &[3, 1, 0x01, 0x10],
         4097,
         &[1, 0, 0, 0, 0],
-        false,
+        ReadAs::Nothing,
     ),
     (
         "a state of 1,024 bytes",
         &[2, 1, 0, 0x00, 0x04],
         1024,
         &[0],
-        true,
+        ReadAs::Image,
     ),
     (
         "a state of 1,025 bytes",
         &[2, 1, 0, 0x01, 0x04],
         1025,
         &[0],
-        false,
+        ReadAs::Nothing,
     ),
 ];
 
 fn check_filled(rt: &impl Abort, alloc: Global, row: Filled) -> Result<(), Fail> {
-    let (what, first, count, part, is_one) = row;
+    let (what, first, count, part, wanted) = row;
     let mut object = Vec::from_slice(alloc, first)?;
     for _ in 0..count {
         object.extend_from_slice(part)?;
     }
     let image = one_object(alloc, &object)?;
-    check_is_image(rt, alloc, &image, is_one, what)
+    check_image(rt, alloc, &image, wanted, what)
 }
 
 #[test]
@@ -224,29 +234,32 @@ fn services(alloc: Global, count: u8) -> Result<Vec<u8>, AllocError> {
     Ok(image)
 }
 
-/// Objects in an array: what they are called, how many there are, and whether they are in an image.
-type Objects = (&'static str, u16, bool);
+/// Objects in an array: what they are called, how many there are, and what their image is read as.
+type Objects = (&'static str, u16, ReadAs);
 
 const OBJECTS: [Objects; 2] = [
-    ("4,096 objects", 4096, true),
-    ("4,097 objects", 4097, false),
+    ("4,096 objects", 4096, ReadAs::Image),
+    ("4,097 objects", 4097, ReadAs::Nothing),
 ];
 
 fn check_objects(rt: &impl Abort, alloc: Global, row: Objects) -> Result<(), Fail> {
-    let (what, count, is_one) = row;
+    let (what, count, wanted) = row;
     let image = objects_in_an_array(alloc, count)?;
-    check_is_image(rt, alloc, &image, is_one, what)
+    check_image(rt, alloc, &image, wanted, what)
 }
 
-/// Services: what they are called, how many there are, and whether they are in an image.
-type Services = (&'static str, u8, bool);
+/// Services: what they are called, how many there are, and what their image is read as.
+type Services = (&'static str, u8, ReadAs);
 
-const SERVICES: [Services; 2] = [("16 services", 16, true), ("17 services", 17, false)];
+const SERVICES: [Services; 2] = [
+    ("16 services", 16, ReadAs::Image),
+    ("17 services", 17, ReadAs::Nothing),
+];
 
 fn check_services(rt: &impl Abort, alloc: Global, row: Services) -> Result<(), Fail> {
-    let (what, count, is_one) = row;
+    let (what, count, wanted) = row;
     let image = services(alloc, count)?;
-    check_is_image(rt, alloc, &image, is_one, what)
+    check_image(rt, alloc, &image, wanted, what)
 }
 
 #[test]

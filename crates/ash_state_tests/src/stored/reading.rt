@@ -1,6 +1,6 @@
 //! What images depict, and what the bodies of records lead to.
 
-use crate::stored::compare::{check_bytes, check_text};
+use crate::stored::compare::{ReadAs, check_bytes, check_text, read_as};
 use crate::stored::encoding::encoded;
 use crate::stored::images::{
     EACH_WORD, LOADED, MODULE_A, MODULE_B, NOTHING, ONE, ONE_MODULE, ONE_SERVICE, Parts,
@@ -179,12 +179,12 @@ fn check_body(
     rt: &impl Abort,
     alloc: Global,
     bytes: &[u8],
-    is_one: bool,
+    wanted: ReadAs,
     what: (&str, usize),
 ) -> Result<(), Fail> {
-    let found = read_body(alloc, bytes)?.is_some();
-    if found != is_one {
-        panic!(rt; "{} {}: found {found}, wanted {is_one}", what.0, what.1);
+    let found = read_as(&read_body(alloc, bytes)?);
+    if found != wanted {
+        panic!(rt; "{} {}: found {found:?}, wanted {wanted:?}", what.0, what.1);
     }
     Ok(())
 }
@@ -194,13 +194,12 @@ fn bodies_with_another_tag(rt: HostRuntime) -> Result<(), Fail> {
     let image = image(rt.alloc(), TWO, ONE_MODULE)?;
     for tag in 0..=255 {
         let body = with_tag(rt.alloc(), tag, &image)?;
-        check_body(
-            &rt,
-            rt.alloc(),
-            &body,
-            tag == 1,
-            ("the tag", usize::from(tag)),
-        )?;
+        let wanted = match tag {
+            1 => ReadAs::Image,
+            _ => ReadAs::Nothing,
+        };
+        let what = ("the tag", usize::from(tag));
+        check_body(&rt, rt.alloc(), &body, wanted, what)?;
     }
     Ok(())
 }
@@ -213,7 +212,7 @@ fn bodies_that_are_cut_and_longer(rt: HostRuntime) -> Result<(), Fail> {
         &rt,
         alloc,
         &image,
-        false,
+        ReadAs::Nothing,
         ("an image alone, of bytes", image.len()),
     )?;
     let mut longer = with_tag(alloc, 1, &image)?;
@@ -221,7 +220,11 @@ fn bodies_that_are_cut_and_longer(rt: HostRuntime) -> Result<(), Fail> {
     // Of 38 bytes it is the body.
     for length in 0..=longer.len() {
         let bytes = longer.get(..length).unwrap_or_default();
-        check_body(&rt, alloc, bytes, length == 38, ("a body of bytes", length))?;
+        let wanted = match length {
+            38 => ReadAs::Image,
+            _ => ReadAs::Nothing,
+        };
+        check_body(&rt, alloc, bytes, wanted, ("a body of bytes", length))?;
     }
     // A body is no image, though its tag is the number of a version.
     let body = longer.get(..38).unwrap_or_default();

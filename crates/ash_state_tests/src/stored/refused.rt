@@ -1,6 +1,6 @@
 //! Bytes that are the image of nothing, each for one reason, and some that are nearly so.
 
-use crate::stored::compare::check_true;
+use crate::stored::compare::{ReadAs, check_read_as, read_as};
 use crate::stored::images::{
     DANGLING, EACH_WORD, MODULE_A, MODULE_B, NOTHING, ONE, ONE_MODULE, ONE_SERVICE, Parts,
     THREE_TAGS, TWO, TWO_TAGS, image, modules, with_byte, with_tag,
@@ -35,27 +35,27 @@ fn changed(alloc: Global, bytes: &[u8], change: Change) -> Result<Vec<u8>, Alloc
     Ok(changed)
 }
 
-/// Compares whether bytes are an image, and whether they are a body after the tag 1.
+/// Compares what bytes are read as, and what a body is read as that has them after the tag 1.
 fn check_both(
     rt: &impl Abort,
     alloc: Global,
     bytes: &[u8],
-    is_one: bool,
+    wanted: ReadAs,
     what: &str,
 ) -> Result<(), Fail> {
-    check_true(rt, read_image(alloc, bytes)?.is_some() == is_one, what);
+    check_read_as(rt, read_as(&read_image(alloc, bytes)?), wanted, what);
     let body = with_tag(alloc, 1, bytes)?;
-    check_true(rt, read_body(alloc, &body)?.is_some() == is_one, what);
+    check_read_as(rt, read_as(&read_body(alloc, &body)?), wanted, what);
     Ok(())
 }
 
-/// Bytes: what they are called, a version, what follows it, what is done to that, and whether they are an image then.
-type Row = (&'static str, &'static [u8], Parts, Change, bool);
+/// Bytes: what they are called, a version, what follows it, what is done to that, and what they are read as then.
+type Row = (&'static str, &'static [u8], Parts, Change, ReadAs);
 
 fn check_row(rt: &impl Abort, alloc: Global, row: &Row) -> Result<(), Fail> {
-    let (what, version, rest, change, is_one) = *row;
+    let (what, version, rest, change, wanted) = *row;
     let bytes = changed(alloc, &image(alloc, version, rest)?, change)?;
-    check_both(rt, alloc, &bytes, is_one, what)
+    check_both(rt, alloc, &bytes, wanted, what)
 }
 
 fn check_rows(rt: &impl Abort, alloc: Global, rows: &[Row]) -> Result<(), Fail> {
@@ -66,44 +66,86 @@ fn check_rows(rt: &impl Abort, alloc: Global, rows: &[Row]) -> Result<(), Fail> 
 }
 
 const FRAMES: [Row; 14] = [
-    ("no bytes", b"", &[], Change::Same, false),
-    ("the version 0", b"\x00\x00", NOTHING, Change::Same, false),
-    ("the version 1", ONE, NOTHING, Change::Same, true),
-    ("the version 2", TWO, NOTHING, Change::Same, true),
-    ("the version 3", b"\x03\x00", NOTHING, Change::Same, false),
-    ("the version 258", b"\x02\x01", NOTHING, Change::Same, false),
-    ("a byte less", TWO, EACH_WORD, Change::Cut(69), false),
-    ("a byte more", TWO, NOTHING, Change::More(&[0]), false),
+    ("no bytes", b"", &[], Change::Same, ReadAs::Nothing),
+    (
+        "the version 0",
+        b"\x00\x00",
+        NOTHING,
+        Change::Same,
+        ReadAs::Nothing,
+    ),
+    ("the version 1", ONE, NOTHING, Change::Same, ReadAs::Image),
+    ("the version 2", TWO, NOTHING, Change::Same, ReadAs::Image),
+    (
+        "the version 3",
+        b"\x03\x00",
+        NOTHING,
+        Change::Same,
+        ReadAs::Nothing,
+    ),
+    (
+        "the version 258",
+        b"\x02\x01",
+        NOTHING,
+        Change::Same,
+        ReadAs::Nothing,
+    ),
+    (
+        "a byte less",
+        TWO,
+        EACH_WORD,
+        Change::Cut(69),
+        ReadAs::Nothing,
+    ),
+    (
+        "a byte more",
+        TWO,
+        NOTHING,
+        Change::More(&[0]),
+        ReadAs::Nothing,
+    ),
     (
         "an image more",
         TWO,
         NOTHING,
         Change::More(b"\x02\x00"),
-        false,
+        ReadAs::Nothing,
     ),
-    ("a handle to no object", TWO, DANGLING, Change::Same, false),
+    (
+        "a handle to no object",
+        TWO,
+        DANGLING,
+        Change::Same,
+        ReadAs::Nothing,
+    ),
     // The truth value is neither 0 nor 1, and then its tag is no tag.
     (
         "the truth value 2",
         TWO,
         EACH_WORD,
         Change::Byte(36, 2),
-        false,
+        ReadAs::Nothing,
     ),
-    ("the tag 7", TWO, EACH_WORD, Change::Byte(35, 7), false),
+    (
+        "the tag 7",
+        TWO,
+        EACH_WORD,
+        Change::Byte(35, 7),
+        ReadAs::Nothing,
+    ),
     (
         "a byte that begins no character",
         TWO,
         ONE_SERVICE,
         Change::Byte(6, 0xff),
-        false,
+        ReadAs::Nothing,
     ),
     (
         "a name of a digit",
         TWO,
         ONE_MODULE,
         Change::Byte(26, b'1'),
-        false,
+        ReadAs::Nothing,
     ),
 ];
 
@@ -121,109 +163,127 @@ const OBJECTS: [Row; 18] = [
         ONE,
         THREE_TAGS,
         Change::Same,
-        false,
+        ReadAs::Nothing,
     ),
-    ("no array in version 1", ONE, TWO_TAGS, Change::Same, true),
+    (
+        "no array in version 1",
+        ONE,
+        TWO_TAGS,
+        Change::Same,
+        ReadAs::Image,
+    ),
     (
         "the last number below one",
         TWO,
         THREE_TAGS,
         Change::Byte(39, 3),
-        false,
+        ReadAs::Nothing,
     ),
     (
         "the last number of them",
         TWO,
         THREE_TAGS,
         Change::Byte(39, 4),
-        true,
+        ReadAs::Image,
     ),
     (
         "one service fewer",
         TWO,
         THREE_TAGS,
         Change::Byte(47, 0),
-        false,
+        ReadAs::Nothing,
     ),
     (
         "a handle to the object 3",
         TWO,
         THREE_TAGS,
         Change::Byte(134, 3),
-        false,
+        ReadAs::Nothing,
     ),
     (
         "the object 4 that nothing holds",
         TWO,
         THREE_TAGS,
         Change::Byte(134, 2),
-        false,
+        ReadAs::Nothing,
     ),
     (
         "the object 1 that an array holds",
         TWO,
         THREE_TAGS,
         Change::Byte(116, 2),
-        true,
+        ReadAs::Image,
     ),
     (
         "one object fewer",
         TWO,
         THREE_TAGS,
         Change::Byte(142, 2),
-        false,
+        ReadAs::Nothing,
     ),
     (
         "one object more",
         TWO,
         THREE_TAGS,
         Change::Byte(142, 4),
-        false,
+        ReadAs::Nothing,
     ),
-    ("the number 0", TWO, THREE_TAGS, Change::Byte(146, 0), false),
+    (
+        "the number 0",
+        TWO,
+        THREE_TAGS,
+        Change::Byte(146, 0),
+        ReadAs::Nothing,
+    ),
     (
         "one number twice",
         TWO,
         THREE_TAGS,
         Change::Byte(146, 2),
-        false,
+        ReadAs::Nothing,
     ),
     (
         "the tag 0 of an object",
         TWO,
         THREE_TAGS,
         Change::Byte(154, 0),
-        false,
+        ReadAs::Nothing,
     ),
     (
         "the tag 4 of an object",
         TWO,
         THREE_TAGS,
         Change::Byte(197, 4),
-        false,
+        ReadAs::Nothing,
     ),
     (
         "a class of no module",
         TWO,
         THREE_TAGS,
         Change::Byte(155, 1),
-        false,
+        ReadAs::Nothing,
     ),
     (
         "elements of no module",
         TWO,
         THREE_TAGS,
         Change::Byte(174, 1),
-        false,
+        ReadAs::Nothing,
     ),
     (
         "elements of the tag 7",
         TWO,
         THREE_TAGS,
         Change::Byte(173, 7),
-        false,
+        ReadAs::Nothing,
     ),
-    ("another kind", TWO, THREE_TAGS, Change::Byte(198, 9), true),
+    (
+        "another kind",
+        TWO,
+        THREE_TAGS,
+        Change::Byte(198, 9),
+        ReadAs::Image,
+    ),
 ];
 
 #[test]
@@ -231,23 +291,23 @@ fn objects_of_images(rt: HostRuntime) -> Result<(), Fail> {
     check_rows(&rt, rt.alloc(), &OBJECTS)
 }
 
-/// Two modules: what they are called, another byte in the place of the first one's name, and whether they are in an
-/// image.
-type Named = (&'static str, u8, bool);
+/// Two modules: what they are called, another byte in the place of the first one's name, and what their image is
+/// read as.
+type Named = (&'static str, u8, ReadAs);
 
 // The first is `B`, and its name is at 26; the second is `a`.
 const NAMED: [Named; 4] = [
-    ("`B` before `a`", b'B', true),
-    ("`C` before `a`", b'C', true),
-    ("one name twice", b'a', false),
-    ("`b` before `a`", b'b', false),
+    ("`B` before `a`", b'B', ReadAs::Image),
+    ("`C` before `a`", b'C', ReadAs::Image),
+    ("one name twice", b'a', ReadAs::Nothing),
+    ("`b` before `a`", b'b', ReadAs::Nothing),
 ];
 
 fn check_named(rt: &impl Abort, alloc: Global, row: Named) -> Result<(), Fail> {
-    let (what, byte, is_one) = row;
+    let (what, byte, wanted) = row;
     let image = modules(alloc, MODULE_B, MODULE_A)?;
     let bytes = with_byte(alloc, &image, 26, byte)?;
-    check_both(rt, alloc, &bytes, is_one, what)
+    check_both(rt, alloc, &bytes, wanted, what)
 }
 
 #[test]
@@ -256,5 +316,11 @@ fn modules_out_of_order(rt: HostRuntime) -> Result<(), Fail> {
         check_named(&rt, rt.alloc(), *row)?;
     }
     let exchanged = modules(rt.alloc(), MODULE_A, MODULE_B)?;
-    check_both(&rt, rt.alloc(), &exchanged, false, "`a` before `B`")
+    check_both(
+        &rt,
+        rt.alloc(),
+        &exchanged,
+        ReadAs::Nothing,
+        "`a` before `B`",
+    )
 }
