@@ -4,11 +4,11 @@
 The crates build on each other in one long chain, and `rt ci` shares the processors evenly among the proofs that are ready,
 those of tests among them. So the crate that all others wait for would be proved at one job. And a check with several jobs
 takes a quarter more of the processors than one with a single job, since each copy of rattle loads what it needs anew.
-Here a task at the head of one of the longest chains that are left begins with half of the processors, or with all of them
-where nothing else can run, even where others still have some of these, since many wait for it; any other task gets one job.
-A check leaves some of its jobs idle for part of its time, so one job more is given out than there are processors, and the
-operating system gives the longest chain what it can use: all other tasks are nice to it, and edits to these. So they fill
-what the chain leaves free.
+Here the task at the head of the longest chain that is left begins with half of the processors, or with all of them where
+nothing else can run; any other task gets one job. The heads of long chains begin even where others still have all
+processors, since many wait for them. A check leaves some of its jobs idle for part of its time, so one job more is given
+out than there are processors, and the operating system gives the long chains what they can use: all other tasks are nice
+to them, and edits to these. So they fill what the chains leave free.
 Only the order of the work is another one: what is proved, tried and run, and the verdict, are those of `rt ci`. Under a
 toolchain that was not tried with this, plain `rt ci` runs.
 """
@@ -28,10 +28,10 @@ TRIED_WITH = "rattle-kit-13f logic dac8208d650f15bf"
 MEMORY_TAKEN = 0.3
 MEMORY_OF_A_JOB = 0.6
 MEMORY_GIVEN_OUT = 0.85
-# A chain is among the longest where it has at least this share of the lines of every other. Of a chain whose head is under
-# way, what comes after the head counts.
-NEAR = 0.7
-# How nice a task is to those of the longest chains, and an edit to all proofs.
+# A chain is long where it has at least this share of the lines of every other. Of a chain whose head is under way, what
+# comes after the head counts.
+LONG = 0.6
+# How nice a task is to the heads of long chains, and an edit to all proofs.
 NICE, NICE_OF_EDITS = 10, 15
 
 
@@ -109,12 +109,13 @@ def in_lanes(tasks, processors, memory):
             room = memory - sum(taken for _, taken, _ in running.values())
             rivals = [order[it] for it in ready if it != key and not fills(it)]
             rivals += [order[it] - tasks[it][1] for it, _, _ in running.values() if not fills(it)]
-            is_near = not fills(key) and all(NEAR * it <= order[key] for it in rivals)
-            if spare > (-processors if is_near else 0) and (needs <= room or not running):
+            is_long = not fills(key) and all(LONG * it <= order[key] for it in rivals)
+            is_longest = is_long and all(it <= order[key] for it in rivals)
+            if spare > (-processors if is_long else 0) and (needs <= room or not running):
                 others = len(running) + sum(not fills(it) for it in ready[number:])
-                jobs = jobs_for(others, processors, needs, room) if is_near else 1
+                jobs = jobs_for(others, processors, needs, room) if is_longest else 1
                 taken = needs * (1 + MEMORY_OF_A_JOB * (jobs - 1))
-                niceness = NICE_OF_EDITS if fills(key) else 0 if is_near else NICE
+                niceness = NICE_OF_EDITS if fills(key) else 0 if is_long else NICE
                 left.remove(key)
                 running[begin(call, given, jobs, niceness)] = key, taken, jobs
             else:
