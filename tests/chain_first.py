@@ -9,10 +9,13 @@ nothing else can run; any other task gets one job. The heads of long chains begi
 processors, since many wait for them. A check leaves some of its jobs idle for part of its time, so one job more is given
 out than there are processors, and the operating system gives the long chains what they can use: all other tasks are nice
 to them, and edits to these. So they fill what the chains leave free.
-Only the order of the work is another one: what is proved, tried and run, and the verdict, are those of `rt ci`. Under a
-toolchain that was not tried with this, plain `rt ci` runs.
+Only the order of the work is another one: what is proved, tried and run, and the verdict, are those of `rt ci`. Where rt
+tries a crate's edits one after the other, several are tried in one check (tests/together.py). Under a toolchain that was
+not tried with this, plain `rt ci` runs.
 """
 
+import contextlib
+import functools
 import importlib.machinery
 import importlib.util
 import os
@@ -22,7 +25,10 @@ import sys
 import threading
 from concurrent.futures import FIRST_COMPLETED, Future, wait
 
-TRIED_WITH = "rattle-kit-13f logic dac8208d650f15bf"
+sys.dont_write_bytecode = True
+import together
+
+TRIED_WITH = ("rattle-kit-13b logic dac8208d650f15bf", "rattle-kit-13f logic dac8208d650f15bf")
 # How much of the memory that rt reckons for a check it takes at the most, as measured; what each further job of the check
 # adds to that; and how much of the free memory is given out.
 MEMORY_TAKEN = 0.3
@@ -31,8 +37,8 @@ MEMORY_GIVEN_OUT = 0.85
 # A chain is long where it has at least this share of the lines of every other. Of a chain whose head is under way, what
 # comes after the head counts.
 LONG = 0.6
-# How nice a task is to the heads of long chains, and an edit to all proofs.
-NICE, NICE_OF_EDITS = 10, 15
+# How nice the head of another long chain is to that of the longest, any other task to both, and an edit to all proofs.
+NICE_OF_LONG, NICE, NICE_OF_EDITS = 3, 10, 15
 
 
 def load_rt():
@@ -48,9 +54,19 @@ def fills(key):
     return key[1] not in ("proof", "tests")
 
 
+def code_lines(name):
+    """How many lines of code a crate has. Its definitions and proofs cost far less, line by line."""
+    count = 0
+    for folder, _, files in os.walk(os.path.join("crates", name, "src")):
+        for file in files:
+            with open(os.path.join(folder, file), "rb") as it:
+                count += it.read().count(b"\n")
+    return count
+
+
 def lines_ahead(tasks):
-    """For each task the lines of the longest chain of tasks that begins with it. A line of tests takes about as long as one
-    of code. A task comes after those it waits for."""
+    """For each task the lines of code of the longest chain of tasks that begins with it. A line of tests takes about as long
+    as any other. A task comes after those it waits for."""
     lines = dict.fromkeys(tasks, 0)
     for key in reversed([*tasks]):
         waits_for, own = tasks[key][:2]
@@ -115,7 +131,7 @@ def in_lanes(tasks, processors, memory):
                 others = len(running) + sum(not fills(it) for it in ready[number:])
                 jobs = jobs_for(others, processors, needs, room) if is_longest else 1
                 taken = needs * (1 + MEMORY_OF_A_JOB * (jobs - 1))
-                niceness = NICE_OF_EDITS if fills(key) else 0 if is_long else NICE
+                niceness = NICE_OF_EDITS if fills(key) else 0 if is_longest else NICE_OF_LONG if is_long else NICE
                 left.remove(key)
                 running[begin(call, given, jobs, niceness)] = key, taken, jobs
             else:
@@ -127,17 +143,21 @@ def in_lanes(tasks, processors, memory):
 
 def main(words):
     identity = subprocess.run(["rt", "version"], capture_output=True, text=True, check=True).stdout.strip()
-    if identity != TRIED_WITH:
+    if identity not in TRIED_WITH:
         print(f"chain_first: not tried with {identity}, so plain rt ci runs", flush=True)
         os.execvp("rt", ["rt", "ci", *words])
     rt = load_rt()
 
     def share_out(tasks):
-        with rt.ending():
-            return in_lanes(tasks, rt.processors(), MEMORY_GIVEN_OUT * rt.free())
+        known = {it: (waits, lines and code_lines(it[0]), *more) for it, (waits, lines, *more) in tasks.items()}
+        with rt.ending() if hasattr(rt, "ending") else contextlib.nullcontext():
+            return in_lanes(known, rt.processors(), MEMORY_GIVEN_OUT * rt.free())
 
     rt.in_lanes = share_out
-    return rt.main(["ci", *words])
+    if hasattr(rt, "must_fail_all"):
+        rt.must_fail_all = functools.partial(together.must_fail_all, rt)
+    # an rt that stores no proofs has no word for leaving them out
+    return rt.main(["ci", *(it for it in words if it != "--anew" or it in rt.__doc__)])
 
 
 if __name__ == "__main__":

@@ -1,4 +1,4 @@
-"""Proves and builds ashd, as crates/ashd/out/ashd, where that is not done for the present sources. It says on standard
+"""Proves and builds ashd, as crates/ashd/out/ashd, where that is not done for the present sources. It writes to standard
 error how far it is."""
 
 import hashlib

@@ -2,9 +2,11 @@
 
 # A folder of programs without rt.
 mkdir "$scratch/bin"
-for program in bash python3 dirname readlink env; do
+for program in bash dirname readlink env; do
     ln -s "$(command -v "$program")" "$scratch/bin/$program"
 done
+# the interpreter itself, since a script that picks one may want other programs
+ln -s "$(python3 -c 'import sys; print(sys.executable)')" "$scratch/bin/python3"
 
 (cd "$scratch" && HOME=/nonexistent "$top/first-example" > output 2> error)
 verdict $? "the first example, on a build that is not proved: $(tail -n 3 "$scratch/error")"

@@ -1,7 +1,7 @@
 # The record of must-fail edits: which crates the gate passes over.
 
 mkdir -p "$scratch/tests" "$scratch/tools" "$scratch/crates/low/src" "$scratch/crates/low/must-fail" "$scratch/crates/high/src"
-cp tests/edits tests/record.py "$scratch/tests"
+cp tests/edits tests/record.py tests/chain_first.py tests/together.py "$scratch/tests"
 cp tools/kit.py "$scratch/tools"
 printf 'low:\nhigh: low\n' > "$scratch/crates.txt"
 echo 'pub fn one() -> u8 { 1 }' > "$scratch/crates/low/src/lib.rt"

@@ -20,7 +20,7 @@ use ash_plain_steps::state::LoadedModule;
 
 /// Whether what the globals of each module hold is of their types.
 fn are_loaded(modules: &[LoadedModule], objects: &ObjectMap) -> bool
-    ensures { result ≡ list_all (is_loaded objects.now) modules.now }
+    ensures value { result ≡ list_all (is_loaded objects.now) modules.now }
 {
     for loaded in modules {
         if !is_loaded(loaded, objects) {

@@ -18,7 +18,7 @@ use ash_typed::IntType;
 
 /// The module of a name.
 fn module_of_name<'a>(modules: &'a [LoadedModule], name: &str) -> Option<&'a LoadedModule>
-    ensures { option_map (λ m. program_of m.now) result
+    ensures value { option_map (λ m. program_of m.now) result
         ≡ program_of_name name.now (map program_of modules.now) }
 {
     for loaded in modules {
@@ -31,7 +31,7 @@ fn module_of_name<'a>(modules: &'a [LoadedModule], name: &str) -> Option<&'a Loa
 
 /// Whether words are the fields of an object of the class at a place of the module's source.
 fn is_script(loaded: &LoadedModule, objects: &ObjectMap, place: usize, fields: &[Word]) -> bool
-    ensures { result ≡ is_script objects.now place fields.now (program_of loaded.now) }
+    ensures value { result ≡ is_script objects.now place fields.now (program_of loaded.now) }
 {
     match class_at(&loaded.tree, place) {
         Some(class) => are_values(loaded, objects, &class.fields, fields),
@@ -46,7 +46,7 @@ fn are_elements(
     of: &Elements,
     words: &[Word],
 ) -> bool
-    ensures { result
+    ensures value { result
         ≡ are_elements (map program_of modules.now) objects.now (element_seen of.now) words.now }
 {
     match of {
@@ -65,7 +65,7 @@ fn are_elements(
 
 /// Whether an object is well-formed among the living ones. A host object never is, since the host constructs none.
 fn is_object(modules: &[LoadedModule], objects: &ObjectMap, object: &Object) -> bool
-    ensures { result
+    ensures value { result
         ≡ is_object (map program_of modules.now) objects.now (object_seen object.now) }
 {
     match object {

@@ -18,7 +18,7 @@ use ash_typed::{IntType, Interface, ObjectType};
 
 /// Whether words are truth values.
 pub(crate) fn are_truths(words: &[Word]) -> bool
-    ensures { result ≡ list_all is_truth words.now }
+    ensures value { result ≡ list_all is_truth words.now }
 {
     for word in words {
         if !is_truth(*word) {
@@ -30,7 +30,7 @@ pub(crate) fn are_truths(words: &[Word]) -> bool
 
 /// Whether words are integers of a type.
 pub(crate) fn are_integers(of: IntType, words: &[Word]) -> bool
-    ensures { result ≡ list_all (is_integer of) words.now }
+    ensures value { result ≡ list_all (is_integer of) words.now }
 {
     for word in words {
         if !is_integer(of, *word) {
@@ -42,7 +42,7 @@ pub(crate) fn are_integers(of: IntType, words: &[Word]) -> bool
 
 /// Whether a word is null, or a handle of a living host object of a kind.
 fn is_reference_of_kind(objects: &ObjectMap, kind: u16, word: Word) -> bool
-    ensures { result ≡ is_reference objects.now (is_of_kind kind) word }
+    ensures value { result ≡ is_reference objects.now (is_of_kind kind) word }
 {
     match word {
         Word::Null => true,
@@ -56,7 +56,7 @@ fn is_reference_of_kind(objects: &ObjectMap, kind: u16, word: Word) -> bool
 
 /// Whether words are handles of host objects of a kind.
 pub(crate) fn are_of_kind(objects: &ObjectMap, kind: u16, words: &[Word]) -> bool
-    ensures { result ≡ list_all (is_reference objects.now (is_of_kind kind)) words.now }
+    ensures value { result ≡ list_all (is_reference objects.now (is_of_kind kind)) words.now }
 {
     for word in words {
         if !is_reference_of_kind(objects, kind, *word) {
@@ -68,7 +68,7 @@ pub(crate) fn are_of_kind(objects: &ObjectMap, kind: u16, words: &[Word]) -> boo
 
 /// Whether a word is null, or a handle of a living object of the class at a place of a module's source.
 fn is_reference_of_place(objects: &ObjectMap, name: &str, place: usize, word: Word) -> bool
-    ensures { result ≡ is_reference objects.now (is_of_place name.now place) word }
+    ensures value { result ≡ is_reference objects.now (is_of_place name.now place) word }
 {
     match word {
         Word::Null => true,
@@ -81,7 +81,8 @@ fn is_reference_of_place(objects: &ObjectMap, name: &str, place: usize, word: Wo
 }
 
 fn are_of_place(objects: &ObjectMap, name: &str, place: usize, words: &[Word]) -> bool
-    ensures { result ≡ list_all (is_reference objects.now (is_of_place name.now place)) words.now }
+    ensures value { result ≡ list_all (is_reference objects.now (is_of_place name.now place))
+        words.now }
 {
     for word in words {
         if !is_reference_of_place(objects, name, place, *word) {
@@ -93,7 +94,7 @@ fn are_of_place(objects: &ObjectMap, name: &str, place: usize, words: &[Word]) -
 
 /// Whether words are handles of objects of the class at a place of the module's source.
 fn are_of_class(loaded: &LoadedModule, objects: &ObjectMap, place: usize, words: &[Word]) -> bool
-    ensures { result ≡ are_of_class objects.now place words.now (program_of loaded.now) }
+    ensures value { result ≡ are_of_class objects.now place words.now (program_of loaded.now) }
 {
     class_at(&loaded.tree, place).is_some()
         && are_of_place(objects, loaded.name.as_str(), place, words)
@@ -106,7 +107,7 @@ fn are_references(
     of: ObjectType,
     words: &[Word],
 ) -> bool
-    ensures { result
+    ensures value { result
         ≡ list_all (is_reference objects.now (is_of (program_of loaded.now) of)) words.now }
 {
     for word in words {
@@ -125,7 +126,7 @@ fn are_of_interface(
     place: usize,
     words: &[Word],
 ) -> bool
-    ensures { result
+    ensures value { result
         ≡ any_interface objects.now place words.now (program_of loaded.now) 0
         (map interface_of interfaces.now) }
 {
@@ -146,7 +147,7 @@ pub(crate) fn are_handles(
     place: usize,
     words: &[Word],
 ) -> bool
-    ensures { result ≡ are_handles objects.now place words.now (program_of loaded.now) }
+    ensures value { result ≡ are_handles objects.now place words.now (program_of loaded.now) }
 {
     are_of_class(loaded, objects, place, words)
         || are_of_interface(loaded, &loaded.tree.interfaces, objects, place, words)

@@ -13,7 +13,7 @@ use ash_typed::{Class, Implementation, Interface, Module};
 
 /// Whether a place is the sum of two numbers.
 pub(crate) fn is_sum(place: usize, left: usize, right: usize) -> bool
-    ensures { result ≡ nat_eq place (left + right) }
+    ensures value { result ≡ nat_eq place (left + right) }
 {
     match left.checked_add(right) {
         Some(sum) => place == sum,
@@ -23,7 +23,7 @@ pub(crate) fn is_sum(place: usize, left: usize, right: usize) -> bool
 
 /// How many interfaces are declared before a class.
 fn interfaces_before(interfaces: &[Interface], class: usize) -> usize
-    ensures { result
+    ensures value { result
         ≡ count_by (λ i. nat_le i.classes_before class) (map interface_of interfaces.now) }
 {
     interfaces
@@ -34,14 +34,14 @@ fn interfaces_before(interfaces: &[Interface], class: usize) -> usize
 
 /// Whether this is the place of a class in the source.
 fn is_place_of(tree: &Module, class: usize, place: usize) -> bool
-    ensures { result ≡ nat_eq place (place_of_class (module_of tree.now) class) }
+    ensures value { result ≡ nat_eq place (place_of_class (module_of tree.now) class) }
 {
     is_sum(place, class, interfaces_before(&tree.interfaces, class))
 }
 
 /// The class at a place of the source, among these classes.
 fn class_among<'a>(tree: &Module, classes: &'a [Class], place: usize) -> Option<&'a Class>
-    ensures { option_map (λ c. class_of c.now) result
+    ensures value { option_map (λ c. class_of c.now) result
         ≡ class_from (module_of tree.now) place 0 (map class_of classes.now) }
 {
     for (class, source) in classes.iter().enumerate() {
@@ -54,21 +54,21 @@ fn class_among<'a>(tree: &Module, classes: &'a [Class], place: usize) -> Option<
 
 /// The class at a place of the source.
 pub(crate) fn class_at(tree: &Module, place: usize) -> Option<&Class>
-    ensures { option_map (λ c. class_of c.now) result ≡ class_at (module_of tree.now) place }
+    ensures value { option_map (λ c. class_of c.now) result ≡ class_at (module_of tree.now) place }
 {
     class_among(tree, &tree.classes, place)
 }
 
 /// Whether a module has a class by an index, at this place of its source.
 pub(crate) fn is_class_at(tree: &Module, class: usize, place: usize) -> bool
-    ensures { result ≡ is_class_at (module_of tree.now) class place }
+    ensures value { result ≡ is_class_at (module_of tree.now) class place }
 {
     tree.classes.get(class).is_some() && is_place_of(tree, class, place)
 }
 
 /// Whether a module has an interface by an index, at this place of its source.
 pub(crate) fn is_interface_at(tree: &Module, interface: usize, place: usize) -> bool
-    ensures { result ≡ is_interface_at (module_of tree.now) interface place }
+    ensures value { result ≡ is_interface_at (module_of tree.now) interface place }
 {
     match tree.interfaces.get(interface) {
         Some(found) => is_sum(place, interface, found.classes_before),
@@ -78,7 +78,7 @@ pub(crate) fn is_interface_at(tree: &Module, interface: usize, place: usize) -> 
 
 /// Whether an interface is among those that are listed.
 fn is_listed(all: &[Implementation], interface: usize) -> bool
-    ensures { result
+    ensures value { result
         ≡ is_among (map place_of_interface (map implementation_of all.now)) interface }
 {
     for one in all {
@@ -91,14 +91,14 @@ fn is_listed(all: &[Implementation], interface: usize) -> bool
 
 /// Whether a class lists an interface.
 fn lists(class: &Class, interface: usize) -> bool
-    ensures { result ≡ lists interface (class_of class.now) }
+    ensures value { result ≡ lists interface (class_of class.now) }
 {
     is_listed(&class.interfaces, interface)
 }
 
 /// Whether the class at a place of the source lists an interface.
 pub(crate) fn implements(tree: &Module, interface: usize, place: usize) -> bool
-    ensures { result ≡ implements (module_of tree.now) interface place }
+    ensures value { result ≡ implements (module_of tree.now) interface place }
 {
     match class_at(tree, place) {
         Some(class) => lists(class, interface),

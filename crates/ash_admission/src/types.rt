@@ -13,7 +13,7 @@ use ash_typed::{Element as TypedElement, IntType, ObjectType};
 
 /// Whether an object is of the class at a place of the source of a module of this name.
 pub(crate) fn is_of_place(name: &str, place: usize, object: &Object) -> bool
-    ensures { result ≡ is_of_place name.now place (shape_of (object_seen object.now)) }
+    ensures value { result ≡ is_of_place name.now place (shape_of (object_seen object.now)) }
 {
     match object {
         Object::Script {
@@ -27,7 +27,7 @@ pub(crate) fn is_of_place(name: &str, place: usize, object: &Object) -> bool
 
 /// Whether an object is a host object of a kind.
 pub(crate) fn is_of_kind(kind: u16, object: &Object) -> bool
-    ensures { result ≡ is_of_kind kind (shape_of (object_seen object.now)) }
+    ensures value { result ≡ is_of_kind kind (shape_of (object_seen object.now)) }
 {
     match object {
         Object::Host { kind: other, .. } => *other == kind,
@@ -37,7 +37,7 @@ pub(crate) fn is_of_kind(kind: u16, object: &Object) -> bool
 
 /// Whether what an array says of its elements is a type of elements of a module.
 fn is_element(loaded: &LoadedModule, of: TypedElement, element: &Elements) -> bool
-    ensures { result ≡ is_element (program_of loaded.now) of (element_seen element.now) }
+    ensures value { result ≡ is_element (program_of loaded.now) of (element_seen element.now) }
 {
     match (of, element) {
         (TypedElement::Bool, Elements::Bools) => true,
@@ -59,7 +59,7 @@ fn is_element(loaded: &LoadedModule, of: TypedElement, element: &Elements) -> bo
 
 /// Whether an object is of a type of a module.
 pub(crate) fn is_of(loaded: &LoadedModule, of: ObjectType, object: &Object) -> bool
-    ensures { result ≡ is_of (program_of loaded.now) of (shape_of (object_seen object.now)) }
+    ensures value { result ≡ is_of (program_of loaded.now) of (shape_of (object_seen object.now)) }
 {
     match (of, object) {
         (ObjectType::Class(class), Object::Script { owner, place, .. }) => {

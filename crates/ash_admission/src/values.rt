@@ -18,14 +18,14 @@ use ash_typed::{Initialization, IntType, ObjectType, VarType, Variables};
 
 /// Whether a word is a truth value.
 pub(crate) fn is_truth(word: Word) -> bool
-    ensures { result ≡ is_truth word }
+    ensures value { result ≡ is_truth word }
 {
     matches!(word, Word::Bool(_))
 }
 
 /// Whether a word is an integer of the type.
 pub(crate) fn is_integer(of: IntType, word: Word) -> bool
-    ensures { result ≡ is_integer of word }
+    ensures value { result ≡ is_integer of word }
 {
     match (of, word) {
         (IntType::Int, Word::Int(_)) => true,
@@ -43,7 +43,7 @@ pub(crate) fn is_reference(
     of: ObjectType,
     word: Word,
 ) -> bool
-    ensures { result ≡ is_reference objects.now (is_of (program_of loaded.now) of) word }
+    ensures value { result ≡ is_reference objects.now (is_of (program_of loaded.now) of) word }
 {
     match word {
         Word::Null => true,
@@ -57,7 +57,7 @@ pub(crate) fn is_reference(
 
 /// Whether a word is a value of a type of a module.
 fn is_value(loaded: &LoadedModule, objects: &ObjectMap, of: VarType, word: Word) -> bool
-    ensures { result ≡ is_value (program_of loaded.now) objects.now of word }
+    ensures value { result ≡ is_value (program_of loaded.now) objects.now of word }
 {
     match of {
         VarType::Bool => is_truth(word),
@@ -73,7 +73,7 @@ fn after_value<'a>(
     of: VarType,
     words: &'a [Word],
 ) -> Option<&'a [Word]>
-    ensures { option_map (λ rest. rest.now) result
+    ensures value { option_map (λ rest. rest.now) result
         ≡ after_value (program_of loaded.now) objects.now of words.now }
 {
     match words {
@@ -95,7 +95,7 @@ fn after_values<'a>(
     variables: &[Initialization],
     words: &'a [Word],
 ) -> Option<&'a [Word]>
-    ensures { option_map (λ rest. rest.now) result
+    ensures value { option_map (λ rest. rest.now) result
         ≡ after_values (program_of loaded.now) objects.now
         (map type_declared (map value_of variables.now)) words.now }
 {
@@ -113,7 +113,7 @@ pub(crate) fn are_values(
     variables: &[Initialization],
     words: &[Word],
 ) -> bool
-    ensures { result
+    ensures value { result
         ≡ are_values (program_of loaded.now) objects.now
         (map type_declared (map value_of variables.now)) words.now }
 {
@@ -130,7 +130,7 @@ fn are_of_globals(
     declarations: &[Variables],
     words: &[Word],
 ) -> bool
-    ensures { result
+    ensures value { result
         ≡ are_values (program_of loaded.now) objects.now
         (types_of_globals (map variables_of declarations.now)) words.now }
 {
@@ -146,7 +146,7 @@ fn are_of_globals(
 
 /// Whether what the globals of a module hold is of their types.
 pub(crate) fn is_loaded(loaded: &LoadedModule, objects: &ObjectMap) -> bool
-    ensures { result ≡ is_loaded objects.now loaded.now }
+    ensures value { result ≡ is_loaded objects.now loaded.now }
 {
     are_of_globals(loaded, objects, &loaded.tree.globals, &loaded.globals)
 }

@@ -4,51 +4,35 @@
 //! takes linear time. Each has one fault, which is at its very end, so that all the work is done and no tree results.
 //! The time of the lexer and the parser alone is printed too.
 
-ghost use Rattle.std.specs.Prelude.{IfOk};
-ghost use Rattle.ash_tree.specs.TreeViews.{module_of};
-ghost use Rattle.ash_typing.specs.Nesting.{ItemsDeclareInBlocks};
-
+use crate::parsing::count;
 use crate::rates::Timing;
 use crate::sources::{LENGTHS, SHAPES, script};
 use anyhow::Result;
-use ash_check::{ScriptError, ScriptFault, check};
-use ash_lex::lex;
-use ash_parse::parse_module;
+use ash_check::ScriptFault;
 use ash_registry::Registry;
-use ash_tree::Module;
+use ash_sources::checking::check_source;
+use ash_sources::fault::{SourceError, SourceFault};
 use std::alloc::{AllocError, Global};
 use std::io;
 
-/// The tree of a source, with how many tokens it has.
-#[tactic(auto, using(ash_typing::proofs::SoundnessNesting::derived_proper))]
-fn parsed(alloc: Global, text: &str) -> Result<(usize, Module)>
-    ensures nested { IfOk result (λ found. ItemsDeclareInBlocks (module_of found.1)) }
-{
-    let tokens = lex(alloc, text)?;
-    let tree = parse_module(alloc, tokens.as_slice())?;
-    Ok((tokens.len(), tree))
-}
-
 /// The fault of a source, if there is one.
-fn fault(alloc: Global, registry: &Registry, text: &str) -> Result<Option<ScriptFault>> {
-    let (_, tree) = parsed(alloc, text)?;
-    match check(alloc, registry, &tree) {
-        Ok(_) => Ok(None),
-        Err(ScriptError::Fault(fault)) => Ok(Some(fault)),
-        Err(ScriptError::NoMemory) => Err(AllocError.into()),
+fn fault(alloc: Global, registry: &Registry, text: &str) -> Result<Option<SourceFault>> {
+    match check_source(alloc, registry, text.as_bytes()) {
+        Ok(()) => Ok(None),
+        Err(SourceError::Fault(fault)) => Ok(Some(fault)),
+        Err(SourceError::NoMemory) => Err(AllocError.into()),
     }
 }
 
 /// Prints what a source has.
 fn describe(rt: &HostRuntime, registry: &Registry, name: &str, text: &str) -> Result<()> {
-    let (tokens, tree) = parsed(rt.alloc(), text)?;
-    let items = tree.items.len();
+    let (tokens, items) = count(rt.alloc(), text)?;
     println!(rt;
         "{name}: {} bytes, {tokens} tokens, {items} items",
         text.len()
     )?;
     match fault(rt.alloc(), registry, text)? {
-        Some(ScriptFault::Broken(fault)) => {
+        Some(SourceFault::Checked(ScriptFault::Broken(fault))) => {
             println!(rt; "  {} {}", fault.rule.code(), fault.at)?
         }
         Some(fault) => println!(rt; "  {}", fault.code())?,
@@ -68,7 +52,7 @@ fn print_timing(rt: &HostRuntime, work: &str, timing: &Timing, bytes: usize) -> 
 fn measure(rt: &HostRuntime, registry: &Registry, text: &str, rounds: u64) -> Result<()> {
     let mut parser = Timing::zero();
     parser.measure(rt, rounds, || {
-        parsed(rt.alloc(), text)?;
+        count(rt.alloc(), text)?;
         Ok(())
     })?;
     print_timing(rt, "lexer and parser", &parser, text.len())?;

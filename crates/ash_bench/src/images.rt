@@ -159,7 +159,7 @@ fn measure<F: FnMut() -> Result<()>>(
     rounds: u64,
     run: F,
 ) -> Result<()>
-    requires { F.IsAlwaysCallable run }
+    requires always_callable { F.IsAlwaysCallable run }
 {
     let mut timing = Timing::zero();
     timing.measure(rt, rounds, run)?;

@@ -23,7 +23,7 @@ const CALLS: u64 = 4096;
 const CHAIN: u64 = 4;
 
 fn is_alive(objects: &Table, word: Word) -> bool
-    ensures { IsTrue result → IsAlive word objects.now }
+    ensures alive { IsTrue result → IsAlive word objects.now }
 {
     match word {
         Word::Object(number) => objects.slot(number).is_some(),
@@ -105,7 +105,7 @@ fn turns(alloc: Global, objects: &Table, living: u64) -> Result<Vec<usize>>
 
 /// Reads the first field of the object in each slot, and adds the numbers up.
 fn read_each(objects: &Table, slots: &[usize]) -> u64
-    requires { All (λ slot. HasField objects.now slot) slots.now }
+    requires has_field { All (λ slot. HasField objects.now slot) slots.now }
 {
     let mut sum = 0u64;
     for slot in slots {
@@ -129,8 +129,8 @@ fn write_each(objects: &mut Table, slots: &[usize], word: Word)
 // These two are calls of their own, so that a hold that is undone at once is not left out.
 #[inline(never)]
 fn hold_at(objects: &mut Table, slot: usize)
-    requires { MayBeHeld objects.old slot }
-    ensures { (number : ℕ) → slot_of number objects.old ≡ Some slot
+    requires may_be_held { MayBeHeld objects.old slot }
+    ensures effect { (number : ℕ) → slot_of number objects.old ≡ Some slot
         → objects.new ≡ with_object number held objects.old }
 {
     objects.hold_at(slot);
@@ -138,9 +138,9 @@ fn hold_at(objects: &mut Table, slot: usize)
 
 #[inline(never)]
 fn unhold_at(objects: &mut Table, slot: usize)
-    requires { (number : ℕ) × (slot_of number objects.old ≡ Some slot)
+    requires within { (number : ℕ) × (slot_of number objects.old ≡ Some slot)
         × (0 < holds_of number objects.old) }
-    ensures { (number : ℕ) → slot_of number objects.old ≡ Some slot
+    ensures effect { (number : ℕ) → slot_of number objects.old ≡ Some slot
         → objects.new ≡ with_object number unheld objects.old }
 {
     objects.unhold_at(slot);
@@ -148,7 +148,7 @@ fn unhold_at(objects: &mut Table, slot: usize)
 
 /// Holds the object in each slot once more, and undoes that.
 fn hold_each(objects: &mut Table, slots: &[usize])
-    requires { All (λ slot. MayBeHeld objects.old slot) slots.now }
+    requires may_be_held { All (λ slot. MayBeHeld objects.old slot) slots.now }
 {
     for slot in slots {
         hold_at(objects, *slot);

@@ -11,7 +11,7 @@ use std::alloc::Global;
 use std::io;
 
 /// How many tokens and items a source has.
-fn count(alloc: Global, text: &str) -> Result<(usize, usize)> {
+pub fn count(alloc: Global, text: &str) -> Result<(usize, usize)> {
     let tokens = lex(alloc, text)?;
     let tree = parse_module(alloc, tokens.as_slice())?;
     Ok((tokens.len(), tree.items.len()))

@@ -26,7 +26,7 @@ impl Timing {
         rounds: u64,
         mut work: F,
     ) -> Result<()>
-        requires { F.IsAlwaysCallable work }
+        requires always_callable { F.IsAlwaysCallable work }
     {
         let start = Instant::now(rt)?;
         for _ in 0..rounds {

@@ -121,15 +121,7 @@ const ROOM: usize = 200;
 fn unit_of(alloc: Global, unit: &str, number: usize) -> Result<String, AllocError> {
     let this = format!(in alloc; "{number}")?;
     let next = format!(in alloc; "{}", number.saturating_add(1))?;
-    let mut text = String::new(alloc);
-    for c in unit.chars() {
-        match c {
-            '#' => text.push_str(this.as_str())?,
-            '$' => text.push_str(next.as_str())?,
-            _ => text.push(c)?,
-        }
-    }
-    Ok(text)
+    unit.replace(alloc, '#', &this)?.replace(alloc, '$', &next)
 }
 
 /// As many units as so many bytes have room for, and how many they are.

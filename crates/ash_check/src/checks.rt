@@ -37,8 +37,8 @@ fn class_names_at(
     classes: &[&Class],
     places: &[usize],
 ) -> Result<Vec<String>, AllocError>
-    requires { All (λ place. place < length classes.now) places.now }
-    ensures { IfOk result
+    requires within { All (λ place. place < length classes.now) places.now }
+    ensures value { IfOk result
         (λ names. map string_bytes names.items
         ≡ map (name_at (borrowed_classes classes.now)) places.now) }
 {
@@ -58,7 +58,7 @@ fn cycle_names(
     requires first { cycle.now.first < length (classes_of (written_module script.now)) }
     requires others { All (λ place. place < length (classes_of (written_module script.now)))
         cycle.now.others.items }
-    ensures { IfOk result
+    ensures value { IfOk result
         (λ names. map string_bytes names.0.items
         ≡ names_of_cycle (classes_of (written_module script.now))
         (cycle.now.first, cycle.now.others.items)) }

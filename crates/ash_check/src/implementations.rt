@@ -22,7 +22,7 @@ use std::alloc::{AllocError, Global};
 
 /// An interface, whose name is at this offset.
 fn listed_interface_place(at: usize, object: Option<ObjectType>) -> CheckResult<usize>
-    ensures { Agrees (λ place. place) result (definition.listed_at at object) }
+    ensures agrees { Agrees (λ place. place) result (definition.listed_at at object) }
 {
     match object {
         Some(ObjectType::Interface(place)) => Ok(place),
@@ -32,7 +32,7 @@ fn listed_interface_place(at: usize, object: Option<ObjectType>) -> CheckResult<
 }
 
 fn are_same(some: &[Ty], others: &[Ty]) -> bool
-    ensures { result ≡ implementing.are_same some.now others.now }
+    ensures value { result ≡ implementing.are_same some.now others.now }
 {
     let mut rest = others;
     for of in some {
@@ -49,7 +49,7 @@ fn are_same(some: &[Ty], others: &[Ty]) -> bool
 
 /// Whether a method has the result and the parameters of another.
 fn has_types_of(one: &FunctionSignature, other: &FunctionSignature) -> bool
-    ensures { result
+    ensures value { result
         ≡ implementing.has_types_of (function_signature_of one.now)
         (function_signature_of other.now) }
 {
@@ -61,7 +61,7 @@ fn matching_method(
     method: &FunctionSignature,
     found: Option<(usize, &FunctionSignature)>,
 ) -> Option<usize>
-    ensures { result
+    ensures value { result
         ≡ implementing.matching (function_signature_of method.now)
         (option_map placed_function found.entry) }
 {
@@ -73,7 +73,7 @@ fn matching_method(
 
 #[tactic(auto, unfolding(ash_typing::specs::Implementations::method_for))]
 fn method_for(methods: &[FunctionSignature], method: &FunctionSignature) -> Option<usize>
-    ensures { result
+    ensures value { result
         ≡ implementing.method_for (map function_signature_of methods.now)
         (function_signature_of method.now) }
 {
@@ -87,7 +87,7 @@ fn methods_for(
     methods: &[FunctionSignature],
     declared: &[FunctionSignature],
 ) -> Result<Option<Vec<usize>>, AllocError>
-    ensures { IfOk result
+    ensures value { IfOk result
         (λ places. optional_places places
         ≡ implementing.methods_for (map function_signature_of methods.now)
         (map function_signature_of declared.now)) }
@@ -109,7 +109,7 @@ fn implementing_methods(
     class: usize,
     interface: usize,
 ) -> Result<Option<Vec<usize>>, AllocError>
-    ensures { IfOk result
+    ensures value { IfOk result
         (λ places. optional_places places
         ≡ implementing.implemented (environment_of env.now) class interface) }
 {
@@ -127,7 +127,7 @@ fn build_implementation(
     interface: usize,
     methods: Option<Vec<usize>>,
 ) -> CheckResult<Implementation>
-    ensures { Agrees implementation_of result
+    ensures agrees { Agrees implementation_of result
         (definition.implemented_at at interface (optional_places methods)) }
 {
     match methods {
@@ -151,7 +151,7 @@ fn check_listed<'a>(
     listed: &mut ListedInterfaces<'a>,
     name: &'a TypeName,
 ) -> CheckResult<()>
-    ensures { Agrees (λ _. listed_interfaces_of listed.new) result
+    ensures agrees { Agrees (λ _. listed_interfaces_of listed.new) result
         (definition.check_listed (environment_of env.now) class (listed_interfaces_of listed.old)
         (type_name_of name.now)) }
 {
@@ -171,7 +171,7 @@ pub(crate) fn check_listed_interfaces<'a>(
     class: usize,
     names: &'a [TypeName],
 ) -> CheckResult<ListedInterfaces<'a>>
-    ensures { Agrees listed_interfaces_of result
+    ensures agrees { Agrees listed_interfaces_of result
         (definition.all_listed (environment_of env.now) class definition.none_listed
         (map type_name_of names.now)) }
 {

@@ -29,7 +29,7 @@ fn check_signature<'a>(
     parts: &mut InterfaceParts<'a>,
     method: &'a InterfaceMethod,
 ) -> CheckResult<()>
-    ensures { Agrees (λ _. interface_parts_of parts.new) result
+    ensures agrees { Agrees (λ _. interface_parts_of parts.new) result
         (definition.check_signature (environment_of env.now) (interface_parts_of parts.old)
         (interface_method_of method.now)) }
 {
@@ -53,7 +53,7 @@ pub(crate) fn check_interface<'a>(
     classes: usize,
     interface: &'a ash_tree::Interface,
 ) -> CheckResult<Interface>
-    ensures { Agrees interface_of result
+    ensures agrees { Agrees interface_of result
         (definition.check_interface (environment_of env.now) classes
         (written_interface interface.now)) }
 {

@@ -34,7 +34,7 @@ fn check_vars<'a>(
     names: &mut Names<'a>,
     vars: &'a Vars,
 ) -> CheckResult<Variables>
-    ensures { Agrees (row_of (names_of names.new)) result
+    ensures agrees { Agrees (row_of (names_of names.new)) result
         (definition.check_vars (environment_of env.now) (names_of names.old) (vars_of vars.now)) }
 {
     let place = place_of(&vars.of);
@@ -58,7 +58,7 @@ fn check_constructor_name<'a>(
     class: &Class,
     constructor: &'a Constructor,
 ) -> CheckResult<Routine<'a>>
-    ensures { Agrees routine_of result
+    ensures agrees { Agrees routine_of result
         (definition.constructor_named (class_of class.now) (constructor_of constructor.now)) }
 {
     if class.constructor.is_some() {
@@ -83,7 +83,7 @@ fn check_member<'a>(
     class: &mut Class,
     member: &'a Member,
 ) -> CheckResult<()>
-    ensures { Agrees (λ _. members_of (names_of names.new) class.new) result
+    ensures agrees { Agrees (λ _. members_of (names_of names.new) class.new) result
         (definition.check_member (environment_of env.now)
         (members_of (names_of names.old) class.old) (member_of member.now)) }
 {
@@ -114,7 +114,7 @@ fn check_members<'a>(
     class: &'a ash_tree::Class,
     interfaces: Vec<Implementation>,
 ) -> CheckResult<Class>
-    ensures { Agrees class_of result
+    ensures agrees { Agrees class_of result
         (class_with (environment_of env.now) place (written_class class.now)
         (map implementation_of interfaces.items)) }
 {
@@ -151,7 +151,7 @@ fn check_class<'a>(
     place: usize,
     class: &'a ash_tree::Class,
 ) -> CheckResult<Class>
-    ensures { Agrees class_of result
+    ensures agrees { Agrees class_of result
         (definition.check_class (environment_of env.now) place (written_class class.now)) }
 {
     let listed = check_listed_interfaces(env, place, &class.interfaces)?;
@@ -161,7 +161,8 @@ fn check_class<'a>(
 /// Requires that a module has room for one more class or interface.
 #[tactic(auto, unfolding(ash_typing::specs::ItemRules::room_for_type))]
 fn check_type_count(at: usize, typed: &Module) -> CheckResult<usize>
-    ensures { Agrees (λ place. place) result (definition.room_for_type at (module_of typed.now)) }
+    ensures agrees { Agrees (λ place. place) result
+        (definition.room_for_type at (module_of typed.now)) }
 {
     if typed.classes.len() + typed.interfaces.len() >= MAX_MODULE_TYPES {
         return Err(fault_at(Rule::TooMany, at));
@@ -177,7 +178,7 @@ fn check_item<'a>(
     typed: &mut Module,
     item: &'a Item,
 ) -> CheckResult<()>
-    ensures { Agrees (λ _. walked_of (names_of names.new) typed.new) result
+    ensures agrees { Agrees (λ _. walked_of (names_of names.new) typed.new) result
         (definition.check_item (environment_of env.now) (walked_of (names_of names.old) typed.old)
         (item_of item.now)) }
 {
@@ -215,7 +216,7 @@ fn check_items<'a>(
     signatures: &Signatures<'a>,
     items: &'a [Item],
 ) -> CheckResult<Module>
-    ensures { Agrees module_of result
+    ensures agrees { Agrees module_of result
         (definition.module_by (registered registry.now) (signatures_of signatures.now)
         (map item_of items.now)) }
 {
@@ -250,7 +251,7 @@ pub(crate) fn check_module(
     registry: &Registrations,
     declared: &ash_tree::Module,
 ) -> CheckResult<Module>
-    ensures { Agrees module_of result
+    ensures agrees { Agrees module_of result
         (definition.check_module (registered registry.now) (written_module declared.now)) }
 {
     let signatures = module_signatures(alloc, registry, declared)?;

@@ -37,7 +37,7 @@ fn insert_name<'a>(names: &mut IndexSet<&'a str>, name: &'a str) -> Result<bool,
 
 impl<'a> Names<'a> {
     fn is_registered(&self, name: &str) -> bool
-        ensures { result ≡ is_some (named_in (names_of self.now).registered name.now) }
+        ensures value { result ≡ is_some (named_in (names_of self.now).registered name.now) }
     {
         match self.registry {
             Some(registry) => registry.named(name).is_some(),
@@ -48,7 +48,7 @@ impl<'a> Names<'a> {
     /// Takes a name at this offset, which has to be free.
     #[tactic(auto, unfolding(ash_typing::specs::ItemRules::untaken))]
     pub(crate) fn take(&mut self, at: usize, name: &'a str) -> CheckResult<()>
-        ensures { Agrees (λ _. names_of self.new) result
+        ensures agrees { Agrees (λ _. names_of self.new) result
             (definition.untaken (names_of self.old) at name.now) }
     {
         if self.is_registered(name) || !insert_name(&mut self.taken, name)? {
@@ -60,7 +60,7 @@ impl<'a> Names<'a> {
     /// Counts one more, at this offset.
     #[tactic(auto, unfolding(ash_typing::specs::ItemRules::one_more))]
     pub(crate) fn count(&mut self, at: usize) -> CheckResult<()>
-        ensures { Agrees (λ _. names_of self.new) result
+        ensures agrees { Agrees (λ _. names_of self.new) result
             (definition.one_more (names_of self.old) at) }
     {
         if self.room == 0 {
@@ -72,7 +72,7 @@ impl<'a> Names<'a> {
 
     /// Takes a name at this offset, and counts it.
     pub(crate) fn take_counted(&mut self, at: usize, name: &'a str) -> CheckResult<()>
-        ensures { Agrees (λ _. names_of self.new) result
+        ensures agrees { Agrees (λ _. names_of self.new) result
             (definition.placed (names_of self.old) at name.now) }
     {
         self.take(at, name)?;

@@ -31,7 +31,7 @@ pub(crate) struct Routine<'a> {
 /// The type of a parameter or of a result: objects are passed by handles.
 #[tactic(auto, unfolding(ash_typing::specs::ItemRules::passed_ty))]
 fn check_passed_type(written: &Type, of: Ty) -> CheckResult<Ty>
-    ensures { Agrees (λ t. t) result (definition.passed_ty (type_of written.now) of) }
+    ensures agrees { Agrees (λ t. t) result (definition.passed_ty (type_of written.now) of) }
 {
     match of {
         Ty::Unknown => Err(fault_at(Rule::UnknownType, type_name_offset(written))),
@@ -42,7 +42,7 @@ fn check_passed_type(written: &Type, of: Ty) -> CheckResult<Ty>
 
 /// Checks the type of a result.
 pub(crate) fn check_result_type(env: &Environment, of: &Option<Type>) -> CheckResult<Ty>
-    ensures { Agrees (λ t. t) result
+    ensures agrees { Agrees (λ t. t) result
         (definition.check_result (environment_of env.now) (option_map type_of of.now)) }
 {
     match of {
@@ -56,7 +56,7 @@ pub(crate) fn check_parameters<'a>(
     env: &Environment<'_, 'a>,
     parameters: &'a [Parameter],
 ) -> CheckResult<Vec<Binding<'a>>>
-    ensures { Agrees (λ all. map binding_of all.items) result
+    ensures agrees { Agrees (λ all. map binding_of all.items) result
         (definition.check_parameters (environment_of env.now) []
         (map parameter_of parameters.now)) }
 {
@@ -73,7 +73,8 @@ pub(crate) fn check_parameters<'a>(
 }
 
 pub(crate) fn types_of(alloc: Global, all: &[Binding]) -> Result<Vec<VarType>, AllocError>
-    ensures { IfOk result (λ types. types.items ≡ map type_declared (map binding_of all.now)) }
+    ensures value { IfOk result (λ types. types.items
+        ≡ map type_declared (map binding_of all.now)) }
 {
     let mut types = Vec::with_capacity(alloc, all.len())?;
     for declared in all {
@@ -89,7 +90,7 @@ pub(crate) fn check_routine<'a>(
     of: Ty,
     routine: Routine<'a>,
 ) -> CheckResult<Function>
-    ensures { Agrees function_of result
+    ensures agrees { Agrees function_of result
         (definition.check_routine (environment_of env.now) of (routine_of routine.entry)) }
 {
     let locals = check_parameters(env, routine.parameters)?;
@@ -109,7 +110,7 @@ pub(crate) fn check_routine<'a>(
 
 /// A function, a method or a constructor, without its result.
 pub(crate) fn as_routine(function: &ash_tree::Function) -> Routine<'_>
-    ensures { routine_of result ≡ items.routine_of (written_function function.now) }
+    ensures value { routine_of result ≡ items.routine_of (written_function function.now) }
 {
     Routine {
         place: function.place,

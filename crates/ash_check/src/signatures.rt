@@ -30,7 +30,7 @@ fn parameter_types(
     type_names: &Signatures,
     parameters: &[Parameter],
 ) -> Result<Vec<Ty>, AllocError>
-    ensures { IfOk result
+    ensures value { IfOk result
         (λ types. types.items
         ≡ map
         (definition.parameter_ty (registered registry.now) (signatures_of type_names.now))
@@ -49,7 +49,7 @@ fn function_signature<'a>(
     type_names: &Signatures,
     function: &'a ash_tree::Function,
 ) -> Result<FunctionSignature<'a>, AllocError>
-    ensures { IfOk result
+    ensures value { IfOk result
         (λ f. function_signature_of f
         ≡ definition.function_declaration (registered registry.now) (signatures_of type_names.now)
         (written_function function.now)) }
@@ -68,7 +68,7 @@ fn method_signature<'a>(
     type_names: &Signatures,
     method: &'a InterfaceMethod,
 ) -> Result<FunctionSignature<'a>, AllocError>
-    ensures { IfOk result
+    ensures value { IfOk result
         (λ f. function_signature_of f
         ≡ definition.signature_declaration (registered registry.now) (signatures_of type_names.now)
         (interface_method_of method.now)) }
@@ -87,7 +87,7 @@ fn interface_methods<'a>(
     type_names: &Signatures,
     declared: &'a [InterfaceMethod],
 ) -> Result<Vec<FunctionSignature<'a>>, AllocError>
-    ensures { IfOk result
+    ensures value { IfOk result
         (λ all. map function_signature_of all.items
         ≡ map
         (definition.signature_declaration (registered registry.now) (signatures_of type_names.now))
@@ -106,7 +106,7 @@ fn interface_signature<'a>(
     type_names: &Signatures,
     interface: &'a ash_tree::Interface,
 ) -> Result<InterfaceSignature<'a>, AllocError>
-    ensures { IfOk result
+    ensures value { IfOk result
         (λ i. interface_signature_of i
         ≡ definition.interface_declaration (registered registry.now) (signatures_of type_names.now)
         (written_interface interface.now)) }
@@ -125,7 +125,7 @@ fn push_bindings<'a>(
     vars: &'a Vars,
     variables: &mut Vec<Binding<'a>>,
 ) -> Result<(), AllocError>
-    ensures { OnOk result
+    ensures value { OnOk result
         (map binding_of variables.new.items ≡ map binding_of variables.old.items
         ++ definition.variables (registered registry.now) (signatures_of type_names.now)
         (vars_of vars.now)) }
@@ -146,7 +146,7 @@ fn class_fields<'a>(
     type_names: &Signatures,
     members: &'a [Member],
 ) -> Result<Vec<Binding<'a>>, AllocError>
-    ensures { IfOk result
+    ensures value { IfOk result
         (λ all. map binding_of all.items
         ≡ definition.all_variables (registered registry.now) (signatures_of type_names.now)
         (by_kind.fields_of (map member_of members.now))) }
@@ -166,7 +166,7 @@ fn class_methods<'a>(
     type_names: &Signatures,
     members: &'a [Member],
 ) -> Result<Vec<FunctionSignature<'a>>, AllocError>
-    ensures { IfOk result
+    ensures value { IfOk result
         (λ all. map function_signature_of all.items
         ≡ map
         (definition.function_declaration (registered registry.now) (signatures_of type_names.now))
@@ -188,7 +188,7 @@ fn constructor_parameters(
     type_names: &Signatures,
     members: &[Member],
 ) -> Result<Vec<Ty>, AllocError>
-    ensures { IfOk result
+    ensures value { IfOk result
         (λ types. types.items
         ≡ definition.constructed_by (registered registry.now) (signatures_of type_names.now)
         (by_kind.constructors_of (map member_of members.now))) }
@@ -202,7 +202,7 @@ fn constructor_parameters(
 }
 
 fn interface_place(object: Option<ObjectType>) -> Option<usize>
-    ensures { result ≡ definition.interface_place object }
+    ensures value { result ≡ definition.interface_place object }
 {
     match object {
         Some(ObjectType::Interface(place)) => Some(place),
@@ -217,7 +217,7 @@ fn listed_interfaces(
     type_names: &Signatures,
     names: &[TypeName],
 ) -> Result<Vec<usize>, AllocError>
-    ensures { IfOk result
+    ensures value { IfOk result
         (λ places. places.items
         ≡ definition.listed_in (registered registry.now) (signatures_of type_names.now)
         (map type_name_of names.now)) }
@@ -238,7 +238,7 @@ fn class_signature<'a>(
     type_names: &Signatures,
     class: &'a ash_tree::Class,
 ) -> Result<ClassSignature<'a>, AllocError>
-    ensures { IfOk result
+    ensures value { IfOk result
         (λ c. class_signature_of c
         ≡ definition.class_declaration (registered registry.now) (signatures_of type_names.now)
         (written_class class.now)) }
@@ -262,7 +262,7 @@ fn interface_signatures<'a>(
     type_names: &Signatures,
     items: &'a [Item],
 ) -> Result<Vec<InterfaceSignature<'a>>, AllocError>
-    ensures { IfOk result
+    ensures value { IfOk result
         (λ all. map interface_signature_of all.items
         ≡ map
         (definition.interface_declaration (registered registry.now) (signatures_of type_names.now))
@@ -283,7 +283,7 @@ fn class_signatures<'a>(
     type_names: &Signatures,
     items: &'a [Item],
 ) -> Result<Vec<ClassSignature<'a>>, AllocError>
-    ensures { IfOk result
+    ensures value { IfOk result
         (λ all. map class_signature_of all.items
         ≡ map
         (definition.class_declaration (registered registry.now) (signatures_of type_names.now))
@@ -304,7 +304,7 @@ fn function_signatures<'a>(
     type_names: &Signatures,
     items: &'a [Item],
 ) -> Result<Vec<FunctionSignature<'a>>, AllocError>
-    ensures { IfOk result
+    ensures value { IfOk result
         (λ all. map function_signature_of all.items
         ≡ map
         (definition.function_declaration (registered registry.now) (signatures_of type_names.now))
@@ -325,7 +325,7 @@ fn global_bindings<'a>(
     type_names: &Signatures,
     items: &'a [Item],
 ) -> Result<Vec<Binding<'a>>, AllocError>
-    ensures { IfOk result
+    ensures value { IfOk result
         (λ all. map binding_of all.items
         ≡ definition.all_variables (registered registry.now) (signatures_of type_names.now)
         (by_kind.globals_of (map item_of items.now))) }
@@ -346,7 +346,7 @@ fn resolve_signatures<'a>(
     type_names: &Signatures,
     items: &'a [Item],
 ) -> Result<Signatures<'a>, AllocError>
-    ensures { IfOk result
+    ensures value { IfOk result
         (λ h. signatures_of h
         ≡ definition.declarations_by (registered registry.now) (signatures_of type_names.now)
         (map item_of items.now)) }
@@ -366,7 +366,7 @@ pub(crate) fn module_signatures<'a>(
     registry: &Registrations,
     declared: &'a Module,
 ) -> Result<Signatures<'a>, AllocError>
-    ensures { IfOk result
+    ensures value { IfOk result
         (λ h. signatures_of h
         ≡ definition.declarations (registered registry.now) (module_of declared.now)) }
 {

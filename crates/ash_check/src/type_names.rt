@@ -16,7 +16,7 @@ fn named_interfaces(
     alloc: Global,
     items: &[Item],
 ) -> Result<Vec<InterfaceSignature<'_>>, AllocError>
-    ensures { IfOk result
+    ensures value { IfOk result
         (λ all. map interface_signature_of all.items
         ≡ map definition.named_interface (by_kind.interfaces_of (map item_of items.now))) }
 {
@@ -34,7 +34,7 @@ fn named_interfaces(
 
 /// The classes by their names alone.
 fn named_classes(alloc: Global, items: &[Item]) -> Result<Vec<ClassSignature<'_>>, AllocError>
-    ensures { IfOk result
+    ensures value { IfOk result
         (λ all. map class_signature_of all.items
         ≡ map definition.named_class (by_kind.classes_of (map item_of items.now))) }
 {
@@ -55,7 +55,8 @@ fn named_classes(alloc: Global, items: &[Item]) -> Result<Vec<ClassSignature<'_>
 
 /// The interfaces and the classes by their names alone.
 pub(crate) fn type_names<'a>(alloc: Global, items: &'a [Item]) -> Result<Signatures<'a>, AllocError>
-    ensures { IfOk result (λ h. signatures_of h ≡ definition.names_in (map item_of items.now)) }
+    ensures value { IfOk result (λ h. signatures_of h
+        ≡ definition.names_in (map item_of items.now)) }
 {
     let interfaces = named_interfaces(alloc, items)?;
     let classes = named_classes(alloc, items)?;

@@ -22,8 +22,8 @@ fn nearest(
     from: usize,
     distance: usize,
 ) -> Option<usize>
-    requires { length distances.now ≡ length referrers.now }
-    ensures { IsNearest (Goes (rows_of referrers.now)) distances.now from distance result }
+    requires length { length distances.now ≡ length referrers.now }
+    ensures nearest { IsNearest (Goes (rows_of referrers.now)) distances.now from distance result }
 {
     for (place, row) in referrers.iter().enumerate() {
         if distances[place] == Some(distance) && row.contains(&from) {
@@ -44,7 +44,7 @@ fn path_back(
     requires distances { AreDistances (Goes (rows_of referrers.now)) (length referrers.now) first
         distances.now }
     requires back { IsAt distances.now first between }
-    ensures { IfOk result (λ path.
+    ensures foremost { IfOk result (λ path.
         IsForemost (Goes (rows_of referrers.now)) first path.items first) }
 {
     let mut path = Vec::new(alloc);
@@ -63,7 +63,7 @@ fn path_back(
 
 // How many places have no distance.
 fn count_unmarked(distances: &[Option<usize>]) -> usize
-    ensures { result ≡ unmarked distances.now }
+    ensures value { result ≡ unmarked distances.now }
 {
     distances
         .iter()
@@ -79,7 +79,7 @@ pub(crate) fn ranks(
     alloc: Global,
     referrers: &[Vec<usize>],
 ) -> Result<Result<Vec<usize>, Cycle>, AllocError>
-    requires { AreWithin (rows_of referrers.now) }
+    requires within { AreWithin (rows_of referrers.now) }
     ensures ranks { IfOk result (λ answer. IfOk answer (λ ranks.
         AreRanksAlong (Goes (rows_of referrers.now)) (length referrers.now) ranks.items)) }
     ensures acyclic { IfOk result (λ answer.

@@ -14,8 +14,8 @@ fn mark(
     distances: &mut Vec<Option<usize>>,
     found: &mut Vec<usize>,
 ) -> Result<(), AllocError>
-    requires { place < length distances.old.items }
-    ensures { OnOk result
+    requires within { place < length distances.old.items }
+    ensures marks { OnOk result
         (Marks (λ p. p ≡ place) distance distances.old.items distances.new.items found.old.items
         found.new.items) }
 {
@@ -32,8 +32,8 @@ fn mark_row(
     distances: &mut Vec<Option<usize>>,
     found: &mut Vec<usize>,
 ) -> Result<(), AllocError>
-    requires { All (λ place. place < length distances.old.items) row.now }
-    ensures { OnOk result
+    requires within { All (λ place. place < length distances.old.items) row.now }
+    ensures marks { OnOk result
         (Marks (λ p. Contains row.now p) distance distances.old.items distances.new.items
         found.old.items found.new.items) }
 {
@@ -54,7 +54,7 @@ fn mark_level(
     requires within { AreWithin (rows_of referrers.now) }
     requires long { length distances.old.items ≡ length referrers.now }
     requires places { All (λ place. place < length referrers.now) level.now }
-    ensures { OnOk result
+    ensures marks { OnOk result
         (Marks (GoesToOne (Goes (rows_of referrers.now)) level.now) distance distances.old.items
         distances.new.items found.old.items found.new.items) }
 {
@@ -66,7 +66,7 @@ fn mark_level(
 
 // No place has a distance.
 fn no_distances(alloc: Global, places: usize) -> Result<Vec<Option<usize>>, AllocError>
-    ensures { IfOk result (λ distances. distances.items ≡ replicate places None) }
+    ensures value { IfOk result (λ distances. distances.items ≡ replicate places None) }
 {
     vec![in alloc; None; places]
 }
@@ -79,7 +79,7 @@ pub(crate) fn distances_to(
 ) -> Result<Vec<Option<usize>>, AllocError>
     requires within { AreWithin (rows_of referrers.now) }
     requires place { to < length referrers.now }
-    ensures { IfOk result (λ distances.
+    ensures distances { IfOk result (λ distances.
         AreDistances (Goes (rows_of referrers.now)) (length referrers.now) to distances.items) }
 {
     let mut distances = no_distances(alloc, referrers.len())?;

@@ -13,7 +13,7 @@ use ash_tree::{Class, Element, ElementKind, Item, Member, Module, Type, TypeKind
 use std::alloc::{AllocError, Global};
 
 fn any_named(interfaces: &[TypeName], name: &str) -> bool
-    ensures { IsTrue result
+    ensures exact { IsTrue result
         ↔ Any (λ interface. interface.name ≡ name.now) (map type_name_of interfaces.now) }
 {
     for interface in interfaces {
@@ -25,13 +25,13 @@ fn any_named(interfaces: &[TypeName], name: &str) -> bool
 }
 
 fn is_of(class: &Class, name: &str) -> bool
-    ensures { IsTrue result ↔ IsOf (class_of class.now) name.now }
+    ensures exact { IsTrue result ↔ IsOf (class_of class.now) name.now }
 {
     class.name.as_str() == name || any_named(&class.interfaces, name)
 }
 
 fn element_names(element: &Element, class: &Class) -> bool
-    ensures { IsTrue result ↔ ElementNames (element_of element.now) (class_of class.now) }
+    ensures exact { IsTrue result ↔ ElementNames (element_of element.now) (class_of class.now) }
 {
     match &element.kind {
         ElementKind::Handle(name) => is_of(class, name),
@@ -40,7 +40,7 @@ fn element_names(element: &Element, class: &Class) -> bool
 }
 
 fn names(of: &Type, class: &Class) -> bool
-    ensures { IsTrue result ↔ NamesClass (type_of of.now) (class_of class.now) }
+    ensures exact { IsTrue result ↔ NamesClass (type_of of.now) (class_of class.now) }
 {
     match &of.kind {
         TypeKind::Object(name) | TypeKind::Handle(name) => is_of(class, name),
@@ -50,7 +50,7 @@ fn names(of: &Type, class: &Class) -> bool
 }
 
 fn holds(member: &Member, class: &Class) -> bool
-    ensures { IsTrue result ↔ MemberHolds (member_of member.now) (class_of class.now) }
+    ensures exact { IsTrue result ↔ MemberHolds (member_of member.now) (class_of class.now) }
 {
     match member {
         Member::Vars(vars) => names(&vars.of, class),
@@ -59,7 +59,7 @@ fn holds(member: &Member, class: &Class) -> bool
 }
 
 fn any_holds(members: &[Member], class: &Class) -> bool
-    ensures { IsTrue result
+    ensures exact { IsTrue result
         ↔ Any (λ member. MemberHolds member (class_of class.now)) (map member_of members.now) }
 {
     for member in members {
@@ -71,7 +71,7 @@ fn any_holds(members: &[Member], class: &Class) -> bool
 }
 
 fn refers(from: &Class, to: &Class) -> bool
-    ensures { IsTrue result ↔ RefersTo (class_of from.now) (class_of to.now) }
+    ensures exact { IsTrue result ↔ RefersTo (class_of from.now) (class_of to.now) }
 {
     any_holds(&from.members, to)
 }
@@ -91,7 +91,7 @@ pub fn classes(alloc: Global, items: &[Item]) -> Result<Vec<&Class>, AllocError>
 }
 
 fn row_of(alloc: Global, classes: &[&Class], to: &Class) -> Result<Vec<usize>, AllocError>
-    ensures { IfOk result (λ row. (from : ℕ)
+    ensures exact { IfOk result (λ row. (from : ℕ)
         → Contains row.items from
         ↔ RefersAt (borrowed_classes classes.now) from (class_of to.now)) }
 {

@@ -39,7 +39,7 @@ impl SeededNumbers {
     }
 
     fn up_to(&mut self, max: usize) -> usize
-        ensures { result ≤ max }
+        ensures limit { result ≤ max }
     {
         let pick = self.next() as usize;
         if pick <= max { pick } else { pick % (max + 1) }
@@ -52,7 +52,7 @@ pub(crate) fn image_of_all(
     first: &[u8],
     calls: &[Call],
 ) -> Result<Vec<u8>, AllocError>
-    ensures { IfOk result (λ file. file.items ≡ file_after first.now (reverse calls.now)) }
+    ensures value { IfOk result (λ file. file.items ≡ file_after first.now (reverse calls.now)) }
 {
     let mut file = first.to_vec(alloc)?;
     for call in calls {
@@ -69,7 +69,8 @@ pub(crate) fn image_of_synced(
     first: &[u8],
     calls: &[Call],
 ) -> Result<Vec<u8>, AllocError>
-    ensures { IfOk result (λ image. image.items ≡ synced_after first.now (reverse calls.now)) }
+    ensures value { IfOk result (λ image. image.items
+        ≡ synced_after first.now (reverse calls.now)) }
 {
     let mut file = first.to_vec(alloc)?;
     let mut synced = first.to_vec(alloc)?;
@@ -89,7 +90,7 @@ pub(crate) fn image_of_part(
     calls: &[Call],
     seed: u64,
 ) -> Result<Vec<u8>, AllocError>
-    ensures { IfOk result (λ image. MayLeave first.now (reverse calls.now) image.items) }
+    ensures may_leave { IfOk result (λ image. MayLeave first.now (reverse calls.now) image.items) }
 {
     let mut numbers = SeededNumbers { state: seed };
     let mut file = first.to_vec(alloc)?;
@@ -113,7 +114,7 @@ fn tear(
     bytes: &[u8],
     numbers: &mut SeededNumbers,
 ) -> Result<(), AllocError>
-    ensures { OnOk result (Torn at (length bytes.now) image.old.items image.new.items) }
+    ensures torn { OnOk result (Torn at (length bytes.now) image.old.items image.new.items) }
 {
     match numbers.next() % 4 {
         0 => Ok(()),
@@ -129,7 +130,7 @@ fn tear_within(
     bytes: &[u8],
     numbers: &mut SeededNumbers,
 ) -> Result<(), AllocError>
-    ensures { OnOk result (Torn at (length bytes.now) image.old.items image.new.items) }
+    ensures torn { OnOk result (Torn at (length bytes.now) image.old.items image.new.items) }
 {
     let len = image.len();
     let room = at.saturating_add(bytes.len()).saturating_sub(len);
@@ -141,7 +142,7 @@ fn tear_within(
 
 // Leaves each byte of the range as it is, or makes it the new one or any.
 fn mix(image: &mut [u8], at: usize, bytes: &[u8], numbers: &mut SeededNumbers)
-    ensures { (place : ℕ) → place < length image.old → IsOutside at (length bytes.now) place
+    ensures effect { (place : ℕ) → place < length image.old → IsOutside at (length bytes.now) place
         → slice_index image.new place ≡ slice_index image.old place }
 {
     let start = at.min(image.len());

@@ -30,7 +30,7 @@ pub struct StateRead {
 
 /// The state of a generation's image, before it is known whether a host with the registry may be in it.
 fn stored_image(alloc: Global, image: &[u8]) -> Result<StoredImage, OpenFault>
-    ensures { ReadsImage image.now result }
+    ensures reads_image { ReadsImage image.now result }
 {
     match read_image(alloc, image)? {
         Some(stored) => Ok(stored),
@@ -40,7 +40,7 @@ fn stored_image(alloc: Global, image: &[u8]) -> Result<StoredImage, OpenFault>
 
 /// Whether what was stored has this version, and this text of what was registered.
 fn is_with(stored: &StoredImage, version: Version, registered: &str) -> bool
-    ensures { IsTrue result ↔ ((stored.now.version ≡ version)
+    ensures exact { IsTrue result ↔ ((stored.now.version ≡ version)
         × ((snapshot_of stored.now.state).registered ≡ registered.now)) }
 {
     if stored.version != version {
@@ -56,7 +56,8 @@ fn has_shape(
     registered: &str,
     body: &[u8],
 ) -> Result<bool, AllocError>
-    ensures { IfOk result (λ has_it. IsTrue has_it ↔ IsBodyWith version registered.now body.now) }
+    ensures exact { IfOk result (λ has_it. IsTrue has_it
+        ↔ IsBodyWith version registered.now body.now) }
 {
     match read_body(alloc, body)? {
         Some(stored) => Ok(is_with(&stored, version, registered)),
@@ -71,7 +72,7 @@ fn check_shapes(
     registered: &str,
     records: &[Record],
 ) -> Result<(), OpenFault>
-    ensures { ChecksShapes version registered.now records.now result }
+    ensures checks_shapes { ChecksShapes version registered.now records.now result }
 {
     for record in records {
         if !has_shape(alloc, version, registered, &record.body)? {
@@ -88,8 +89,8 @@ fn restore(
     stored: StoredState,
     offset: u64,
 ) -> Result<HostState, OpenFault>
-    requires { IsShaped (snapshot_of stored) }
-    ensures { Restores (registered registry) (snapshot_of stored) offset result }
+    requires shaped { IsShaped (snapshot_of stored) }
+    ensures restores { Restores (registered registry) (snapshot_of stored) offset result }
 {
     match HostState::restore(alloc, registry, stored)? {
         Some(state) => Ok(state),
@@ -100,9 +101,9 @@ fn restore(
 /// The state to which the next record leads, where a host with this registry may be in it; else damage at the gate
 /// before the record.
 fn next_state(alloc: Global, registry: Registry, next: &Record) -> Result<HostState, OpenFault>
-    requires { (version : Version)
+    requires bodies { (version : Version)
         × IsBodyWith version (text_of (registered registry)) next.now.body.items }
-    ensures { LeadsOn (registered registry) next.now.body.items next.now.gate result }
+    ensures leads_on { LeadsOn (registered registry) next.now.body.items next.now.gate result }
 {
     match read_body(alloc, &next.body)? {
         Some(stored) => restore(alloc, registry, stored.state, next.gate),
@@ -112,9 +113,9 @@ fn next_state(alloc: Global, registry: Registry, next: &Record) -> Result<HostSt
 
 /// The state to which records lead from this one. A host with its registry has to be allowed each state on the way.
 fn last_state(alloc: Global, first: HostState, records: &[Record]) -> Result<HostState, OpenFault>
-    requires { (version : Version)
+    requires bodies { (version : Version)
         × AllByRecursion (IsBodyWith version (text_of first.registered)) (bodies_of records.now) }
-    ensures { LeadsThrough first records.now result }
+    ensures leads_through { LeadsThrough first records.now result }
 {
     let mut state = first;
     for record in records {

@@ -23,7 +23,8 @@ pub struct Header {
 impl Header {
     /// The first byte says that the file counts, and something follows.
     pub fn is_open(self) -> bool
-        ensures { (bytes : List ℕ) → IsHeader self bytes → IsTrue result ↔ (IsClosed bytes → ⊥) }
+        ensures exact { (bytes : List ℕ) → IsHeader self bytes → IsTrue result
+            ↔ (IsClosed bytes → ⊥) }
     {
         self.length >= 2 && self.gate == OPEN
     }

@@ -148,8 +148,8 @@ impl<D: Disk> Host<D> {
 
     /// Installs the state of a host that runs as a new generation.
     fn install(&mut self) -> Result<(), HostRefusal>
-        requires { IsSome self.old.state }
-        ensures { TriesInstall D.Disk self.old result self.new }
+        requires state { IsSome self.old.state }
+        ensures tries_install { TriesInstall D.Disk self.old result self.new }
     {
         match install_state(&self.state, &mut self.journal) {
             Ok(()) => Ok(()),
@@ -188,8 +188,8 @@ impl<D: Disk> Host<D> {
 
     /// Makes room for a request of a host that runs, which may add a record.
     fn make_room(&mut self, request: &Request<'_>) -> Result<(), HostRefusal>
-        requires { IsSome self.old.state }
-        ensures { MakesRoom D.Disk (request_seen request.now) self.old result self.new }
+        requires state { IsSome self.old.state }
+        ensures makes_room { MakesRoom D.Disk (request_seen request.now) self.old result self.new }
     {
         if !self.wants_install(request) {
             return Ok(());
@@ -202,7 +202,7 @@ impl<D: Disk> Host<D> {
     fn commit(&mut self, last: u64) -> Result<(), HostRefusal>
         requires running { IsSome self.old.state }
         requires room { IsFull self.old → ⊥ }
-        ensures { Commits D.Disk last self.old result self.new }
+        ensures commits { Commits D.Disk last self.old result self.new }
     {
         match add_state(&self.state, &mut self.journal) {
             Ok(()) => Ok(()),
@@ -220,8 +220,9 @@ impl<D: Disk> Host<D> {
         request: &Request<'_>,
         budget: u64,
     ) -> Result<HostReply, HostRefusal>
-        requires { IsSome self.old.state }
-        ensures { Handles D.Disk budget (request_seen request.now) self.old (reply_of result)
+        requires state { IsSome self.old.state }
+        ensures handles { Handles D.Disk budget (request_seen request.now) self.old
+            (reply_of result)
             self.new }
     {
         self.make_room(request)?;
@@ -381,14 +382,14 @@ impl<D: Disk> Host<D> {
 
 /// The reply is an answer, which raises the sequence number.
 fn is_answer(reply: &HostReply) -> bool
-    ensures { IsTrue result ↔ IsAnswer (reply_seen fault_of reply.now) }
+    ensures exact { IsTrue result ↔ IsAnswer (reply_seen fault_of reply.now) }
 {
     matches!(reply, Reply::Answered(_))
 }
 
 /// The reply of a host that must be reopened. `seq` is the number of the last answer.
 fn reply_of_stopped(request: &Request<'_>, seq: u64) -> HostReply
-    ensures { reply_seen fault_of result ≡ reply_stopped (request_seen request.now) seq }
+    ensures value { reply_seen fault_of result ≡ reply_stopped (request_seen request.now) seq }
 {
     match *request {
         Request::Seq => Reply::Number(seq),

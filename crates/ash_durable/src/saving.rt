@@ -16,7 +16,7 @@ use ash_states::state::{HostRefusal, HostState};
 pub fn add_state<D: Disk>(state: &HostState, journal: &mut Journal<D>) -> Result<(), HostRefusal>
     requires ready { IsReady journal.old }
     requires room { record_bytes journal.old < record_bytes_limit }
-    ensures { Adds D.Disk state.now journal.old result journal.new }
+    ensures adds { Adds D.Disk state.now journal.old result journal.new }
 {
     let body = state.body()?;
     match journal.append(&body) {
@@ -34,8 +34,8 @@ pub fn install_state<D: Disk>(
     state: &HostState,
     journal: &mut Journal<D>,
 ) -> Result<(), HostRefusal>
-    requires { IsReady journal.old }
-    ensures { Installs D.Disk state.now journal.old result journal.new }
+    requires ready { IsReady journal.old }
+    ensures installs { Installs D.Disk state.now journal.old result journal.new }
 {
     if journal.generation() == u64::MAX {
         return Err(Refusal::GenerationSpent);

@@ -18,7 +18,7 @@ use std::alloc::Global;
 
 /// The image of a state, for two disks of which neither file is open.
 fn first_image<D: Disk>(state: &HostState, a: &mut D, b: &mut D) -> Result<Vec<u8>, CreateFault>
-    ensures { LooksFor D.Disk state.now a.old b.old result a.new b.new }
+    ensures looks_for { LooksFor D.Disk state.now a.old b.old result a.new b.new }
 {
     let first = read_header(a)?;
     let second = read_header(b)?;
@@ -38,7 +38,7 @@ pub fn make<D: Disk>(
     a: D,
     b: D,
 ) -> Result<Journal<D>, HostRefused<D>>
-    ensures { Makes D.Disk state.now a b result }
+    ensures makes { Makes D.Disk state.now a b result }
 {
     let mut a = a;
     let mut b = b;
@@ -81,7 +81,7 @@ fn refusal_of<D: Disk>(journal: Journal<D>, fault: StoreFault) -> HostRefused<D>
 
 /// A state that was read of a journal, and the journal once its gates are written over that a crash left.
 fn repair<D: Disk>(state: HostState, journal: Journal<D>) -> Result<Found<D>, HostRefused<D>>
-    ensures { Repairs D.Disk state journal result }
+    ensures repairs { Repairs D.Disk state journal result }
 {
     let mut journal = journal;
     match journal.settle() {
@@ -95,7 +95,7 @@ fn next_generation<D: Disk>(
     state: &HostState,
     journal: &Journal<D>,
 ) -> Result<NextGeneration, StoreFault>
-    ensures { Prepares state.now journal.now result }
+    ensures prepares { Prepares state.now journal.now result }
 {
     if journal.generation() == u64::MAX {
         return Err(StoreFault::GenerationSpent);
@@ -112,8 +112,8 @@ fn next_generation<D: Disk>(
 /// A state that was read of a journal in version 1, and the journal once it is repaired, and holds the state in a new
 /// generation of version 2. All memory is taken before anything is written.
 fn upgrade<D: Disk>(state: HostState, journal: Journal<D>) -> Result<Found<D>, HostRefused<D>>
-    requires { HasFailed journal → ⊥ }
-    ensures { Moves D.Disk state journal result }
+    requires not_failed { HasFailed journal → ⊥ }
+    ensures moves { Moves D.Disk state journal result }
 {
     let next = match next_generation(&state, &journal) {
         Ok(next) => next,
@@ -133,8 +133,8 @@ fn settle<D: Disk>(
     registry: Registry,
     opened: OpenedJournal<D>,
 ) -> Result<Found<D>, HostRefused<D>>
-    requires { HasFailed opened.journal → ⊥ }
-    ensures { Settled D.Disk (registered registry) opened result }
+    requires not_failed { HasFailed opened.journal → ⊥ }
+    ensures settled { Settled D.Disk (registered registry) opened result }
 {
     let OpenedJournal {
         journal,
@@ -163,7 +163,7 @@ pub fn find<D: Disk>(
     a: D,
     b: D,
 ) -> Result<Found<D>, HostRefused<D>>
-    ensures { OpensState D.Disk (registered registry) a b result }
+    ensures opens_state { OpensState D.Disk (registered registry) a b result }
 {
     match Journal::open(alloc, a, b) {
         Ok(opened) => settle(alloc, registry, opened),

@@ -40,7 +40,8 @@ impl Buffer {
 
     // Method 1.
     fn put(&mut self, number: i32) -> HostAnswer
-        ensures { AllowsBuffer (Invoke 1 (Word.Int number ∷ [])) self.old.bytes.items result
+        ensures allows_buffer { AllowsBuffer (Invoke 1 (Word.Int number ∷ [])) self.old.bytes.items
+            result
             self.new.bytes.items }
     {
         if self.bytes.len() == MAX_STATE_BYTES {
@@ -54,7 +55,8 @@ impl Buffer {
 
     // Method 2.
     fn take(&mut self) -> HostAnswer
-        ensures { AllowsBuffer (Invoke 2 []) self.old.bytes.items result self.new.bytes.items }
+        ensures allows_buffer { AllowsBuffer (Invoke 2 []) self.old.bytes.items result
+            self.new.bytes.items }
     {
         match self.bytes.pop() {
             Some(byte) => HostAnswer::Value(Word::Int(byte.into())),

@@ -13,7 +13,7 @@ use ash_typing::Ty;
 
 /// The method of arrays that has this name.
 fn array_method(name: &str) -> Option<ArrayMethod>
-    ensures { result
+    ensures value { result
         ≡ find (environment.is_array_method name.now)
         (arrays.Length ∷ arrays.Resize ∷ arrays.InsertLast ∷ arrays.RemoveLast ∷ arrays.IsEmpty
         ∷ []) }
@@ -35,7 +35,7 @@ fn array_method(name: &str) -> Option<ArrayMethod>
 
 /// A method of arrays whose elements are of a type, as it is called.
 fn array_method_callee<'a>(of: Element, method: ArrayMethod) -> MethodCallee<'a>
-    ensures { method_callee_of result ≡ environment.array_method_of of method }
+    ensures value { method_callee_of result ≡ environment.array_method_of of method }
 {
     let (result, parameters) = match method {
         ArrayMethod::Length => (Ty::Integer(IntType::Uint), Parameters::Nothing),
@@ -54,7 +54,7 @@ fn array_method_callee<'a>(of: Element, method: ArrayMethod) -> MethodCallee<'a>
 /// A method of an array, as it is called.
 #[tactic(auto, unfolding(ash_typing::specs::Environment::method_of_array))]
 pub(crate) fn array_method_named<'a>(of: Element, name: &str) -> Option<MethodCallee<'a>>
-    ensures { option_map method_callee_of result ≡ environment.method_of_array of name.now }
+    ensures value { option_map method_callee_of result ≡ environment.method_of_array of name.now }
 {
     Some(array_method_callee(of, array_method(name)?))
 }

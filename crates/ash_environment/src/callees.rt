@@ -34,7 +34,7 @@ pub struct MethodCallee<'a> {
 
 /// The type of the result of a registered operation.
 fn operation_result(primitive: Option<Primitive>) -> Ty
-    ensures { result ≡ environment.result_of primitive }
+    ensures value { result ≡ environment.result_of primitive }
 {
     match primitive {
         None => Ty::Void,
@@ -44,7 +44,7 @@ fn operation_result(primitive: Option<Primitive>) -> Ty
 
 /// A function of the module, as it is called.
 pub(crate) fn function_callee<'a>(signatures: &'a Signatures<'_>, name: &str) -> Option<Callee<'a>>
-    ensures { option_map callee_of result
+    ensures value { option_map callee_of result
         ≡ environment.function_in (map function_signature_of signatures.now.functions.items)
         name.now }
 {
@@ -62,7 +62,7 @@ pub(crate) fn function_callee<'a>(signatures: &'a Signatures<'_>, name: &str) ->
 
 /// A class, as it is constructed.
 pub(crate) fn class_callee<'a>(signatures: &'a Signatures<'_>, name: &str) -> Option<Callee<'a>>
-    ensures { option_map callee_of result
+    ensures value { option_map callee_of result
         ≡ environment.class_in (map class_signature_of signatures.now.classes.items) name.now }
 {
     let (place, class) = signatures.class(name)?;
@@ -79,7 +79,7 @@ pub(crate) fn class_method_callee<'a>(
     of: &'a ClassSignature<'_>,
     name: &str,
 ) -> Option<MethodCallee<'a>>
-    ensures { option_map method_callee_of result
+    ensures value { option_map method_callee_of result
         ≡ environment.class_method class name.now (class_signature_of of.now) }
 {
     let (method, function) = first_function(&of.methods, name)?;
@@ -101,7 +101,7 @@ pub(crate) fn interface_method_callee<'a>(
     of: &'a InterfaceSignature<'_>,
     name: &str,
 ) -> Option<MethodCallee<'a>>
-    ensures { option_map method_callee_of result
+    ensures value { option_map method_callee_of result
         ≡ environment.interface_method interface name.now (interface_signature_of of.now) }
 {
     let (method, function) = first_function(&of.methods, name)?;
@@ -119,7 +119,7 @@ pub(crate) fn interface_method_callee<'a>(
 
 /// A method of a registered type, as it is called.
 pub(crate) fn host_method_callee(registration: &Registration) -> Option<MethodCallee<'_>>
-    ensures { option_map method_callee_of result
+    ensures value { option_map method_callee_of result
         ≡ environment.host_method (registration_of registration.now) }
 {
     match registration {
@@ -140,7 +140,7 @@ pub(crate) fn host_method_callee(registration: &Registration) -> Option<MethodCa
 
 /// A function of a registered service, as it is called.
 pub(crate) fn service_callee(registration: &Registration) -> Option<Callee<'_>>
-    ensures { option_map callee_of result
+    ensures value { option_map callee_of result
         ≡ environment.service_function (registration_of registration.now) }
 {
     match registration {
@@ -166,7 +166,7 @@ pub(crate) fn service_callee(registration: &Registration) -> Option<Callee<'_>>
 
 /// The parameters of a factory.
 pub(crate) fn factory_parameters(registration: &Registration) -> Option<Parameters<'_>>
-    ensures { option_map parameters_of result
+    ensures value { option_map parameters_of result
         ≡ environment.factory_parameters (registration_of registration.now) }
 {
     match registration {

@@ -10,7 +10,7 @@ use ash_typed::ObjectType;
 use ash_typing::Ty;
 
 fn has_interface(interface: usize, class: &ClassSignature) -> bool
-    ensures { result ≡ coercions.has_interface interface (class_signature_of class.now) }
+    ensures value { result ≡ coercions.has_interface interface (class_signature_of class.now) }
 {
     for listed in &class.interfaces {
         if interface == *listed {
@@ -23,7 +23,7 @@ fn has_interface(interface: usize, class: &ClassSignature) -> bool
 /// Whether the class of this place lists an interface.
 #[tactic(auto, unfolding(ash_typing::specs::Coercions::lists))]
 fn lists(classes: &[ClassSignature], class: usize, interface: usize) -> bool
-    ensures { result ≡ coercions.lists (map class_signature_of classes.now) class interface }
+    ensures value { result ≡ coercions.lists (map class_signature_of classes.now) class interface }
 {
     match classes.get(class) {
         Some(class) => has_interface(interface, class),
@@ -33,7 +33,7 @@ fn lists(classes: &[ClassSignature], class: usize, interface: usize) -> bool
 
 /// Whether an object of the second type is one of the first.
 fn is_of(classes: &[ClassSignature], to: ObjectType, of: ObjectType) -> bool
-    ensures { result ≡ coercions.is_of (map class_signature_of classes.now) to of }
+    ensures value { result ≡ coercions.is_of (map class_signature_of classes.now) to of }
 {
     match (to, of) {
         (ObjectType::Interface(interface), ObjectType::Class(class)) => {
@@ -44,7 +44,7 @@ fn is_of(classes: &[ClassSignature], to: ObjectType, of: ObjectType) -> bool
 }
 
 fn fits_object(classes: &[ClassSignature], object: ObjectType, of: Ty) -> bool
-    ensures { result ≡ coercions.fits_object (map class_signature_of classes.now) object of }
+    ensures value { result ≡ coercions.fits_object (map class_signature_of classes.now) object of }
 {
     match of {
         Ty::Object(other) | Ty::Handle(other) => is_of(classes, object, other),

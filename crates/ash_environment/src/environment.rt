@@ -37,7 +37,7 @@ pub struct Environment<'a, 'n> {
 
 /// A field of the class of this place, with its type.
 fn class_field(class: usize, of: &ClassSignature, name: &str) -> Option<(ObjectMember, Ty)>
-    ensures { result ≡ environment.field_in class (class_signature_of of.now) name.now }
+    ensures value { result ≡ environment.field_in class (class_signature_of of.now) name.now }
 {
     let (place, ty) = first_binding(&of.fields, name)?;
     let member = ObjectMember::Field {
@@ -50,7 +50,7 @@ fn class_field(class: usize, of: &ClassSignature, name: &str) -> Option<(ObjectM
 
 /// A local, with its type.
 fn local_named(locals: &[Binding], name: &str) -> Option<(Expr, Ty)>
-    ensures { option_map known_of result
+    ensures value { option_map known_of result
         ≡ environment.local_in (map binding_of locals.now) name.now }
 {
     let (slot, of) = last_binding(locals, name)?;
@@ -63,7 +63,7 @@ fn local_named(locals: &[Binding], name: &str) -> Option<(Expr, Ty)>
 
 /// A global, with its type.
 fn global_named(signatures: &Signatures, name: &str) -> Option<(Expr, Ty)>
-    ensures { option_map known_of result
+    ensures value { option_map known_of result
         ≡ environment.global_in (map binding_of signatures.now.globals.items) name.now }
 {
     let (place, of) = signatures.global(name)?;
@@ -76,7 +76,7 @@ fn global_named(signatures: &Signatures, name: &str) -> Option<(Expr, Ty)>
 
 /// A property of a registered type, with its type.
 fn host_property(registration: &Registration) -> Option<(ObjectMember, Ty)>
-    ensures { result ≡ environment.property (registration_of registration.now) }
+    ensures value { result ≡ environment.property (registration_of registration.now) }
 {
     match registration {
         Registration::Property { id, value, .. } => {
@@ -94,7 +94,7 @@ fn host_property(registration: &Registration) -> Option<(ObjectMember, Ty)>
 impl<'a, 'n> Environment<'a, 'n> {
     /// The class whose object runs, with its place.
     fn this_class(&self) -> Option<(usize, &'a ClassSignature<'n>)>
-        ensures { option_map placed_class result
+        ensures value { option_map placed_class result
             ≡ environment.this_class (environment_of self.now) }
     {
         let place = self.this?;
@@ -141,7 +141,7 @@ impl<'a, 'n> Environment<'a, 'n> {
 
     /// A method of the object that runs, as it is called.
     fn own_method_callee(&self, name: &str) -> Option<Callee<'a>>
-        ensures { option_map callee_of result
+        ensures value { option_map callee_of result
             ≡ environment.own_method_in (environment_of self.now) name.now }
     {
         let (class, of) = self.this_class()?;
@@ -177,7 +177,7 @@ impl<'a, 'n> Environment<'a, 'n> {
     /// The parameters of the factory of a registered type.
     #[tactic(auto, unfolding(ash_typing::specs::Environment::factory_in))]
     fn factory_parameters(&self, of: &str) -> Option<Parameters<'a>>
-        ensures { option_map parameters_of result
+        ensures value { option_map parameters_of result
             ≡ environment.factory_in (registered self.now.registry.now) of.now }
     {
         factory_parameters(self.registry.factory_of(of)?)
@@ -201,7 +201,7 @@ impl<'a, 'n> Environment<'a, 'n> {
 
     /// A registered function, a class or a registered type, as it is called.
     fn service_or_type_callee(&self, name: &str) -> Option<Callee<'a>>
-        ensures { option_map callee_of result
+        ensures value { option_map callee_of result
             ≡ environment.callee_beside (environment_of self.now) name.now }
     {
         let registered = self.registry.named(name);
@@ -219,7 +219,8 @@ impl<'a, 'n> Environment<'a, 'n> {
     /// The name of a registered type, by its kind.
     #[tactic(auto, unfolding(ash_typing::specs::Environment::name_of_kind))]
     fn type_name(&self, kind: u16) -> &'a str
-        ensures { result.now ≡ environment.name_of_kind (registered self.now.registry.now) kind }
+        ensures value { result.now ≡ environment.name_of_kind (registered self.now.registry.now)
+            kind }
     {
         match self.registry.of_kind(kind) {
             Some(Registration::Type { name, .. }) => name.as_str(),
@@ -230,7 +231,7 @@ impl<'a, 'n> Environment<'a, 'n> {
     /// A method or a property of a registered type.
     #[tactic(auto, unfolding(ash_typing::specs::Environment::host_member_in))]
     fn host_member(&self, kind: u16, name: &str) -> Option<&'a Registration>
-        ensures { option_map registration_of (option_copied result)
+        ensures value { option_map registration_of (option_copied result)
             ≡ environment.host_member_in (registered self.now.registry.now) kind name.now }
     {
         self.registry.member(self.type_name(kind), name)
@@ -255,7 +256,7 @@ impl<'a, 'n> Environment<'a, 'n> {
 
     #[tactic(auto, unfolding(ash_typing::specs::Environment::method_of_class))]
     fn class_method(&self, class: usize, name: &str) -> Option<MethodCallee<'a>>
-        ensures { option_map method_callee_of result
+        ensures value { option_map method_callee_of result
             ≡ environment.method_of_class
             (map class_signature_of self.now.signatures.now.classes.items) class name.now }
     {
@@ -265,7 +266,7 @@ impl<'a, 'n> Environment<'a, 'n> {
 
     #[tactic(auto, unfolding(ash_typing::specs::Environment::method_of_interface))]
     fn interface_method(&self, interface: usize, name: &str) -> Option<MethodCallee<'a>>
-        ensures { option_map method_callee_of result
+        ensures value { option_map method_callee_of result
             ≡ environment.method_of_interface
             (map interface_signature_of self.now.signatures.now.interfaces.items) interface
             name.now }
@@ -276,7 +277,7 @@ impl<'a, 'n> Environment<'a, 'n> {
 
     #[tactic(auto, unfolding(ash_typing::specs::Environment::method_of_kind))]
     fn host_method(&self, kind: u16, name: &str) -> Option<MethodCallee<'a>>
-        ensures { option_map method_callee_of result
+        ensures value { option_map method_callee_of result
             ≡ environment.method_of_kind (registered self.now.registry.now) kind name.now }
     {
         let registration = self.host_member(kind, name)?;

@@ -10,7 +10,7 @@ use ash_typing::Ty;
 
 /// The first variable of this name, with its place.
 pub(crate) fn first_binding(all: &[Binding], name: &str) -> Option<(usize, Ty)>
-    ensures { result
+    ensures value { result
         ≡ option_map placed_type
         (environment.first_from (environment.declares name.now) 0 (map binding_of all.now)) }
 {
@@ -24,7 +24,7 @@ pub(crate) fn first_binding(all: &[Binding], name: &str) -> Option<(usize, Ty)>
 
 /// The last variable of this name, with its place.
 pub(crate) fn last_binding(all: &[Binding], name: &str) -> Option<(usize, Ty)>
-    ensures { result ≡ environment.last_named name.now 0 None (map binding_of all.now) }
+    ensures value { result ≡ environment.last_named name.now 0 None (map binding_of all.now) }
 {
     for i in (0..all.len()).rev() {
         let binding = &all[i];

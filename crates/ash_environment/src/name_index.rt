@@ -16,7 +16,7 @@ pub(crate) fn name_index_of<'a>(
     alloc: Global,
     names: &[&'a str],
 ) -> Result<NameIndex<'a>, AllocError>
-    ensures { IfOk result (λ places. IsNameIndex places (texts names.now)) }
+    ensures name_index { IfOk result (λ places. IsNameIndex places (texts names.now)) }
 {
     let mut places = IndexMap::with_capacity(alloc, names.len())?;
     for place in (0..names.len()).rev() {
@@ -29,7 +29,7 @@ pub(crate) fn interface_names<'a>(
     alloc: Global,
     all: &[InterfaceSignature<'a>],
 ) -> Result<Vec<&'a str>, AllocError>
-    ensures { IfOk result (λ names. texts names.items ≡ map (λ i. i.name.now) all.now) }
+    ensures value { IfOk result (λ names. texts names.items ≡ map (λ i. i.name.now) all.now) }
 {
     let mut names = Vec::with_capacity(alloc, all.len())?;
     for interface in all {
@@ -42,7 +42,7 @@ pub(crate) fn class_names<'a>(
     alloc: Global,
     all: &[ClassSignature<'a>],
 ) -> Result<Vec<&'a str>, AllocError>
-    ensures { IfOk result (λ names. texts names.items ≡ map (λ c. c.name.now) all.now) }
+    ensures value { IfOk result (λ names. texts names.items ≡ map (λ c. c.name.now) all.now) }
 {
     let mut names = Vec::with_capacity(alloc, all.len())?;
     for class in all {
@@ -55,7 +55,7 @@ pub(crate) fn function_names<'a>(
     alloc: Global,
     all: &[FunctionSignature<'a>],
 ) -> Result<Vec<&'a str>, AllocError>
-    ensures { IfOk result (λ names. texts names.items ≡ map (λ f. f.name.now) all.now) }
+    ensures value { IfOk result (λ names. texts names.items ≡ map (λ f. f.name.now) all.now) }
 {
     let mut names = Vec::with_capacity(alloc, all.len())?;
     for function in all {
@@ -68,7 +68,7 @@ pub(crate) fn variable_names<'a>(
     alloc: Global,
     all: &[Binding<'a>],
 ) -> Result<Vec<&'a str>, AllocError>
-    ensures { IfOk result (λ names. texts names.items ≡ map (λ v. v.name.now) all.now) }
+    ensures value { IfOk result (λ names. texts names.items ≡ map (λ v. v.name.now) all.now) }
 {
     let mut names = Vec::with_capacity(alloc, all.len())?;
     for variable in all {
@@ -79,7 +79,7 @@ pub(crate) fn variable_names<'a>(
 
 /// The item at a place.
 pub(crate) fn item_at<T>(all: &[T], place: usize) -> Option<&T>
-    ensures { option_copied result ≡ slice_get all.now place }
+    ensures value { option_copied result ≡ slice_get all.now place }
 {
     all.get(place)
 }

@@ -71,7 +71,7 @@ impl<'a> Parameters<'a> {
 }
 
 fn one_type(alloc: Global, of: Ty) -> Result<Vec<VarType>, AllocError>
-    ensures { IfOk result (λ types. types.items ≡ definition.var_type of ∷ []) }
+    ensures value { IfOk result (λ types. types.items ≡ definition.var_type of ∷ []) }
 {
     let mut types = Vec::with_capacity(alloc, 1)?;
     types.push(var_type(of))?;
@@ -79,7 +79,7 @@ fn one_type(alloc: Global, of: Ty) -> Result<Vec<VarType>, AllocError>
 }
 
 fn script_types(alloc: Global, all: &[Ty]) -> Result<Vec<VarType>, AllocError>
-    ensures { IfOk result (λ types. types.items ≡ map definition.var_type all.now) }
+    ensures value { IfOk result (λ types. types.items ≡ map definition.var_type all.now) }
 {
     let mut types = Vec::with_capacity(alloc, all.len())?;
     for of in all {
@@ -89,7 +89,7 @@ fn script_types(alloc: Global, all: &[Ty]) -> Result<Vec<VarType>, AllocError>
 }
 
 fn host_types(alloc: Global, primitives: &[Primitive]) -> Result<Vec<VarType>, AllocError>
-    ensures { IfOk result
+    ensures value { IfOk result
         (λ types. types.items ≡ map definition.var_type (map definition.ty_of primitives.now)) }
 {
     let mut types = Vec::with_capacity(alloc, primitives.len())?;

@@ -122,7 +122,7 @@ impl<'a> Signatures<'a> {
 
     /// The first function of this name, with its place.
     pub(crate) fn function(&self, name: &str) -> Option<(usize, &FunctionSignature<'a>)>
-        ensures { option_map placed_function result
+        ensures value { option_map placed_function result
             ≡ environment.first_from (environment.is_called name.now) 0
             (map function_signature_of self.now.functions.items) }
     {
@@ -133,7 +133,7 @@ impl<'a> Signatures<'a> {
 
     /// The first global of this name, with its place.
     pub(crate) fn global(&self, name: &str) -> Option<(usize, Ty)>
-        ensures { result
+        ensures value { result
             ≡ option_map placed_type
             (environment.first_from (environment.declares name.now) 0
             (map binding_of self.now.globals.items)) }

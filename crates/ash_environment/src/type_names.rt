@@ -16,7 +16,7 @@ use ash_typing::Ty;
 
 /// The type of a registered type's objects.
 fn host_object_type(registration: &Registration) -> Option<ObjectType>
-    ensures { result ≡ definition.host_object (registration_of registration.now) }
+    ensures value { result ≡ definition.host_object (registration_of registration.now) }
 {
     match registration {
         Registration::Type { kind, .. } => Some(ObjectType::Host(*kind)),
@@ -47,7 +47,7 @@ pub fn object_named(
 
 /// The element type of a primitive type.
 fn element_of_primitive(primitive: Primitive) -> Element
-    ensures { result ≡ definition.element_of primitive }
+    ensures value { result ≡ definition.element_of primitive }
 {
     match primitive {
         Primitive::Bool => Element::Bool,
@@ -60,7 +60,7 @@ fn element_of_primitive(primitive: Primitive) -> Element
 
 /// The element type of handles of these objects.
 fn element_of_object(object: ObjectType) -> Option<Element>
-    ensures { result ≡ definition.element_by object }
+    ensures value { result ≡ definition.element_by object }
 {
     match object {
         ObjectType::Class(class) => Some(Element::Class(class)),
@@ -97,7 +97,7 @@ fn array_type_named(
     signatures: &Signatures,
     of: &ash_tree::Element,
 ) -> Option<ObjectType>
-    ensures { result
+    ensures value { result
         ≡ definition.array_named (registered registry.now) (signatures_of signatures.now)
         (element_of of.now) }
 {
@@ -105,7 +105,7 @@ fn array_type_named(
 }
 
 fn object_type(object: Option<ObjectType>) -> Ty
-    ensures { result ≡ definition.object_ty object }
+    ensures value { result ≡ definition.object_ty object }
 {
     match object {
         None => Ty::Unknown,
@@ -114,7 +114,7 @@ fn object_type(object: Option<ObjectType>) -> Ty
 }
 
 fn handle_type_of(object: Option<ObjectType>) -> Ty
-    ensures { result ≡ definition.handle_ty object }
+    ensures value { result ≡ definition.handle_ty object }
 {
     match object {
         None => Ty::Unknown,

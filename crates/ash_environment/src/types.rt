@@ -10,13 +10,13 @@ use ash_typed::{Conversion, Element, IntType, ObjectType, VarType};
 use ash_typing::Ty;
 
 pub(crate) fn is_signed(int_type: IntType) -> bool
-    ensures { result ≡ types.is_signed int_type }
+    ensures value { result ≡ types.is_signed int_type }
 {
     matches!(int_type, IntType::Int | IntType::Int64)
 }
 
 pub(crate) fn is_wide(int_type: IntType) -> bool
-    ensures { result ≡ types.is_wide int_type }
+    ensures value { result ≡ types.is_wide int_type }
 {
     matches!(int_type, IntType::Int64 | IntType::Uint64)
 }
@@ -29,7 +29,7 @@ struct Shape {
 }
 
 fn integer_type_of(shape: Shape) -> IntType
-    ensures { result ≡ types.integer_type_of shape.is_signed shape.is_wide }
+    ensures value { result ≡ types.integer_type_of shape.is_signed shape.is_wide }
 {
     match (shape.is_signed, shape.is_wide) {
         (true, false) => IntType::Int,
@@ -60,7 +60,7 @@ pub fn signed_type(int_type: IntType) -> IntType
 }
 
 pub(crate) fn is_same_integer_type(one: IntType, other: IntType) -> bool
-    ensures { result ≡ types.is_same_integer_type one other }
+    ensures value { result ≡ types.is_same_integer_type one other }
 {
     match one {
         IntType::Int => matches!(other, IntType::Int),
@@ -98,7 +98,7 @@ pub fn number_type(number: u64) -> IntType
 }
 
 fn is_same_element(one: Element, other: Element) -> bool
-    ensures { result ≡ types.is_same_element one other }
+    ensures value { result ≡ types.is_same_element one other }
 {
     match (one, other) {
         (Element::Bool, Element::Bool) => true,
@@ -186,7 +186,7 @@ pub fn result_type(of: Ty) -> Option<VarType>
 
 /// Whether the value of an expression of a type is an object of this one, or null.
 fn can_be_object(object: ObjectType, of: Ty) -> bool
-    ensures { result ≡ types.gives_object object of }
+    ensures value { result ≡ types.gives_object object of }
 {
     match of {
         Ty::Object(other) | Ty::Handle(other) => is_same_object(object, other),
@@ -196,7 +196,7 @@ fn can_be_object(object: ObjectType, of: Ty) -> bool
 }
 
 fn common_object_type(object: ObjectType, of: Ty) -> Option<Ty>
-    ensures { result ≡ types.common_object object of }
+    ensures value { result ≡ types.common_object object of }
 {
     if can_be_object(object, of) {
         Some(Ty::Handle(object))

@@ -24,7 +24,7 @@ impl<F: Fn(&mut Activity, ModuleCallee) -> RunResult<Option<Word>> + Drop> Evalu
     fn run_body(&self, activity: &mut Activity, callee: ModuleCallee) -> RunResult<Option<Word>>
         requires callable { F.IsAlwaysCallable self.now.body }
         requires bodies { RunsBodies F.Fn self.now }
-        ensures { RunsAs (λ v. v) result (activity_seen activity.new)
+        ensures run { RunsAs (λ v. v) result (activity_seen activity.new)
             (body_of_callee (program_seen self.now.program.now) self.now.depth (callee_seen callee)
             (activity_seen activity.old)) }
     {
@@ -42,7 +42,7 @@ impl<F: Fn(&mut Activity, ModuleCallee) -> RunResult<Option<Word>> + Drop> Evalu
     ) -> RunResult<Word>
         requires callable { F.IsAlwaysCallable self.now.body }
         requires bodies { RunsBodies F.Fn self.now }
-        ensures { RunsAs (λ w. w) result (activity_seen activity.new)
+        ensures run { RunsAs (λ w. w) result (activity_seen activity.new)
             (call (calls_seen self.now) (callee_seen callee) this args.items
             (activity_seen activity.old)) }
     {
@@ -67,7 +67,7 @@ impl<F: Fn(&mut Activity, ModuleCallee) -> RunResult<Option<Word>> + Drop> Evalu
     ) -> RunResult<Word>
         requires callable { F.IsAlwaysCallable self.now.body }
         requires bodies { RunsBodies F.Fn self.now }
-        ensures { RunsAs (λ w. w) result (activity_seen activity.new)
+        ensures run { RunsAs (λ w. w) result (activity_seen activity.new)
             (construction_run (calls_seen self.now) class number args.items
             (activity_seen activity.old)) }
     {
@@ -87,7 +87,7 @@ impl<F: Fn(&mut Activity, ModuleCallee) -> RunResult<Option<Word>> + Drop> Evalu
     fn construct(&self, activity: &mut Activity, class: usize, args: Vec<Word>) -> RunResult<Word>
         requires callable { F.IsAlwaysCallable self.now.body }
         requires bodies { RunsBodies F.Fn self.now }
-        ensures { RunsAs (λ w. w) result (activity_seen activity.new)
+        ensures run { RunsAs (λ w. w) result (activity_seen activity.new)
             (construct (calls_seen self.now) class args.items (activity_seen activity.old)) }
     {
         let Some(constructed) = self.program.tree.classes.get(class) else {
@@ -103,7 +103,7 @@ impl<F: Fn(&mut Activity, ModuleCallee) -> RunResult<Option<Word>> + Drop> Evalu
     /// The class of an object.
     #[tactic(auto, unfolding(crate::specs::EvaluatorViews::calls_seen, ash_plain::specs::ActivityViews::activity_seen))]
     fn class_at(&self, activity: &Activity, number: u64) -> RunResult<usize>
-        ensures { RunsAs (λ class. class) result (activity_seen activity.now)
+        ensures run { RunsAs (λ class. class) result (activity_seen activity.now)
             (class_at (calls_seen self.now) number (activity_seen activity.now)) }
     {
         let Some(object) = activity.world.objects.get(number) else {
@@ -124,7 +124,7 @@ impl<F: Fn(&mut Activity, ModuleCallee) -> RunResult<Option<Word>> + Drop> Evalu
     ) -> RunResult<Word>
         requires callable { F.IsAlwaysCallable self.now.body }
         requires bodies { RunsBodies F.Fn self.now }
-        ensures { RunsAs (λ w. w) result (activity_seen activity.new)
+        ensures run { RunsAs (λ w. w) result (activity_seen activity.new)
             (call_through (calls_seen self.now) interface method number args.items
             (activity_seen activity.old)) }
     {
@@ -150,7 +150,7 @@ impl<F: Fn(&mut Activity, ModuleCallee) -> RunResult<Option<Word>> + Drop> Evalu
     ) -> RunResult<Word>
         requires callable { F.IsAlwaysCallable self.now.body }
         requires bodies { RunsBodies F.Fn self.now }
-        ensures { RunsAs (λ w. w) result (activity_seen activity.new)
+        ensures run { RunsAs (λ w. w) result (activity_seen activity.new)
             (invoke (calls_seen self.now) method number args.items (activity_seen activity.old)) }
     {
         match method {
@@ -183,7 +183,7 @@ impl<F: Fn(&mut Activity, ModuleCallee) -> RunResult<Option<Word>> + Drop> Evalu
     ) -> RunResult<Word>
         requires callable { F.IsAlwaysCallable self.now.body }
         requires bodies { RunsBodies F.Fn self.now }
-        ensures { RunsAs (λ w. w) result (activity_seen activity.new)
+        ensures run { RunsAs (λ w. w) result (activity_seen activity.new)
             (call_target (calls_seen self.now) target args.items (activity_seen activity.old)) }
     {
         match target {
@@ -207,7 +207,7 @@ impl<F: Fn(&mut Activity, ModuleCallee) -> RunResult<Option<Word>> + Drop> Evalu
     /// A cast gives the object where it is of the type, and else null.
     #[tactic(auto, unfolding(crate::specs::EvaluatorViews::calls_seen, ash_plain::specs::ActivityViews::activity_seen))]
     pub(crate) fn cast(&self, activity: &Activity, to: ObjectType, word: Word) -> Word
-        ensures { cast (calls_seen self.now).program to word (activity_seen activity.now)
+        ensures value { cast (calls_seen self.now).program to word (activity_seen activity.now)
             ≡ Done result (activity_seen activity.now) }
     {
         let Word::Object(number) = word else {

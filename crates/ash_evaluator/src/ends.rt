@@ -53,7 +53,7 @@ pub struct Outcome {
 
 /// How a run ends whose innermost frame is this one.
 fn end_of(frame: Frame, value: RunResult<Option<Word>>) -> RunResult<End>
-    ensures { (p : Progress (Option WordData)) (activity : ActivityData) → frame_seen frame
+    ensures outcome { (p : Progress (Option WordData)) (activity : ActivityData) → frame_seen frame
         ≡ activity.frame
         → RunsAs (λ v. v) value activity p → HasEnd result activity.world (outcome_of p) }
 {
@@ -76,7 +76,8 @@ fn end_of(frame: Frame, value: RunResult<Option<Word>>) -> RunResult<End>
 /// How a run ends that came so far, and the world that it leaves. What was done before stays.
 #[tactic(auto, unfolding(ash_plain::specs::ActivityViews::activity_seen))]
 fn finish(activity: Activity, value: RunResult<Option<Word>>) -> RunResult<Outcome>
-    ensures { (p : Progress (Option WordData)) → RunsAs (λ v. v) value (activity_seen activity) p
+    ensures outcome { (p : Progress (Option WordData))
+        → RunsAs (λ v. v) value (activity_seen activity) p
         → EndsAs result (outcome_of p) }
 {
     let Activity {
@@ -94,7 +95,7 @@ fn finish(activity: Activity, value: RunResult<Option<Word>>) -> RunResult<Outco
 /// One frame, and no callers.
 #[tactic(auto, unfolding(ash_plain::specs::ActivityViews::activity_seen))]
 fn begun(alloc: Global, world: World, budget: u64, frame: Frame) -> Activity
-    ensures { activity_seen result ≡ begun (world_seen world) budget (frame_seen frame) }
+    ensures value { activity_seen result ≡ begun (world_seen world) budget (frame_seen frame) }
 {
     Activity {
         alloc,
@@ -113,7 +114,7 @@ fn run_function(
     line: usize,
     callee: ModuleCallee,
 ) -> RunResult<Option<Word>>
-    ensures { RunsAs (λ v. v) result (activity_seen activity.new)
+    ensures run { RunsAs (λ v. v) result (activity_seen activity.new)
         (function_run (program_seen program.now) budget line (callee_seen callee)
         (activity_seen activity.old)) }
 {
@@ -153,7 +154,7 @@ pub fn call_function(
 
 /// What the globals of a module are before its initializers run.
 fn zeros(alloc: Global, declarations: &[Variables]) -> Result<Vec<Word>, AllocError>
-    ensures { IfOk result (λ words. words.items
+    ensures value { IfOk result (λ words. words.items
         ≡ map zero_of (types_of_globals (map variables_of declarations.now))) }
 {
     let mut words = Vec::new(alloc);
@@ -164,7 +165,7 @@ fn zeros(alloc: Global, declarations: &[Variables]) -> Result<Vec<Word>, AllocEr
 }
 
 fn push_zeros(words: &mut Vec<Word>, globals: &[Initialization]) -> Result<(), AllocError>
-    ensures { OnOk result (words.new.items
+    ensures value { OnOk result (words.new.items
         ≡ words.old.items ++ map zero_of (map type_declared (map variable_of globals.now))) }
 {
     for global in globals {
@@ -195,7 +196,8 @@ pub fn load_module(program: &Program<'_>, budget: u64, world: World) -> RunResul
 
 /// The same run, whose value is none.
 fn no_value(run: RunResult<()>) -> RunResult<Option<Word>>
-    ensures { (p : Progress (Unit {0})) (activity : ActivityData) → RunsAs (λ _. tt) run activity p
+    ensures outcome { (p : Progress (Unit {0})) (activity : ActivityData)
+        → RunsAs (λ _. tt) run activity p
         → RunsAs (λ v. v) result activity (without_value p) }
 {
     run?;

@@ -28,7 +28,7 @@ impl<F: Fn(&mut Activity, ModuleCallee) -> RunResult<Option<Word>> + Drop> Evalu
     pub(crate) fn expression(&self, activity: &mut Activity, expr: &Expr) -> RunResult<Word>
         requires callable { F.IsAlwaysCallable self.now.body }
         requires bodies { RunsBodies F.Fn self.now }
-        ensures { RunsAs (λ w. w) result (activity_seen activity.new)
+        ensures run { RunsAs (λ w. w) result (activity_seen activity.new)
             (expression (calls_seen self.now) (expr_of expr.now) (activity_seen activity.old)) }
     {
         match expr {
@@ -94,7 +94,7 @@ impl<F: Fn(&mut Activity, ModuleCallee) -> RunResult<Option<Word>> + Drop> Evalu
     ) -> RunResult<Word>
         requires callable { F.IsAlwaysCallable self.now.body }
         requires bodies { RunsBodies F.Fn self.now }
-        ensures { RunsAs (λ w. w) result (activity_seen activity.new)
+        ensures run { RunsAs (λ w. w) result (activity_seen activity.new)
             (expression (calls_seen self.now)
             (Conditional (expr_of condition.now) (expr_of then.now) (expr_of otherwise.now))
             (activity_seen activity.old)) }
@@ -119,7 +119,7 @@ impl<F: Fn(&mut Activity, ModuleCallee) -> RunResult<Option<Word>> + Drop> Evalu
     ) -> RunResult<Word>
         requires callable { F.IsAlwaysCallable self.now.body }
         requires bodies { RunsBodies F.Fn self.now }
-        ensures { RunsAs (λ w. w) result (activity_seen activity.new)
+        ensures run { RunsAs (λ w. w) result (activity_seen activity.new)
             (expression (calls_seen self.now)
             (Update (place_of place.now) of calculation (expr_of value.now))
             (activity_seen activity.old)) }
@@ -134,7 +134,7 @@ impl<F: Fn(&mut Activity, ModuleCallee) -> RunResult<Option<Word>> + Drop> Evalu
     fn links(&self, activity: &mut Activity, base: Word, links: &[Link]) -> RunResult<Word>
         requires callable { F.IsAlwaysCallable self.now.body }
         requires bodies { RunsBodies F.Fn self.now }
-        ensures { RunsAs (λ w. w) result (activity_seen activity.new)
+        ensures run { RunsAs (λ w. w) result (activity_seen activity.new)
             (links_run (calls_seen self.now) links.now base (activity_seen activity.old)) }
     {
         let mut handle = base;
@@ -148,7 +148,7 @@ impl<F: Fn(&mut Activity, ModuleCallee) -> RunResult<Option<Word>> + Drop> Evalu
     fn link(&self, activity: &mut Activity, handle: Word, link: &Link) -> RunResult<Word>
         requires callable { F.IsAlwaysCallable self.now.body }
         requires bodies { RunsBodies F.Fn self.now }
-        ensures { RunsAs (λ w. w) result (activity_seen activity.new)
+        ensures run { RunsAs (λ w. w) result (activity_seen activity.new)
             (link_run (calls_seen self.now) link.now handle (activity_seen activity.old)) }
     {
         match link {
@@ -179,7 +179,7 @@ impl<F: Fn(&mut Activity, ModuleCallee) -> RunResult<Option<Word>> + Drop> Evalu
     ) -> RunResult<Word>
         requires callable { F.IsAlwaysCallable self.now.body }
         requires bodies { RunsBodies F.Fn self.now }
-        ensures { RunsAs (λ w. w) result (activity_seen activity.new)
+        ensures run { RunsAs (λ w. w) result (activity_seen activity.new)
             (operands_run (calls_seen self.now) operands.now first (activity_seen activity.old)) }
     {
         let mut left = first;
@@ -193,7 +193,7 @@ impl<F: Fn(&mut Activity, ModuleCallee) -> RunResult<Option<Word>> + Drop> Evalu
     fn operand(&self, activity: &mut Activity, left: Word, operand: &Operand) -> RunResult<Word>
         requires callable { F.IsAlwaysCallable self.now.body }
         requires bodies { RunsBodies F.Fn self.now }
-        ensures { RunsAs (λ w. w) result (activity_seen activity.new)
+        ensures run { RunsAs (λ w. w) result (activity_seen activity.new)
             (operand_run (calls_seen self.now) operand.now left (activity_seen activity.old)) }
     {
         let right = self.expression(activity, &operand.value)?;
@@ -212,7 +212,7 @@ impl<F: Fn(&mut Activity, ModuleCallee) -> RunResult<Option<Word>> + Drop> Evalu
     ) -> RunResult<Word>
         requires callable { F.IsAlwaysCallable self.now.body }
         requires bodies { RunsBodies F.Fn self.now }
-        ensures { RunsAs (λ w. w) result (activity_seen activity.new)
+        ensures run { RunsAs (λ w. w) result (activity_seen activity.new)
             (lazies_run (calls_seen self.now) operator others.now first
             (activity_seen activity.old)) }
     {
@@ -233,7 +233,7 @@ impl<F: Fn(&mut Activity, ModuleCallee) -> RunResult<Option<Word>> + Drop> Evalu
     ) -> RunResult<Word>
         requires callable { F.IsAlwaysCallable self.now.body }
         requires bodies { RunsBodies F.Fn self.now }
-        ensures { RunsAs (λ w. w) result (activity_seen activity.new)
+        ensures run { RunsAs (λ w. w) result (activity_seen activity.new)
             (lazily operator (is_true left) (expression (calls_seen self.now) (expr_of right.now))
             (activity_seen activity.old)) }
     {
@@ -249,7 +249,7 @@ impl<F: Fn(&mut Activity, ModuleCallee) -> RunResult<Option<Word>> + Drop> Evalu
     fn location(&self, activity: &mut Activity, place: &Place) -> RunResult<Location>
         requires callable { F.IsAlwaysCallable self.now.body }
         requires bodies { RunsBodies F.Fn self.now }
-        ensures { RunsAs location_seen result (activity_seen activity.new)
+        ensures run { RunsAs location_seen result (activity_seen activity.new)
             (location (calls_seen self.now) (place_of place.now) (activity_seen activity.old)) }
     {
         match place {
@@ -272,7 +272,7 @@ impl<F: Fn(&mut Activity, ModuleCallee) -> RunResult<Option<Word>> + Drop> Evalu
     fn arguments(&self, activity: &mut Activity, all: &[Expr]) -> RunResult<Vec<Word>>
         requires callable { F.IsAlwaysCallable self.now.body }
         requires bodies { RunsBodies F.Fn self.now }
-        ensures { RunsAs (λ words. words.items) result (activity_seen activity.new)
+        ensures run { RunsAs (λ words. words.items) result (activity_seen activity.new)
             (arguments (calls_seen self.now) (exprs (map expr_of all.now))
             (activity_seen activity.old)) }
     {
@@ -289,7 +289,7 @@ impl<F: Fn(&mut Activity, ModuleCallee) -> RunResult<Option<Word>> + Drop> Evalu
     fn path(&self, activity: &mut Activity, base: &Expr, links: &[Link]) -> RunResult<Word>
         requires callable { F.IsAlwaysCallable self.now.body }
         requires bodies { RunsBodies F.Fn self.now }
-        ensures { RunsAs (λ w. w) result (activity_seen activity.new)
+        ensures run { RunsAs (λ w. w) result (activity_seen activity.new)
             (path_run (calls_seen self.now) (expr_of base.now) links.now
             (activity_seen activity.old)) }
     {
@@ -302,7 +302,7 @@ impl<F: Fn(&mut Activity, ModuleCallee) -> RunResult<Option<Word>> + Drop> Evalu
     fn chain(&self, activity: &mut Activity, first: &Expr, operands: &[Operand]) -> RunResult<Word>
         requires callable { F.IsAlwaysCallable self.now.body }
         requires bodies { RunsBodies F.Fn self.now }
-        ensures { RunsAs (λ w. w) result (activity_seen activity.new)
+        ensures run { RunsAs (λ w. w) result (activity_seen activity.new)
             (chain_run (calls_seen self.now) (expr_of first.now) operands.now
             (activity_seen activity.old)) }
     {
@@ -321,7 +321,7 @@ impl<F: Fn(&mut Activity, ModuleCallee) -> RunResult<Option<Word>> + Drop> Evalu
     ) -> RunResult<Word>
         requires callable { F.IsAlwaysCallable self.now.body }
         requires bodies { RunsBodies F.Fn self.now }
-        ensures { RunsAs (λ w. w) result (activity_seen activity.new)
+        ensures run { RunsAs (λ w. w) result (activity_seen activity.new)
             (lazy_run (calls_seen self.now) operator (expr_of first.now) others.now
             (activity_seen activity.old)) }
     {
@@ -339,7 +339,7 @@ impl<F: Fn(&mut Activity, ModuleCallee) -> RunResult<Option<Word>> + Drop> Evalu
     ) -> RunResult<Word>
         requires callable { F.IsAlwaysCallable self.now.body }
         requires bodies { RunsBodies F.Fn self.now }
-        ensures { RunsAs (λ w. w) result (activity_seen activity.new)
+        ensures run { RunsAs (λ w. w) result (activity_seen activity.new)
             (target_run (calls_seen self.now) target exprs.now (activity_seen activity.old)) }
     {
         let args = self.arguments(activity, exprs)?;
@@ -357,7 +357,7 @@ impl<F: Fn(&mut Activity, ModuleCallee) -> RunResult<Option<Word>> + Drop> Evalu
     ) -> RunResult<Word>
         requires callable { F.IsAlwaysCallable self.now.body }
         requires bodies { RunsBodies F.Fn self.now }
-        ensures { RunsAs (λ w. w) result (activity_seen activity.new)
+        ensures run { RunsAs (λ w. w) result (activity_seen activity.new)
             (invocation_run (calls_seen self.now) handle method exprs.now
             (activity_seen activity.old)) }
     {

@@ -26,7 +26,7 @@ impl<F: Fn(&mut Activity, ModuleCallee) -> RunResult<Option<Word>> + Drop> Evalu
     fn declare_one(&self, activity: &mut Activity, variable: &Initialization) -> RunResult<()>
         requires callable { F.IsAlwaysCallable self.now.body }
         requires bodies { RunsBodies F.Fn self.now }
-        ensures { RunsAs (λ _. tt) result (activity_seen activity.new)
+        ensures run { RunsAs (λ _. tt) result (activity_seen activity.new)
             (declare_one (calls_seen self.now) (value_of variable.now)
             (activity_seen activity.old)) }
     {
@@ -50,7 +50,7 @@ impl<F: Fn(&mut Activity, ModuleCallee) -> RunResult<Option<Word>> + Drop> Evalu
     ) -> RunResult<()>
         requires callable { F.IsAlwaysCallable self.now.body }
         requires bodies { RunsBodies F.Fn self.now }
-        ensures { RunsAs (λ _. tt) result (activity_seen activity.new)
+        ensures run { RunsAs (λ _. tt) result (activity_seen activity.new)
             (declare_all (calls_seen self.now) (map value_of variables.now)
             (activity_seen activity.old)) }
     {
@@ -63,7 +63,7 @@ impl<F: Fn(&mut Activity, ModuleCallee) -> RunResult<Option<Word>> + Drop> Evalu
     pub(crate) fn evaluate(&self, activity: &mut Activity, expr: &Expr) -> RunResult<()>
         requires callable { F.IsAlwaysCallable self.now.body }
         requires bodies { RunsBodies F.Fn self.now }
-        ensures { RunsAs (λ _. tt) result (activity_seen activity.new)
+        ensures run { RunsAs (λ _. tt) result (activity_seen activity.new)
             (evaluate (calls_seen self.now) (expr_of expr.now) (activity_seen activity.old)) }
     {
         self.expression(activity, expr)?;
@@ -73,7 +73,7 @@ impl<F: Fn(&mut Activity, ModuleCallee) -> RunResult<Option<Word>> + Drop> Evalu
     pub(crate) fn evaluate_all(&self, activity: &mut Activity, exprs: &[Expr]) -> RunResult<()>
         requires callable { F.IsAlwaysCallable self.now.body }
         requires bodies { RunsBodies F.Fn self.now }
-        ensures { RunsAs (λ _. tt) result (activity_seen activity.new)
+        ensures run { RunsAs (λ _. tt) result (activity_seen activity.new)
             (evaluate_all (calls_seen self.now) (map expr_of exprs.now)
             (activity_seen activity.old)) }
     {
@@ -86,7 +86,7 @@ impl<F: Fn(&mut Activity, ModuleCallee) -> RunResult<Option<Word>> + Drop> Evalu
     pub(crate) fn condition(&self, activity: &mut Activity, expr: &Expr) -> RunResult<bool>
         requires callable { F.IsAlwaysCallable self.now.body }
         requires bodies { RunsBodies F.Fn self.now }
-        ensures { RunsAs (λ b. b) result (activity_seen activity.new)
+        ensures run { RunsAs (λ b. b) result (activity_seen activity.new)
             (condition (calls_seen self.now) (expr_of expr.now) (activity_seen activity.old)) }
     {
         let word = self.expression(activity, expr)?;
@@ -102,7 +102,7 @@ impl<F: Fn(&mut Activity, ModuleCallee) -> RunResult<Option<Word>> + Drop> Evalu
     ) -> RunResult<bool>
         requires callable { F.IsAlwaysCallable self.now.body }
         requires bodies { RunsBodies F.Fn self.now }
-        ensures { RunsAs (λ b. b) result (activity_seen activity.new)
+        ensures run { RunsAs (λ b. b) result (activity_seen activity.new)
             (condition_or_true (calls_seen self.now) (option_map expr_of expr.now)
             (activity_seen activity.old)) }
     {
@@ -116,7 +116,7 @@ impl<F: Fn(&mut Activity, ModuleCallee) -> RunResult<Option<Word>> + Drop> Evalu
     pub(crate) fn begin(&self, activity: &mut Activity, head: &Head) -> RunResult<()>
         requires callable { F.IsAlwaysCallable self.now.body }
         requires bodies { RunsBodies F.Fn self.now }
-        ensures { RunsAs (λ _. tt) result (activity_seen activity.new)
+        ensures run { RunsAs (λ _. tt) result (activity_seen activity.new)
             (begin (calls_seen self.now) (head_of head.now) (activity_seen activity.old)) }
     {
         match head {
@@ -134,7 +134,7 @@ impl<F: Fn(&mut Activity, ModuleCallee) -> RunResult<Option<Word>> + Drop> Evalu
     ) -> RunResult<Flow>
         requires callable { F.IsAlwaysCallable self.now.body }
         requires bodies { RunsBodies F.Fn self.now }
-        ensures { RunsAs flow_seen result (activity_seen activity.new)
+        ensures run { RunsAs flow_seen result (activity_seen activity.new)
             (return_value (calls_seen self.now) (option_map expr_of expr.now)
             (activity_seen activity.old)) }
     {

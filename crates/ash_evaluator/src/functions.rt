@@ -33,7 +33,7 @@ impl<F: Fn(&mut Activity, ModuleCallee) -> RunResult<Option<Word>> + Drop> Evalu
     ) -> RunResult<()>
         requires callable { F.IsAlwaysCallable self.now.body }
         requires bodies { RunsBodies F.Fn self.now }
-        ensures { RunsAs (λ _. tt) result (activity_seen activity.new)
+        ensures run { RunsAs (λ _. tt) result (activity_seen activity.new)
             (initialize_field (calls_seen self.now) place (variable_of field.now)
             (activity_seen activity.old)) }
     {
@@ -50,7 +50,7 @@ impl<F: Fn(&mut Activity, ModuleCallee) -> RunResult<Option<Word>> + Drop> Evalu
     fn initialize_fields(&self, activity: &mut Activity, fields: &[Initialization]) -> RunResult<()>
         requires callable { F.IsAlwaysCallable self.now.body }
         requires bodies { RunsBodies F.Fn self.now }
-        ensures { RunsAs (λ _. tt) result (activity_seen activity.new)
+        ensures run { RunsAs (λ _. tt) result (activity_seen activity.new)
             (initialize_fields (calls_seen self.now) 0 (map variable_of fields.now)
             (activity_seen activity.old)) }
     {
@@ -68,7 +68,7 @@ impl<F: Fn(&mut Activity, ModuleCallee) -> RunResult<Option<Word>> + Drop> Evalu
     ) -> RunResult<Option<Word>>
         requires callable { F.IsAlwaysCallable self.now.body }
         requires bodies { RunsBodies F.Fn self.now }
-        ensures { RunsAs (λ v. v) result (activity_seen activity.new)
+        ensures run { RunsAs (λ v. v) result (activity_seen activity.new)
             (entry_run (program_seen self.now.program.now) (calls_seen self.now) self.now.depth
             (callee_seen callee) (activity_seen activity.old)) }
     {
@@ -89,7 +89,7 @@ impl<F: Fn(&mut Activity, ModuleCallee) -> RunResult<Option<Word>> + Drop> Evalu
     ) -> RunResult<()>
         requires callable { F.IsAlwaysCallable self.now.body }
         requires bodies { RunsBodies F.Fn self.now }
-        ensures { RunsAs (λ _. tt) result (activity_seen activity.new)
+        ensures run { RunsAs (λ _. tt) result (activity_seen activity.new)
             (initialize_global (calls_seen self.now) place (variable_of global.now)
             (activity_seen activity.old)) }
     {
@@ -112,7 +112,7 @@ impl<F: Fn(&mut Activity, ModuleCallee) -> RunResult<Option<Word>> + Drop> Evalu
     ) -> RunResult<()>
         requires callable { F.IsAlwaysCallable self.now.body }
         requires bodies { RunsBodies F.Fn self.now }
-        ensures { RunsAs (λ _. tt) result (activity_seen activity.new)
+        ensures run { RunsAs (λ _. tt) result (activity_seen activity.new)
             (initialize_globals (calls_seen self.now) first (map variable_of globals.now)
             (activity_seen activity.old)) }
     {
@@ -133,7 +133,7 @@ impl<F: Fn(&mut Activity, ModuleCallee) -> RunResult<Option<Word>> + Drop> Evalu
     ) -> RunResult<()>
         requires callable { F.IsAlwaysCallable self.now.body }
         requires bodies { RunsBodies F.Fn self.now }
-        ensures { RunsAs (λ _. tt) result (activity_seen activity.new)
+        ensures run { RunsAs (λ _. tt) result (activity_seen activity.new)
             (initialize_module (calls_seen self.now) 0 (map variables_of declarations.now)
             (activity_seen activity.old)) }
     {
@@ -157,7 +157,7 @@ pub(crate) fn body(
     activity: &mut Activity,
     callee: ModuleCallee,
 ) -> RunResult<Option<Word>>
-    ensures { RunsAs (λ v. v) result (activity_seen activity.new)
+    ensures run { RunsAs (λ v. v) result (activity_seen activity.new)
         (body_of_callee (program_seen program.now) depth (callee_seen callee)
         (activity_seen activity.old)) }
 {
@@ -168,7 +168,7 @@ pub(crate) fn body(
         };
     };
     let enter = |inside: &mut Activity, called: ModuleCallee| -> RunResult<Option<Word>>
-        ensures { RunsAs (λ v. v) result (activity_seen inside.new)
+        ensures run { RunsAs (λ v. v) result (activity_seen inside.new)
             (body_of_callee (program_seen program.entry.now) below (callee_seen called)
             (activity_seen inside.old)) }
     { body(program, below, inside, called) };
@@ -187,11 +187,11 @@ pub(crate) fn initialize(
     depth: u64,
     activity: &mut Activity,
 ) -> RunResult<()>
-    ensures { RunsAs (λ _. tt) result (activity_seen activity.new)
+    ensures run { RunsAs (λ _. tt) result (activity_seen activity.new)
         (initialized (program_seen program.now) depth (activity_seen activity.old)) }
 {
     let enter = |inside: &mut Activity, called: ModuleCallee| -> RunResult<Option<Word>>
-        ensures { RunsAs (λ v. v) result (activity_seen inside.new)
+        ensures run { RunsAs (λ v. v) result (activity_seen inside.new)
             (body_of_callee (program_seen program.entry.now) depth (callee_seen called)
             (activity_seen inside.old)) }
     { body(program, depth, inside, called) };

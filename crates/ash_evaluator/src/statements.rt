@@ -27,7 +27,7 @@ impl<F: Fn(&mut Activity, ModuleCallee) -> RunResult<Option<Word>> + Drop> Evalu
     pub(crate) fn statement(&self, activity: &mut Activity, stmt: &Stmt) -> RunResult<Flow>
         requires callable { F.IsAlwaysCallable self.now.body }
         requires bodies { RunsBodies F.Fn self.now }
-        ensures { RunsAs flow_seen result (activity_seen activity.new) (statement
+        ensures run { RunsAs flow_seen result (activity_seen activity.new) (statement
             (calls_seen self.now) self.now.depth (stmt_of stmt.now) (activity_seen activity.old)) }
     {
         let line = stmt.line;
@@ -94,7 +94,7 @@ impl<F: Fn(&mut Activity, ModuleCallee) -> RunResult<Option<Word>> + Drop> Evalu
     ) -> RunResult<Flow>
         requires callable { F.IsAlwaysCallable self.now.body }
         requires bodies { RunsBodies F.Fn self.now }
-        ensures { RunsAs flow_seen result (activity_seen activity.new)
+        ensures run { RunsAs flow_seen result (activity_seen activity.new)
             (statement (calls_seen self.now) self.now.depth
             (Declare line (map value_of variables.now)) (activity_seen activity.old)) }
     {
@@ -108,7 +108,7 @@ impl<F: Fn(&mut Activity, ModuleCallee) -> RunResult<Option<Word>> + Drop> Evalu
     pub(crate) fn statements(&self, activity: &mut Activity, body: &[Stmt]) -> RunResult<Flow>
         requires callable { F.IsAlwaysCallable self.now.body }
         requires bodies { RunsBodies F.Fn self.now }
-        ensures { RunsAs flow_seen result (activity_seen activity.new)
+        ensures run { RunsAs flow_seen result (activity_seen activity.new)
             (statements (calls_seen self.now) self.now.depth (body_of body.now)
             (activity_seen activity.old)) }
     {
@@ -125,7 +125,7 @@ impl<F: Fn(&mut Activity, ModuleCallee) -> RunResult<Option<Word>> + Drop> Evalu
     fn block(&self, activity: &mut Activity, body: &[Stmt]) -> RunResult<Flow>
         requires callable { F.IsAlwaysCallable self.now.body }
         requires bodies { RunsBodies F.Fn self.now }
-        ensures { RunsAs flow_seen result (activity_seen activity.new)
+        ensures run { RunsAs flow_seen result (activity_seen activity.new)
             (in_block (statements (calls_seen self.now) self.now.depth (body_of body.now))
             (activity_seen activity.old)) }
     {
@@ -146,7 +146,7 @@ impl<F: Fn(&mut Activity, ModuleCallee) -> RunResult<Option<Word>> + Drop> Evalu
     ) -> RunResult<Flow>
         requires callable { F.IsAlwaysCallable self.now.body }
         requires bodies { RunsBodies F.Fn self.now }
-        ensures { RunsAs flow_seen result (activity_seen activity.new)
+        ensures run { RunsAs flow_seen result (activity_seen activity.new)
             (for_run (calls_seen self.now) self.now.depth line (head_of head.now)
             (loop_of inside.now) (activity_seen activity.old)) }
     {
@@ -161,7 +161,7 @@ impl<F: Fn(&mut Activity, ModuleCallee) -> RunResult<Option<Word>> + Drop> Evalu
     fn repeat(&self, activity: &mut Activity, line: usize, inside: &Loop) -> RunResult<Flow>
         requires callable { F.IsAlwaysCallable self.now.body }
         requires bodies { RunsBodies F.Fn self.now }
-        ensures { RunsAs flow_seen result (activity_seen activity.new)
+        ensures run { RunsAs flow_seen result (activity_seen activity.new)
             (loop (calls_seen self.now) self.now.depth line (loop_of inside.now)
             (activity_seen activity.old)) }
     {
@@ -178,7 +178,7 @@ impl<F: Fn(&mut Activity, ModuleCallee) -> RunResult<Option<Word>> + Drop> Evalu
     fn fall_through(&self, activity: &mut Activity, cases: &[Case]) -> RunResult<Flow>
         requires callable { F.IsAlwaysCallable self.now.body }
         requires bodies { RunsBodies F.Fn self.now }
-        ensures { RunsAs flow_seen result (activity_seen activity.new)
+        ensures run { RunsAs flow_seen result (activity_seen activity.new)
             (fall_run (calls_seen self.now) self.now.depth cases.now (activity_seen activity.old)) }
     {
         for case in cases {
@@ -201,7 +201,7 @@ impl<F: Fn(&mut Activity, ModuleCallee) -> RunResult<Option<Word>> + Drop> Evalu
     ) -> RunResult<Flow>
         requires callable { F.IsAlwaysCallable self.now.body }
         requires bodies { RunsBodies F.Fn self.now }
-        ensures { RunsAs flow_seen result (activity_seen activity.new)
+        ensures run { RunsAs flow_seen result (activity_seen activity.new)
             (statement (calls_seen self.now) self.now.depth
             (Switch line of (expr_of value.now) (case_list (map case_of cases.now)))
             (activity_seen activity.old)) }
@@ -218,7 +218,7 @@ impl<F: Fn(&mut Activity, ModuleCallee) -> RunResult<Option<Word>> + Drop> Evalu
     fn turns(&self, activity: &mut Activity, line: usize, inside: &Loop) -> RunResult<Flow>
         requires callable { F.IsAlwaysCallable self.now.body }
         requires bodies { RunsBodies F.Fn self.now }
-        ensures { RunsAs flow_seen result (activity_seen activity.new)
+        ensures run { RunsAs flow_seen result (activity_seen activity.new)
             (turns self.now.depth (turn_seen (calls_seen self.now) self.now.depth line inside.now)
             (activity_seen activity.old)) }
     {
@@ -241,7 +241,7 @@ impl<F: Fn(&mut Activity, ModuleCallee) -> RunResult<Option<Word>> + Drop> Evalu
     ) -> RunResult<Option<Flow>>
         requires callable { F.IsAlwaysCallable self.now.body }
         requires bodies { RunsBodies F.Fn self.now }
-        ensures { RunsAs (option_map flow_seen) result (activity_seen activity.new)
+        ensures run { RunsAs (option_map flow_seen) result (activity_seen activity.new)
             (next_turn (turn_seen (calls_seen self.now) self.now.depth line inside.now)
             (activity_seen activity.old)) }
     {
@@ -258,7 +258,7 @@ impl<F: Fn(&mut Activity, ModuleCallee) -> RunResult<Option<Word>> + Drop> Evalu
     fn turn(&self, activity: &mut Activity, line: usize, inside: &Loop) -> RunResult<Option<Flow>>
         requires callable { F.IsAlwaysCallable self.now.body }
         requires bodies { RunsBodies F.Fn self.now }
-        ensures { RunsAs (option_map flow_seen) result (activity_seen activity.new)
+        ensures run { RunsAs (option_map flow_seen) result (activity_seen activity.new)
             (turn_run (turn_seen (calls_seen self.now) self.now.depth line inside.now)
             (activity_seen activity.old)) }
     {

@@ -15,7 +15,7 @@ use ash_typed::Case;
 
 /// The constant of a label; `default` has none.
 fn constant_of(label: Label) -> Option<i128>
-    ensures { result ≡ constant_of label }
+    ensures value { result ≡ constant_of label }
 {
     match label {
         Label::Case(number) => Some(i128::from(number)),
@@ -26,7 +26,7 @@ fn constant_of(label: Label) -> Option<i128>
 
 /// Whether this is the constant of a label.
 fn is_constant(number: i128, label: Label) -> bool
-    ensures { result ≡ is_constant number (constant_of label) }
+    ensures value { result ≡ is_constant number (constant_of label) }
 {
     match constant_of(label) {
         Some(constant) => number == constant,
@@ -36,7 +36,7 @@ fn is_constant(number: i128, label: Label) -> bool
 
 /// From the first label with this constant on.
 fn from_constant(all: &[Case], number: i128) -> &[Case]
-    ensures { result.now ≡ from_case (is_constant number) all.now }
+    ensures value { result.now ≡ from_case (is_constant number) all.now }
 {
     match all {
         [] => all,
@@ -52,7 +52,7 @@ fn from_constant(all: &[Case], number: i128) -> &[Case]
 
 /// From the first `default` on.
 fn from_default(all: &[Case]) -> &[Case]
-    ensures { result.now ≡ from_case is_none all.now }
+    ensures value { result.now ≡ from_case is_none all.now }
 {
     match all {
         [] => all,

@@ -18,7 +18,7 @@ use std::alloc::Global;
 /// What the construction of an array by so many arguments takes: at most one, how many elements it
 /// has.
 fn array_parameters<'a>(count: usize) -> Parameters<'a>
-    ensures { parameters_of result ≡ terms.array_parameters count }
+    ensures value { parameters_of result ≡ terms.array_parameters count }
 {
     if count == 0 {
         Parameters::Nothing
@@ -40,7 +40,7 @@ pub fn array_callee<'a>(of: Element, count: usize) -> Callee<'a>
 
 /// The type of the elements, whose name is at this offset.
 pub(crate) fn check_element_type(at: usize, of: Option<Element>) -> CheckResult<Element>
-    ensures { Agrees (λ e. e) result (typing.known_element at of) }
+    ensures agrees { Agrees (λ e. e) result (typing.known_element at of) }
 {
     match of {
         None => Err(fault_at(Rule::UnknownType, at)),
@@ -50,7 +50,7 @@ pub(crate) fn check_element_type(at: usize, of: Option<Element>) -> CheckResult<
 
 /// An index, which is converted to `uint`.
 fn coerce_index(alloc: Global, index: TypedExpr) -> CheckResult<Expr>
-    ensures { Agrees expr_of result (typing.index_in (typed_of index)) }
+    ensures agrees { Agrees expr_of result (typing.index_in (typed_of index)) }
 {
     integer_type(index.at, index.ty)?;
     Ok(coerce(alloc, Ty::Integer(IntType::Uint), index)?)
@@ -63,7 +63,8 @@ fn build_element(
     ty: Ty,
     of: Element,
 ) -> CheckResult<TypedExpr>
-    ensures { Agrees typed_of result (typing.indexed_at (typed_of array) (typed_of index) ty of) }
+    ensures agrees { Agrees typed_of result (typing.indexed_at (typed_of array) (typed_of index) ty
+        of) }
 {
     let index = coerce_index(alloc, index)?;
     let tree = nodes::element(alloc, array.tree, index, of)?;
@@ -76,7 +77,7 @@ fn build_object_index(
     index: TypedExpr,
     object: ObjectType,
 ) -> CheckResult<TypedExpr>
-    ensures { Agrees typed_of result
+    ensures agrees { Agrees typed_of result
         (typing.indexed_object (typed_of array) (typed_of index) object) }
 {
     match object {
@@ -92,7 +93,8 @@ pub(crate) fn build_index(
     array: TypedExpr,
     index: TypedExpr,
 ) -> CheckResult<TypedExpr>
-    ensures { Agrees typed_of result (typing.indexed (typed_of array) array.ty (typed_of index)) }
+    ensures agrees { Agrees typed_of result (typing.indexed (typed_of array) array.ty
+        (typed_of index)) }
 {
     match array.ty {
         Ty::Object(object) | Ty::Handle(object) => build_object_index(alloc, array, index, object),

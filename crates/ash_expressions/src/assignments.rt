@@ -32,7 +32,7 @@ fn build_update(
     operator: Calculator,
     value: TypedExpr,
 ) -> CheckResult<TypedExpr>
-    ensures { Agrees typed_of result
+    ensures agrees { Agrees typed_of result
         (typing.updated target.at target.of (place_of target.place) operator (typed_of value)) }
 {
     let left = TypedExpr::value(target.at, target.of, Expr::Null);
@@ -49,7 +49,7 @@ fn build_update(
 /// `place = value`
 #[tactic(auto, unfolding(ash_typing::specs::ExpressionRules::stored))]
 fn build_store(env: &Environment, target: Destination, value: TypedExpr) -> CheckResult<TypedExpr>
-    ensures { Agrees typed_of result
+    ensures agrees { Agrees typed_of result
         (typing.stored (classes_of env.now) target.at target.of (place_of target.place) None
         (typed_of value)) }
 {
@@ -66,7 +66,7 @@ pub(crate) fn build_assignment(
     operator: AssignOp,
     value: TypedExpr,
 ) -> CheckResult<TypedExpr>
-    ensures { Agrees typed_of result
+    ensures agrees { Agrees typed_of result
         (typing.assigned (classes_of env.now) (typed_of target) operator (typed_of value)) }
 {
     let (at, of, form) = (target.at, target.ty, target.form);

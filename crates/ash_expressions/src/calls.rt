@@ -38,7 +38,7 @@ fn coerce_arguments(
     parameters: &Parameters,
     arguments: Vec<TypedExpr>,
 ) -> CheckResult<Vec<Expr>>
-    ensures { Agrees arguments_of result
+    ensures agrees { Agrees arguments_of result
         (typing.all_coerced (classes_of env.now) (parameters_of parameters.now)
         (map typed_of arguments.items)) }
 {
@@ -61,7 +61,7 @@ fn check_arguments(
     parameters: &Parameters,
     arguments: Arguments,
 ) -> CheckResult<Vec<Expr>>
-    ensures { Agrees arguments_of result
+    ensures agrees { Agrees arguments_of result
         (typing.arguments_at (classes_of env.now) arguments.at (parameters_of parameters.now)
         (map typed_of arguments.exprs.items)) }
 {
@@ -78,7 +78,7 @@ fn call_tree(
     parameters: Vec<VarType>,
     arguments: Vec<Expr>,
 ) -> Result<Expr, AllocError>
-    ensures { IfOk result
+    ensures value { IfOk result
         (λ e. expr_of e ≡ terms.call_of callable parameters.items (arguments_of arguments)) }
 {
     match callable {
@@ -122,7 +122,7 @@ pub fn build_call(
 /// A name alone.
 #[inline(never)]
 pub(crate) fn check_name(env: &Environment, name: Name) -> CheckResult<TypedExpr>
-    ensures { Agrees typed_of result
+    ensures agrees { Agrees typed_of result
         (typing.known_at name.entry.at
         (environment.variable_in (environment_of env.now) name.entry.text.now)) }
 {
@@ -134,7 +134,7 @@ pub(crate) fn check_name(env: &Environment, name: Name) -> CheckResult<TypedExpr
 
 /// The callee of a call by this name.
 pub(crate) fn callee_named<'a>(env: &Environment<'a, '_>, name: Name) -> CheckResult<Callee<'a>>
-    ensures { Agrees callee_of result
+    ensures agrees { Agrees callee_of result
         (typing.callee_at name.entry.at
         (environment.callee_in (environment_of env.now) name.entry.text.now)) }
 {
@@ -146,7 +146,7 @@ pub(crate) fn callee_named<'a>(env: &Environment<'a, '_>, name: Name) -> CheckRe
 
 /// `this`
 pub(crate) fn check_this(at: usize, class: Option<usize>) -> CheckResult<TypedExpr>
-    ensures { Agrees typed_of result (typing.this_at at class) }
+    ensures agrees { Agrees typed_of result (typing.this_at at class) }
 {
     match class {
         None => Err(fault_at(Rule::Misplaced, at)),
@@ -163,7 +163,7 @@ fn build_member(
     of: ObjectType,
     name: Name,
 ) -> CheckResult<TypedExpr>
-    ensures { Agrees typed_of result
+    ensures agrees { Agrees typed_of result
         (typing.member_at (typed_of base) name.entry.at
         (environment.member_in (environment_of env.now) of name.entry.text.now)) }
 {
@@ -180,7 +180,7 @@ fn build_member(
 /// `base.name`
 #[tactic(auto, unfolding(ash_typing::specs::ExpressionRules::field_of))]
 pub(crate) fn build_field(env: &Environment, base: TypedExpr, name: Name) -> CheckResult<TypedExpr>
-    ensures { Agrees typed_of result
+    ensures agrees { Agrees typed_of result
         (typing.field_of (environment_of env.now) (typed_of base) base.ty name.entry.at
         name.entry.text.now) }
 {
@@ -204,7 +204,7 @@ fn object_method<'a>(
     of: ObjectType,
     name: Name,
 ) -> CheckResult<Option<MethodCallee<'a>>>
-    ensures { Agrees optional_method_callee result
+    ensures agrees { Agrees optional_method_callee result
         (typing.invoked_at name.entry.at
         (environment.method_in (environment_of env.now) of name.entry.text.now)) }
 {
@@ -221,7 +221,7 @@ pub(crate) fn find_method<'a>(
     base: &TypedExpr,
     name: Name,
 ) -> CheckResult<Option<MethodCallee<'a>>>
-    ensures { Agrees optional_method_callee result
+    ensures agrees { Agrees optional_method_callee result
         (typing.method_of (environment_of env.now) (typed_of base.now) base.now.ty name.entry.at
         name.entry.text.now) }
 {
@@ -240,7 +240,7 @@ pub(crate) fn build_method_call(
     method: Option<MethodCallee>,
     arguments: Arguments,
 ) -> CheckResult<TypedExpr>
-    ensures { Agrees typed_of result
+    ensures agrees { Agrees typed_of result
         (typing.invoked (classes_of env.now) (typed_of base) arguments.at
         (map typed_of arguments.exprs.items) (optional_method_callee method.entry)) }
 {
@@ -255,7 +255,7 @@ pub(crate) fn build_method_call(
 
 /// `(typed)`, at the bracket
 pub(crate) fn build_brackets(at: usize, typed: TypedExpr) -> TypedExpr
-    ensures { typed_of result ≡ typing.in_brackets at (typed_of typed) }
+    ensures value { typed_of result ≡ typing.in_brackets at (typed_of typed) }
 {
     TypedExpr {
         at,

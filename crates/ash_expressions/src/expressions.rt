@@ -88,7 +88,7 @@ pub fn check_expr(env: &Environment, side: AssignmentSide, source: &Expr) -> Che
 #[cycle(expressions)]
 #[inline(never)]
 fn check_brackets(env: &Environment, at: usize, inner: &Expr) -> CheckResult<TypedExpr>
-    ensures { Agrees typed_of result
+    ensures agrees { Agrees typed_of result
         (typing.check_expr (environment_of env.now) false (written.expr_of inner.now)
         and_then λ t. Ok (typing.in_brackets at t)) }
 {
@@ -105,7 +105,7 @@ fn check_conversion(
     to: Primitive,
     value: &Expr,
 ) -> CheckResult<TypedExpr>
-    ensures { Agrees typed_of result
+    ensures agrees { Agrees typed_of result
         (typing.check_expr (environment_of env.now) false (written.expr_of value.now)
         and_then λ t. typing.convert_at at to t) }
 {
@@ -117,7 +117,7 @@ fn check_conversion(
 #[cycle(expressions)]
 #[inline(never)]
 fn check_cast(env: &Environment, at: usize, to: &TypeName, value: &Expr) -> CheckResult<TypedExpr>
-    ensures { Agrees typed_of result
+    ensures agrees { Agrees typed_of result
         (typing.cast_type to.now.place.at
         (object_named (environment_of env.now).registered (environment_of env.now).declarations
         (written.type_name_of to.now).name)
@@ -139,7 +139,7 @@ fn check_new_array(
     of: &Element,
     arguments: &[Expr],
 ) -> CheckResult<TypedExpr>
-    ensures { Agrees typed_of result
+    ensures agrees { Agrees typed_of result
         (typing.check_array (environment_of env.now) at (written.element_of of.now)
         (typing.check_exprs (environment_of env.now) (exprs (map written.expr_of arguments.now)))) }
 {
@@ -154,7 +154,7 @@ fn check_new_array(
 #[cycle(expressions)]
 #[inline(never)]
 fn check_unary(env: &Environment, prefix: Prefix, operand: &Expr) -> CheckResult<TypedExpr>
-    ensures { Agrees typed_of result
+    ensures agrees { Agrees typed_of result
         (typing.check_expr (environment_of env.now) false (written.expr_of operand.now)
         and_then λ t. typing.unary_at (is_target prefix.side) prefix.at prefix.operator t) }
 {
@@ -166,7 +166,7 @@ fn check_unary(env: &Environment, prefix: Prefix, operand: &Expr) -> CheckResult
 #[cycle(expressions)]
 #[inline(never)]
 fn check_binary(env: &Environment, first: &Expr, operators: &[Link]) -> CheckResult<TypedExpr>
-    ensures { Agrees typed_of result
+    ensures agrees { Agrees typed_of result
         (typing.check_expr (environment_of env.now) false (written.expr_of first.now)
         and_then λ t. typing.check_links (environment_of env.now) t
         (links (map written.operation_of operators.now))) }
@@ -188,7 +188,7 @@ fn check_conditional(
     then: &Expr,
     otherwise: &Expr,
 ) -> CheckResult<TypedExpr>
-    ensures { Agrees typed_of result
+    ensures agrees { Agrees typed_of result
         (typing.check_expr (environment_of env.now) false (written.expr_of condition.now)
         and_then λ c. typing.check_expr (environment_of env.now) false (written.expr_of then.now)
         and_then λ a.
@@ -210,7 +210,7 @@ fn check_assignment(
     operator: AssignOp,
     value: &Expr,
 ) -> CheckResult<TypedExpr>
-    ensures { Agrees typed_of result
+    ensures agrees { Agrees typed_of result
         (typing.check_expr (environment_of env.now) (typing.is_assign operator)
         (written.expr_of target.now)
         and_then λ t. typing.check_expr (environment_of env.now) false (written.expr_of value.now)
@@ -225,7 +225,7 @@ fn check_assignment(
 #[cycle(expressions)]
 #[inline(never)]
 fn check_call(env: &Environment, name: Name, arguments: &[Expr]) -> CheckResult<TypedExpr>
-    ensures { Agrees typed_of result
+    ensures agrees { Agrees typed_of result
         (typing.check_call (environment_of env.now) name.entry.at name.entry.text.now
         (typing.check_exprs (environment_of env.now) (exprs (map written.expr_of arguments.now)))) }
 {
@@ -252,7 +252,7 @@ pub fn check_exprs(env: &Environment, arguments: &[Expr]) -> CheckResult<Vec<Typ
 #[cycle(expressions)]
 #[inline(never)]
 fn check_postfix(env: &Environment, operand: &Expr, rest: &[Suffix]) -> CheckResult<TypedExpr>
-    ensures { Agrees typed_of result
+    ensures agrees { Agrees typed_of result
         (typing.check_expr (environment_of env.now) false (written.expr_of operand.now)
         and_then λ t. typing.check_suffixes (environment_of env.now) t
         (suffixes (map written.suffix_of rest.now))) }
@@ -266,7 +266,7 @@ fn check_postfix(env: &Environment, operand: &Expr, rest: &[Suffix]) -> CheckRes
 
 #[cycle(expressions)]
 fn check_suffix(env: &Environment, base: TypedExpr, suffix: &Suffix) -> CheckResult<TypedExpr>
-    ensures { Agrees typed_of result
+    ensures agrees { Agrees typed_of result
         (typing.check_suffix (environment_of env.now) (typed_of base)
         (written.suffix_of suffix.now)) }
 {
@@ -304,7 +304,7 @@ fn check_suffix(env: &Environment, base: TypedExpr, suffix: &Suffix) -> CheckRes
 #[cycle(expressions)]
 #[inline(never)]
 fn check_index(env: &Environment, base: TypedExpr, value: &Expr) -> CheckResult<TypedExpr>
-    ensures { Agrees typed_of result
+    ensures agrees { Agrees typed_of result
         (typing.check_expr (environment_of env.now) false (written.expr_of value.now)
         and_then λ i. typing.indexed (typed_of base) base.ty i) }
 {
@@ -320,7 +320,7 @@ fn check_method_call(
     name: Name,
     arguments: &[Expr],
 ) -> CheckResult<TypedExpr>
-    ensures { Agrees typed_of result
+    ensures agrees { Agrees typed_of result
         (typing.check_invocation (environment_of env.now) (typed_of base) name.entry.at
         name.entry.text.now
         (typing.check_exprs (environment_of env.now) (exprs (map written.expr_of arguments.now)))) }

@@ -22,7 +22,7 @@ pub enum AssignmentSide {
 
 /// The side of what an operator assigns to.
 pub(crate) fn target_side(operator: AssignOp) -> AssignmentSide
-    ensures { is_target result ≡ typing.is_assign operator }
+    ensures value { is_target result ≡ typing.is_assign operator }
 {
     match operator {
         AssignOp::Assign => AssignmentSide::Target,
@@ -32,7 +32,7 @@ pub(crate) fn target_side(operator: AssignOp) -> AssignmentSide
 
 /// Whether a place takes what is assigned to it.
 pub(crate) fn is_assignable_form(form: Form, of: Ty) -> bool
-    ensures { result ≡ terms.is_stored form of }
+    ensures value { result ≡ terms.is_stored form of }
 {
     match (form, of) {
         (Form::HandlePlace, Ty::Handle(_) | Ty::Unknown) => true,
@@ -43,7 +43,7 @@ pub(crate) fn is_assignable_form(form: Form, of: Ty) -> bool
 
 /// What is written to left of `=`: a place with its sign `@`.
 pub(crate) fn handle_form(form: Form) -> Form
-    ensures { result ≡ terms.handle_form form }
+    ensures value { result ≡ terms.handle_form form }
 {
     match form {
         Form::Place => Form::HandlePlace,
@@ -53,7 +53,7 @@ pub(crate) fn handle_form(form: Form) -> Form
 
 /// What an expression in brackets is: a place still is one, and a number is a value.
 pub(crate) fn bracketed_form(form: Form) -> Form
-    ensures { result ≡ terms.bracketed form }
+    ensures value { result ≡ terms.bracketed form }
 {
     match form {
         Form::Place => Form::Place,
@@ -67,7 +67,7 @@ pub(crate) fn assignable_place(
     form: Form,
     tree: Expr,
 ) -> Result<Option<Place>, AllocError>
-    ensures { IfOk result
+    ensures value { IfOk result
         (λ found. option_map place_of found ≡ terms.assignable form (expr_of tree)) }
 {
     match form {

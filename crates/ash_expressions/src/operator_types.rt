@@ -11,7 +11,7 @@ use ash_typing::{Operator, OperatorClass, Ty};
 
 /// The class of an operator.
 pub(crate) fn operator_class(operator: BinaryOp) -> OperatorClass
-    ensures { result ≡ types.operator_class_of operator }
+    ensures value { result ≡ types.operator_class_of operator }
 {
     match operator {
         BinaryOp::Multiply | BinaryOp::Divide | BinaryOp::Remainder => OperatorClass::Arithmetic,
@@ -29,7 +29,7 @@ pub(crate) fn operator_class(operator: BinaryOp) -> OperatorClass
 
 /// What an operator is in a typed tree.
 pub(crate) fn typed_operator(operator: BinaryOp) -> Operator
-    ensures { result ≡ types.typed_operator operator }
+    ensures value { result ≡ types.typed_operator operator }
 {
     match operator {
         BinaryOp::Multiply => Operator::Calculate(Calculator::Multiply),
@@ -59,7 +59,7 @@ pub(crate) fn typed_operator(operator: BinaryOp) -> Operator
 
 /// The operator that calculates so.
 pub(crate) fn calculator_operator(operator: Calculator) -> BinaryOp
-    ensures { result ≡ types.binary_of operator }
+    ensures value { result ≡ types.binary_of operator }
 {
     match operator {
         Calculator::Multiply => BinaryOp::Multiply,
@@ -78,7 +78,7 @@ pub(crate) fn calculator_operator(operator: Calculator) -> BinaryOp
 
 /// The integer type of operands, where they are integers.
 pub(crate) fn operand_integer_type(operands: Operands) -> IntType
-    ensures { result ≡ types.integers_in operands }
+    ensures value { result ≡ types.integers_in operands }
 {
     match operands {
         Operands::Integers(int_type) => int_type,
@@ -88,7 +88,7 @@ pub(crate) fn operand_integer_type(operands: Operands) -> IntType
 
 /// The operator of `a op= b`.
 pub(crate) fn assign_calculator(operator: AssignOp) -> Option<Calculator>
-    ensures { result ≡ terms.operator_of operator }
+    ensures value { result ≡ terms.operator_of operator }
 {
     match operator {
         AssignOp::Assign => None,
@@ -108,7 +108,7 @@ pub(crate) fn assign_calculator(operator: AssignOp) -> Option<Calculator>
 
 /// Whether an operator takes a type anywhere.
 pub(crate) fn accepts(class: OperatorClass, of: Ty) -> bool
-    ensures { result ≡ types.takes class of }
+    ensures value { result ≡ types.takes class of }
 {
     match (class, of) {
         (_, Ty::Unknown) => true,
@@ -123,7 +123,7 @@ pub(crate) fn accepts(class: OperatorClass, of: Ty) -> bool
 
 /// What an operand of an unknown type is taken for.
 pub(crate) fn assumed_type(class: OperatorClass, other: Ty, of: Ty) -> Ty
-    ensures { result ≡ types.assumed_type class other of }
+    ensures value { result ≡ types.assumed_type class other of }
 {
     match (class, other, of) {
         (OperatorClass::Equality, Ty::Bool, Ty::Unknown) => Ty::Bool,
@@ -135,21 +135,21 @@ pub(crate) fn assumed_type(class: OperatorClass, other: Ty, of: Ty) -> Ty
 }
 
 fn is_interface(object: ObjectType) -> bool
-    ensures { result ≡ types.is_interface object }
+    ensures value { result ≡ types.is_interface object }
 {
     matches!(object, ObjectType::Interface(_))
 }
 
 /// Whether objects of two types can be compared.
 fn are_comparable_objects(one: ObjectType, other: ObjectType) -> bool
-    ensures { result ≡ types.is_comparable one other }
+    ensures value { result ≡ types.is_comparable one other }
 {
     is_same_object(one, other) || is_interface(one) || is_interface(other)
 }
 
 /// Whether an expression of a type can be compared with an object of this one.
 fn is_comparable_with_object(object: ObjectType, of: Ty) -> bool
-    ensures { result ≡ types.agrees_object object of }
+    ensures value { result ≡ types.agrees_object object of }
 {
     match of {
         Ty::Object(other) | Ty::Handle(other) => are_comparable_objects(object, other),
@@ -159,7 +159,7 @@ fn is_comparable_with_object(object: ObjectType, of: Ty) -> bool
 }
 
 fn are_comparable(one: Ty, other: Ty) -> bool
-    ensures { result ≡ types.agrees one other }
+    ensures value { result ≡ types.agrees one other }
 {
     match one {
         Ty::Object(object) | Ty::Handle(object) => is_comparable_with_object(object, other),
@@ -173,7 +173,7 @@ fn are_comparable(one: Ty, other: Ty) -> bool
 
 /// What an operator does with operands of these types, where it takes them.
 pub(crate) fn common_operands(class: OperatorClass, one: Ty, other: Ty) -> Option<Operands>
-    ensures { result ≡ types.common_operands class one other }
+    ensures value { result ≡ types.common_operands class one other }
 {
     match (class, one, other) {
         (
@@ -198,7 +198,7 @@ pub(crate) fn common_operands(class: OperatorClass, one: Ty, other: Ty) -> Optio
 
 /// The type of an operator's result.
 pub(crate) fn operator_result(class: OperatorClass, operands: Operands) -> Ty
-    ensures { result ≡ types.operator_result class operands }
+    ensures value { result ≡ types.operator_result class operands }
 {
     match (class, operands) {
         (OperatorClass::Arithmetic | OperatorClass::Shift, Operands::Integers(int_type)) => {
@@ -209,7 +209,7 @@ pub(crate) fn operator_result(class: OperatorClass, operands: Operands) -> Ty
 }
 
 pub(crate) fn operand_type(operands: Operands) -> Ty
-    ensures { result ≡ terms.operand_type operands }
+    ensures value { result ≡ terms.operand_type operands }
 {
     match operands {
         Operands::Integers(int_type) => Ty::Integer(int_type),

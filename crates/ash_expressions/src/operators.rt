@@ -47,7 +47,7 @@ fn right_operand(
     operands: Operands,
     right: TypedExpr,
 ) -> CheckResult<Expr>
-    ensures { Agrees expr_of result
+    ensures agrees { Agrees expr_of result
         (Ok (terms.right_by class operands (typing.term_of (typed_of right)))) }
 {
     match class {
@@ -62,7 +62,8 @@ fn unify_adapted(
     left: TypedExpr,
     right: TypedExpr,
 ) -> CheckResult<UnifiedOperands>
-    ensures { Agrees unified_of result (typing.unified_by class (typed_of left) (typed_of right)) }
+    ensures agrees { Agrees unified_of result (typing.unified_by class (typed_of left)
+        (typed_of right)) }
 {
     let one = assumed_type(class, right.ty, left.ty);
     let other = assumed_type(class, left.ty, right.ty);
@@ -89,7 +90,7 @@ pub(crate) fn unify_operands(
     mut left: TypedExpr,
     mut right: TypedExpr,
 ) -> CheckResult<UnifiedOperands>
-    ensures { Agrees unified_of result
+    ensures agrees { Agrees unified_of result
         (typing.unify_operands operator (typed_of left) (typed_of right)) }
 {
     let class = operator_class(operator);
@@ -107,7 +108,7 @@ fn operation_tree(
     left: TypedExpr,
     right: Expr,
 ) -> Result<Expr, AllocError>
-    ensures { IfOk result
+    ensures value { IfOk result
         (λ e. expr_of e
         ≡ Operate operation (typing.coerced (terms.operand_type operands) (typed_of left))
         (expr_of right)) }
@@ -128,7 +129,7 @@ fn lazy_tree(
     left: TypedExpr,
     right: Expr,
 ) -> Result<Expr, AllocError>
-    ensures { IfOk result
+    ensures value { IfOk result
         (λ e. expr_of e
         ≡ Lazily operator (typing.coerced (terms.operand_type operands) (typed_of left))
         (expr_of right)) }
@@ -145,7 +146,7 @@ fn operator_tree(
     left: TypedExpr,
     right: Expr,
 ) -> Result<Expr, AllocError>
-    ensures { IfOk result
+    ensures value { IfOk result
         (λ e. expr_of e
         ≡ terms.applied operator operands
         (typing.coerced (terms.operand_type operands) (typed_of left)) (expr_of right)) }
@@ -178,7 +179,8 @@ pub(crate) fn build_binary(
     left: TypedExpr,
     right: TypedExpr,
 ) -> CheckResult<TypedExpr>
-    ensures { Agrees typed_of result (typing.operate operator (typed_of left) (typed_of right)) }
+    ensures agrees { Agrees typed_of result (typing.operate operator (typed_of left)
+        (typed_of right)) }
 {
     let unified = unify_operands(alloc, operator, left, right)?;
     let at = unified.left.at;
@@ -199,7 +201,7 @@ pub(crate) fn build_step(
     step: IncrementOp,
     operand: TypedExpr,
 ) -> CheckResult<TypedExpr>
-    ensures { Agrees typed_of result
+    ensures agrees { Agrees typed_of result
         (typing.counted at step (typed_of operand)
         (terms.assignable operand.form (expr_of operand.tree))) }
 {
@@ -221,7 +223,8 @@ fn build_integer_change(
     change: Change,
     operand: TypedExpr,
 ) -> CheckResult<TypedExpr>
-    ensures { Agrees typed_of result (Ok (typing.altered at int_type change (typed_of operand))) }
+    ensures agrees { Agrees typed_of result (Ok
+        (typing.altered at int_type change (typed_of operand))) }
 {
     let value = coerce(alloc, Ty::Integer(int_type), operand)?;
     Ok(TypedExpr::value(
@@ -238,7 +241,8 @@ fn build_integer(
     int_type: IntType,
     operand: TypedExpr,
 ) -> CheckResult<TypedExpr>
-    ensures { Agrees typed_of result (Ok (typing.integer_at at int_type (typed_of operand))) }
+    ensures agrees { Agrees typed_of result
+        (Ok (typing.integer_at at int_type (typed_of operand))) }
 {
     let value = coerce(alloc, Ty::Integer(int_type), operand)?;
     Ok(TypedExpr::value(at, Ty::Integer(int_type), value))
@@ -251,7 +255,7 @@ fn build_change(
     change: Change,
     operand: TypedExpr,
 ) -> CheckResult<TypedExpr>
-    ensures { Agrees typed_of result
+    ensures agrees { Agrees typed_of result
         (Ok (typing.term_at at of (Alter change (expr_of operand.tree)))) }
 {
     Ok(TypedExpr::value(at, of, nodes::alter(alloc, change, operand.tree)?))
@@ -259,7 +263,8 @@ fn build_change(
 
 /// `@operand`
 fn build_handle(side: AssignmentSide, at: usize, operand: TypedExpr) -> CheckResult<TypedExpr>
-    ensures { Agrees typed_of result (typing.handle_at (is_target side) at (typed_of operand)) }
+    ensures agrees { Agrees typed_of result (typing.handle_at (is_target side) at
+        (typed_of operand)) }
 {
     match side {
         AssignmentSide::Target => Ok(TypedExpr {
@@ -282,7 +287,7 @@ pub(crate) fn build_unary(
     prefix: Prefix,
     operand: TypedExpr,
 ) -> CheckResult<TypedExpr>
-    ensures { Agrees typed_of result
+    ensures agrees { Agrees typed_of result
         (typing.unary_at (is_target prefix.side) prefix.at prefix.operator (typed_of operand)) }
 {
     let at = prefix.at;
@@ -317,7 +322,7 @@ pub(crate) fn build_conversion(
     to: Primitive,
     value: TypedExpr,
 ) -> CheckResult<TypedExpr>
-    ensures { Agrees typed_of result (typing.convert_at at to (typed_of value)) }
+    ensures agrees { Agrees typed_of result (typing.convert_at at to (typed_of value)) }
 {
     match ty_of(to) {
         Ty::Integer(int_type) => {
@@ -333,7 +338,7 @@ pub(crate) fn build_conversion(
 
 /// The class or the interface of a cast, whose name is at this offset.
 pub(crate) fn cast_target(at: usize, object: Option<ObjectType>) -> CheckResult<ObjectType>
-    ensures { Agrees (λ o. o) result (typing.cast_type at object) }
+    ensures agrees { Agrees (λ o. o) result (typing.cast_type at object) }
 {
     match object {
         Some(ObjectType::Class(class)) => Ok(ObjectType::Class(class)),
@@ -351,7 +356,7 @@ pub(crate) fn build_cast(
     to: ObjectType,
     value: TypedExpr,
 ) -> CheckResult<TypedExpr>
-    ensures { Agrees typed_of result (typing.cast_at at to (typed_of value)) }
+    ensures agrees { Agrees typed_of result (typing.cast_at at to (typed_of value)) }
 {
     handle_type(value.at, value.ty)?;
     let tree = nodes::cast(alloc, to, value.tree)?;
@@ -366,7 +371,7 @@ pub(crate) fn build_conditional(
     then: TypedExpr,
     otherwise: TypedExpr,
 ) -> CheckResult<TypedExpr>
-    ensures { Agrees typed_of result
+    ensures agrees { Agrees typed_of result
         (typing.choice (typed_of condition) (typed_of then) (typed_of otherwise)) }
 {
     check_bool(condition.at, condition.ty)?;

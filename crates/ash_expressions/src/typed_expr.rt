@@ -1,6 +1,6 @@
 //! Typed expressions, and conversions of their values.
 
-ghost use Rattle.std.specs.Prelude.{◌≡◌, IfOk, IsErrOf};
+ghost use Rattle.std.specs.Prelude.{◌≡◌, true, IfOk, IsErrOf};
 ghost use Rattle.ash_typed.specs.TypedTree.{converted};
 ghost use Rattle.ash_typed.specs.TypedTreeViews.{expr_of};
 ghost use Rattle.ash_typing.specs.Terms as terms;
@@ -27,7 +27,7 @@ pub struct TypedExpr {
 impl TypedExpr {
     /// An expression that is neither a number nor a place.
     pub(crate) fn value(at: usize, ty: Ty, tree: Expr) -> TypedExpr
-        ensures { typed_of result ≡ typing.term_at at ty (expr_of tree) }
+        ensures value { typed_of result ≡ typing.term_at at ty (expr_of tree) }
     {
         TypedExpr {
             at,
@@ -39,7 +39,7 @@ impl TypedExpr {
 
     /// What can be assigned: the tree reads the place.
     pub(crate) fn place(at: usize, ty: Ty, tree: Expr) -> TypedExpr
-        ensures { typed_of result ≡ typing.read_at at ty (expr_of tree) }
+        ensures value { typed_of result ≡ typing.read_at at ty (expr_of tree) }
     {
         TypedExpr {
             at,
@@ -51,7 +51,7 @@ impl TypedExpr {
 
     /// A number by itself.
     pub(crate) fn number(at: usize, number: u64) -> TypedExpr
-        ensures { typed_of result ≡ typing.placed at (terms.number_term number) }
+        ensures value { typed_of result ≡ typing.placed at (terms.number_term number) }
     {
         let int_type = number_type(number);
         TypedExpr {
@@ -68,7 +68,7 @@ impl TypedExpr {
 
 /// The value, converted to the type `to`.
 pub(crate) fn coerce(alloc: Global, to: Ty, typed: TypedExpr) -> Result<Expr, AllocError>
-    ensures { IfOk result (λ e. expr_of e ≡ typing.coerced to (typed_of typed)) }
+    ensures value { IfOk result (λ e. expr_of e ≡ typing.coerced to (typed_of typed)) }
 {
     nodes::convert(alloc, conversion(to, typed.ty), typed.tree)
 }
@@ -98,19 +98,19 @@ pub fn integer_type(at: usize, of: Ty) -> CheckResult<IntType>
 }
 
 /// Requires that an operand is a truth value. No memory is taken.
-pub fn check_bool(at: usize, of: Ty) -> CheckResult<bool>
-    ensures bool_or_mismatch { Agrees (λ k. k) result (typing.bool_of at of) }
+pub fn check_bool(at: usize, of: Ty) -> CheckResult<()>
+    ensures bool_or_mismatch { Agrees (λ _. true) result (typing.bool_of at of) }
     ensures no_memory { IsErrOf result NoMemory → ⊥ }
 {
     match of {
-        Ty::Bool | Ty::Unknown => Ok(true),
+        Ty::Bool | Ty::Unknown => Ok(()),
         _ => Err(fault_at(Rule::TypeMismatch, at)),
     }
 }
 
 /// The type of a handle of an operand's object.
 pub(crate) fn handle_type(at: usize, of: Ty) -> CheckResult<Ty>
-    ensures { Agrees (λ k. k) result (typing.handle_of at of) }
+    ensures agrees { Agrees (λ k. k) result (typing.handle_of at of) }
 {
     match of {
         Ty::Object(object) | Ty::Handle(object) => Ok(Ty::Handle(object)),
@@ -121,7 +121,7 @@ pub(crate) fn handle_type(at: usize, of: Ty) -> CheckResult<Ty>
 
 /// A number takes the type of the other operand where that is an integer type that holds it.
 fn adapt_number(other: Form, of: Ty, typed: &mut TypedExpr)
-    ensures { typed_of typed.new
+    ensures effect { typed_of typed.new
         ≡ typing.placed typed.old.at
         (terms.adapted_number other of typed.old.form (typing.term_of (typed_of typed.old))) }
 {
@@ -141,7 +141,7 @@ fn adapt_number(other: Form, of: Ty, typed: &mut TypedExpr)
 /// An operand beside another, whose type and form are given.
 #[tactic(auto, unfolding(ash_typing::specs::ExpressionRules::adapted))]
 pub(crate) fn adapt_operand(class: OperatorClass, other: Form, of: Ty, typed: &mut TypedExpr)
-    ensures { typed_of typed.new ≡ typing.adapted class other of (typed_of typed.old) }
+    ensures effect { typed_of typed.new ≡ typing.adapted class other of (typed_of typed.old) }
 {
     match class {
         OperatorClass::Shift => {}

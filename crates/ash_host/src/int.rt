@@ -26,7 +26,7 @@ pub(crate) fn int_from_bytes(bytes: &[u8]) -> Option<i32>
 
 /// The low 16 bits of a number.
 pub(crate) fn low_bits(number: i32) -> u16
-    ensures { result ≡ low_bits_of number }
+    ensures value { result ≡ low_bits_of number }
 {
     (number.cast_unsigned() % 65536) as u16
 }

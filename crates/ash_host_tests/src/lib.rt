@@ -11,6 +11,7 @@
 //! - `states`, `restoring`, `pools` and `refused_states`: tables from what a state holds, the boxes that they take, and
 //!   those that are given up where a state is refused.
 //! - `refusals`: memory that is refused once.
+//! - `sentences`: what each fault says to a person.
 #![tactic(auto)]
 
 #[cfg(test)]
@@ -37,6 +38,8 @@ mod reporter;
 mod restoring;
 #[cfg(test)]
 mod rows;
+#[cfg(test)]
+mod sentences;
 #[cfg(test)]
 mod sequences;
 #[cfg(test)]

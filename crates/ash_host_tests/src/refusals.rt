@@ -81,7 +81,7 @@ fn an_array_refused_memory_stays_as_it_is(rt: HostRuntime) {
 
 // A table with one service, which is a counter.
 fn new_service(alloc: Global) -> Result<Objects<Counter>, NoMemory>
-    ensures { IfOk result (λ objects. 0 < length objects.services) }
+    ensures services { IfOk result (λ objects. 0 < length objects.services) }
 {
     let mut services = Vec::new(alloc);
     services.push(Counter::new())?;
@@ -90,7 +90,7 @@ fn new_service(alloc: Global) -> Result<Objects<Counter>, NoMemory>
 
 // The same, and once more where memory was refused.
 fn retry_service(alloc: Global) -> Result<Objects<Counter>, NoMemory>
-    ensures { IfOk result (λ objects. 0 < length objects.services) }
+    ensures services { IfOk result (λ objects. 0 < length objects.services) }
 {
     match new_service(alloc) {
         Ok(objects) => Ok(objects),
@@ -99,8 +99,8 @@ fn retry_service(alloc: Global) -> Result<Objects<Counter>, NoMemory>
 }
 
 fn add_one(objects: &mut Objects<Counter>, events: &mut Vec<Event>) -> Result<i32, NoMemory>
-    requires { 0 < length objects.old.services }
-    ensures { length objects.new.services ≡ length objects.old.services }
+    requires within { 0 < length objects.old.services }
+    ensures effect { length objects.new.services ≡ length objects.old.services }
 {
     match objects.invoke_service(0, 1, &[Word::Int(1)], events)? {
         HostAnswer::Value(word) => Ok(word.int()),
@@ -110,8 +110,8 @@ fn add_one(objects: &mut Objects<Counter>, events: &mut Vec<Event>) -> Result<i3
 
 // Has a service add one, and once more where memory was refused and no event was appended.
 fn add_with_retry(objects: &mut Objects<Counter>, events: &mut Vec<Event>) -> Result<i32, NoMemory>
-    requires { 0 < length objects.old.services }
-    ensures { length objects.new.services ≡ length objects.old.services }
+    requires within { 0 < length objects.old.services }
+    ensures effect { length objects.new.services ≡ length objects.old.services }
 {
     let many = events.len();
     if let Ok(sum) = add_one(objects, events) {
@@ -125,7 +125,7 @@ fn add_with_retry(objects: &mut Objects<Counter>, events: &mut Vec<Event>) -> Re
 
 // A service that was refused memory was not run: it has added once for each call that was answered.
 fn check_sums(objects: &mut Objects<Counter>, events: &mut Vec<Event>) -> bool
-    requires { 0 < length objects.old.services }
+    requires within { 0 < length objects.old.services }
 {
     for sum in 1..10 {
         if add_with_retry(objects, events) != Ok(sum) {

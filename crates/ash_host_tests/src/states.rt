@@ -109,7 +109,7 @@ fn boxes_and_states(
     log: &Log,
     services: &[Service<'_>],
 ) -> Result<(Vec<Reporter>, Vec<Vec<u8>>), NoMemory>
-    ensures { IfOk result (λ both. vec_len both.0 ≡ vec_len both.1) }
+    ensures value { IfOk result (λ both. vec_len both.0 ≡ vec_len both.1) }
 {
     let mut boxes = Vec::new(alloc);
     let mut states = Vec::new(alloc);

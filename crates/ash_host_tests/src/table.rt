@@ -51,14 +51,14 @@ pub fn new_table(alloc: Global, pool: &[u16]) -> Result<(Table, Log), NoMemory> 
 
 /// Whether an object of this number lives.
 pub fn lives(objects: &Table, number: u64) -> bool
-    ensures { IsTrue result → Lives objects.now.objects number }
+    ensures lives { IsTrue result → Lives objects.now.objects number }
 {
     objects.slot(number).is_some()
 }
 
 /// Whether the object that a word is a handle to lives, if it is one.
 pub fn is_alive(objects: &Table, word: Word) -> bool
-    ensures { IsTrue result → IsAlive word objects.now }
+    ensures alive { IsTrue result → IsAlive word objects.now }
 {
     match word {
         Word::Object(number) => lives(objects, number),
@@ -68,7 +68,7 @@ pub fn is_alive(objects: &Table, word: Word) -> bool
 
 /// Whether an object that lives has a word at this place.
 pub fn has_field(objects: &Table, number: u64, place: usize) -> bool
-    ensures { IsTrue result → IsSome (field_of number place objects.now) }
+    ensures there { IsTrue result → IsSome (field_of number place objects.now) }
 {
     match objects.body(number) {
         Some(body) => place < body.words().len(),
@@ -78,7 +78,7 @@ pub fn has_field(objects: &Table, number: u64, place: usize) -> bool
 
 /// Whether it is a host object that lives.
 pub fn is_host(objects: &Table, number: u64) -> bool
-    ensures { IsTrue result → IsSome (box_at number objects.now) }
+    ensures there { IsTrue result → IsSome (box_at number objects.now) }
 {
     match objects.body(number) {
         Some(body) => body.is_host(),

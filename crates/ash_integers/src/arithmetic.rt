@@ -57,7 +57,7 @@ pub fn calculate(
 }
 
 pub(crate) fn int(word: Word) -> i32
-    ensures { result ≡ number_at IntType.Int word }
+    ensures value { result ≡ number_at IntType.Int word }
 {
     if let Word::Int(number) = word {
         number
@@ -67,7 +67,7 @@ pub(crate) fn int(word: Word) -> i32
 }
 
 pub(crate) fn uint(word: Word) -> u32
-    ensures { pos result ≡ number_at IntType.Uint word }
+    ensures value { pos result ≡ number_at IntType.Uint word }
 {
     if let Word::Uint(number) = word {
         number
@@ -77,7 +77,7 @@ pub(crate) fn uint(word: Word) -> u32
 }
 
 pub(crate) fn int64(word: Word) -> i64
-    ensures { result ≡ number_at IntType.Int64 word }
+    ensures value { result ≡ number_at IntType.Int64 word }
 {
     if let Word::Int64(number) = word {
         number
@@ -87,7 +87,7 @@ pub(crate) fn int64(word: Word) -> i64
 }
 
 pub(crate) fn uint64(word: Word) -> u64
-    ensures { pos result ≡ number_at IntType.Uint64 word }
+    ensures value { pos result ≡ number_at IntType.Uint64 word }
 {
     if let Word::Uint64(number) = word {
         number
@@ -98,7 +98,7 @@ pub(crate) fn uint64(word: Word) -> u64
 
 #[tactic(auto, using(std::proofs::lemmas::Int::wraps))]
 fn calculate_int(operator: Arithmetic, left: i32, right: i32) -> Result<Word, DivisionFault>
-    ensures { result ≡ in_word IntType.Int (result_of operator IntType.Int left right) }
+    ensures value { result ≡ in_word IntType.Int (result_of operator IntType.Int left right) }
 {
     match operator {
         Arithmetic::Add => Ok(Word::Int(left.wrapping_add(right))),
@@ -113,7 +113,7 @@ fn calculate_int(operator: Arithmetic, left: i32, right: i32) -> Result<Word, Di
 }
 
 fn int_quotient(left: i32, right: i32) -> Result<i32, DivisionFault>
-    ensures { result ≡ divided IntType.Int left right (int_div left right) }
+    ensures value { result ≡ divided IntType.Int left right (int_div left right) }
 {
     if right == 0 {
         Err(DivisionFault::ByZero)
@@ -125,7 +125,7 @@ fn int_quotient(left: i32, right: i32) -> Result<i32, DivisionFault>
 }
 
 fn int_remainder(left: i32, right: i32) -> Result<i32, DivisionFault>
-    ensures { result ≡ divided IntType.Int left right (int_rem left right) }
+    ensures value { result ≡ divided IntType.Int left right (int_rem left right) }
 {
     if right == 0 {
         Err(DivisionFault::ByZero)
@@ -137,7 +137,7 @@ fn int_remainder(left: i32, right: i32) -> Result<i32, DivisionFault>
 }
 
 fn calculate_uint(operator: Arithmetic, left: u32, right: u32) -> Result<Word, DivisionFault>
-    ensures { result ≡ in_word IntType.Uint
+    ensures value { result ≡ in_word IntType.Uint
         (result_of operator IntType.Uint (pos left) (pos right)) }
 {
     match operator {
@@ -155,7 +155,7 @@ fn calculate_uint(operator: Arithmetic, left: u32, right: u32) -> Result<Word, D
 
 #[tactic(auto, using(std::proofs::lemmas::Int::wraps))]
 fn calculate_int64(operator: Arithmetic, left: i64, right: i64) -> Result<Word, DivisionFault>
-    ensures { result ≡ in_word IntType.Int64 (result_of operator IntType.Int64 left right) }
+    ensures value { result ≡ in_word IntType.Int64 (result_of operator IntType.Int64 left right) }
 {
     match operator {
         Arithmetic::Add => Ok(Word::Int64(left.wrapping_add(right))),
@@ -170,7 +170,7 @@ fn calculate_int64(operator: Arithmetic, left: i64, right: i64) -> Result<Word, 
 }
 
 fn int64_quotient(left: i64, right: i64) -> Result<i64, DivisionFault>
-    ensures { result ≡ divided IntType.Int64 left right (int_div left right) }
+    ensures value { result ≡ divided IntType.Int64 left right (int_div left right) }
 {
     if right == 0 {
         Err(DivisionFault::ByZero)
@@ -182,7 +182,7 @@ fn int64_quotient(left: i64, right: i64) -> Result<i64, DivisionFault>
 }
 
 fn int64_remainder(left: i64, right: i64) -> Result<i64, DivisionFault>
-    ensures { result ≡ divided IntType.Int64 left right (int_rem left right) }
+    ensures value { result ≡ divided IntType.Int64 left right (int_rem left right) }
 {
     if right == 0 {
         Err(DivisionFault::ByZero)
@@ -194,7 +194,7 @@ fn int64_remainder(left: i64, right: i64) -> Result<i64, DivisionFault>
 }
 
 fn calculate_uint64(operator: Arithmetic, left: u64, right: u64) -> Result<Word, DivisionFault>
-    ensures { result ≡ in_word IntType.Uint64
+    ensures value { result ≡ in_word IntType.Uint64
         (result_of operator IntType.Uint64 (pos left) (pos right)) }
 {
     match operator {

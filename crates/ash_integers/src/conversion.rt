@@ -20,13 +20,13 @@ pub fn word_from(of: IntType, number: i128) -> Word
 }
 
 fn low_32_bits(number: i128) -> u32
-    ensures { result ≡ unsigned_abs (int_rem_euclid number (pos (2 ^ 32))) }
+    ensures value { result ≡ unsigned_abs (int_rem_euclid number (pos (2 ^ 32))) }
 {
     number.rem_euclid(1 << 32) as u32
 }
 
 fn low_64_bits(number: i128) -> u64
-    ensures { result ≡ unsigned_abs (int_rem_euclid number (pos (2 ^ 64))) }
+    ensures value { result ≡ unsigned_abs (int_rem_euclid number (pos (2 ^ 64))) }
 {
     number.rem_euclid(1 << 64) as u64
 }

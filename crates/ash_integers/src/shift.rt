@@ -32,19 +32,20 @@ pub fn shift_by(operator: Shift, of: IntType, left: Word, count: Word) -> Word
 }
 
 fn count_32(count: Word) -> u32
-    ensures { pos result ≡ int_rem_euclid (number_of count) (pos 32) }
+    ensures value { pos result ≡ int_rem_euclid (number_of count) (pos 32) }
 {
     number(count).rem_euclid(32) as u32
 }
 
 fn count_64(count: Word) -> u32
-    ensures { pos result ≡ int_rem_euclid (number_of count) (pos 64) }
+    ensures value { pos result ≡ int_rem_euclid (number_of count) (pos 64) }
 {
     number(count).rem_euclid(64) as u32
 }
 
 fn shift_int(operator: Shift, left: i32, count: u32) -> Word
-    ensures { result ≡ word_at IntType.Int (shifted_by operator IntType.Int left (count % 32)) }
+    ensures value { result
+        ≡ word_at IntType.Int (shifted_by operator IntType.Int left (count % 32)) }
 {
     let bits = left.cast_unsigned();
     Word::Int(match operator {
@@ -55,7 +56,7 @@ fn shift_int(operator: Shift, left: i32, count: u32) -> Word
 }
 
 fn shift_uint(operator: Shift, left: u32, count: u32) -> Word
-    ensures { result ≡ word_at IntType.Uint
+    ensures value { result ≡ word_at IntType.Uint
         (shifted_by operator IntType.Uint (pos left) (count % 32)) }
 {
     Word::Uint(match operator {
@@ -66,7 +67,8 @@ fn shift_uint(operator: Shift, left: u32, count: u32) -> Word
 }
 
 fn shift_int64(operator: Shift, left: i64, count: u32) -> Word
-    ensures { result ≡ word_at IntType.Int64 (shifted_by operator IntType.Int64 left (count % 64)) }
+    ensures value { result ≡ word_at IntType.Int64
+        (shifted_by operator IntType.Int64 left (count % 64)) }
 {
     let bits = left.cast_unsigned();
     Word::Int64(match operator {
@@ -77,7 +79,7 @@ fn shift_int64(operator: Shift, left: i64, count: u32) -> Word
 }
 
 fn shift_uint64(operator: Shift, left: u64, count: u32) -> Word
-    ensures { result ≡ word_at IntType.Uint64
+    ensures value { result ≡ word_at IntType.Uint64
         (shifted_by operator IntType.Uint64 (pos left) (count % 64)) }
 {
     Word::Uint64(match operator {

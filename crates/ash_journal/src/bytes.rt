@@ -20,8 +20,8 @@ pub(crate) const HEADER_SIZE: u64 = 21;
 /// A record's length and body, and a next gate that is shut.
 #[tactic(auto, unfolding(crate::specs::Layout::block, crate::specs::Layout::four_bytes))]
 pub(crate) fn record_bytes(alloc: Global, body: &[u8]) -> Result<Vec<u8>, AllocError>
-    requires { length body.now < 2 ^ 32 }
-    ensures { IfOk result (λ v. v.items ≡ block body.now ++ 0 ∷ []) }
+    requires within { length body.now < 2 ^ 32 }
+    ensures value { IfOk result (λ v. v.items ≡ block body.now ++ 0 ∷ []) }
 {
     let mut size = [0; 4];
     LittleEndian::write_u32(&mut size, body.len() as u32);
@@ -39,8 +39,8 @@ pub(crate) fn generation_bytes(
     generation: u64,
     image: &[u8],
 ) -> Result<Vec<u8>, AllocError>
-    requires { length image.now < 2 ^ 32 }
-    ensures { IfOk result (λ v. v.items ≡ mark generation ++ (block image.now ++ 0 ∷ [])) }
+    requires within { length image.now < 2 ^ 32 }
+    ensures value { IfOk result (λ v. v.items ≡ mark generation ++ (block image.now ++ 0 ∷ [])) }
 {
     let mut number = [0; 8];
     LittleEndian::write_u64(&mut number, generation);

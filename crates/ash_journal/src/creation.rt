@@ -74,7 +74,7 @@ pub(crate) fn create_both<D: Disk>(
     second: &mut D,
     image: &[u8],
 ) -> Result<(), CreateFault>
-    requires { length image.now < 2 ^ 32 }
+    requires within { length image.now < 2 ^ 32 }
     ensures created { OnOk result (IsTrue (D.honest first.old) → IsTrue (D.honest second.old)
         → IsOn D.Disk first.new (1 ∷ ((mark 1 ++ (block image.now ++ 0 ∷ []))
         ++ drop (length (mark 1 ++ (block image.now ++ 0 ∷ []))) (drop 1 (D.seen first.old))))) }

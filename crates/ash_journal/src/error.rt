@@ -4,6 +4,7 @@ ghost use Rattle.std.specs.Prelude.{◌≡◌};
 ghost use Rattle.ash_journal.specs.JournalCodes.{append_code, create_code, install_code, open_code};
 ghost use Rattle.ash_journal.specs.declared.error.AppendError.TheVariants as append_errors;
 ghost use Rattle.ash_journal.specs.declared.error.CreateFault.TheVariants as create_faults;
+ghost use Rattle.ash_journal.specs.declared.error.InstallError.TheVariants as install_errors;
 ghost use Rattle.ash_journal.specs.declared.error.OpenFault.TheVariants as open_faults;
 
 use ash_disk::DeviceFailed;
@@ -30,6 +31,14 @@ impl AppendError {
             AppendError::NoMemory => "509 NoMemory",
             AppendError::DeviceFailed => DeviceFailed.code(),
         }
+    }
+}
+
+impl From<AllocError> for AppendError {
+    ghost from_gives = { λ _ error. error ≡ append_errors.NoMemory };
+
+    fn from(_: AllocError) -> Self {
+        Self::NoMemory
     }
 }
 
@@ -65,6 +74,14 @@ impl InstallError {
             InstallError::NoMemory => "509 NoMemory",
             InstallError::DeviceFailed => DeviceFailed.code(),
         }
+    }
+}
+
+impl From<AllocError> for InstallError {
+    ghost from_gives = { λ _ error. error ≡ install_errors.NoMemory };
+
+    fn from(_: AllocError) -> Self {
+        InstallError::NoMemory
     }
 }
 

@@ -35,7 +35,7 @@ pub(crate) fn shut_gate<D: Disk>(disk: &mut D, gate: u64) -> Result<(), DeviceFa
 /// Writes bytes after a gate that is 0 on the device, and syncs; then writes 1 over the gate, and syncs. Only then do
 /// the bytes count, and a crash on the way leaves them whole or not at all.
 pub(crate) fn commit<D: Disk>(disk: &mut D, gate: u64, bytes: &[u8]) -> Result<(), DeviceFailed>
-    requires { gate + 1 < 2 ^ 64 }
+    requires within { gate + 1 < 2 ^ 64 }
     ensures committed { OnOk result ((prefix suffix : List ℕ)
         → IsSplit D.Disk disk.old gate prefix (0 ∷ suffix)
         → IsOn D.Disk disk.new

@@ -257,10 +257,7 @@ impl<D: Disk> Journal<D> {
         ensures honesty_first { D.honest (first_disk self.new) ≡ D.honest (first_disk self.old) }
         ensures honesty_second { D.honest (second_disk self.new) ≡ D.honest (second_disk self.old) }
     {
-        let bytes = match record_bytes(self.alloc, body) {
-            Ok(bytes) => bytes,
-            Err(_) => return Err(AppendError::NoMemory),
-        };
+        let bytes = record_bytes(self.alloc, body)?;
         match commit(&mut self.current, self.end, &bytes) {
             Ok(()) => {}
             Err(_) => {

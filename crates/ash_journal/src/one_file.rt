@@ -35,15 +35,15 @@ pub(crate) enum FileHeader {
 }
 
 fn is_shut(prefix: &[u8]) -> bool
-    ensures { IsTrue result ↔ IsShut prefix.now }
+    ensures exact { IsTrue result ↔ IsShut prefix.now }
 {
     !prefix.is_empty() && prefix[0] == 0
 }
 
 // The generation after a magic, where these bytes are both.
 fn mark_of(bytes: &[u8]) -> Option<u64>
-    requires { length bytes.now ≤ mark_size }
-    ensures { MatchOption result
+    requires within { length bytes.now ≤ mark_size }
+    ensures value { MatchOption result
         ((generation : ℕ) → generation < 2 ^ 64 → bytes.now ≡ mark generation → ⊥)
         (λ generation. (generation < 2 ^ 64) × (bytes.now ≡ mark generation)) }
 {
@@ -59,8 +59,8 @@ fn mark_of(bytes: &[u8]) -> Option<u64>
 
 /// The header of a file whose first `PREFIX_SIZE` bytes, or all of fewer, are these.
 pub(crate) fn header_of(prefix: &[u8]) -> FileHeader
-    requires { length prefix.now ≤ prefix_size }
-    ensures { (file : List ℕ) → prefix.now ≡ take prefix_size file → HeaderIs result file }
+    requires within { length prefix.now ≤ prefix_size }
+    ensures value { (file : List ℕ) → prefix.now ≡ take prefix_size file → HeaderIs result file }
 {
     if prefix.len() < 2 || prefix[0] != 1 {
         let gate = FirstGate {
@@ -97,8 +97,8 @@ pub(crate) struct Block {
 
 // The length in four bytes.
 fn size_of(bytes: &[u8]) -> u32
-    requires { length bytes.now ≡ 4 }
-    ensures { four_bytes result ≡ bytes.now }
+    requires length { length bytes.now ≡ 4 }
+    ensures value { four_bytes result ≡ bytes.now }
 {
     LittleEndian::read_u32(bytes)
 }
@@ -188,7 +188,7 @@ fn read_records<D: Disk>(
     at: u64,
     first: u8,
 ) -> Result<Tail, OpenFault>
-    requires { at < len }
+    requires bounded { at < len }
     ensures answer { (generation : ℕ) (image rest : List ℕ) → IsTrue (D.honest disk.old)
         → len ≡ length (D.seen disk.old) → FieldsFit generation image []
         → D.seen disk.old ≡ committed_bytes generation image [] ++ first ∷ rest

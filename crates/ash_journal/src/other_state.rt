@@ -15,20 +15,20 @@ pub(crate) enum OtherState {
 
 impl OtherState {
     pub(crate) fn is_older(self) -> bool
-        ensures { result ≡ is_older self }
+        ensures value { result ≡ is_older self }
     {
         matches!(self, OtherState::Older)
     }
 
     pub(crate) fn is_stray(self) -> bool
-        ensures { result ≡ is_stray self }
+        ensures value { result ≡ is_stray self }
     {
         matches!(self, OtherState::Stray)
     }
 
     /// The state once a stray gate is written over.
     pub(crate) fn repaired(self) -> OtherState
-        ensures { result ≡ repaired self }
+        ensures value { result ≡ repaired self }
     {
         match self {
             OtherState::Shut | OtherState::Stray => OtherState::Shut,

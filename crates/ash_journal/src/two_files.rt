@@ -31,7 +31,7 @@ pub(crate) struct ReadFiles {
 
 // The state of a file that is closed.
 fn closed_state(gate: FirstGate) -> OtherState
-    ensures { result ≡ (if gate.shut then OtherState.Shut else OtherState.Stray) }
+    ensures value { result ≡ (if gate.shut then OtherState.Shut else OtherState.Stray) }
 {
     if gate.shut {
         OtherState::Shut
@@ -132,7 +132,7 @@ pub(crate) fn read_headers<D: Disk>(first: &mut D, second: &mut D) -> Result<Hea
 
 /// The first gates of two files that are both closed.
 pub(crate) fn both_closed(headers: &Headers) -> Option<(FirstGate, FirstGate)>
-    ensures { (x y : List ℕ) → HeadersAre headers.now x y
+    ensures gates { (x y : List ℕ) → HeadersAre headers.now x y
         → MatchOption result (IsOpen x ⊎ IsOpen y)
         (λ gates. (IsClosed x × ShutIs gates.0.shut x) × (IsClosed y × ShutIs gates.1.shut y)) }
 {

@@ -40,7 +40,7 @@ pub enum ScannedPiece {
 
 /// What a word is: reserved, unsupported, or else a name.
 fn word_kind(alloc: Global, word: &[u8]) -> Result<TokenKind, LexFault>
-    requires { IsName word.now }
+    requires name { IsName word.now }
     ensures meaning { IfOk result (λ kind. Means word.now (meaning_of kind)) }
     ensures only_memory { IfErr result (λ fault. fault ≡ NoMemory) }
 {
@@ -56,7 +56,7 @@ fn word_kind(alloc: Global, word: &[u8]) -> Result<TokenKind, LexFault>
 
 /// The number that the digits are in a base. `at` is the offset of its token.
 fn number(base: u64, digits: &[u8], at: usize) -> Result<TokenKind, LexFault>
-    requires { 0 < base }
+    requires within { 0 < base }
     ensures value { IfOk result (λ kind.
         (meaning_of kind ≡ number (spec.value_in base digits.now))
         × (spec.value_in base digits.now < 2 ^ 64)) }
@@ -71,7 +71,7 @@ fn number(base: u64, digits: &[u8], at: usize) -> Result<TokenKind, LexFault>
 
 /// Passes the longest piece that begins what is left of the text. `at` is the offset of what is left.
 fn next_piece(alloc: Global, left: &[u8], at: usize) -> Result<ScannedPiece, LexFault>
-    requires { 0 < length left.now }
+    requires within { 0 < length left.now }
     ensures passes { IfOk result (λ piece. IsScanned left.now piece) }
     ensures stops { IfErr result (λ fault. IsPieceFault at left.now fault) }
 {
@@ -110,7 +110,7 @@ fn mark_len(text: &[u8]) -> usize
 
 /// The tokens of a text that is not too long.
 fn tokens_of(alloc: Global, text: &[u8]) -> Result<Vec<Token>, LexFault>
-    requires { length text.now ≤ MAX_SOURCE_BYTES }
+    requires within { length text.now ≤ MAX_SOURCE_BYTES }
     ensures tokens { IfOk result (λ tokens. HasTokens text.now (lexemes tokens.items)) }
     ensures stopped { IfErr result (λ fault. IsTextFault text.now fault) }
 {

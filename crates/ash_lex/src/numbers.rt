@@ -5,7 +5,7 @@ ghost use Rattle.ash_lex.specs.Bytes as spec;
 
 /// What a digit counts, as `10` for `a` and for `A`.
 fn digit_value(digit: u8) -> u64
-    ensures { result ≡ spec.digit_value digit }
+    ensures value { result ≡ spec.digit_value digit }
 {
     match digit {
         b'0'..=b'9' => u64::from(digit - b'0'),

@@ -49,8 +49,8 @@ fn comment_end(text: &[u8]) -> Option<usize>
 
 /// The comment whose text after its `/*` begins so.
 fn block_comment(text: &[u8]) -> Piece
-    requires { length text.now + 2 < 2 ^ 64 }
-    ensures { result ≡ spec.block_comment (spec.comment_end text.now) }
+    requires within { length text.now + 2 < 2 ^ 64 }
+    ensures value { result ≡ spec.block_comment (spec.comment_end text.now) }
 {
     match comment_end(text) {
         Some(len) => Piece::Gap(2 + len),
@@ -60,14 +60,14 @@ fn block_comment(text: &[u8]) -> Piece
 
 /// The longest sign, if the text begins with one.
 fn sign(text: &[u8]) -> Option<Piece>
-    ensures { result ≡ spec.sign_piece text.now }
+    ensures value { result ≡ spec.sign_piece text.now }
 {
     Some(Piece::Sign(sign_at(text)?))
 }
 
 /// The comment or the sign that the text begins with, at a `/`.
 fn slash(text: &[u8]) -> Option<Piece>
-    ensures { result ≡ spec.slash_piece text.now }
+    ensures value { result ≡ spec.slash_piece text.now }
 {
     if text.starts_with(b"//") {
         Some(Piece::Gap(2 + line_len(&text[2..])))
@@ -80,7 +80,7 @@ fn slash(text: &[u8]) -> Option<Piece>
 
 /// The longest numeral, at a digit.
 fn numeral(text: &[u8]) -> Piece
-    ensures { result ≡ spec.numeral_piece text.now }
+    ensures value { result ≡ spec.numeral_piece text.now }
 {
     match text {
         [b'0', b'x', digits @ ..] if begins_with_hex_digit(digits) => {
@@ -92,8 +92,8 @@ fn numeral(text: &[u8]) -> Piece
 
 /// The longest piece, by its first byte.
 fn by_first_byte(text: &[u8]) -> Option<Piece>
-    requires { 0 < length text.now }
-    ensures { result ≡ spec.longest_piece text.now }
+    requires within { 0 < length text.now }
+    ensures value { result ≡ spec.longest_piece text.now }
 {
     let first = text[0];
     if is_blank(first) {

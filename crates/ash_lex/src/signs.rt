@@ -187,7 +187,7 @@ impl fmt::Display for Sign {
 
 /// The longest sign that begins with `!`.
 fn not_sign(after: &[u8]) -> Sign
-    ensures { Some result ≡ first_sign (33 ∷ after.now) }
+    ensures value { Some result ≡ first_sign (33 ∷ after.now) }
 {
     match after {
         [b'i', b's', rest @ ..] if !begins_with_word(rest) => Sign::NotIs,
@@ -198,7 +198,7 @@ fn not_sign(after: &[u8]) -> Sign
 
 /// The longest sign that begins with `<`.
 fn less_sign(after: &[u8]) -> Sign
-    ensures { Some result ≡ first_sign (60 ∷ after.now) }
+    ensures value { Some result ≡ first_sign (60 ∷ after.now) }
 {
     match after {
         [b'<', b'=', ..] => Sign::ShiftLeftAssign,
@@ -210,7 +210,7 @@ fn less_sign(after: &[u8]) -> Sign
 
 /// The longest sign that begins with `>`.
 fn greater_sign(after: &[u8]) -> Sign
-    ensures { Some result ≡ first_sign (62 ∷ after.now) }
+    ensures value { Some result ≡ first_sign (62 ∷ after.now) }
 {
     match after {
         [b'>', b'>', b'=', ..] => Sign::ShiftRightArithmeticAssign,
@@ -224,7 +224,7 @@ fn greater_sign(after: &[u8]) -> Sign
 
 /// The longest sign that begins with `+`.
 fn plus_sign(after: &[u8]) -> Sign
-    ensures { Some result ≡ first_sign (43 ∷ after.now) }
+    ensures value { Some result ≡ first_sign (43 ∷ after.now) }
 {
     match after {
         [b'+', ..] => Sign::Increment,
@@ -235,7 +235,7 @@ fn plus_sign(after: &[u8]) -> Sign
 
 /// The longest sign that begins with `-`.
 fn minus_sign(after: &[u8]) -> Sign
-    ensures { Some result ≡ first_sign (45 ∷ after.now) }
+    ensures value { Some result ≡ first_sign (45 ∷ after.now) }
 {
     match after {
         [b'-', ..] => Sign::Decrement,
@@ -246,7 +246,7 @@ fn minus_sign(after: &[u8]) -> Sign
 
 /// The longest sign that begins with `*`.
 fn star_sign(after: &[u8]) -> Sign
-    ensures { Some result ≡ first_sign (42 ∷ after.now) }
+    ensures value { Some result ≡ first_sign (42 ∷ after.now) }
 {
     match after {
         [b'=', ..] => Sign::StarAssign,
@@ -257,7 +257,7 @@ fn star_sign(after: &[u8]) -> Sign
 
 /// The longest sign that begins with `&`.
 fn and_sign(after: &[u8]) -> Sign
-    ensures { Some result ≡ first_sign (38 ∷ after.now) }
+    ensures value { Some result ≡ first_sign (38 ∷ after.now) }
 {
     match after {
         [b'&', ..] => Sign::LogicalAnd,
@@ -268,7 +268,7 @@ fn and_sign(after: &[u8]) -> Sign
 
 /// The longest sign that begins with `|`.
 fn or_sign(after: &[u8]) -> Sign
-    ensures { Some result ≡ first_sign (124 ∷ after.now) }
+    ensures value { Some result ≡ first_sign (124 ∷ after.now) }
 {
     match after {
         [b'|', ..] => Sign::LogicalOr,
@@ -279,7 +279,7 @@ fn or_sign(after: &[u8]) -> Sign
 
 /// The longest sign that a byte and what follows it begin with.
 fn sign_from(first: u8, after: &[u8]) -> Option<Sign>
-    ensures { result ≡ first_sign (first ∷ after.now) }
+    ensures value { result ≡ first_sign (first ∷ after.now) }
 {
     let sign = match first {
         b'(' => Sign::OpenParenthesis,

@@ -166,7 +166,7 @@ impl ReservedWord {
 
     /// Whether the bytes are how the word is written.
     fn is_text(self, bytes: &[u8]) -> bool
-        ensures { result ≡ bytes_eq bytes.now (reserved_text self) }
+        ensures value { result ≡ bytes_eq bytes.now (reserved_text self) }
     {
         bytes == self.as_str().as_bytes()
     }
@@ -182,7 +182,7 @@ impl fmt::Display for ReservedWord {
 
 /// The reserved words that begin with this byte.
 fn reserved_words_from(first: u8) -> &'static [ReservedWord]
-    ensures { (after : List ℕ) → find (λ w. bytes_eq (first ∷ after) (reserved_text w))
+    ensures value { (after : List ℕ) → find (λ w. bytes_eq (first ∷ after) (reserved_text w))
         result.now ≡ reserved_word (first ∷ after) }
 {
     match first {
@@ -224,7 +224,7 @@ fn reserved_words_from(first: u8) -> &'static [ReservedWord]
 
 /// The first of these words that the bytes are.
 fn reserved_word_among(words: &[ReservedWord], bytes: &[u8]) -> Option<ReservedWord>
-    ensures { result ≡ find (λ w. bytes_eq bytes.now (reserved_text w)) words.now }
+    ensures value { result ≡ find (λ w. bytes_eq bytes.now (reserved_text w)) words.now }
 {
     words.iter().copied().find(|word| word.is_text(bytes))
 }
@@ -271,7 +271,7 @@ impl UnsupportedWord {
 
     /// Whether the bytes are how the word is written.
     fn is_text(self, bytes: &[u8]) -> bool
-        ensures { result ≡ bytes_eq bytes.now (unsupported_text self) }
+        ensures value { result ≡ bytes_eq bytes.now (unsupported_text self) }
     {
         bytes == self.as_str().as_bytes()
     }
@@ -287,7 +287,7 @@ impl fmt::Display for UnsupportedWord {
 
 /// The unsupported words that begin with this byte.
 fn unsupported_words_from(first: u8) -> &'static [UnsupportedWord]
-    ensures { (after : List ℕ) → find (λ w. bytes_eq (first ∷ after) (unsupported_text w))
+    ensures value { (after : List ℕ) → find (λ w. bytes_eq (first ∷ after) (unsupported_text w))
         result.now ≡ unsupported_word (first ∷ after) }
 {
     match first {
@@ -315,7 +315,7 @@ fn unsupported_words_from(first: u8) -> &'static [UnsupportedWord]
 
 /// The first of these words that the bytes are.
 fn unsupported_word_among(words: &[UnsupportedWord], bytes: &[u8]) -> Option<UnsupportedWord>
-    ensures { result ≡ find (λ w. bytes_eq bytes.now (unsupported_text w)) words.now }
+    ensures value { result ≡ find (λ w. bytes_eq bytes.now (unsupported_text w)) words.now }
 {
     words.iter().copied().find(|word| word.is_text(bytes))
 }

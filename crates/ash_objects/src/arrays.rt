@@ -35,8 +35,9 @@ pub enum LengthFault {
 impl<B> Objects<B> {
     // The elements of the array in a slot, in order.
     fn elements(&self, slot: usize) -> &[Word]
-        requires { HasElementsIn slot self.now }
-        ensures { (number : ℕ) → slot_of number self.now ≡ Some slot → elements_at number self.now
+        requires has_elements_in { HasElementsIn slot self.now }
+        ensures value { (number : ℕ) → slot_of number self.now ≡ Some slot
+            → elements_at number self.now
             ≡ Some result.now }
     {
         match &self.store.item(slot).body {
@@ -152,8 +153,8 @@ impl<B> Objects<B> {
 
     // Cuts the elements of the array in a slot off from a length on, and gives up what they hold.
     fn shorten(&mut self, slot: usize, len: usize)
-        requires { IsArrayOfTable slot self.old }
-        ensures { (number : ℕ) → slot_of number self.old ≡ Some slot
+        requires array_of_table { IsArrayOfTable slot self.old }
+        ensures effect { (number : ℕ) → slot_of number self.old ≡ Some slot
             → IfSome (array_at number self.old) (λ array. self.new
             ≡ with_object number (with_elements (take len array.elements)) self.old) }
     {

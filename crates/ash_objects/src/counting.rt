@@ -10,11 +10,11 @@ use ash_slots::{Store, add_ref, read_word, remove_ref};
 
 /// Counts each object once more for each of the words of the object in a slot that is a handle to it.
 pub(crate) fn refer_words<B>(store: &mut Store<B>, slot: usize)
-    requires { (number : ℕ) × IsIn number slot store.old.objects
+    requires within { (number : ℕ) × IsIn number slot store.old.objects
         × AllLive store.old.objects (words_at number store.old.objects)
         × ((other : ℕ) → counted other store.old.objects + length
         (words_at number store.old.objects) < 2 ^ 128) }
-    ensures { (number : ℕ) → IsIn number slot store.old.objects
+    ensures effect { (number : ℕ) → IsIn number slot store.old.objects
         → store.new.objects ≡ refer_all (words_at number store.old.objects) store.old.objects }
 {
     let count = store.item(slot).body.words().len();
@@ -26,7 +26,8 @@ pub(crate) fn refer_words<B>(store: &mut Store<B>, slot: usize)
 
 /// Counts each object once less for each of these words that is a handle to it.
 pub(crate) fn release_words<B>(store: &mut Store<B>, words: &[Word])
-    requires { (number : ℕ) → handles_to number words.now ≤ counted number store.old.objects }
+    requires within { (number : ℕ) → handles_to number words.now
+        ≤ counted number store.old.objects }
     ensures objects { store.new.objects ≡ release_all words.now store.old.objects }
     ensures room { store.new.room ≡ store.old.room }
 {

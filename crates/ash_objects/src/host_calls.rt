@@ -24,8 +24,8 @@ impl<B: HostObject> Objects<B> {
     }
 
     fn start_at(&mut self, slot: usize, args: &[Word]) -> HostAnswer
-        requires { IsHostOfTable slot self.old }
-        ensures { (number : ℕ) → slot_of number self.old ≡ Some slot
+        requires host_of_table { IsHostOfTable slot self.old }
+        ensures value { (number : ℕ) → slot_of number self.old ≡ Some slot
             → Answers B.HostObject number (Start args.now) result self.old self.new }
     {
         self.marks.mark(slot);

@@ -39,7 +39,7 @@ pub enum MakeFault {
 
 /// The place of the first box of a kind.
 pub(crate) fn place_of_kind<B: HostObject>(pool: &[B], kind: u16) -> Option<usize>
-    ensures { result ≡ position (λ box. nat_eq (B.kind_of box) kind) pool.now }
+    ensures value { result ≡ position (λ box. nat_eq (B.kind_of box) kind) pool.now }
 {
     pool.iter().position(|object| object.kind() == kind)
 }

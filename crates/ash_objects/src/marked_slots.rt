@@ -36,7 +36,7 @@ impl Model for MarkedSlots {
 impl MarkedSlots {
     /// No slots. It takes no memory.
     pub(crate) fn new(alloc: Global) -> MarkedSlots
-        ensures { result.slots ≡ [] }
+        ensures value { result.slots ≡ [] }
     {
         MarkedSlots {
             flags: Vec::new(alloc),
@@ -46,7 +46,7 @@ impl MarkedSlots {
 
     /// How many slots are listed.
     pub(crate) fn len(&self) -> usize
-        ensures { result ≡ length self.now.slots }
+        ensures value { result ≡ length self.now.slots }
     {
         self.slots.len()
     }
@@ -71,7 +71,7 @@ impl MarkedSlots {
 
     /// Lists a slot, if it isn't listed. It takes no memory.
     pub(crate) fn mark(&mut self, slot: usize)
-        requires { slot < self.old.room }
+        requires within { slot < self.old.room }
         ensures covers { Covers self.old self.new }
         ensures listed { Contains self.new.slots slot }
     {

@@ -68,7 +68,7 @@ fn unmark_listed<B>(store: &mut Store<B>, marks: &mut MarkedSlots, numbers: &mut
 
 // Sorts numbers, each of which is there once.
 fn sort_numbers(numbers: &mut Vec<u64>)
-    ensures { (list : List ℕ) → IsStrictlyIncreasing list
+    ensures effect { (list : List ℕ) → IsStrictlyIncreasing list
         → ((measure : ℕ → ℕ) → sum_by measure numbers.old.items ≡ sum_by measure list)
         → numbers.new.items ≡ list }
 {

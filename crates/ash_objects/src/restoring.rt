@@ -68,7 +68,7 @@ pub enum TableFault {
 impl SavedObject {
     // The state of a host object; none of what is none.
     fn bytes(&self) -> &[u8]
-        ensures { result.now ≡ bytes_of self.now.body }
+        ensures value { result.now ≡ bytes_of self.now.body }
     {
         match &self.body {
             Body::Host(saved) => saved.state.as_slice(),
@@ -139,7 +139,7 @@ fn restore_services<B: HostObject>(
     services: &mut Vec<B>,
     states: &[Vec<u8>],
 ) -> Result<(), TableFault>
-    requires { length states.now ≡ vec_len services.old }
+    requires length { length states.now ≡ vec_len services.old }
     ensures restored { OnOk result
         (RestoresServices B.HostObject services.old.items
         (states_in states.now) services.new.items) }
@@ -172,7 +172,7 @@ fn restore_boxes<B: HostObject>(
     objects: &[SavedObject],
     boxes: &mut Vec<Option<B>>,
 ) -> Result<(), TableFault>
-    requires { length objects.now ≡ vec_len boxes.old }
+    requires length { length objects.now ≡ vec_len boxes.old }
     ensures restored { OnOk result
         (RestoresBoxes B.HostObject objects.now boxes.old.items boxes.new.items) }
     ensures refused { (number : ℕ) → IsErrOf result (TableFault.RestoreRefused number)
@@ -187,8 +187,8 @@ fn restore_boxes<B: HostObject>(
 
 // What an object is, with the box that it took in place of its kind and state.
 fn join<B: HostObject>(body: Body<SavedHostObject>, taken: Option<B>) -> Body<B>
-    requires { IsSome (with_drawn body taken) }
-    ensures { with_drawn body taken ≡ Some result }
+    requires drawn { IsSome (with_drawn body taken) }
+    ensures value { with_drawn body taken ≡ Some result }
 {
     match body {
         Body::Script(script) => Body::Script(script),
@@ -256,7 +256,7 @@ fn refer_from<B>(store: &mut Store<B>, list: &[u64])
         × (length (words_at number store.old.objects) ≤ max_elements)) list.now }
     requires few { length list.now ≤ max_objects }
     requires uncounted { (number : ℕ) → counted number store.old.objects ≡ 0 }
-    ensures { store.new.objects ≡ refer_objects list.now store.old.objects }
+    ensures effect { store.new.objects ≡ refer_objects list.now store.old.objects }
 {
     for number in list {
         let Some(slot) = store.slot(*number) else {

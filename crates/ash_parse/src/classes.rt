@@ -20,7 +20,7 @@ use std::alloc::Global;
 
 #[tactic(auto, unfolding(crate::specs::ItemReader::is_constructor))]
 fn is_constructor(tokens: &[Token]) -> bool
-    ensures { result ≡ reader.is_constructor (tokens_of tokens.now) }
+    ensures value { result ≡ reader.is_constructor (tokens_of tokens.now) }
 {
     next_is_name(tokens) && next_is_sign(Sign::OpenParenthesis, without_first(tokens))
 }
@@ -28,7 +28,7 @@ fn is_constructor(tokens: &[Token]) -> bool
 /// `NAME params block`
 #[tactic(auto, unfolding(crate::specs::ItemReader::constructor_at))]
 fn constructor(alloc: Global, tokens: &[Token]) -> ParseResult<'_, Constructor>
-    ensures { ParsesAs constructor_of result (reader.constructor_at (tokens_of tokens.now)) }
+    ensures parsed { ParsesAs constructor_of result (reader.constructor_at (tokens_of tokens.now)) }
 {
     let ((name, place), rest) = name(alloc, tokens)?;
     let (parameters, rest) = parameters(alloc, rest)?;
@@ -45,7 +45,7 @@ fn constructor(alloc: Global, tokens: &[Token]) -> ParseResult<'_, Constructor>
 /// `function | vars ";" | NAME params block`
 #[tactic(auto, unfolding(crate::specs::ItemReader::member_at))]
 fn member(alloc: Global, tokens: &[Token]) -> ParseResult<'_, Member>
-    ensures { ParsesAs member_of result (reader.member_at (tokens_of tokens.now)) }
+    ensures parsed { ParsesAs member_of result (reader.member_at (tokens_of tokens.now)) }
 {
     if is_constructor(tokens) {
         let (constructor, rest) = constructor(alloc, tokens)?;
@@ -61,7 +61,7 @@ fn member(alloc: Global, tokens: &[Token]) -> ParseResult<'_, Member>
 
 /// `{ member }`
 fn members(alloc: Global, tokens: &[Token]) -> ParseResult<'_, Vec<Member>>
-    ensures { ParsesAs (λ xs. map member_of xs.items) result
+    ensures parsed { ParsesAs (λ xs. map member_of xs.items) result
         (reader.members_at (tokens_of tokens.now)) }
 {
     let mut all = Vec::new(alloc);
@@ -77,7 +77,8 @@ fn members(alloc: Global, tokens: &[Token]) -> ParseResult<'_, Vec<Member>>
 /// `"," NAME`
 #[tactic(auto, unfolding(crate::specs::ItemReader::next_interface_at))]
 fn next_interface(alloc: Global, tokens: &[Token]) -> ParseResult<'_, TypeName>
-    ensures { ParsesAs type_name_of result (reader.next_interface_at (tokens_of tokens.now)) }
+    ensures parsed { ParsesAs type_name_of result
+        (reader.next_interface_at (tokens_of tokens.now)) }
 {
     let (_, rest) = expect(Sign::Comma, tokens)?;
     let ((name, place), rest) = name(alloc, rest)?;
@@ -90,7 +91,7 @@ fn more_interfaces<'a>(
     first: TypeName,
     tokens: &'a [Token],
 ) -> ParseResult<'a, Vec<TypeName>>
-    ensures { ParsesAs (λ xs. map type_name_of xs.items) result
+    ensures parsed { ParsesAs (λ xs. map type_name_of xs.items) result
         (put (type_name_of first) (reader.more_interfaces_at (tokens_of tokens.now))) }
 {
     let mut all = Vec::new(alloc);
@@ -107,7 +108,7 @@ fn more_interfaces<'a>(
 /// `NAME { "," NAME }`
 #[tactic(auto, unfolding(crate::specs::ItemReader::listed_interfaces_at))]
 fn listed_interfaces(alloc: Global, tokens: &[Token]) -> ParseResult<'_, Vec<TypeName>>
-    ensures { ParsesAs (λ xs. map type_name_of xs.items) result
+    ensures parsed { ParsesAs (λ xs. map type_name_of xs.items) result
         (reader.listed_interfaces_at (tokens_of tokens.now)) }
 {
     let ((name, place), rest) = name(alloc, tokens)?;
@@ -117,7 +118,7 @@ fn listed_interfaces(alloc: Global, tokens: &[Token]) -> ParseResult<'_, Vec<Typ
 /// `[ ":" NAME { "," NAME } ]`
 #[tactic(auto, unfolding(crate::specs::ItemReader::interfaces_at))]
 fn interfaces(alloc: Global, tokens: &[Token]) -> ParseResult<'_, Vec<TypeName>>
-    ensures { ParsesAs (λ xs. map type_name_of xs.items) result
+    ensures parsed { ParsesAs (λ xs. map type_name_of xs.items) result
         (reader.interfaces_at (tokens_of tokens.now)) }
 {
     if !next_is_sign(Sign::Colon, tokens) {
@@ -130,7 +131,7 @@ fn interfaces(alloc: Global, tokens: &[Token]) -> ParseResult<'_, Vec<TypeName>>
 /// `NAME [ ":" NAME { "," NAME } ] "{" { member } "}"`, after the word `class`
 #[tactic(auto, unfolding(crate::specs::ItemReader::class_at))]
 pub fn class(alloc: Global, tokens: &[Token]) -> ParseResult<'_, Class>
-    ensures { ParsesAs class_of result (reader.class_at (tokens_of tokens.now)) }
+    ensures parsed { ParsesAs class_of result (reader.class_at (tokens_of tokens.now)) }
 {
     let ((name, place), rest) = name(alloc, tokens)?;
     let (interfaces, rest) = interfaces(alloc, rest)?;

@@ -14,7 +14,7 @@ use std::alloc::Global;
 
 /// Where a token begins: its offset in bytes, and its line.
 pub fn place(token: &Token) -> Position
-    ensures { result ≡ place_of_token token.now }
+    ensures value { result ≡ place_of_token token.now }
 {
     Position {
         at: token.from,
@@ -23,13 +23,13 @@ pub fn place(token: &Token) -> Position
 }
 
 fn equal(a: Sign, b: Sign) -> bool
-    ensures { IsTrue result ↔ (a ≡ b) }
+    ensures exact { IsTrue result ↔ (a ≡ b) }
 {
     a == b
 }
 
 fn same(a: Sign, b: Sign) -> bool
-    ensures { result ≡ signs.same_sign a b }
+    ensures value { result ≡ signs.same_sign a b }
 {
     equal(a, b)
 }
@@ -37,7 +37,7 @@ fn same(a: Sign, b: Sign) -> bool
 /// Whether a token is this sign.
 #[tactic(auto, unfolding(crate::specs::SignTokens::is_sign))]
 pub fn is_sign(sign: Sign, token: &Token) -> bool
-    ensures { result ≡ signs.is_sign sign (meaning_of token.now.kind) }
+    ensures value { result ≡ signs.is_sign sign (meaning_of token.now.kind) }
 {
     match &token.kind {
         TokenKind::Sign(found) => same(sign, *found),
@@ -48,7 +48,7 @@ pub fn is_sign(sign: Sign, token: &Token) -> bool
 /// Whether the next token is this sign.
 #[tactic(auto, unfolding(crate::specs::Readers::next_is_sign))]
 pub fn next_is_sign(sign: Sign, tokens: &[Token]) -> bool
-    ensures { result ≡ reading.next_is_sign sign (tokens_of tokens.now) }
+    ensures value { result ≡ reading.next_is_sign sign (tokens_of tokens.now) }
 {
     let Some((next, _)) = tokens.split_first() else {
         return false;
@@ -59,7 +59,8 @@ pub fn next_is_sign(sign: Sign, tokens: &[Token]) -> bool
 /// This sign, and what is after it.
 #[tactic(auto, unfolding(crate::specs::Readers::expect_at))]
 pub fn expect(sign: Sign, tokens: &[Token]) -> ParseResult<'_, Position>
-    ensures { reading.ParsesAs (λ x. x) result (reading.expect_at sign (tokens_of tokens.now)) }
+    ensures parsed { reading.ParsesAs (λ x. x) result
+        (reading.expect_at sign (tokens_of tokens.now)) }
 {
     let Some((next, rest)) = tokens.split_first() else {
         return Err(ParseError::Unexpected(tokens));
@@ -74,7 +75,7 @@ pub fn expect(sign: Sign, tokens: &[Token]) -> ParseResult<'_, Position>
 /// A name with its place, and what is after it.
 #[tactic(auto, unfolding(crate::specs::Readers::name_at))]
 pub fn name(alloc: Global, tokens: &[Token]) -> ParseResult<'_, (String, Position)>
-    ensures { reading.ParsesAs (λ x. (string_bytes x.0, x.1)) result
+    ensures parsed { reading.ParsesAs (λ x. (string_bytes x.0, x.1)) result
         (reading.name_at (tokens_of tokens.now)) }
 {
     let Some((next, rest)) = tokens.split_first() else {
@@ -92,7 +93,7 @@ pub fn name(alloc: Global, tokens: &[Token]) -> ParseResult<'_, (String, Positio
 /// All but the first token.
 #[tactic(auto, unfolding(crate::specs::ItemReader::without_first))]
 pub fn without_first(tokens: &[Token]) -> &[Token]
-    ensures { tokens_of result.now ≡ item_reader.without_first (tokens_of tokens.now) }
+    ensures value { tokens_of result.now ≡ item_reader.without_first (tokens_of tokens.now) }
 {
     match tokens.split_first() {
         Some((_, rest)) => rest,

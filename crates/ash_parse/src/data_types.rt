@@ -21,7 +21,7 @@ use std::alloc::Global;
 /// Whether a token is the word `array`.
 #[tactic(auto, unfolding(crate::specs::TypeReader::is_array))]
 pub fn is_array(kind: &TokenKind) -> bool
-    ensures { result ≡ types.is_array (meaning_of kind.now) }
+    ensures value { result ≡ types.is_array (meaning_of kind.now) }
 {
     matches!(kind, TokenKind::Reserved(ReservedWord::Array))
 }
@@ -29,7 +29,7 @@ pub fn is_array(kind: &TokenKind) -> bool
 /// `prim | NAME "@"`
 #[tactic(auto, unfolding(crate::specs::TypeReader::elem_at))]
 fn elem(alloc: Global, tokens: &[Token]) -> ParseResult<'_, Element>
-    ensures { ParsesAs element_of result (types.elem_at (tokens_of tokens.now)) }
+    ensures parsed { ParsesAs element_of result (types.elem_at (tokens_of tokens.now)) }
 {
     let Some((next, rest)) = tokens.split_first() else {
         return Err(ParseError::Unexpected(tokens));
@@ -51,7 +51,7 @@ fn elem(alloc: Global, tokens: &[Token]) -> ParseResult<'_, Element>
 /// `"<" elem ">"`
 #[tactic(auto, unfolding(crate::specs::TypeReader::element_at))]
 pub fn element(alloc: Global, tokens: &[Token]) -> ParseResult<'_, Element>
-    ensures { ParsesAs element_of result (types.element_at (tokens_of tokens.now)) }
+    ensures parsed { ParsesAs element_of result (types.element_at (tokens_of tokens.now)) }
 {
     let (_, rest) = expect(Sign::Less, tokens)?;
     let (element, rest) = elem(alloc, rest)?;
@@ -62,7 +62,7 @@ pub fn element(alloc: Global, tokens: &[Token]) -> ParseResult<'_, Element>
 /// `"<" NAME ">"`
 #[tactic(auto, unfolding(crate::specs::TypeReader::target_at))]
 pub fn target(alloc: Global, tokens: &[Token]) -> ParseResult<'_, TypeName>
-    ensures { ParsesAs type_name_of result (types.target_at (tokens_of tokens.now)) }
+    ensures parsed { ParsesAs type_name_of result (types.target_at (tokens_of tokens.now)) }
 {
     let (_, rest) = expect(Sign::Less, tokens)?;
     let ((name, place), rest) = name(alloc, rest)?;
@@ -73,7 +73,7 @@ pub fn target(alloc: Global, tokens: &[Token]) -> ParseResult<'_, TypeName>
 /// What is after this sign, where it is next.
 #[tactic(auto, unfolding(crate::specs::TypeReader::after_sign))]
 fn after_sign(sign: Sign, tokens: &[Token]) -> Option<&[Token]>
-    ensures { option_map (λ x. tokens_of x.now) result
+    ensures value { option_map (λ x. tokens_of x.now) result
         ≡ types.after_sign sign (tokens_of tokens.now) }
 {
     let (next, rest) = tokens.split_first()?;
@@ -87,7 +87,8 @@ fn after_sign(sign: Sign, tokens: &[Token]) -> Option<&[Token]>
 /// What is after an `elem`, where one is next.
 #[tactic(auto, unfolding(crate::specs::TypeReader::after_elem))]
 fn after_elem(tokens: &[Token]) -> Option<&[Token]>
-    ensures { option_map (λ x. tokens_of x.now) result ≡ types.after_elem (tokens_of tokens.now) }
+    ensures value { option_map (λ x. tokens_of x.now) result
+        ≡ types.after_elem (tokens_of tokens.now) }
 {
     let (next, rest) = tokens.split_first()?;
     if primitive(&next.kind).is_some() {
@@ -102,7 +103,7 @@ fn after_elem(tokens: &[Token]) -> Option<&[Token]>
 /// What is after `"<" elem ">"`, where it is next.
 #[tactic(auto, unfolding(crate::specs::TypeReader::after_element))]
 pub fn after_element(tokens: &[Token]) -> Option<&[Token]>
-    ensures { option_map (λ x. tokens_of x.now) result
+    ensures value { option_map (λ x. tokens_of x.now) result
         ≡ types.after_element (tokens_of tokens.now) }
 {
     let rest = after_sign(Sign::Less, tokens)?;
@@ -112,7 +113,7 @@ pub fn after_element(tokens: &[Token]) -> Option<&[Token]>
 
 #[tactic(auto, unfolding(crate::specs::StatementReader::is_name))]
 fn is_name(kind: &TokenKind) -> bool
-    ensures { result ≡ reader.is_name (meaning_of kind.now) }
+    ensures value { result ≡ reader.is_name (meaning_of kind.now) }
 {
     matches!(kind, TokenKind::Name(_))
 }
@@ -120,7 +121,7 @@ fn is_name(kind: &TokenKind) -> bool
 /// Whether the next token is a name.
 #[tactic(auto, unfolding(crate::specs::StatementReader::next_is_name))]
 pub fn next_is_name(tokens: &[Token]) -> bool
-    ensures { result ≡ reader.next_is_name (tokens_of tokens.now) }
+    ensures value { result ≡ reader.next_is_name (tokens_of tokens.now) }
 {
     let Some((next, _)) = tokens.split_first() else {
         return false;
@@ -130,7 +131,7 @@ pub fn next_is_name(tokens: &[Token]) -> bool
 
 /// Whether these tokens, after the name of an object type, go on with a declaration and no expression.
 fn names_vars(tokens: &[Token]) -> bool
-    ensures { result ≡ reader.names_vars (tokens_of tokens.now) }
+    ensures value { result ≡ reader.names_vars (tokens_of tokens.now) }
 {
     next_is_name(tokens) || next_is_sign(Sign::Handle, tokens)
 }
@@ -139,7 +140,7 @@ fn names_vars(tokens: &[Token]) -> bool
 /// `array` with its `"<" elem ">"`.
 #[tactic(auto, unfolding(crate::specs::StatementReader::is_vars))]
 pub fn is_vars(tokens: &[Token]) -> bool
-    ensures { result ≡ reader.is_vars (tokens_of tokens.now) }
+    ensures value { result ≡ reader.is_vars (tokens_of tokens.now) }
 {
     let Some((next, rest)) = tokens.split_first() else {
         return false;
@@ -161,7 +162,7 @@ pub fn is_vars(tokens: &[Token]) -> bool
 
 /// `["@"]` after an array's type
 fn array_type<'a>(place: Position, element: Element, tokens: &'a [Token]) -> ParseResult<'a, Type>
-    ensures { ParsesAs type_of result
+    ensures parsed { ParsesAs type_of result
         (reader.handle_by (Array place (element_of element))
         (ArrayHandle place (element_of element)) (tokens_of tokens.now)) }
 {
@@ -177,7 +178,7 @@ fn array_type<'a>(place: Position, element: Element, tokens: &'a [Token]) -> Par
 /// `prim | NAME ["@"] | "array" "<" elem ">" ["@"]`
 #[tactic(auto, unfolding(crate::specs::StatementReader::type_at))]
 pub fn type_name(alloc: Global, tokens: &[Token]) -> ParseResult<'_, Type>
-    ensures { ParsesAs type_of result (reader.type_at (tokens_of tokens.now)) }
+    ensures parsed { ParsesAs type_of result (reader.type_at (tokens_of tokens.now)) }
 {
     let Some((next, rest)) = tokens.split_first() else {
         return Err(ParseError::Unexpected(tokens));
@@ -204,7 +205,7 @@ fn object_type<'a>(
     text: &str,
     tokens: &'a [Token],
 ) -> ParseResult<'a, Type>
-    ensures { ParsesAs type_of result
+    ensures parsed { ParsesAs type_of result
         (reader.handle_by (Object place text.now) (Handle place text.now) (tokens_of tokens.now)) }
 {
     let text = String::from_str(alloc, text)?;

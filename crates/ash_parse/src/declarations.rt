@@ -19,7 +19,7 @@ use std::alloc::Global;
 /// `type [NAME]`
 #[tactic(auto, unfolding(crate::specs::ItemReader::unnamed_at))]
 fn unnamed(alloc: Global, tokens: &[Token]) -> ParseResult<'_, Type>
-    ensures { ParsesAs type_of result (reader.unnamed_at (tokens_of tokens.now)) }
+    ensures parsed { ParsesAs type_of result (reader.unnamed_at (tokens_of tokens.now)) }
 {
     let (of, rest) = type_name(alloc, tokens)?;
     if next_is_name(rest) {
@@ -31,7 +31,7 @@ fn unnamed(alloc: Global, tokens: &[Token]) -> ParseResult<'_, Type>
 /// `"," type [NAME]`
 #[tactic(auto, unfolding(crate::specs::ItemReader::next_unnamed_at))]
 fn next_unnamed(alloc: Global, tokens: &[Token]) -> ParseResult<'_, Type>
-    ensures { ParsesAs type_of result (reader.next_unnamed_at (tokens_of tokens.now)) }
+    ensures parsed { ParsesAs type_of result (reader.next_unnamed_at (tokens_of tokens.now)) }
 {
     let (_, rest) = expect(Sign::Comma, tokens)?;
     unnamed(alloc, rest)
@@ -39,7 +39,7 @@ fn next_unnamed(alloc: Global, tokens: &[Token]) -> ParseResult<'_, Type>
 
 /// `{ "," type [NAME] }`, after the first
 fn more_unnamed<'a>(alloc: Global, first: Type, tokens: &'a [Token]) -> ParseResult<'a, Vec<Type>>
-    ensures { ParsesAs (λ xs. map type_of xs.items) result
+    ensures parsed { ParsesAs (λ xs. map type_of xs.items) result
         (put (type_of first) (reader.more_unnamed_at (tokens_of tokens.now))) }
 {
     let mut all = Vec::new(alloc);
@@ -56,7 +56,7 @@ fn more_unnamed<'a>(alloc: Global, first: Type, tokens: &'a [Token]) -> ParseRes
 /// `[ type [NAME] { "," type [NAME] } ]`, before a `)`
 #[tactic(auto, unfolding(crate::specs::ItemReader::unnamed_list_at))]
 fn unnamed_list(alloc: Global, tokens: &[Token]) -> ParseResult<'_, Vec<Type>>
-    ensures { ParsesAs (λ xs. map type_of xs.items) result
+    ensures parsed { ParsesAs (λ xs. map type_of xs.items) result
         (reader.unnamed_list_at (tokens_of tokens.now)) }
 {
     if next_is_sign(Sign::CloseParenthesis, tokens) {
@@ -69,7 +69,7 @@ fn unnamed_list(alloc: Global, tokens: &[Token]) -> ParseResult<'_, Vec<Type>>
 /// `"(" [ type [NAME] { "," type [NAME] } ] ")"`
 #[tactic(auto, unfolding(crate::specs::ItemReader::unnamed_parameters_at))]
 fn unnamed_parameters(alloc: Global, tokens: &[Token]) -> ParseResult<'_, Vec<Type>>
-    ensures { ParsesAs (λ xs. map type_of xs.items) result
+    ensures parsed { ParsesAs (λ xs. map type_of xs.items) result
         (reader.unnamed_parameters_at (tokens_of tokens.now)) }
 {
     let (_, rest) = expect(Sign::OpenParenthesis, tokens)?;
@@ -87,7 +87,7 @@ fn declaration_after<'a>(
     name: String,
     tokens: &'a [Token],
 ) -> ParseResult<'a, Declaration>
-    ensures { ParsesAs declaration_of result
+    ensures parsed { ParsesAs declaration_of result
         (reader.declaration_after (option_map type_of of) place (string_bytes name)
         (tokens_of tokens.now)) }
 {
@@ -111,7 +111,7 @@ fn declaration_after<'a>(
 /// `rtype NAME "(" [ type [NAME] { "," type [NAME] } ] ")" | type NAME`
 #[tactic(auto, unfolding(crate::specs::ItemReader::declaration_at))]
 pub fn declaration(alloc: Global, tokens: &[Token]) -> ParseResult<'_, Declaration>
-    ensures { ParsesAs declaration_of result (reader.declaration_at (tokens_of tokens.now)) }
+    ensures parsed { ParsesAs declaration_of result (reader.declaration_at (tokens_of tokens.now)) }
 {
     let (of, rest) = result_type(alloc, tokens)?;
     let ((name, place), rest) = name(alloc, rest)?;

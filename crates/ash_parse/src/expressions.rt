@@ -30,7 +30,7 @@ pub const MAX_DEPTH: u32 = 64;
 /// Why a phrase can't begin where no deeper one may.
 #[tactic(auto, unfolding(crate::specs::ExpressionReader::limit_at))]
 fn limit(tokens: &[Token]) -> ParseError<'_>
-    ensures { Fails result (reader.limit_at (tokens_of tokens.now)) }
+    ensures fails { Fails result (reader.limit_at (tokens_of tokens.now)) }
 {
     let Some((next, _)) = tokens.split_first() else {
         return ParseError::Unexpected(tokens);
@@ -45,8 +45,8 @@ fn limit(tokens: &[Token]) -> ParseError<'_>
 /// An `assign` that is one deeper.
 #[cycle(expressions)]
 pub fn nested_assign(alloc: Global, room: u32, tokens: &[Token]) -> ParseResult<'_, Expr>
-    requires { room ≤ MAX_DEPTH }
-    ensures { ParsesAs expr_of result (reader.below_at room true (tokens_of tokens.now)) }
+    requires within { room ≤ MAX_DEPTH }
+    ensures parsed { ParsesAs expr_of result (reader.below_at room true (tokens_of tokens.now)) }
 {
     if room == 0 {
         return Err(limit(tokens));
@@ -57,8 +57,8 @@ pub fn nested_assign(alloc: Global, room: u32, tokens: &[Token]) -> ParseResult<
 /// A `unary` that is one deeper.
 #[cycle(expressions)]
 fn nested_unary(alloc: Global, room: u32, tokens: &[Token]) -> ParseResult<'_, Expr>
-    requires { room ≤ MAX_DEPTH }
-    ensures { ParsesAs expr_of result (reader.below_at room false (tokens_of tokens.now)) }
+    requires within { room ≤ MAX_DEPTH }
+    ensures parsed { ParsesAs expr_of result (reader.below_at room false (tokens_of tokens.now)) }
 {
     if room == 0 {
         return Err(limit(tokens));
@@ -70,8 +70,8 @@ fn nested_unary(alloc: Global, room: u32, tokens: &[Token]) -> ParseResult<'_, E
 #[cycle(expressions)]
 #[tactic(auto, unfolding(crate::specs::ExpressionReader::assign_with, crate::specs::ExpressionReader::assign_from))]
 pub fn assign(alloc: Global, room: u32, tokens: &[Token]) -> ParseResult<'_, Expr>
-    requires { room ≤ MAX_DEPTH }
-    ensures { ParsesAs expr_of result
+    requires within { room ≤ MAX_DEPTH }
+    ensures parsed { ParsesAs expr_of result
         (reader.assign_with (reader.below_at room) (tokens_of tokens.now)) }
 {
     let (target, rest) = binary(alloc, MAX_LEVEL, room, tokens)?;
@@ -93,7 +93,7 @@ pub fn assign(alloc: Global, room: u32, tokens: &[Token]) -> ParseResult<'_, Exp
 fn binary(alloc: Global, level: u32, room: u32, tokens: &[Token]) -> ParseResult<'_, Expr>
     requires loosest { level ≤ MAX_LEVEL }
     requires room { room ≤ MAX_DEPTH }
-    ensures { ParsesAs expr_of result
+    ensures parsed { ParsesAs expr_of result
         (reader.binary_with (reader.below_at room) level (tokens_of tokens.now)) }
 {
     let (mut joined, mut rest) = unary(alloc, room, tokens)?;
@@ -114,7 +114,7 @@ fn binary(alloc: Global, level: u32, room: u32, tokens: &[Token]) -> ParseResult
 fn links(alloc: Global, level: u32, room: u32, tokens: &[Token]) -> ParseResult<'_, Vec<Link>>
     requires loosest { level < MAX_LEVEL }
     requires room { room ≤ MAX_DEPTH }
-    ensures { ParsesAs (λ xs. map operation_of xs.items) result
+    ensures parsed { ParsesAs (λ xs. map operation_of xs.items) result
         (reader.links_by level (reader.binary_with (reader.below_at room) level)
         (tokens_of tokens.now)) }
 {
@@ -133,7 +133,7 @@ fn links(alloc: Global, level: u32, room: u32, tokens: &[Token]) -> ParseResult<
 fn link(alloc: Global, level: u32, room: u32, tokens: &[Token]) -> ParseResult<'_, Link>
     requires loosest { level < MAX_LEVEL }
     requires room { room ≤ MAX_DEPTH }
-    ensures { ParsesAs operation_of result
+    ensures parsed { ParsesAs operation_of result
         (reader.link_by level (reader.binary_with (reader.below_at room) level)
         (tokens_of tokens.now)) }
 {
@@ -148,8 +148,8 @@ fn link(alloc: Global, level: u32, room: u32, tokens: &[Token]) -> ParseResult<'
 #[cycle(expressions)]
 #[tactic(auto, unfolding(crate::specs::ExpressionReader::unary_with))]
 fn unary(alloc: Global, room: u32, tokens: &[Token]) -> ParseResult<'_, Expr>
-    requires { room ≤ MAX_DEPTH }
-    ensures { ParsesAs expr_of result
+    requires within { room ≤ MAX_DEPTH }
+    ensures parsed { ParsesAs expr_of result
         (reader.unary_with (reader.below_at room) (tokens_of tokens.now)) }
 {
     let Some((next, rest)) = tokens.split_first() else {
@@ -167,8 +167,8 @@ fn unary(alloc: Global, room: u32, tokens: &[Token]) -> ParseResult<'_, Expr>
 #[cycle(expressions)]
 #[tactic(auto, unfolding(crate::specs::ExpressionReader::postfix_with))]
 fn postfix(alloc: Global, room: u32, tokens: &[Token]) -> ParseResult<'_, Expr>
-    requires { room ≤ MAX_DEPTH }
-    ensures { ParsesAs expr_of result
+    requires within { room ≤ MAX_DEPTH }
+    ensures parsed { ParsesAs expr_of result
         (reader.postfix_with (reader.below_at room) (tokens_of tokens.now)) }
 {
     let (operand, rest) = primary(alloc, room, tokens)?;
@@ -182,8 +182,8 @@ fn postfix(alloc: Global, room: u32, tokens: &[Token]) -> ParseResult<'_, Expr>
 /// `suffix { suffix }`. Mostly there is one.
 #[cycle(expressions)]
 fn suffixes(alloc: Global, room: u32, tokens: &[Token]) -> ParseResult<'_, Vec<Suffix>>
-    requires { room ≤ MAX_DEPTH }
-    ensures { ParsesAs (λ xs. map suffix_of xs.items) result
+    requires within { room ≤ MAX_DEPTH }
+    ensures parsed { ParsesAs (λ xs. map suffix_of xs.items) result
         (reader.suffixes_with (reader.below_at room) (tokens_of tokens.now)) }
 {
     let mut suffixes = Vec::with_capacity(alloc, 1)?;
@@ -200,8 +200,8 @@ fn suffixes(alloc: Global, room: u32, tokens: &[Token]) -> ParseResult<'_, Vec<S
 #[cycle(expressions)]
 #[tactic(auto, unfolding(crate::specs::ExpressionReader::suffix_with))]
 fn suffix(alloc: Global, room: u32, tokens: &[Token]) -> ParseResult<'_, Suffix>
-    requires { room ≤ MAX_DEPTH }
-    ensures { ParsesAs suffix_of result
+    requires within { room ≤ MAX_DEPTH }
+    ensures parsed { ParsesAs suffix_of result
         (reader.suffix_with (reader.below_at room) (tokens_of tokens.now)) }
 {
     let Some((next, rest)) = tokens.split_first() else {
@@ -220,8 +220,8 @@ fn suffix(alloc: Global, room: u32, tokens: &[Token]) -> ParseResult<'_, Suffix>
 #[cycle(expressions)]
 #[tactic(auto, unfolding(crate::specs::ExpressionReader::member_with))]
 fn member(alloc: Global, room: u32, tokens: &[Token]) -> ParseResult<'_, Suffix>
-    requires { room ≤ MAX_DEPTH }
-    ensures { ParsesAs suffix_of result
+    requires within { room ≤ MAX_DEPTH }
+    ensures parsed { ParsesAs suffix_of result
         (reader.member_with (reader.below_at room) (tokens_of tokens.now)) }
 {
     let ((name, place), rest) = name(alloc, tokens)?;
@@ -236,8 +236,8 @@ fn member(alloc: Global, room: u32, tokens: &[Token]) -> ParseResult<'_, Suffix>
 #[cycle(expressions)]
 #[tactic(auto, unfolding(crate::specs::ExpressionReader::index_with))]
 fn index(alloc: Global, room: u32, tokens: &[Token]) -> ParseResult<'_, Suffix>
-    requires { room ≤ MAX_DEPTH }
-    ensures { ParsesAs suffix_of result
+    requires within { room ≤ MAX_DEPTH }
+    ensures parsed { ParsesAs suffix_of result
         (reader.index_with (reader.below_at room) (tokens_of tokens.now)) }
 {
     let (value, rest) = nested_assign(alloc, room, tokens)?;
@@ -249,8 +249,8 @@ fn index(alloc: Global, room: u32, tokens: &[Token]) -> ParseResult<'_, Suffix>
 #[cycle(expressions)]
 #[tactic(auto, unfolding(crate::specs::ExpressionReader::bracketed_with))]
 pub fn bracketed(alloc: Global, room: u32, tokens: &[Token]) -> ParseResult<'_, Expr>
-    requires { room ≤ MAX_DEPTH }
-    ensures { ParsesAs expr_of result
+    requires within { room ≤ MAX_DEPTH }
+    ensures parsed { ParsesAs expr_of result
         (reader.bracketed_with (reader.below_at room) (tokens_of tokens.now)) }
 {
     let (_, rest) = expect(Sign::OpenParenthesis, tokens)?;
@@ -263,8 +263,8 @@ pub fn bracketed(alloc: Global, room: u32, tokens: &[Token]) -> ParseResult<'_, 
 #[cycle(expressions)]
 #[tactic(auto, unfolding(crate::specs::ExpressionReader::arguments_with))]
 pub fn arguments(alloc: Global, room: u32, tokens: &[Token]) -> ParseResult<'_, Vec<Expr>>
-    requires { room ≤ MAX_DEPTH }
-    ensures { ParsesAs (λ xs. map expr_of xs.items) result
+    requires within { room ≤ MAX_DEPTH }
+    ensures parsed { ParsesAs (λ xs. map expr_of xs.items) result
         (reader.arguments_with (reader.below_at room) (tokens_of tokens.now)) }
 {
     let (_, rest) = expect(Sign::OpenParenthesis, tokens)?;
@@ -277,8 +277,8 @@ pub fn arguments(alloc: Global, room: u32, tokens: &[Token]) -> ParseResult<'_, 
 #[cycle(expressions)]
 #[tactic(auto, unfolding(crate::specs::ExpressionReader::exprs_with))]
 pub fn expressions(alloc: Global, room: u32, tokens: &[Token]) -> ParseResult<'_, Vec<Expr>>
-    requires { room ≤ MAX_DEPTH }
-    ensures { ParsesAs (λ xs. map expr_of xs.items) result
+    requires within { room ≤ MAX_DEPTH }
+    ensures parsed { ParsesAs (λ xs. map expr_of xs.items) result
         (reader.exprs_with (reader.below_at room) (tokens_of tokens.now)) }
 {
     if next_is_sign(Sign::CloseParenthesis, tokens) {
@@ -296,8 +296,8 @@ fn more_expressions<'a>(
     first: Expr,
     tokens: &'a [Token],
 ) -> ParseResult<'a, Vec<Expr>>
-    requires { room ≤ MAX_DEPTH }
-    ensures { ParsesAs (λ xs. map expr_of xs.items) result
+    requires within { room ≤ MAX_DEPTH }
+    ensures parsed { ParsesAs (λ xs. map expr_of xs.items) result
         (put (expr_of first)
         (reader.more_exprs_with (reader.below_at room) (tokens_of tokens.now))) }
 {
@@ -316,8 +316,8 @@ fn more_expressions<'a>(
 #[cycle(expressions)]
 #[tactic(auto, unfolding(crate::specs::ExpressionReader::next_expr_with))]
 fn next_expression(alloc: Global, room: u32, tokens: &[Token]) -> ParseResult<'_, Expr>
-    requires { room ≤ MAX_DEPTH }
-    ensures { ParsesAs expr_of result
+    requires within { room ≤ MAX_DEPTH }
+    ensures parsed { ParsesAs expr_of result
         (reader.next_expr_with (reader.below_at room) (tokens_of tokens.now)) }
 {
     let (_, rest) = expect(Sign::Comma, tokens)?;

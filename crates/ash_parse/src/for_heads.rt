@@ -22,8 +22,8 @@ use std::alloc::Global;
 /// `[ vars | assign ] ";"`, in the head of a `for`
 #[tactic(auto, unfolding(crate::specs::StatementReader::first_with))]
 pub fn first(alloc: Global, room: u32, tokens: &[Token]) -> ParseResult<'_, Stmt>
-    requires { room ≤ MAX_DEPTH }
-    ensures { ParsesAs stmt_of result
+    requires within { room ≤ MAX_DEPTH }
+    ensures parsed { ParsesAs stmt_of result
         (reader.first_with (exprs.below_at room) (tokens_of tokens.now)) }
 {
     if next_is_sign(Sign::Semicolon, tokens) {
@@ -43,8 +43,8 @@ pub fn first(alloc: Global, room: u32, tokens: &[Token]) -> ParseResult<'_, Stmt
 /// `[assign] ";"`, in the head of a `for`
 #[tactic(auto, unfolding(crate::specs::StatementReader::test_with))]
 pub fn test(alloc: Global, room: u32, tokens: &[Token]) -> ParseResult<'_, Option<Expr>>
-    requires { room ≤ MAX_DEPTH }
-    ensures { ParsesAs (option_map expr_of) result
+    requires within { room ≤ MAX_DEPTH }
+    ensures parsed { ParsesAs (option_map expr_of) result
         (reader.test_with (exprs.below_at room) (tokens_of tokens.now)) }
 {
     if next_is_sign(Sign::Semicolon, tokens) {

@@ -20,7 +20,7 @@ use std::alloc::Global;
 
 #[tactic(auto, unfolding(crate::specs::ItemReader::is_void))]
 fn is_void(kind: &TokenKind) -> bool
-    ensures { result ≡ reader.is_void (meaning_of kind.now) }
+    ensures value { result ≡ reader.is_void (meaning_of kind.now) }
 {
     matches!(kind, TokenKind::Reserved(ReservedWord::Void))
 }
@@ -28,7 +28,8 @@ fn is_void(kind: &TokenKind) -> bool
 /// `"void" | type`
 #[tactic(auto, unfolding(crate::specs::ItemReader::result_type_at))]
 pub fn result_type(alloc: Global, tokens: &[Token]) -> ParseResult<'_, Option<Type>>
-    ensures { ParsesAs (option_map type_of) result (reader.result_type_at (tokens_of tokens.now)) }
+    ensures parsed { ParsesAs (option_map type_of) result
+        (reader.result_type_at (tokens_of tokens.now)) }
 {
     let Some((next, rest)) = tokens.split_first() else {
         return Err(ParseError::Unexpected(tokens));
@@ -43,7 +44,7 @@ pub fn result_type(alloc: Global, tokens: &[Token]) -> ParseResult<'_, Option<Ty
 /// `type NAME`
 #[tactic(auto, unfolding(crate::specs::ItemReader::parameter_at))]
 fn parameter(alloc: Global, tokens: &[Token]) -> ParseResult<'_, Parameter>
-    ensures { ParsesAs parameter_of result (reader.parameter_at (tokens_of tokens.now)) }
+    ensures parsed { ParsesAs parameter_of result (reader.parameter_at (tokens_of tokens.now)) }
 {
     let (of, rest) = type_name(alloc, tokens)?;
     let ((name, place), rest) = name(alloc, rest)?;
@@ -53,7 +54,8 @@ fn parameter(alloc: Global, tokens: &[Token]) -> ParseResult<'_, Parameter>
 /// `"," type NAME`
 #[tactic(auto, unfolding(crate::specs::ItemReader::next_parameter_at))]
 fn next_parameter(alloc: Global, tokens: &[Token]) -> ParseResult<'_, Parameter>
-    ensures { ParsesAs parameter_of result (reader.next_parameter_at (tokens_of tokens.now)) }
+    ensures parsed { ParsesAs parameter_of result
+        (reader.next_parameter_at (tokens_of tokens.now)) }
 {
     let (_, rest) = expect(Sign::Comma, tokens)?;
     parameter(alloc, rest)
@@ -65,7 +67,7 @@ fn more_parameters<'a>(
     first: Parameter,
     tokens: &'a [Token],
 ) -> ParseResult<'a, Vec<Parameter>>
-    ensures { ParsesAs (λ xs. map parameter_of xs.items) result
+    ensures parsed { ParsesAs (λ xs. map parameter_of xs.items) result
         (put (parameter_of first) (reader.more_parameters_at (tokens_of tokens.now))) }
 {
     let mut all = Vec::new(alloc);
@@ -82,7 +84,7 @@ fn more_parameters<'a>(
 /// `[ type NAME { "," type NAME } ]`, before a `)`
 #[tactic(auto, unfolding(crate::specs::ItemReader::parameter_list_at))]
 fn parameter_list(alloc: Global, tokens: &[Token]) -> ParseResult<'_, Vec<Parameter>>
-    ensures { ParsesAs (λ xs. map parameter_of xs.items) result
+    ensures parsed { ParsesAs (λ xs. map parameter_of xs.items) result
         (reader.parameter_list_at (tokens_of tokens.now)) }
 {
     if next_is_sign(Sign::CloseParenthesis, tokens) {
@@ -95,7 +97,7 @@ fn parameter_list(alloc: Global, tokens: &[Token]) -> ParseResult<'_, Vec<Parame
 /// `"(" [ type NAME { "," type NAME } ] ")"`
 #[tactic(auto, unfolding(crate::specs::ItemReader::parameters_at))]
 pub fn parameters(alloc: Global, tokens: &[Token]) -> ParseResult<'_, Vec<Parameter>>
-    ensures { ParsesAs (λ xs. map parameter_of xs.items) result
+    ensures parsed { ParsesAs (λ xs. map parameter_of xs.items) result
         (reader.parameters_at (tokens_of tokens.now)) }
 {
     let (_, rest) = expect(Sign::OpenParenthesis, tokens)?;
@@ -107,7 +109,8 @@ pub fn parameters(alloc: Global, tokens: &[Token]) -> ParseResult<'_, Vec<Parame
 /// The body of a function.
 #[tactic(auto, unfolding(crate::specs::ItemReader::body_at))]
 pub fn body(alloc: Global, tokens: &[Token]) -> ParseResult<'_, Vec<Stmt>>
-    ensures { ParsesAs (λ xs. map stmt_of xs.items) result (reader.body_at (tokens_of tokens.now)) }
+    ensures parsed { ParsesAs (λ xs. map stmt_of xs.items) result
+        (reader.body_at (tokens_of tokens.now)) }
 {
     block(alloc, MAX_DEPTH, tokens)
 }
@@ -115,7 +118,7 @@ pub fn body(alloc: Global, tokens: &[Token]) -> ParseResult<'_, Vec<Stmt>>
 /// `rtype NAME params block`
 #[tactic(auto, unfolding(crate::specs::ItemReader::function_at))]
 pub fn function(alloc: Global, tokens: &[Token]) -> ParseResult<'_, Function>
-    ensures { ParsesAs function_of result (reader.function_at (tokens_of tokens.now)) }
+    ensures parsed { ParsesAs function_of result (reader.function_at (tokens_of tokens.now)) }
 {
     let (of, rest) = result_type(alloc, tokens)?;
     let ((name, place), rest) = name(alloc, rest)?;
@@ -134,7 +137,7 @@ pub fn function(alloc: Global, tokens: &[Token]) -> ParseResult<'_, Function>
 /// Whether a function without parameters goes on after its `(`.
 #[tactic(auto, unfolding(crate::specs::ItemReader::opens_body))]
 fn opens_body(tokens: &[Token]) -> bool
-    ensures { result ≡ reader.opens_body (tokens_of tokens.now) }
+    ensures value { result ≡ reader.opens_body (tokens_of tokens.now) }
 {
     let Some((next, rest)) = tokens.split_first() else {
         return false;
@@ -145,7 +148,7 @@ fn opens_body(tokens: &[Token]) -> bool
 /// Whether `NAME "("` is next, and parameters after it and no arguments.
 #[tactic(auto, unfolding(crate::specs::ItemReader::names_function))]
 fn names_function(tokens: &[Token]) -> bool
-    ensures { result ≡ reader.names_function (tokens_of tokens.now) }
+    ensures value { result ≡ reader.names_function (tokens_of tokens.now) }
 {
     if !next_is_name(tokens) {
         return false;
@@ -161,7 +164,7 @@ fn names_function(tokens: &[Token]) -> bool
 /// Whether `NAME "("` is next, or after an `@`, and parameters after it and no arguments.
 #[tactic(auto, unfolding(crate::specs::ItemReader::handle_names_function))]
 fn handle_names_function(tokens: &[Token]) -> bool
-    ensures { result ≡ reader.handle_names_function (tokens_of tokens.now) }
+    ensures value { result ≡ reader.handle_names_function (tokens_of tokens.now) }
 {
     if next_is_sign(Sign::Handle, tokens) {
         return names_function(without_first(tokens));
@@ -172,7 +175,7 @@ fn handle_names_function(tokens: &[Token]) -> bool
 /// Whether the tokens begin a function, and no declaration of variables. The first fourteen of them decide.
 #[tactic(auto, unfolding(crate::specs::ItemReader::is_function))]
 pub fn is_function(tokens: &[Token]) -> bool
-    ensures { result ≡ reader.is_function (tokens_of tokens.now) }
+    ensures value { result ≡ reader.is_function (tokens_of tokens.now) }
 {
     let Some((next, rest)) = tokens.split_first() else {
         return false;

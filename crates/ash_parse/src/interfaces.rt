@@ -19,7 +19,7 @@ use std::alloc::Global;
 /// `rtype NAME params ";"`
 #[tactic(auto, unfolding(crate::specs::ItemReader::interface_method_at))]
 fn interface_method(alloc: Global, tokens: &[Token]) -> ParseResult<'_, InterfaceMethod>
-    ensures { ParsesAs interface_method_of result
+    ensures parsed { ParsesAs interface_method_of result
         (reader.interface_method_at (tokens_of tokens.now)) }
 {
     let (of, rest) = result_type(alloc, tokens)?;
@@ -37,7 +37,7 @@ fn interface_method(alloc: Global, tokens: &[Token]) -> ParseResult<'_, Interfac
 
 /// `{ rtype NAME params ";" }`
 fn interface_methods(alloc: Global, tokens: &[Token]) -> ParseResult<'_, Vec<InterfaceMethod>>
-    ensures { ParsesAs (λ xs. map interface_method_of xs.items) result
+    ensures parsed { ParsesAs (λ xs. map interface_method_of xs.items) result
         (reader.interface_methods_at (tokens_of tokens.now)) }
 {
     let mut all = Vec::new(alloc);
@@ -53,7 +53,7 @@ fn interface_methods(alloc: Global, tokens: &[Token]) -> ParseResult<'_, Vec<Int
 /// `NAME "{" { rtype NAME params ";" } "}"`, after the word `interface`
 #[tactic(auto, unfolding(crate::specs::ItemReader::interface_at))]
 pub fn interface(alloc: Global, tokens: &[Token]) -> ParseResult<'_, Interface>
-    ensures { ParsesAs interface_of result (reader.interface_at (tokens_of tokens.now)) }
+    ensures parsed { ParsesAs interface_of result (reader.interface_at (tokens_of tokens.now)) }
 {
     let ((name, place), rest) = name(alloc, tokens)?;
     let (_, rest) = expect(Sign::OpenBrace, rest)?;

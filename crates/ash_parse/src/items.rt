@@ -21,14 +21,14 @@ use std::alloc::Global;
 
 #[tactic(auto, unfolding(crate::specs::ItemReader::is_class))]
 fn is_class(kind: &TokenKind) -> bool
-    ensures { result ≡ reader.is_class (meaning_of kind.now) }
+    ensures value { result ≡ reader.is_class (meaning_of kind.now) }
 {
     matches!(kind, TokenKind::Reserved(ReservedWord::Class))
 }
 
 #[tactic(auto, unfolding(crate::specs::ItemReader::is_interface))]
 fn is_interface(kind: &TokenKind) -> bool
-    ensures { result ≡ reader.is_interface (meaning_of kind.now) }
+    ensures value { result ≡ reader.is_interface (meaning_of kind.now) }
 {
     matches!(kind, TokenKind::Reserved(ReservedWord::Interface))
 }
@@ -36,7 +36,7 @@ fn is_interface(kind: &TokenKind) -> bool
 /// `class | interface | function | vars ";"`
 #[tactic(auto, unfolding(crate::specs::ItemReader::item_at))]
 fn item(alloc: Global, tokens: &[Token]) -> ParseResult<'_, Item>
-    ensures { ParsesAs item_of result (reader.item_at (tokens_of tokens.now)) }
+    ensures parsed { ParsesAs item_of result (reader.item_at (tokens_of tokens.now)) }
 {
     let Some((next, rest)) = tokens.split_first() else {
         return Err(ParseError::Unexpected(tokens));
@@ -59,7 +59,7 @@ fn item(alloc: Global, tokens: &[Token]) -> ParseResult<'_, Item>
 
 /// The tokens after each `;` that they begin with.
 fn strip(tokens: &[Token]) -> &[Token]
-    ensures { tokens_of result.now ≡ reader.strip (tokens_of tokens.now) }
+    ensures value { tokens_of result.now ≡ reader.strip (tokens_of tokens.now) }
 {
     let mut rest = tokens;
     'more: while next_is_sign(Sign::Semicolon, rest) {
@@ -71,7 +71,7 @@ fn strip(tokens: &[Token]) -> &[Token]
 /// An item, and each `;` after it.
 #[tactic(auto, unfolding(crate::specs::ItemReader::entry_at))]
 fn entry(alloc: Global, tokens: &[Token]) -> ParseResult<'_, Item>
-    ensures { ParsesAs item_of result (reader.entry_at (tokens_of tokens.now)) }
+    ensures parsed { ParsesAs item_of result (reader.entry_at (tokens_of tokens.now)) }
 {
     let (item, rest) = item(alloc, tokens)?;
     Ok((item, strip(rest)))
@@ -80,7 +80,7 @@ fn entry(alloc: Global, tokens: &[Token]) -> ParseResult<'_, Item>
 /// Whether any token is left.
 #[tactic(auto, unfolding(crate::specs::ItemReader::is_left))]
 pub fn is_left(tokens: &[Token]) -> bool
-    ensures { result ≡ reader.is_left (tokens_of tokens.now) }
+    ensures value { result ≡ reader.is_left (tokens_of tokens.now) }
 {
     tokens.split_first().is_some()
 }

@@ -15,7 +15,7 @@ use ash_tree::{Label, Position};
 /// A number with its place.
 #[tactic(auto, unfolding(crate::specs::StatementReader::number_at))]
 fn number(tokens: &[Token]) -> ParseResult<'_, (u64, Position)>
-    ensures { ParsesAs (λ x. (x.0, x.1)) result (reader.number_at (tokens_of tokens.now)) }
+    ensures parsed { ParsesAs (λ x. (x.0, x.1)) result (reader.number_at (tokens_of tokens.now)) }
 {
     let Some((next, rest)) = tokens.split_first() else {
         return Err(ParseError::Unexpected(tokens));
@@ -29,7 +29,8 @@ fn number(tokens: &[Token]) -> ParseResult<'_, (u64, Position)>
 /// `["-"] NUMBER ":"`, at its first token
 #[tactic(auto, unfolding(crate::specs::StatementReader::case_value_at))]
 fn case_value(tokens: &[Token]) -> ParseResult<'_, (Label, Position)>
-    ensures { ParsesAs (λ x. (x.0, x.1)) result (reader.case_value_at (tokens_of tokens.now)) }
+    ensures parsed { ParsesAs (λ x. (x.0, x.1)) result
+        (reader.case_value_at (tokens_of tokens.now)) }
 {
     if next_is_sign(Sign::Minus, tokens) {
         let (place, rest) = expect(Sign::Minus, tokens)?;
@@ -45,7 +46,7 @@ fn case_value(tokens: &[Token]) -> ParseResult<'_, (Label, Position)>
 /// `("case" ["-"] NUMBER | "default") ":"`, at the constant or at the word `default`
 #[tactic(auto, unfolding(crate::specs::StatementReader::label_at))]
 pub fn label(tokens: &[Token]) -> ParseResult<'_, (Label, Position)>
-    ensures { ParsesAs (λ x. (x.0, x.1)) result (reader.label_at (tokens_of tokens.now)) }
+    ensures parsed { ParsesAs (λ x. (x.0, x.1)) result (reader.label_at (tokens_of tokens.now)) }
 {
     let Some((next, rest)) = tokens.split_first() else {
         return Err(ParseError::Unexpected(tokens));

@@ -15,7 +15,7 @@ pub const MAX_LEVEL: u32 = 10;
 /// The primitive type that a word names.
 #[tactic(auto, unfolding(ash_tree::specs::Operators::primitive))]
 pub fn primitive(kind: &TokenKind) -> Option<Primitive>
-    ensures { result ≡ spec.primitive (meaning_of kind.now) }
+    ensures value { result ≡ spec.primitive (meaning_of kind.now) }
 {
     match kind {
         TokenKind::Reserved(ReservedWord::Bool) => Some(Primitive::Bool),
@@ -30,7 +30,7 @@ pub fn primitive(kind: &TokenKind) -> Option<Primitive>
 /// The operator that a token is before its operand.
 #[tactic(auto, unfolding(ash_tree::specs::Operators::unary_operator))]
 pub fn unary_operator(kind: &TokenKind) -> Option<UnaryOp>
-    ensures { result ≡ spec.unary_operator (meaning_of kind.now) }
+    ensures value { result ≡ spec.unary_operator (meaning_of kind.now) }
 {
     match kind {
         TokenKind::Sign(Sign::Plus) => Some(UnaryOp::Plus),
@@ -48,7 +48,7 @@ pub fn unary_operator(kind: &TokenKind) -> Option<UnaryOp>
 /// The operator that a token is between two operands.
 #[tactic(auto, unfolding(ash_tree::specs::Operators::binary_operator))]
 pub fn binary_operator(kind: &TokenKind) -> Option<BinaryOp>
-    ensures { result ≡ spec.binary_operator (meaning_of kind.now) }
+    ensures value { result ≡ spec.binary_operator (meaning_of kind.now) }
 {
     let operator = match kind {
         TokenKind::Sign(Sign::Star) => BinaryOp::Multiply,
@@ -84,7 +84,7 @@ pub fn binary_operator(kind: &TokenKind) -> Option<BinaryOp>
 /// The level of an operator, from 1 for the tightest to 10.
 #[tactic(auto, unfolding(ash_tree::specs::Operators::level))]
 pub fn level(operator: BinaryOp) -> u32
-    ensures { result ≡ spec.level operator }
+    ensures value { result ≡ spec.level operator }
 {
     match operator {
         BinaryOp::Multiply | BinaryOp::Divide | BinaryOp::Remainder => 1,
@@ -103,7 +103,7 @@ pub fn level(operator: BinaryOp) -> u32
 /// The operator that a token is after what it writes to.
 #[tactic(auto, unfolding(ash_tree::specs::Operators::assign_operator))]
 pub fn assign_operator(kind: &TokenKind) -> Option<AssignOp>
-    ensures { result ≡ spec.assign_operator (meaning_of kind.now) }
+    ensures value { result ≡ spec.assign_operator (meaning_of kind.now) }
 {
     let operator = match kind {
         TokenKind::Sign(Sign::Assign) => AssignOp::Assign,
@@ -126,7 +126,7 @@ pub fn assign_operator(kind: &TokenKind) -> Option<AssignOp>
 /// The level of the operator that is next; 0 where none is.
 #[tactic(auto, unfolding(crate::specs::ExpressionReader::next_level))]
 pub fn next_level(tokens: &[Token]) -> u32
-    ensures { result ≡ reader.next_level (tokens_of tokens.now) }
+    ensures value { result ≡ reader.next_level (tokens_of tokens.now) }
 {
     let Some((next, _)) = tokens.split_first() else {
         return 0;
@@ -140,8 +140,8 @@ pub fn next_level(tokens: &[Token]) -> u32
 /// An operator that joins operands of this level.
 #[tactic(auto, unfolding(crate::specs::ExpressionReader::operator_at))]
 pub fn operator(operands: u32, tokens: &[Token]) -> Option<(BinaryOp, &[Token])>
-    requires { operands < MAX_LEVEL }
-    ensures { option_map (λ x. (x.0, tokens_of x.1.now)) result
+    requires within { operands < MAX_LEVEL }
+    ensures value { option_map (λ x. (x.0, tokens_of x.1.now)) result
         ≡ reader.operator_at operands (tokens_of tokens.now) }
 {
     let (next, rest) = tokens.split_first()?;
@@ -156,8 +156,8 @@ pub fn operator(operands: u32, tokens: &[Token]) -> Option<(BinaryOp, &[Token])>
 /// Whether an operator that joins operands of this level is next.
 #[tactic(auto, unfolding(crate::specs::ExpressionReader::is_link))]
 pub fn begins_link(level: u32, tokens: &[Token]) -> bool
-    requires { level < MAX_LEVEL }
-    ensures { result ≡ reader.is_link level (tokens_of tokens.now) }
+    requires within { level < MAX_LEVEL }
+    ensures value { result ≡ reader.is_link level (tokens_of tokens.now) }
 {
     operator(level, tokens).is_some()
 }
@@ -165,7 +165,7 @@ pub fn begins_link(level: u32, tokens: &[Token]) -> bool
 /// Whether the next token begins a suffix: a `.`, a `[`, a `++` or a `--`.
 #[tactic(auto, unfolding(crate::specs::ExpressionReader::is_suffix, crate::specs::ExpressionReader::begins_suffix))]
 pub fn begins_suffix(tokens: &[Token]) -> bool
-    ensures { result ≡ reader.is_suffix (tokens_of tokens.now) }
+    ensures value { result ≡ reader.is_suffix (tokens_of tokens.now) }
 {
     let Some((next, _)) = tokens.split_first() else {
         return false;
@@ -179,7 +179,7 @@ pub fn begins_suffix(tokens: &[Token]) -> bool
 /// Whether a token begins an expression.
 #[tactic(auto, unfolding(crate::specs::ExpressionReader::begins))]
 pub fn begins_expression(kind: &TokenKind) -> bool
-    ensures { result ≡ reader.begins (meaning_of kind.now) }
+    ensures value { result ≡ reader.begins (meaning_of kind.now) }
 {
     match kind {
         TokenKind::Name(_)

@@ -26,7 +26,7 @@ use std::alloc::Global;
 /// The part that a token belongs to which the profile does not have.
 #[tactic(auto, unfolding(crate::specs::ParseFaults::part_of))]
 fn part_of(kind: &TokenKind) -> Option<UnsupportedPart>
-    ensures { result ≡ part_of (meaning_of kind.now) }
+    ensures value { result ≡ part_of (meaning_of kind.now) }
 {
     match kind {
         TokenKind::Unsupported(word) => Some(UnsupportedPart::Word(*word)),
@@ -38,7 +38,7 @@ fn part_of(kind: &TokenKind) -> Option<UnsupportedPart>
 
 /// Where the first of the tokens from the fault on begins, or where all of the tokens end.
 fn offset(tokens: &[Token], rest: &[Token]) -> usize
-    ensures { result ≡ start (end_of tokens.now) (tokens_of rest.now) }
+    ensures value { result ≡ start (end_of tokens.now) (tokens_of rest.now) }
 {
     match rest.first() {
         Some(next) => next.from,
@@ -48,7 +48,7 @@ fn offset(tokens: &[Token], rest: &[Token]) -> usize
 
 /// Where the last of the tokens ends.
 fn end(tokens: &[Token]) -> usize
-    ensures { result ≡ end_of tokens.now }
+    ensures value { result ≡ end_of tokens.now }
 {
     match tokens.last() {
         Some(last) => last.to,
@@ -58,7 +58,7 @@ fn end(tokens: &[Token]) -> usize
 
 /// What is reported of why reading stopped.
 fn fault(tokens: &[Token], error: ParseError) -> ParseFault
-    ensures { IsReported tokens.now result error.entry }
+    ensures reported { IsReported tokens.now result error.entry }
 {
     match error {
         ParseError::Unexpected(rest) => unexpected(tokens, rest),
@@ -71,7 +71,7 @@ fn fault(tokens: &[Token], error: ParseError) -> ParseFault
 
 /// What is reported of the first of these tokens, which no phrase goes on with.
 fn unexpected(tokens: &[Token], rest: &[Token]) -> ParseFault
-    ensures { IsHaltFault tokens.now result (Unexpected (tokens_of rest.now)) }
+    ensures halt_fault { IsHaltFault tokens.now result (Unexpected (tokens_of rest.now)) }
 {
     let Some(next) = rest.first() else {
         return ParseFault::Unexpected { at: end(tokens) };

@@ -28,8 +28,8 @@ mod loops;
 /// `[assign] ";"`, after `return`
 #[tactic(auto, unfolding(crate::specs::StatementReader::return_value_with))]
 fn return_value(alloc: Global, room: u32, tokens: &[Token]) -> ParseResult<'_, Option<Expr>>
-    requires { room ≤ MAX_DEPTH }
-    ensures { ParsesAs (option_map expr_of) result
+    requires within { room ≤ MAX_DEPTH }
+    ensures parsed { ParsesAs (option_map expr_of) result
         (reader.return_value_with (exprs.below_at room) (tokens_of tokens.now)) }
 {
     if next_is_sign(Sign::Semicolon, tokens) {
@@ -44,8 +44,8 @@ fn return_value(alloc: Global, room: u32, tokens: &[Token]) -> ParseResult<'_, O
 /// `assign ";"`
 #[tactic(auto, unfolding(crate::specs::StatementReader::evaluate_with))]
 fn evaluate(alloc: Global, room: u32, tokens: &[Token]) -> ParseResult<'_, Stmt>
-    requires { room ≤ MAX_DEPTH }
-    ensures { ParsesAs stmt_of result
+    requires within { room ≤ MAX_DEPTH }
+    ensures parsed { ParsesAs stmt_of result
         (reader.evaluate_with (exprs.below_at room) (tokens_of tokens.now)) }
 {
     let (value, rest) = assign(alloc, room, tokens)?;
@@ -56,8 +56,8 @@ fn evaluate(alloc: Global, room: u32, tokens: &[Token]) -> ParseResult<'_, Stmt>
 /// A statement that is one deeper.
 #[cycle(statements)]
 fn nested(alloc: Global, room: u32, tokens: &[Token]) -> ParseResult<'_, Stmt>
-    requires { room ≤ MAX_DEPTH }
-    ensures { ParsesAs stmt_of result (reader.nested_at room (tokens_of tokens.now)) }
+    requires within { room ≤ MAX_DEPTH }
+    ensures parsed { ParsesAs stmt_of result (reader.nested_at room (tokens_of tokens.now)) }
 {
     if room == 0 {
         return Err(limit(tokens));
@@ -68,8 +68,8 @@ fn nested(alloc: Global, room: u32, tokens: &[Token]) -> ParseResult<'_, Stmt>
 /// A statement that is one deeper, in a box: what holds it while it reads on holds the box only.
 #[cycle(statements)]
 fn inner(alloc: Global, room: u32, tokens: &[Token]) -> ParseResult<'_, Box<Stmt>>
-    requires { room ≤ MAX_DEPTH }
-    ensures { ParsesAs (λ x. stmt_of x.value) result
+    requires within { room ≤ MAX_DEPTH }
+    ensures parsed { ParsesAs (λ x. stmt_of x.value) result
         (reader.nested_at room (tokens_of tokens.now)) }
 {
     let (read, rest) = nested(alloc, room, tokens)?;
@@ -77,7 +77,7 @@ fn inner(alloc: Global, room: u32, tokens: &[Token]) -> ParseResult<'_, Box<Stmt
 }
 
 fn boxed(alloc: Global, statement: Stmt) -> Result<Box<Stmt>, AllocError>
-    ensures { IfOk result (λ b. b.value ≡ statement) }
+    ensures value { IfOk result (λ b. b.value ≡ statement) }
 {
     Ok(Box::new(alloc, statement)?)
 }
@@ -85,8 +85,8 @@ fn boxed(alloc: Global, statement: Stmt) -> Result<Box<Stmt>, AllocError>
 #[cycle(statements)]
 #[tactic(auto, unfolding(crate::specs::StatementReader::stmt_with))]
 fn statement(alloc: Global, room: u32, tokens: &[Token]) -> ParseResult<'_, Stmt>
-    requires { room ≤ MAX_DEPTH }
-    ensures { ParsesAs stmt_of result
+    requires within { room ≤ MAX_DEPTH }
+    ensures parsed { ParsesAs stmt_of result
         (reader.stmt_with (exprs.below_at room) (reader.nested_at room) (tokens_of tokens.now)) }
 {
     let Some((next, rest)) = tokens.split_first() else {
@@ -124,7 +124,7 @@ fn statement(alloc: Global, room: u32, tokens: &[Token]) -> ParseResult<'_, Stmt
 }
 
 fn simple(place: Position, kind: StmtKind) -> Stmt
-    ensures { stmt_of result ≡ stmt_at place kind }
+    ensures value { stmt_of result ≡ stmt_at place kind }
 {
     Stmt { place, kind }
 }
@@ -145,8 +145,8 @@ fn if_statement<'a>(
     place: Position,
     tokens: &'a [Token],
 ) -> ParseResult<'a, Stmt>
-    requires { room ≤ MAX_DEPTH }
-    ensures { ParsesAs stmt_of result
+    requires within { room ≤ MAX_DEPTH }
+    ensures parsed { ParsesAs stmt_of result
         (reader.if_with (exprs.below_at room) (reader.nested_at room) place
         (tokens_of tokens.now)) }
 {
@@ -162,7 +162,7 @@ fn if_statement<'a>(
 
 /// An `if` that ends with its branch.
 fn if_only(place: Position, condition: Expr, then: Box<Stmt>) -> Stmt
-    ensures { stmt_of result ≡ If place (expr_of condition) (stmt_of then.value) }
+    ensures value { stmt_of result ≡ If place (expr_of condition) (stmt_of then.value) }
 {
     Stmt {
         place,
@@ -172,7 +172,7 @@ fn if_only(place: Position, condition: Expr, then: Box<Stmt>) -> Stmt
 
 /// An `if` with both its branches.
 fn if_else(place: Position, condition: Expr, then: Box<Stmt>, otherwise: Box<Stmt>) -> Stmt
-    ensures { stmt_of result ≡ IfElse place (expr_of condition) (stmt_of then.value)
+    ensures value { stmt_of result ≡ IfElse place (expr_of condition) (stmt_of then.value)
         (stmt_of otherwise.value) }
 {
     Stmt {
@@ -194,8 +194,8 @@ fn else_branch<'a>(
     head: IfHead,
     tokens: &'a [Token],
 ) -> ParseResult<'a, Stmt>
-    requires { room ≤ MAX_DEPTH }
-    ensures { ParsesAs stmt_of result
+    requires within { room ≤ MAX_DEPTH }
+    ensures parsed { ParsesAs stmt_of result
         (reader.else_with (reader.nested_at room) head.place (expr_of head.condition)
         (stmt_of head.then.value) (tokens_of tokens.now)) }
 {
@@ -223,8 +223,8 @@ fn switch_statement<'a>(
     place: Position,
     tokens: &'a [Token],
 ) -> ParseResult<'a, Stmt>
-    requires { room ≤ MAX_DEPTH }
-    ensures { ParsesAs stmt_of result
+    requires within { room ≤ MAX_DEPTH }
+    ensures parsed { ParsesAs stmt_of result
         (reader.switch_with (exprs.below_at room) (reader.nested_at room) place
         (tokens_of tokens.now)) }
 {
@@ -242,7 +242,7 @@ fn switch_end(
     cases: Vec<Case>,
     tokens: &[Token],
 ) -> ParseResult<'_, Stmt>
-    ensures { ParsesAs stmt_of result
+    ensures parsed { ParsesAs stmt_of result
         (reader.switch_end_with place (expr_of value) (map case_of cases.items)
         (tokens_of tokens.now)) }
 {
@@ -252,8 +252,8 @@ fn switch_end(
 
 #[cycle(statements)]
 fn cases(alloc: Global, room: u32, tokens: &[Token]) -> ParseResult<'_, Vec<Case>>
-    requires { room ≤ MAX_DEPTH }
-    ensures { ParsesAs (λ xs. map case_of xs.items) result
+    requires within { room ≤ MAX_DEPTH }
+    ensures parsed { ParsesAs (λ xs. map case_of xs.items) result
         (reader.cases_with (reader.nested_at room) (tokens_of tokens.now)) }
 {
     let mut all = Vec::new(alloc);
@@ -270,8 +270,8 @@ fn cases(alloc: Global, room: u32, tokens: &[Token]) -> ParseResult<'_, Vec<Case
 #[cycle(statements)]
 #[tactic(auto, unfolding(crate::specs::StatementReader::case_with))]
 fn case(alloc: Global, room: u32, tokens: &[Token]) -> ParseResult<'_, Case>
-    requires { room ≤ MAX_DEPTH }
-    ensures { ParsesAs case_of result
+    requires within { room ≤ MAX_DEPTH }
+    ensures parsed { ParsesAs case_of result
         (reader.case_with (reader.nested_at room) (tokens_of tokens.now)) }
 {
     let ((label, place), rest) = label(tokens)?;
@@ -282,8 +282,8 @@ fn case(alloc: Global, room: u32, tokens: &[Token]) -> ParseResult<'_, Case>
 /// `{ stmt }`, after a label
 #[cycle(statements)]
 fn statements(alloc: Global, room: u32, tokens: &[Token]) -> ParseResult<'_, Vec<Stmt>>
-    requires { room ≤ MAX_DEPTH }
-    ensures { ParsesAs (λ xs. map stmt_of xs.items) result
+    requires within { room ≤ MAX_DEPTH }
+    ensures parsed { ParsesAs (λ xs. map stmt_of xs.items) result
         (reader.stmts_with (reader.nested_at room) (tokens_of tokens.now)) }
 {
     let mut all = Vec::new(alloc);
@@ -300,8 +300,8 @@ fn statements(alloc: Global, room: u32, tokens: &[Token]) -> ParseResult<'_, Vec
 #[cycle(statements)]
 #[tactic(auto, unfolding(crate::specs::StatementReader::block_with))]
 pub fn block(alloc: Global, room: u32, tokens: &[Token]) -> ParseResult<'_, Vec<Stmt>>
-    requires { room ≤ MAX_DEPTH }
-    ensures { ParsesAs (λ xs. map stmt_of xs.items) result
+    requires within { room ≤ MAX_DEPTH }
+    ensures parsed { ParsesAs (λ xs. map stmt_of xs.items) result
         (reader.block_with (exprs.below_at room) (reader.nested_at room) (tokens_of tokens.now)) }
 {
     let (_, rest) = expect(Sign::OpenBrace, tokens)?;
@@ -313,8 +313,8 @@ pub fn block(alloc: Global, room: u32, tokens: &[Token]) -> ParseResult<'_, Vec<
 /// `{ vars ";" | stmt }`
 #[cycle(statements)]
 fn locals(alloc: Global, room: u32, tokens: &[Token]) -> ParseResult<'_, Vec<Stmt>>
-    requires { room ≤ MAX_DEPTH }
-    ensures { ParsesAs (λ xs. map stmt_of xs.items) result
+    requires within { room ≤ MAX_DEPTH }
+    ensures parsed { ParsesAs (λ xs. map stmt_of xs.items) result
         (reader.locals_with (exprs.below_at room) (reader.nested_at room) (tokens_of tokens.now)) }
 {
     let mut all = Vec::new(alloc);
@@ -331,8 +331,8 @@ fn locals(alloc: Global, room: u32, tokens: &[Token]) -> ParseResult<'_, Vec<Stm
 #[cycle(statements)]
 #[tactic(auto, unfolding(crate::specs::StatementReader::local_with))]
 fn local(alloc: Global, room: u32, tokens: &[Token]) -> ParseResult<'_, Stmt>
-    requires { room ≤ MAX_DEPTH }
-    ensures { ParsesAs stmt_of result
+    requires within { room ≤ MAX_DEPTH }
+    ensures parsed { ParsesAs stmt_of result
         (reader.local_with (exprs.below_at room) (reader.nested_at room) (tokens_of tokens.now)) }
 {
     if is_vars(tokens) {

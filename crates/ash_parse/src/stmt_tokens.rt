@@ -39,7 +39,7 @@ pub enum StmtToken {
 /// What a token is to a statement.
 #[tactic(auto, unfolding(crate::specs::StatementReader::stmt_token))]
 pub fn stmt_token(kind: &TokenKind) -> StmtToken
-    ensures { result ≡ reader.stmt_token (meaning_of kind.now) }
+    ensures value { result ≡ reader.stmt_token (meaning_of kind.now) }
 {
     match kind {
         TokenKind::Sign(Sign::OpenBrace) => StmtToken::Block,
@@ -63,7 +63,7 @@ pub fn stmt_token(kind: &TokenKind) -> StmtToken
 /// Whether a token begins a statement.
 #[tactic(auto, unfolding(crate::specs::StatementReader::begins_stmt))]
 pub fn begins_statement(kind: &TokenKind) -> bool
-    ensures { result ≡ reader.begins_stmt (meaning_of kind.now) }
+    ensures value { result ≡ reader.begins_stmt (meaning_of kind.now) }
 {
     match stmt_token(kind) {
         StmtToken::Other => begins_expression(kind),
@@ -75,7 +75,7 @@ pub fn begins_statement(kind: &TokenKind) -> bool
 /// Whether the statements of a block go on.
 #[tactic(auto, unfolding(crate::specs::StatementReader::goes_on))]
 pub fn goes_on(tokens: &[Token]) -> bool
-    ensures { result ≡ reader.goes_on (tokens_of tokens.now) }
+    ensures value { result ≡ reader.goes_on (tokens_of tokens.now) }
 {
     let Some((next, _)) = tokens.split_first() else {
         return false;
@@ -86,7 +86,7 @@ pub fn goes_on(tokens: &[Token]) -> bool
 /// Whether the statements after a label go on.
 #[tactic(auto, unfolding(crate::specs::StatementReader::case_goes_on))]
 pub fn case_goes_on(tokens: &[Token]) -> bool
-    ensures { result ≡ reader.case_goes_on (tokens_of tokens.now) }
+    ensures value { result ≡ reader.case_goes_on (tokens_of tokens.now) }
 {
     let Some((next, _)) = tokens.split_first() else {
         return false;
@@ -100,7 +100,7 @@ pub fn case_goes_on(tokens: &[Token]) -> bool
 /// Why a statement can't begin where no deeper one may.
 #[tactic(auto, unfolding(crate::specs::StatementReader::stmt_limit_at))]
 pub fn limit(tokens: &[Token]) -> ParseError<'_>
-    ensures { Fails result (reader.stmt_limit_at (tokens_of tokens.now)) }
+    ensures fails { Fails result (reader.stmt_limit_at (tokens_of tokens.now)) }
 {
     let Some((next, _)) = tokens.split_first() else {
         return ParseError::Unexpected(tokens);
@@ -115,7 +115,7 @@ pub fn limit(tokens: &[Token]) -> ParseError<'_>
 /// The word `while`.
 #[tactic(auto, unfolding(crate::specs::StatementReader::while_at))]
 pub fn expect_while(tokens: &[Token]) -> ParseResult<'_, Position>
-    ensures { ParsesAs (λ x. x) result (reader.while_at (tokens_of tokens.now)) }
+    ensures parsed { ParsesAs (λ x. x) result (reader.while_at (tokens_of tokens.now)) }
 {
     let Some((next, rest)) = tokens.split_first() else {
         return Err(ParseError::Unexpected(tokens));

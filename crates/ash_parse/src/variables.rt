@@ -22,8 +22,8 @@ use std::alloc::Global;
 /// `[ "=" assign | args ]`
 #[tactic(auto, unfolding(crate::specs::StatementReader::initializer_with))]
 fn initializer(alloc: Global, room: u32, tokens: &[Token]) -> ParseResult<'_, Initializer>
-    requires { room ≤ MAX_DEPTH }
-    ensures { ParsesAs initializer_of result
+    requires within { room ≤ MAX_DEPTH }
+    ensures parsed { ParsesAs initializer_of result
         (reader.initializer_with (exprs.below_at room) (tokens_of tokens.now)) }
 {
     if next_is_sign(Sign::Assign, tokens) {
@@ -41,8 +41,8 @@ fn initializer(alloc: Global, room: u32, tokens: &[Token]) -> ParseResult<'_, In
 /// `NAME [ "=" assign | args ]`
 #[tactic(auto, unfolding(crate::specs::StatementReader::decl_with))]
 fn decl(alloc: Global, room: u32, tokens: &[Token]) -> ParseResult<'_, Decl>
-    requires { room ≤ MAX_DEPTH }
-    ensures { ParsesAs decl_of result
+    requires within { room ≤ MAX_DEPTH }
+    ensures parsed { ParsesAs decl_of result
         (reader.decl_with (exprs.below_at room) (tokens_of tokens.now)) }
 {
     let ((name, place), rest) = name(alloc, tokens)?;
@@ -58,8 +58,8 @@ fn decl(alloc: Global, room: u32, tokens: &[Token]) -> ParseResult<'_, Decl>
 /// `"," decl`
 #[tactic(auto, unfolding(crate::specs::StatementReader::next_decl_with))]
 fn next_decl(alloc: Global, room: u32, tokens: &[Token]) -> ParseResult<'_, Decl>
-    requires { room ≤ MAX_DEPTH }
-    ensures { ParsesAs decl_of result
+    requires within { room ≤ MAX_DEPTH }
+    ensures parsed { ParsesAs decl_of result
         (reader.next_decl_with (exprs.below_at room) (tokens_of tokens.now)) }
 {
     let (_, rest) = expect(Sign::Comma, tokens)?;
@@ -73,8 +73,8 @@ fn more_decls<'a>(
     first: Decl,
     tokens: &'a [Token],
 ) -> ParseResult<'a, Vec<Decl>>
-    requires { room ≤ MAX_DEPTH }
-    ensures { ParsesAs (λ xs. map decl_of xs.items) result
+    requires within { room ≤ MAX_DEPTH }
+    ensures parsed { ParsesAs (λ xs. map decl_of xs.items) result
         (put (decl_of first)
         (reader.more_decls_with (exprs.below_at room) (tokens_of tokens.now))) }
 {
@@ -92,8 +92,8 @@ fn more_decls<'a>(
 /// `decl { "," decl }`
 #[tactic(auto, unfolding(crate::specs::StatementReader::decls_with))]
 fn decls(alloc: Global, room: u32, tokens: &[Token]) -> ParseResult<'_, Vec<Decl>>
-    requires { room ≤ MAX_DEPTH }
-    ensures { ParsesAs (λ xs. map decl_of xs.items) result
+    requires within { room ≤ MAX_DEPTH }
+    ensures parsed { ParsesAs (λ xs. map decl_of xs.items) result
         (reader.decls_with (exprs.below_at room) (tokens_of tokens.now)) }
 {
     let (first, rest) = decl(alloc, room, tokens)?;
@@ -103,8 +103,8 @@ fn decls(alloc: Global, room: u32, tokens: &[Token]) -> ParseResult<'_, Vec<Decl
 /// `type decl { "," decl }`
 #[tactic(auto, unfolding(crate::specs::StatementReader::vars_with))]
 fn vars(alloc: Global, room: u32, tokens: &[Token]) -> ParseResult<'_, Vars>
-    requires { room ≤ MAX_DEPTH }
-    ensures { ParsesAs vars_of result
+    requires within { room ≤ MAX_DEPTH }
+    ensures parsed { ParsesAs vars_of result
         (reader.vars_with (exprs.below_at room) (tokens_of tokens.now)) }
 {
     let (of, rest) = type_name(alloc, tokens)?;
@@ -115,8 +115,8 @@ fn vars(alloc: Global, room: u32, tokens: &[Token]) -> ParseResult<'_, Vars>
 /// `vars ";"`
 #[tactic(auto, unfolding(crate::specs::StatementReader::vars_statement_with))]
 pub fn vars_statement(alloc: Global, room: u32, tokens: &[Token]) -> ParseResult<'_, Vars>
-    requires { room ≤ MAX_DEPTH }
-    ensures { ParsesAs vars_of result
+    requires within { room ≤ MAX_DEPTH }
+    ensures parsed { ParsesAs vars_of result
         (reader.vars_statement_with (exprs.below_at room) (tokens_of tokens.now)) }
 {
     let (vars, rest) = vars(alloc, room, tokens)?;
@@ -127,7 +127,7 @@ pub fn vars_statement(alloc: Global, room: u32, tokens: &[Token]) -> ParseResult
 /// `vars ";"`, outside functions
 #[tactic(auto, unfolding(crate::specs::ItemReader::globals_at))]
 pub fn globals(alloc: Global, tokens: &[Token]) -> ParseResult<'_, Vars>
-    ensures { ParsesAs vars_of result (item_reader.globals_at (tokens_of tokens.now)) }
+    ensures parsed { ParsesAs vars_of result (item_reader.globals_at (tokens_of tokens.now)) }
 {
     vars_statement(alloc, MAX_DEPTH, tokens)
 }

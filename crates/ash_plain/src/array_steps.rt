@@ -28,7 +28,7 @@ use std::alloc::{AllocError, Global};
 
 /// What an element is before anything is written to it.
 fn zero_element(of: &Elements) -> Word
-    ensures { result ≡ zero_element (element_seen of.now) }
+    ensures value { result ≡ zero_element (element_seen of.now) }
 {
     match of {
         Elements::Bools => zero_of(VarType::Bool),
@@ -42,7 +42,7 @@ fn zero_element(of: &Elements) -> Word
 
 /// The number that an index or a length is.
 fn natural_of(word: Word) -> u64
-    ensures { result ≡ natural_of word }
+    ensures value { result ≡ natural_of word }
 {
     let number = number(word);
     if number < 0 {
@@ -54,7 +54,7 @@ fn natural_of(word: Word) -> u64
 
 /// As many elements as the argument says; none without one.
 fn count_in(args: &[Word]) -> u64
-    ensures { result ≡ count_in args.now }
+    ensures value { result ≡ count_in args.now }
 {
     match args {
         [] => 0,
@@ -64,7 +64,7 @@ fn count_in(args: &[Word]) -> u64
 
 /// Words with so many of one at their end.
 fn push_many(words: &mut Vec<Word>, count: u64, word: Word) -> Result<(), AllocError>
-    ensures { OnOk result (words.new.items ≡ words.old.items ++ replicate count word) }
+    ensures value { OnOk result (words.new.items ≡ words.old.items ++ replicate count word) }
 {
     for _ in 0..count {
         words.push(word)?;
@@ -74,7 +74,7 @@ fn push_many(words: &mut Vec<Word>, count: u64, word: Word) -> Result<(), AllocE
 
 /// What a new element of an object is, where it is an array.
 fn zero_in(object: &Object) -> Word
-    ensures { result ≡ zero_in (object_seen object.now) }
+    ensures value { result ≡ zero_in (object_seen object.now) }
 {
     match object {
         Object::Array { of, .. } => zero_element(of),
@@ -84,7 +84,7 @@ fn zero_in(object: &Object) -> Word
 
 /// So many of these words, and new ones after them where there are fewer.
 fn resized(alloc: Global, count: u64, zero: Word, words: &[Word]) -> Result<Vec<Word>, AllocError>
-    ensures { IfOk result (λ all. all.items ≡ resized count zero words.now) }
+    ensures value { IfOk result (λ all. all.items ≡ resized count zero words.now) }
 {
     let mut all = Vec::from_slice(alloc, words)?;
     all.truncate(count as usize);
@@ -94,7 +94,7 @@ fn resized(alloc: Global, count: u64, zero: Word, words: &[Word]) -> Result<Vec<
 
 /// The words after the first so many.
 fn rest_of(alloc: Global, words: &[Word], count: usize) -> Result<Vec<Word>, AllocError>
-    ensures { IfOk result (λ rest. rest.items ≡ drop count words.now) }
+    ensures value { IfOk result (λ rest. rest.items ≡ drop count words.now) }
 {
     if count < words.len() {
         Vec::from_slice(alloc, &words[count..])
@@ -106,7 +106,7 @@ fn rest_of(alloc: Global, words: &[Word], count: usize) -> Result<Vec<Word>, All
 impl Activity {
     /// The index of an element that is there.
     pub(crate) fn index_in(&self, number: u64, index: Word) -> RunResult<usize>
-        ensures { RunsAs (λ place. place) result (activity_seen self.now)
+        ensures run { RunsAs (λ place. place) result (activity_seen self.now)
             (index_in number index (activity_seen self.now)) }
     {
         let index = natural_of(index) as usize;
@@ -145,7 +145,7 @@ impl Activity {
 
     /// What a new element of an array is.
     fn zero_at(&self, number: u64) -> Word
-        ensures { result
+        ensures value { result
             ≡ option_map_or zero_in (object_at number (activity_seen self.now).world.objects) Null }
     {
         match self.world.objects.get(number) {
@@ -156,7 +156,7 @@ impl Activity {
 
     /// Gives an array so many elements. Those that are taken away are held, as what is overwritten is.
     fn resize(&mut self, number: u64, count: u64) -> RunResult<()>
-        ensures { RunsAs (λ _. tt) result (activity_seen self.new)
+        ensures run { RunsAs (λ _. tt) result (activity_seen self.new)
             (resize number count (activity_seen self.old)) }
     {
         if count > MAX_ELEMENTS as u64 {
@@ -172,7 +172,7 @@ impl Activity {
     }
 
     fn insert_last(&mut self, number: u64, word: Word) -> RunResult<()>
-        ensures { RunsAs (λ _. tt) result (activity_seen self.new)
+        ensures run { RunsAs (λ _. tt) result (activity_seen self.new)
             (insert_last number word (activity_seen self.old)) }
     {
         let old = self.words_at(number);
@@ -186,7 +186,7 @@ impl Activity {
     }
 
     fn remove_last(&mut self, number: u64) -> RunResult<()>
-        ensures { RunsAs (λ _. tt) result (activity_seen self.new)
+        ensures run { RunsAs (λ _. tt) result (activity_seen self.new)
             (remove_last number (activity_seen self.old)) }
     {
         let old = self.words_at(number);

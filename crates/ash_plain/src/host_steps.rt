@@ -27,7 +27,7 @@ use std::alloc::AllocError;
 
 /// Whether a word is a value of this type; hosts give no handles.
 fn is_of_type(of: VarType, word: Word) -> bool
-    ensures { result ≡ is_of_type of word }
+    ensures value { result ≡ is_of_type of word }
 {
     match (of, word) {
         (VarType::Bool, Word::Bool(_)) => true,
@@ -41,7 +41,7 @@ fn is_of_type(of: VarType, word: Word) -> bool
 
 impl Activity {
     fn push_event(&mut self, event: Event) -> Result<(), AllocError>
-        ensures { OnOk result (activity_seen self.new
+        ensures value { OnOk result (activity_seen self.new
             ≡ in_world (with_event event) (activity_seen self.old)) }
     {
         self.world.events.push(event)?;
@@ -50,7 +50,7 @@ impl Activity {
 
     /// The state of whom a call goes to.
     fn state_of(&self, target: Target) -> Option<&[u8]>
-        ensures { option_map (λ state. state.now) result
+        ensures value { option_map (λ state. state.now) result
             ≡ state_of target (activity_seen self.now).world }
     {
         match target {
@@ -66,7 +66,7 @@ impl Activity {
     }
 
     fn set_state(&mut self, target: Target, state: Vec<u8>) -> Result<(), AllocError>
-        ensures { OnOk result (activity_seen self.new
+        ensures value { OnOk result (activity_seen self.new
             ≡ in_world (with_state target state.items) (activity_seen self.old)) }
     {
         match target {
@@ -80,7 +80,7 @@ impl Activity {
 
     /// Calls a host object or a service. What the host did stays, whatever it answers.
     pub(crate) fn call_host(&mut self, target: Target, call: &HostCall) -> RunResult<HostAnswer>
-        ensures { RunsAs (λ answer. answer) result (activity_seen self.new)
+        ensures run { RunsAs (λ answer. answer) result (activity_seen self.new)
             (call_host target (call_seen call.now) (activity_seen self.old)) }
     {
         let Some(before) = self.state_of(target) else {
@@ -101,7 +101,7 @@ impl Activity {
 
     /// What is made of an answer where a result of this type is declared, or none. What gives no value gives null.
     pub(crate) fn accept(&self, of: Option<VarType>, answer: HostAnswer) -> RunResult<Word>
-        ensures { RunsAs (λ w. w) result (activity_seen self.now)
+        ensures run { RunsAs (λ w. w) result (activity_seen self.now)
             (accept of answer (activity_seen self.now)) }
     {
         match (answer, of) {
@@ -134,7 +134,7 @@ impl Activity {
 
     /// What a property of a host object has.
     pub(crate) fn get_property(&mut self, number: u64, id: u16, of: VarType) -> RunResult<Word>
-        ensures { RunsAs (λ w. w) result (activity_seen self.new)
+        ensures run { RunsAs (λ w. w) result (activity_seen self.new)
             (get_property number id of (activity_seen self.old)) }
     {
         let call = HostCall::Get { property: id };
@@ -144,7 +144,7 @@ impl Activity {
 
     /// Gives a property of a host object a value.
     pub(crate) fn set_property(&mut self, number: u64, id: u16, word: Word) -> RunResult<()>
-        ensures { RunsAs (λ _. tt) result (activity_seen self.new)
+        ensures run { RunsAs (λ _. tt) result (activity_seen self.new)
             (set_property number id word (activity_seen self.old)) }
     {
         let call = HostCall::Set {
@@ -166,7 +166,7 @@ impl Activity {
 
     #[tactic(auto, using(crate::proofs::Pools::remove_map), unfolding(crate::specs::ActivityViews::activity_seen))]
     fn take_box(&mut self, place: usize) -> FreeBox
-        requires { place < vec_len self.old.world.pool }
+        requires within { place < vec_len self.old.world.pool }
         ensures free { slice_get (activity_seen self.old).world.pool place
             ≡ Some (box_seen result) }
         ensures taken { activity_seen self.new
@@ -178,7 +178,7 @@ impl Activity {
     /// Takes a box from the pool, as the object of the next number.
     #[tactic(auto)]
     fn draw(&mut self, kind: u16) -> RunResult<u64>
-        ensures { RunsAs (λ n. n) result (activity_seen self.new)
+        ensures run { RunsAs (λ n. n) result (activity_seen self.new)
             (draw kind (activity_seen self.old)) }
     {
         self.demand_number()?;
@@ -221,7 +221,7 @@ fn place_in(pool: &[FreeBox], kind: u16) -> Option<usize>
 /// Puts a state at an index, where there is one.
 #[tactic(auto, using(crate::proofs::Pools::states_set))]
 fn set_at(states: &mut Vec<Vec<u8>>, index: usize, state: Vec<u8>)
-    ensures { map (λ s. s.items) states.new.items
+    ensures effect { map (λ s. s.items) states.new.items
         ≡ slice_set (map (λ s. s.items) states.old.items) index state.items }
 {
     if let Some(old) = states.get_mut(index) {

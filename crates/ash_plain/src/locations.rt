@@ -60,7 +60,7 @@ pub(crate) fn words_with(
     place: usize,
     word: Word,
 ) -> Result<Vec<Word>, AllocError>
-    ensures { IfOk result (λ all. all.items ≡ slice_set words.now place word) }
+    ensures value { IfOk result (λ all. all.items ≡ slice_set words.now place word) }
 {
     let mut all = Vec::from_slice(alloc, words)?;
     if let Some(old) = all.get_mut(place) {
@@ -72,7 +72,7 @@ pub(crate) fn words_with(
 impl Activity {
     /// The object whose method runs.
     pub(crate) fn this(&self) -> Word
-        ensures { result ≡ (activity_seen self.now).frame.this }
+        ensures value { result ≡ (activity_seen self.now).frame.this }
     {
         self.frame.this
     }
@@ -87,19 +87,19 @@ impl Activity {
     }
 
     fn local(&self, slot: usize) -> Word
-        ensures { result ≡ slice_index_or (activity_seen self.now).frame.locals slot Null }
+        ensures value { result ≡ slice_index_or (activity_seen self.now).frame.locals slot Null }
     {
         self.frame.locals.get(slot).copied().unwrap_or(Word::Null)
     }
 
     fn global(&self, place: usize) -> Word
-        ensures { result ≡ slice_index_or (activity_seen self.now).world.globals place Null }
+        ensures value { result ≡ slice_index_or (activity_seen self.now).world.globals place Null }
     {
         self.world.globals.get(place).copied().unwrap_or(Word::Null)
     }
 
     fn part(&self, number: u64, place: usize) -> Word
-        ensures { result
+        ensures value { result
             ≡ slice_index_or (words_in number (activity_seen self.now).world) place Null }
     {
         self.words_at(number)
@@ -110,7 +110,7 @@ impl Activity {
 
     /// What a location holds.
     pub(crate) fn read(&mut self, location: Location) -> RunResult<Word>
-        ensures { RunsAs (λ w. w) result (activity_seen self.new)
+        ensures run { RunsAs (λ w. w) result (activity_seen self.new)
             (read (location_seen location) (activity_seen self.old)) }
     {
         match location {
@@ -131,7 +131,7 @@ impl Activity {
     }
 
     fn set_local(&mut self, slot: usize, word: Word)
-        ensures { activity_seen self.new
+        ensures effect { activity_seen self.new
             ≡ in_frame (with_local slot word) (activity_seen self.old) }
     {
         if let Some(variable) = self.frame.locals.get_mut(slot) {
@@ -140,7 +140,7 @@ impl Activity {
     }
 
     fn set_global(&mut self, place: usize, word: Word)
-        ensures { activity_seen self.new
+        ensures effect { activity_seen self.new
             ≡ in_world (with_global place word) (activity_seen self.old) }
     {
         if let Some(variable) = self.world.globals.get_mut(place) {

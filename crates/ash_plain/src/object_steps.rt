@@ -31,14 +31,14 @@ impl Activity {
 
     /// The words of an object.
     pub(crate) fn words_at(&self, number: u64) -> &[Word]
-        ensures { result.now ≡ words_in number (activity_seen self.now).world }
+        ensures value { result.now ≡ words_in number (activity_seen self.now).world }
     {
         self.world.objects.words(number)
     }
 
     /// Gives an object other words.
     pub(crate) fn set_words(&mut self, number: u64, words: Vec<Word>) -> Result<(), AllocError>
-        ensures { OnOk result (activity_seen self.new
+        ensures value { OnOk result (activity_seen self.new
             ≡ in_world (with_object number (with_words words.items)) (activity_seen self.old)) }
     {
         self.world.objects.change_words(self.alloc, number, words)

@@ -39,7 +39,7 @@ impl Model for ObjectMap {
 
 /// Appends the objects that words are handles to.
 pub(crate) fn push_handles(words: &[Word], numbers: &mut Vec<u64>) -> Result<(), AllocError>
-    ensures { OnOk result (numbers.new.items ≡ numbers.old.items ++ handles words.now) }
+    ensures value { OnOk result (numbers.new.items ≡ numbers.old.items ++ handles words.now) }
 {
     for word in words {
         if let Word::Object(number) = word {
@@ -51,7 +51,7 @@ pub(crate) fn push_handles(words: &[Word], numbers: &mut Vec<u64>) -> Result<(),
 
 /// Whether a word is a handle to an object.
 fn is_handle_to(number: u64, word: Word) -> bool
-    ensures { result ≡ is_handle_to number word }
+    ensures value { result ≡ is_handle_to number word }
 {
     match word {
         Word::Object(other) => number == other,
@@ -72,7 +72,8 @@ pub fn handles_to(number: u64, words: &[Word]) -> usize
 /// How many fields and elements are handles to an object.
 #[tactic(auto, using(crate::proofs::Counts::more_fields))]
 fn fields_to(entries: &BTreeMap<u64, Object>, number: u64) -> Result<usize, AllocError>
-    ensures { IfOk result (λ count. count ≡ fields_to number (map entry_seen entries.now.entries)) }
+    ensures value { IfOk result (λ count. count
+        ≡ fields_to number (map entry_seen entries.now.entries)) }
 {
     let mut count: usize = 0;
     for (_, object) in entries {
@@ -90,7 +91,7 @@ fn push_dropped(
     found: &IndexSet<u64>,
     events: &mut Vec<Event>,
 ) -> Result<(), AllocError>
-    ensures { OnOk result (events.new.items
+    ensures value { OnOk result (events.new.items
         ≡ events.old.items ++ map Dropped (gone found.now.keys entries.now.entries)) }
 {
     for (number, object) in entries {
@@ -103,7 +104,8 @@ fn push_dropped(
 
 /// Takes away all objects but those that were found.
 fn retain_found(entries: &mut BTreeMap<u64, Object>, found: &IndexSet<u64>)
-    ensures { entries.new.entries ≡ filter (λ e. is_among found.now.keys e.0) entries.old.entries }
+    ensures effect { entries.new.entries ≡ filter (λ e. is_among found.now.keys e.0)
+        entries.old.entries }
 {
     entries.retain(|number, _| found.contains(number));
 }
@@ -165,7 +167,8 @@ impl ObjectMap {
         number: u64,
         words: Vec<Word>,
     ) -> Result<(), AllocError>
-        ensures { OnOk result (self.new ≡ change_at number (with_words words.items) self.old) }
+        ensures value { OnOk result (self.new
+            ≡ change_at number (with_words words.items) self.old) }
     {
         let Some(object) = self.get(number) else {
             return Ok(());
@@ -181,7 +184,8 @@ impl ObjectMap {
         number: u64,
         state: Vec<u8>,
     ) -> Result<(), AllocError>
-        ensures { OnOk result (self.new ≡ change_at number (with_state_in state.items) self.old) }
+        ensures value { OnOk result (self.new
+            ≡ change_at number (with_state_in state.items) self.old) }
     {
         let Some(object) = self.get(number) else {
             return Ok(());
@@ -192,7 +196,8 @@ impl ObjectMap {
 
     /// Adds the numbers by which objects live to those that were found, each once.
     fn find_all(&self, numbers: &[u64], found: &mut IndexSet<u64>) -> Result<(), AllocError>
-        ensures { OnOk result (found.new.keys ≡ with_found self.now numbers.now found.old.keys) }
+        ensures value { OnOk result (found.new.keys
+            ≡ with_found self.now numbers.now found.old.keys) }
     {
         for number in numbers {
             if self.get(*number).is_some() {
@@ -204,7 +209,7 @@ impl ObjectMap {
 
     /// The live objects that can be reached from these.
     fn find_reachable(&self, alloc: Global, held: &[u64]) -> Result<IndexSet<u64>, AllocError>
-        ensures { IfOk result (λ found. (number : ℕ) → IsSome (object_at number self.now)
+        ensures value { IfOk result (λ found. (number : ℕ) → IsSome (object_at number self.now)
             → is_among found.keys number ≡ is_reachable held.now self.now number) }
     {
         let mut found = IndexSet::new(alloc);

@@ -18,7 +18,7 @@ use std::alloc::{AllocError, Global};
 
 /// The objects that words are handles to, and then those that are held already.
 fn held_with(alloc: Global, words: &[Word], held: &[u64]) -> Result<Vec<u64>, AllocError>
-    ensures { IfOk result (λ all. all.items ≡ handles words.now ++ held.now) }
+    ensures value { IfOk result (λ all. all.items ≡ handles words.now ++ held.now) }
 {
     let mut all = Vec::new(alloc);
     push_handles(words, &mut all)?;
@@ -28,7 +28,7 @@ fn held_with(alloc: Global, words: &[Word], held: &[u64]) -> Result<Vec<u64>, Al
 
 /// Appends what frames reach by themselves.
 fn push_roots(frames: &[Frame], roots: &mut Vec<u64>) -> Result<(), AllocError>
-    ensures { OnOk result (roots.new.items
+    ensures value { OnOk result (roots.new.items
         ≡ roots.old.items ++ flat_map roots_of_frame (map frame_seen frames.now)) }
 {
     for frame in frames {
@@ -40,7 +40,7 @@ fn push_roots(frames: &[Frame], roots: &mut Vec<u64>) -> Result<(), AllocError>
 impl Frame {
     /// Holds what a word is a handle to until the full expression ends.
     pub(crate) fn hold(&mut self, word: Word) -> Result<(), AllocError>
-        ensures { OnOk result (frame_seen self.new
+        ensures value { OnOk result (frame_seen self.new
             ≡ holding (handles (word ∷ [])) (frame_seen self.old)) }
     {
         if let Word::Object(number) = word {
@@ -51,7 +51,7 @@ impl Frame {
 
     /// Appends what the frame reaches by itself.
     fn push_roots(&self, roots: &mut Vec<u64>) -> Result<(), AllocError>
-        ensures { OnOk result (roots.new.items
+        ensures value { OnOk result (roots.new.items
             ≡ roots.old.items ++ roots_of_frame (frame_seen self.now)) }
     {
         push_handles(&[self.this], roots)?;
@@ -77,7 +77,7 @@ impl World {
 impl Activity {
     /// Holds what these words are handles to until the full expression ends.
     pub(crate) fn hold_all(&mut self, words: &[Word]) -> Result<(), AllocError>
-        ensures { OnOk result (activity_seen self.new
+        ensures value { OnOk result (activity_seen self.new
             ≡ in_frame (holding (handles words.now)) (activity_seen self.old)) }
     {
         self.frame.held = held_with(self.alloc, words, &self.frame.held)?;
@@ -86,7 +86,7 @@ impl Activity {
 
     /// Holds what a word is a handle to until the full expression ends.
     pub(crate) fn hold(&mut self, word: Word) -> Result<(), AllocError>
-        ensures { OnOk result (activity_seen self.new
+        ensures value { OnOk result (activity_seen self.new
             ≡ in_frame (holding (handles (word ∷ []))) (activity_seen self.old)) }
     {
         self.frame.hold(word)
@@ -94,7 +94,7 @@ impl Activity {
 
     /// A value, which is held where it is a handle.
     pub(crate) fn give_held(&mut self, word: Word) -> RunResult<Word>
-        ensures { RunsAs (λ w. w) result (activity_seen self.new)
+        ensures run { RunsAs (λ w. w) result (activity_seen self.new)
             (give_held word (activity_seen self.old)) }
     {
         self.hold(word)?;
@@ -103,7 +103,7 @@ impl Activity {
 
     /// From where everything is reached.
     fn roots(&self) -> Result<Vec<u64>, AllocError>
-        ensures { IfOk result (λ found. found.items
+        ensures value { IfOk result (λ found. found.items
             ≡ roots ((activity_seen self.now).frame ∷ (activity_seen self.now).callers)
             (activity_seen self.now).world) }
     {

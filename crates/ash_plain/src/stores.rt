@@ -25,7 +25,7 @@ impl Activity {
         left: Word,
         right: Word,
     ) -> RunResult<Word>
-        ensures { RunsAs (λ w. w) result (activity_seen self.now)
+        ensures run { RunsAs (λ w. w) result (activity_seen self.now)
             (calculate calculation left right (activity_seen self.now)) }
     {
         match calculated_by(calculation.operator, calculation.of, left, right) {

@@ -60,7 +60,7 @@ pub struct Entry<'a> {
 
 /// `C.m`
 fn dotted(alloc: Global, class: &str, method: &str) -> Result<String, AllocError>
-    ensures { IfOk result (λ name. string_bytes name ≡ dotted class.now method.now) }
+    ensures value { IfOk result (λ name. string_bytes name ≡ dotted class.now method.now) }
 {
     let mut name = String::from_str(alloc, class)?;
     name.push_str(".")?;
@@ -69,7 +69,7 @@ fn dotted(alloc: Global, class: &str, method: &str) -> Result<String, AllocError
 }
 
 fn entry_of_function<'a>(alloc: Global, function: &'a Function) -> Result<Entry<'a>, AllocError>
-    ensures { IfOk result (λ entry. entry_seen entry
+    ensures value { IfOk result (λ entry. entry_seen entry
         ≡ entry_of_function (function_of function.now)) }
 {
     Ok(Entry {
@@ -85,7 +85,7 @@ fn entry_of_method<'a>(
     class: &Class,
     method: &'a Function,
 ) -> Result<Entry<'a>, AllocError>
-    ensures { IfOk result (λ entry. entry_seen entry
+    ensures value { IfOk result (λ entry. entry_seen entry
         ≡ entry_of_method (class_seen class.now) (function_of method.now)) }
 {
     Ok(Entry {
@@ -98,7 +98,7 @@ fn entry_of_method<'a>(
 
 /// A construction is entered at the line of the constructor's name, or of the class's where no constructor is written.
 fn entry_of_construction<'a>(alloc: Global, class: &'a Class) -> Result<Entry<'a>, AllocError>
-    ensures { IfOk result (λ entry. entry_seen entry
+    ensures value { IfOk result (λ entry. entry_seen entry
         ≡ entry_of_construction (class_seen class.now)) }
 {
     let name = dotted(alloc, class.name.as_str(), class.name.as_str())?;
@@ -150,7 +150,7 @@ fn method_in<'a>(
     class: &'a Class,
     place: usize,
 ) -> Result<Option<Entry<'a>>, AllocError>
-    ensures { IfOk result (λ found. option_map entry_seen found
+    ensures value { IfOk result (λ found. option_map entry_seen found
         ≡ option_map (entry_of_method (class_seen class.now))
         (slice_get (class_seen class.now).methods place)) }
 {
@@ -162,7 +162,7 @@ fn method_in<'a>(
 
 /// How many interfaces are declared before a class.
 fn interfaces_before(interfaces: &[Interface], class: usize) -> usize
-    ensures { result
+    ensures value { result
         ≡ count_by (λ i. nat_le i.classes_before class) (map interface_of interfaces.now) }
 {
     interfaces
@@ -173,7 +173,7 @@ fn interfaces_before(interfaces: &[Interface], class: usize) -> usize
 
 /// The place of a class in the source, where classes and interfaces count together.
 fn place_of_class(tree: &Module, class: usize) -> Result<usize, AllocError>
-    ensures { IfOk result (λ place. place ≡ place_of_class (module_of tree.now) class) }
+    ensures value { IfOk result (λ place. place ≡ place_of_class (module_of tree.now) class) }
 {
     // No memory holds so many classes that the place is too great.
     class
@@ -183,7 +183,8 @@ fn place_of_class(tree: &Module, class: usize) -> Result<usize, AllocError>
 
 /// The place of an interface in the source.
 fn place_of_interface(tree: &Module, interface: usize) -> Result<usize, AllocError>
-    ensures { IfOk result (λ place. place ≡ place_of_interface (module_of tree.now) interface) }
+    ensures value { IfOk result (λ place. place
+        ≡ place_of_interface (module_of tree.now) interface) }
 {
     let before = match tree.interfaces.get(interface) {
         Some(found) => found.classes_before,
@@ -195,7 +196,7 @@ fn place_of_interface(tree: &Module, interface: usize) -> Result<usize, AllocErr
 
 /// Whether this is the place of a class in the source.
 fn is_place_of(tree: &Module, class: usize, place: usize) -> bool
-    ensures { result ≡ nat_eq place (place_of_class (module_of tree.now) class) }
+    ensures value { result ≡ nat_eq place (place_of_class (module_of tree.now) class) }
 {
     match class.checked_add(interfaces_before(&tree.interfaces, class)) {
         Some(own) => place == own,
@@ -205,7 +206,7 @@ fn is_place_of(tree: &Module, class: usize, place: usize) -> bool
 
 /// The first of so many classes that has this place in the source.
 fn first_at(tree: &Module, count: usize, place: usize) -> Option<usize>
-    ensures { result
+    ensures value { result
         ≡ position_from (nat_eq place) 0 (map (place_of_class (module_of tree.now))
         (range_with_len 0 count)) }
 {
@@ -219,14 +220,14 @@ fn first_at(tree: &Module, count: usize, place: usize) -> Option<usize>
 
 /// The class of this place in the source, by its place among the classes.
 fn class_at_place(tree: &Module, place: usize) -> Option<usize>
-    ensures { result ≡ position (nat_eq place) (places_of_classes (module_of tree.now)) }
+    ensures value { result ≡ position (nat_eq place) (places_of_classes (module_of tree.now)) }
 {
     first_at(tree, tree.classes.len(), place)
 }
 
 /// How a class implements an interface, where it lists it.
 fn implementation_in(tree: &Module, class: usize, interface: usize) -> Option<&Implementation>
-    ensures { option_map (λ i. implementation_of i.now) result
+    ensures value { option_map (λ i. implementation_of i.now) result
         ≡ implementation_in (module_of tree.now) class interface }
 {
     let class = tree.classes.get(class)?;
@@ -234,7 +235,7 @@ fn implementation_in(tree: &Module, class: usize, interface: usize) -> Option<&I
 }
 
 fn find_implementation(all: &[Implementation], interface: usize) -> Option<&Implementation>
-    ensures { option_map (λ i. implementation_of i.now) result
+    ensures value { option_map (λ i. implementation_of i.now) result
         ≡ find (λ i. nat_eq i.interface interface) (map implementation_of all.now) }
 {
     for one in all {
@@ -255,7 +256,7 @@ pub fn implemented(tree: &Module, interface: usize, method: usize, class: usize)
 
 /// Whether the objects of a class are of this type.
 fn is_class_of(tree: &Module, of: ObjectType, class: usize) -> bool
-    ensures { result ≡ is_class_of (module_of tree.now) of class }
+    ensures value { result ≡ is_class_of (module_of tree.now) of class }
 {
     match of {
         ObjectType::Class(other) => class == other,
@@ -266,7 +267,7 @@ fn is_class_of(tree: &Module, of: ObjectType, class: usize) -> bool
 
 /// The fields of a new object.
 fn blank_fields(alloc: Global, fields: &[Initialization]) -> Result<Vec<Word>, AllocError>
-    ensures { IfOk result (λ words. words.items
+    ensures value { IfOk result (λ words. words.items
         ≡ map (λ v. zero_of v.of) (map value_of fields.now)) }
 {
     let mut words = Vec::with_capacity(alloc, fields.len())?;
@@ -301,7 +302,7 @@ impl Program<'_> {
     }
 
     fn handles_at(&self, place: usize) -> Result<Elements, AllocError>
-        ensures { IfOk result (λ of. element_seen of ≡ Handles self.now.name.now place) }
+        ensures value { IfOk result (λ of. element_seen of ≡ Handles self.now.name.now place) }
     {
         let owner = String::from_str(self.alloc, self.name)?;
         Ok(Elements::Handles { owner, place })

@@ -44,7 +44,7 @@ pub enum Object {
 
 impl Elements {
     fn copy_in(&self, alloc: Global) -> Result<Elements, AllocError>
-        ensures { IfOk result (λ of. element_seen of ≡ element_seen self.now) }
+        ensures value { IfOk result (λ of. element_seen of ≡ element_seen self.now) }
     {
         match self {
             Elements::Bools => Ok(Elements::Bools),

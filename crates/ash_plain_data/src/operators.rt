@@ -88,7 +88,7 @@ pub fn calculated_by(
 }
 
 fn holds_of_numbers(comparator: Comparator, left: Word, right: Word) -> bool
-    ensures { result ≡ holds_of_numbers comparator (number_of left) (number_of right) }
+    ensures value { result ≡ holds_of_numbers comparator (number_of left) (number_of right) }
 {
     match comparator {
         Comparator::Less => compare(Comparison::Less, left, right),
@@ -118,7 +118,7 @@ pub fn is_same_word(left: Word, right: Word) -> bool
 }
 
 fn holds_of_words(comparator: Comparator, left: Word, right: Word) -> bool
-    ensures { result ≡ holds_of_words comparator left right }
+    ensures value { result ≡ holds_of_words comparator left right }
 {
     match comparator {
         Comparator::Equal | Comparator::Is => is_same_word(left, right),

@@ -10,7 +10,7 @@ use crate::operators::is_same_word;
 use ash_host::{Target, Word};
 
 fn are_same_words(left: &[Word], right: &[Word]) -> bool
-    ensures { result ≡ pointwise is_same_word left.now right.now }
+    ensures value { result ≡ pointwise is_same_word left.now right.now }
 {
     match (left, right) {
         ([], []) => true,
@@ -22,7 +22,7 @@ fn are_same_words(left: &[Word], right: &[Word]) -> bool
 }
 
 fn are_same_bytes(left: &[u8], right: &[u8]) -> bool
-    ensures { result ≡ pointwise nat_eq left.now right.now }
+    ensures value { result ≡ pointwise nat_eq left.now right.now }
 {
     match (left, right) {
         ([], []) => true,
@@ -32,7 +32,7 @@ fn are_same_bytes(left: &[u8], right: &[u8]) -> bool
 }
 
 fn is_same_call(one: &HostCall, other: &HostCall) -> bool
-    ensures { result ≡ is_same_call (call_seen one.now) (call_seen other.now) }
+    ensures value { result ≡ is_same_call (call_seen one.now) (call_seen other.now) }
 {
     match (one, other) {
         (HostCall::Start { args }, HostCall::Start { args: others }) => {
@@ -58,7 +58,7 @@ fn is_same_call(one: &HostCall, other: &HostCall) -> bool
 }
 
 fn is_same_target(one: Target, other: Target) -> bool
-    ensures { result ≡ is_same_target one other }
+    ensures value { result ≡ is_same_target one other }
 {
     match (one, other) {
         (Target::Object(one), Target::Object(other)) => one == other,

@@ -17,7 +17,7 @@ use std::alloc::{AllocError, Global};
 /// A number as a word of an integer type, where the type holds it.
 #[tactic(auto, using(crate::proofs::Numbers::number_reduced))]
 fn number_of(int_type: IntType, value: i128) -> Option<Word>
-    ensures { result ≡ argument_of (vars.Integer int_type) (arguments.Number value) }
+    ensures meaning { result ≡ argument_of (vars.Integer int_type) (arguments.Number value) }
 {
     let word = word_from(int_type, value);
     if number(word) == value {
@@ -29,7 +29,7 @@ fn number_of(int_type: IntType, value: i128) -> Option<Word>
 
 /// An argument as a word of a parameter's type, where the type holds it.
 fn argument_of(of: VarType, argument: Argument) -> Option<Word>
-    ensures { result ≡ argument_of of argument }
+    ensures value { result ≡ argument_of of argument }
 {
     match (of, argument) {
         (VarType::Bool, Argument::Truth(value)) => Some(Word::Bool(value)),
@@ -40,7 +40,7 @@ fn argument_of(of: VarType, argument: Argument) -> Option<Word>
 
 /// Whether the type of a parameter holds an argument.
 fn is_held(of: VarType, argument: Argument) -> bool
-    ensures { result ≡ is_some (argument_of of argument) }
+    ensures value { result ≡ is_some (argument_of of argument) }
 {
     argument_of(of, argument).is_some()
 }
@@ -48,7 +48,7 @@ fn is_held(of: VarType, argument: Argument) -> bool
 /// Whether there are as many arguments as parameters, each held by its type.
 #[tactic(auto, using(crate::proofs::ArgumentLists::one_held, crate::proofs::ArgumentLists::not_held))]
 fn are_held(parameters: &[VarType], arguments: &[Argument]) -> bool
-    ensures { result ≡ is_some (arguments_of parameters.now arguments.now) }
+    ensures value { result ≡ is_some (arguments_of parameters.now arguments.now) }
 {
     for (place, argument) in arguments.iter().enumerate() {
         let Some(of) = parameters.get(place) else {
@@ -68,7 +68,7 @@ fn words_of(
     parameters: &[VarType],
     arguments: &[Argument],
 ) -> Result<Option<Vec<Word>>, AllocError>
-    ensures { IfOk result (λ words. option_map (λ v. v.items) words
+    ensures value { IfOk result (λ words. option_map (λ v. v.items) words
         ≡ arguments_of parameters.now arguments.now) }
 {
     let mut words = Vec::with_capacity(alloc, arguments.len())?;
@@ -107,7 +107,7 @@ pub(crate) fn arguments_of(
 
 /// Whether a value of this type is a primitive.
 fn is_primitive(of: VarType) -> bool
-    ensures { result ≡ is_primitive of }
+    ensures value { result ≡ is_primitive of }
 {
     match of {
         VarType::Bool | VarType::Integer(_) => true,
@@ -116,7 +116,7 @@ fn is_primitive(of: VarType) -> bool
 }
 
 fn are_primitive(types: &[VarType]) -> bool
-    ensures { result ≡ list_all is_primitive types.now }
+    ensures value { result ≡ list_all is_primitive types.now }
 {
     for of in types {
         if !is_primitive(*of) {
@@ -127,7 +127,7 @@ fn are_primitive(types: &[VarType]) -> bool
 }
 
 fn gives_primitive(of: Option<VarType>) -> bool
-    ensures { result ≡ option_map_or is_primitive of true }
+    ensures value { result ≡ option_map_or is_primitive of true }
 {
     match of {
         Some(of) => is_primitive(of),
@@ -137,7 +137,7 @@ fn gives_primitive(of: Option<VarType>) -> bool
 
 /// Whether a function can be called from outside: it takes and gives primitives alone.
 pub(crate) fn is_callable(function: &Function) -> bool
-    ensures { result ≡ is_callable (function_of function.now) }
+    ensures value { result ≡ is_callable (function_of function.now) }
 {
     are_primitive(&function.parameters) && gives_primitive(function.result)
 }

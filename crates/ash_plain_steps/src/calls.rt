@@ -23,7 +23,7 @@ pub(crate) fn call_in<S: SourceReader>(
     name: &str,
     arguments: &[Argument],
 ) -> Result<(usize, Vec<Word>), Refusal<S::Fault>>
-    ensures { (m : LoadedModule) → FindsFor S.fault_seen S.TakesMemory
+    ensures outcome { (m : LoadedModule) → FindsFor S.fault_seen S.TakesMemory
         (λ found. Invoke m (module_of tree.now) found.0 found.1.items) result
         (call_in m (module_of tree.now) name.now arguments.now) }
 {

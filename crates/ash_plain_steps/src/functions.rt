@@ -13,7 +13,7 @@ use ash_typed::{Function, Initialization, Variables};
 
 /// The place of the function of this name.
 pub(crate) fn place_of_function(functions: &[Function], name: &str) -> Option<usize>
-    ensures { result ≡ position_from (λ (f : FunctionData). bytes_eq f.name name.now) 0
+    ensures value { result ≡ position_from (λ (f : FunctionData). bytes_eq f.name name.now) 0
         (map function_of functions.now) }
 {
     for (place, function) in functions.iter().enumerate() {
@@ -26,7 +26,7 @@ pub(crate) fn place_of_function(functions: &[Function], name: &str) -> Option<us
 
 /// The place of the variable of this name.
 fn place_of_variable(variables: &[Initialization], name: &str) -> Option<usize>
-    ensures { result ≡ position_from (λ other. bytes_eq other name.now) 0
+    ensures value { result ≡ position_from (λ other. bytes_eq other name.now) 0
         (map name_of_variable (map value_of variables.now)) }
 {
     for (place, variable) in variables.iter().enumerate() {
@@ -39,14 +39,14 @@ fn place_of_variable(variables: &[Initialization], name: &str) -> Option<usize>
 
 /// The word at a place.
 fn word_at(words: &[Word], place: usize) -> Option<Word>
-    ensures { result ≡ slice_get words.now place }
+    ensures value { result ≡ slice_get words.now place }
 {
     words.get(place).copied()
 }
 
 /// The words after the first so many.
 fn after(words: &[Word], count: usize) -> &[Word]
-    ensures { result.now ≡ drop count words.now }
+    ensures value { result.now ≡ drop count words.now }
 {
     if count < words.len() {
         &words[count..]
@@ -57,7 +57,7 @@ fn after(words: &[Word], count: usize) -> &[Word]
 
 /// What the global of this name holds.
 pub(crate) fn word_named(declarations: &[Variables], globals: &[Word], name: &str) -> Option<Word>
-    ensures { result ≡ word_among name.now (map variables_of declarations.now) globals.now }
+    ensures value { result ≡ word_among name.now (map variables_of declarations.now) globals.now }
 {
     let mut words = globals;
     for declaration in declarations {

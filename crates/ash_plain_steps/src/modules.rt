@@ -17,14 +17,14 @@ pub(crate) const MAX_MODULES: usize = 16;
 
 /// The place of the module of this name.
 pub(crate) fn place_of(modules: &[LoadedModule], name: &str) -> Option<usize>
-    ensures { result ≡ position (λ m. has_name name.now (loaded_seen m)) modules.now }
+    ensures value { result ≡ position (λ m. has_name name.now (loaded_seen m)) modules.now }
 {
     modules.iter().position(|m| m.name.as_str() == name)
 }
 
 /// The place of the first module whose name comes after this one.
 fn place_after(modules: &[LoadedModule], name: &str) -> Option<usize>
-    ensures { result ≡ position (λ m. is_lt (compare_names name.now (loaded_seen m).name))
+    ensures value { result ≡ position (λ m. is_lt (compare_names name.now (loaded_seen m).name))
         modules.now }
 {
     modules.iter().position(|m| name < m.name.as_str())
@@ -46,7 +46,7 @@ pub(crate) fn insert(
 
 /// Appends the objects that words are handles to.
 fn push_handles(words: &[Word], numbers: &mut Vec<u64>) -> Result<(), AllocError>
-    ensures { OnOk result (numbers.new.items ≡ numbers.old.items ++ handles words.now) }
+    ensures value { OnOk result (numbers.new.items ≡ numbers.old.items ++ handles words.now) }
 {
     for word in words {
         if let Word::Object(number) = word {
@@ -58,7 +58,7 @@ fn push_handles(words: &[Word], numbers: &mut Vec<u64>) -> Result<(), AllocError
 
 /// The objects that the globals of modules are handles to. An `Err` means that memory was refused.
 pub(crate) fn handles_of(alloc: Global, modules: &[LoadedModule]) -> Result<Vec<u64>, AllocError>
-    ensures { IfOk result (λ numbers. numbers.items
+    ensures value { IfOk result (λ numbers. numbers.items
         ≡ handles (globals_of (modules_seen modules.now))) }
 {
     let mut numbers = Vec::new(alloc);

@@ -9,21 +9,21 @@ const MAX_MODULE_NAME_BYTES: usize = 64;
 
 /// A letter or `_`.
 fn is_name_start(byte: u8) -> bool
-    ensures { result ≡ is_name_start byte }
+    ensures value { result ≡ is_name_start byte }
 {
     matches!(byte, b'A'..=b'Z' | b'a'..=b'z' | b'_')
 }
 
 /// A letter, a digit or `_`.
 fn is_name_part(byte: u8) -> bool
-    ensures { result ≡ is_name_part byte }
+    ensures value { result ≡ is_name_part byte }
 {
     is_name_start(byte) || matches!(byte, b'0'..=b'9')
 }
 
 /// A letter or `_`, and then letters, digits and `_` (AngelScript manual, "Tokens").
 fn is_name(name: &[u8]) -> bool
-    ensures { result ≡ is_name name.now }
+    ensures value { result ≡ is_name name.now }
 {
     match name {
         [] => false,
@@ -32,7 +32,7 @@ fn is_name(name: &[u8]) -> bool
 }
 
 fn all_name_parts(bytes: &[u8]) -> bool
-    ensures { result ≡ list_all is_name_part bytes.now }
+    ensures value { result ≡ list_all is_name_part bytes.now }
 {
     for byte in bytes {
         if !is_name_part(*byte) {
@@ -44,7 +44,7 @@ fn all_name_parts(bytes: &[u8]) -> bool
 
 /// Whether a module may have this name: a name of at most 64 bytes.
 pub(crate) fn is_module_name(name: &[u8]) -> bool
-    ensures { result ≡ is_module_name name.now }
+    ensures value { result ≡ is_module_name name.now }
 {
     is_name(name) && name.len() <= MAX_MODULE_NAME_BYTES
 }

@@ -110,7 +110,7 @@ fn answered<S: SourceReader>(rest: Rest, end: End, world: World) -> Step<S::Faul
 
 /// How a run ended, or why it has no end.
 fn outcome_of(run: RunResult<Outcome>) -> Result<Outcome, StepError>
-    ensures { (o : Option OutcomeData) → EndsAs run o → ComesTo outcome_seen result o }
+    ensures outcome { (o : Option OutcomeData) → EndsAs run o → ComesTo outcome_seen result o }
 {
     match run {
         Ok(outcome) => Ok(outcome),
@@ -237,7 +237,7 @@ pub(crate) fn initialize<S: SourceReader>(
 /// Gives the module at a place other globals, and returns what it had.
 fn replace_globals(modules: &mut Vec<LoadedModule>, place: usize, globals: Vec<Word>) -> Vec<Word>
     requires within { place < length modules.old.items }
-    ensures { (m : LoadedModule) → slice_get modules.old.items place ≡ Some m
+    ensures value { (m : LoadedModule) → slice_get modules.old.items place ≡ Some m
         → (result ≡ m.globals)
         × (modules.new.items ≡ set modules.old.items place (record m { globals = globals })) }
 {
@@ -248,7 +248,7 @@ fn replace_globals(modules: &mut Vec<LoadedModule>, place: usize, globals: Vec<W
 fn finish_call<S: SourceReader>(rest: Rest, place: usize, outcome: Outcome) -> Step<S::Fault>
     requires numbered { rest.seq < max_seq }
     requires within { place < length rest.modules.items }
-    ensures { (m : LoadedModule) (old : State)
+    ensures value { (m : LoadedModule) (old : State)
         → slice_get rest.modules.items place ≡ Some m → old.seq ≡ rest.seq
         → IsAfterCall S.fault_seen rest.modules.items place m outcome old result }
 {

@@ -28,7 +28,7 @@ use std::alloc::{AllocError, Global};
 /// How many globals are handles to an object, beside so many other words.
 #[tactic(auto, using(crate::proofs::Handles::more_globals))]
 fn globals_to(modules: &[LoadedModule], number: u64, others: usize) -> Result<usize, AllocError>
-    ensures { IfOk result (λ count. count
+    ensures value { IfOk result (λ count. count
         ≡ handles_to number (globals_of (modules_seen modules.now)) + others) }
 {
     let mut count = others;
@@ -43,7 +43,7 @@ fn globals_to(modules: &[LoadedModule], number: u64, others: usize) -> Result<us
 
 /// The count of an object. An `Err` means that memory was refused.
 pub(crate) fn count_of(state: &PlainState, number: u64) -> Result<usize, AllocError>
-    ensures { IfOk result (λ count. count ≡ count_of number
+    ensures value { IfOk result (λ count. count ≡ count_of number
         (globals_of (modules_seen state.now.modules.items)) state.now.objects) }
 {
     let fields = state.objects.fields_to(number)?;
@@ -56,7 +56,7 @@ fn fields_shown(
     declared: &[Initialization],
     words: &[Word],
 ) -> Result<Vec<(String, Word)>, AllocError>
-    ensures { IfOk result (λ fields. map field_seen fields.items
+    ensures value { IfOk result (λ fields. map field_seen fields.items
         ≡ zip (map name_of (map value_of declared.now)) words.now) }
 {
     let mut fields = Vec::new(alloc);
@@ -71,7 +71,7 @@ fn fields_shown(
 
 /// `m.C`
 fn dotted(alloc: Global, owner: &str, class: &str) -> Result<String, AllocError>
-    ensures { IfOk result (λ name. string_bytes name ≡ dotted owner.now class.now) }
+    ensures value { IfOk result (λ name. string_bytes name ≡ dotted owner.now class.now) }
 {
     let mut name = String::from_str(alloc, owner)?;
     name.push_str(".")?;
@@ -81,7 +81,8 @@ fn dotted(alloc: Global, owner: &str, class: &str) -> Result<String, AllocError>
 
 /// The typed tree of the module of this name.
 fn tree_named<'a>(modules: &'a [LoadedModule], name: &str) -> Option<&'a Module>
-    ensures { option_map (λ tree. module_of tree.now) result ≡ tree_named name.now modules.now }
+    ensures value { option_map (λ tree. module_of tree.now) result
+        ≡ tree_named name.now modules.now }
 {
     for m in modules {
         if m.name.as_str() == name {
@@ -93,7 +94,7 @@ fn tree_named<'a>(modules: &'a [LoadedModule], name: &str) -> Option<&'a Module>
 
 /// The class at a place among those of a module.
 fn class_at(tree: &Module, class: usize) -> Option<&Class>
-    ensures { option_map (λ c. class_seen c.now) result
+    ensures value { option_map (λ c. class_seen c.now) result
         ≡ slice_get (module_of tree.now).classes class }
 {
     tree.classes.get(class)
@@ -106,7 +107,7 @@ fn class_of_object<'a>(
     owner: &str,
     object: &Object,
 ) -> Option<&'a Class>
-    ensures { option_map (λ c. class_seen c.now) result
+    ensures value { option_map (λ c. class_seen c.now) result
         ≡ class_of_object owner.now modules.now (object_seen object.now) }
 {
     let tree = tree_named(modules, owner)?;
@@ -126,7 +127,7 @@ fn script_shown(
     class: &Class,
     words: &[Word],
 ) -> Result<(String, ObjectContents), AllocError>
-    ensures { IfOk result (λ shown. named_seen shown
+    ensures value { IfOk result (λ shown. named_seen shown
         ≡ (
           dotted owner.now (class_seen class.now).name,
           Fields (shown_fields (class_seen class.now) words.now),
@@ -139,7 +140,7 @@ fn script_shown(
 
 /// An array, with the name of its type. An `Err` means that memory was refused.
 fn array_shown(alloc: Global, words: &[Word]) -> Result<(String, ObjectContents), AllocError>
-    ensures { IfOk result (λ shown. named_seen shown ≡ (codes "array", Elements words.now)) }
+    ensures value { IfOk result (λ shown. named_seen shown ≡ (codes "array", Elements words.now)) }
 {
     let name = String::from_str(alloc, "array")?;
     let elements = Vec::from_slice(alloc, words)?;
@@ -153,7 +154,7 @@ fn host_shown<S: SourceReader>(
     kind: u16,
     state: &[u8],
 ) -> Result<(String, ObjectContents), AllocError>
-    ensures { IfOk result (λ shown. named_seen shown
+    ensures value { IfOk result (λ shown. named_seen shown
         ≡ ((S.embedding sources.now).name_of_kind kind, HostState state.now)) }
 {
     let name = sources.name_of_kind(alloc, kind)?;

@@ -20,7 +20,7 @@ use ash_steps::sources::SourceReader;
 
 /// A reply that leaves everything as it is.
 fn replied<F: Drop>(reply: Reply<F>, state: PlainState, hosts: Hosts) -> Step<F>
-    ensures { result ≡ record { reply = reply; state = state; hosts = hosts } }
+    ensures value { result ≡ record { reply = reply; state = state; hosts = hosts } }
 {
     Step {
         reply,

@@ -134,8 +134,8 @@ interface_is_named named name =
     go None at called = tt
     go (Some f) at called = (f.1, at, (bytes_eq-Decides name f.1.name).0 called)
 
-host_is_named : (named : ModuleDeclarations) (name : List ℕ) (call : Option host.Registration)
-    → IfSome (option_and_then host_object call) (IsNamed named name)
+host_is_named : (named : ModuleDeclarations) (name : List ℕ) (registration : Option host.Registration)
+    → IfSome (option_and_then host_object registration) (IsNamed named name)
 host_is_named named name None = tt
 host_is_named named name (Some (host.TypeRegistration other kind)) = tt
 host_is_named named name (Some _) = tt

@@ -47,13 +47,13 @@ pub enum Registration {
 
 impl Registration {
     pub(crate) fn is_type(&self) -> bool
-        ensures { result ≡ spec.is_type (registration_of self.now) }
+        ensures value { result ≡ spec.is_type (registration_of self.now) }
     {
         matches!(self, Registration::Type { .. })
     }
 
     pub(crate) fn names_type(&self, of: &str) -> bool
-        ensures { result ≡ spec.names_type of.now (registration_of self.now) }
+        ensures value { result ≡ spec.names_type of.now (registration_of self.now) }
     {
         match self {
             Registration::Type { name, .. } => of == name.as_str(),
@@ -62,7 +62,7 @@ impl Registration {
     }
 
     pub(crate) fn takes_kind(&self, of: u16) -> bool
-        ensures { result ≡ spec.takes_kind of (registration_of self.now) }
+        ensures value { result ≡ spec.takes_kind of (registration_of self.now) }
     {
         match self {
             Registration::Type { kind, .. } | Registration::Service { kind } => of == *kind,
@@ -71,7 +71,7 @@ impl Registration {
     }
 
     pub(crate) fn takes_name(&self, wanted: &str) -> bool
-        ensures { result ≡ spec.takes_name wanted.now (registration_of self.now) }
+        ensures value { result ≡ spec.takes_name wanted.now (registration_of self.now) }
     {
         match self {
             Registration::Type { name, .. } => wanted == name.as_str(),
@@ -81,7 +81,7 @@ impl Registration {
     }
 
     pub(crate) fn is_factory_of(&self, wanted: &str) -> bool
-        ensures { result ≡ spec.is_factory_of wanted.now (registration_of self.now) }
+        ensures value { result ≡ spec.is_factory_of wanted.now (registration_of self.now) }
     {
         match self {
             Registration::Factory { of, .. } => wanted == of.as_str(),
@@ -90,7 +90,7 @@ impl Registration {
     }
 
     pub(crate) fn is_member_of(&self, wanted: &str) -> bool
-        ensures { result ≡ spec.is_member_of wanted.now (registration_of self.now) }
+        ensures value { result ≡ spec.is_member_of wanted.now (registration_of self.now) }
     {
         match self {
             Registration::Method { of, .. } | Registration::Property { of, .. } => wanted
@@ -100,7 +100,7 @@ impl Registration {
     }
 
     pub(crate) fn takes_member(&self, owner: &str, wanted: &str) -> bool
-        ensures { result ≡ spec.takes_member owner.now wanted.now (registration_of self.now) }
+        ensures value { result ≡ spec.takes_member owner.now wanted.now (registration_of self.now) }
     {
         match self {
             Registration::Method { of, operation, .. } => {
@@ -113,7 +113,7 @@ impl Registration {
     }
 
     pub(crate) fn takes_method(&self, owner: &str, wanted: u16) -> bool
-        ensures { result ≡ spec.takes_method owner.now wanted (registration_of self.now) }
+        ensures value { result ≡ spec.takes_method owner.now wanted (registration_of self.now) }
     {
         match self {
             Registration::Method { of, id, .. } => owner == of.as_str() && wanted == *id,
@@ -122,7 +122,7 @@ impl Registration {
     }
 
     pub(crate) fn takes_property(&self, owner: &str, wanted: u16) -> bool
-        ensures { result ≡ spec.takes_property owner.now wanted (registration_of self.now) }
+        ensures value { result ≡ spec.takes_property owner.now wanted (registration_of self.now) }
     {
         match self {
             Registration::Property { of, id, .. } => owner == of.as_str() && wanted == *id,
@@ -131,7 +131,7 @@ impl Registration {
     }
 
     pub(crate) fn takes_function(&self, of: u16, wanted: u16) -> bool
-        ensures { result ≡ spec.takes_function of wanted (registration_of self.now) }
+        ensures value { result ≡ spec.takes_function of wanted (registration_of self.now) }
     {
         match self {
             Registration::Function { service, id, .. } => of == *service && wanted == *id,
@@ -140,13 +140,13 @@ impl Registration {
     }
 
     pub(crate) fn is_service(&self) -> bool
-        ensures { result ≡ spec.is_service (registration_of self.now) }
+        ensures value { result ≡ spec.is_service (registration_of self.now) }
     {
         matches!(self, Registration::Service { .. })
     }
 
     pub(crate) fn is_function(&self) -> bool
-        ensures { result ≡ spec.is_function (registration_of self.now) }
+        ensures value { result ≡ spec.is_function (registration_of self.now) }
     {
         matches!(self, Registration::Function { .. })
     }
@@ -154,7 +154,7 @@ impl Registration {
     /// The kind of a service.
     #[tactic(auto, unfolding(crate::specs::Registrations::service_kind))]
     pub(crate) fn service_kind(&self) -> Option<u16>
-        ensures { result ≡ spec.service_kind (registration_of self.now) }
+        ensures value { result ≡ spec.service_kind (registration_of self.now) }
     {
         match self {
             Registration::Service { kind } => Some(*kind),

@@ -9,7 +9,7 @@ use crate::Registration;
 use std::alloc::{AllocError, Global};
 
 pub(crate) fn any_names_type(registrations: &[Registration], name: &str) -> bool
-    ensures { result
+    ensures value { result
         ≡ list_any (λ r. spec.names_type name.now (registration_of r)) registrations.now }
 {
     registrations
@@ -18,7 +18,8 @@ pub(crate) fn any_names_type(registrations: &[Registration], name: &str) -> bool
 }
 
 pub(crate) fn any_takes_kind(registrations: &[Registration], kind: u16) -> bool
-    ensures { result ≡ list_any (λ r. spec.takes_kind kind (registration_of r)) registrations.now }
+    ensures value { result ≡ list_any (λ r. spec.takes_kind kind (registration_of r))
+        registrations.now }
 {
     registrations
         .iter()
@@ -26,7 +27,7 @@ pub(crate) fn any_takes_kind(registrations: &[Registration], kind: u16) -> bool
 }
 
 pub(crate) fn any_is_factory_of(registrations: &[Registration], of: &str) -> bool
-    ensures { result
+    ensures value { result
         ≡ list_any (λ r. spec.is_factory_of of.now (registration_of r)) registrations.now }
 {
     registrations
@@ -35,7 +36,7 @@ pub(crate) fn any_is_factory_of(registrations: &[Registration], of: &str) -> boo
 }
 
 pub(crate) fn any_takes_member(registrations: &[Registration], of: &str, name: &str) -> bool
-    ensures { result
+    ensures value { result
         ≡ list_any (λ r. spec.takes_member of.now name.now (registration_of r)) registrations.now }
 {
     registrations
@@ -44,7 +45,7 @@ pub(crate) fn any_takes_member(registrations: &[Registration], of: &str, name: &
 }
 
 pub(crate) fn any_takes_method(registrations: &[Registration], of: &str, id: u16) -> bool
-    ensures { result
+    ensures value { result
         ≡ list_any (λ r. spec.takes_method of.now id (registration_of r)) registrations.now }
 {
     registrations
@@ -53,7 +54,7 @@ pub(crate) fn any_takes_method(registrations: &[Registration], of: &str, id: u16
 }
 
 pub(crate) fn any_takes_property(registrations: &[Registration], of: &str, id: u16) -> bool
-    ensures { result
+    ensures value { result
         ≡ list_any (λ r. spec.takes_property of.now id (registration_of r)) registrations.now }
 {
     registrations
@@ -62,7 +63,7 @@ pub(crate) fn any_takes_property(registrations: &[Registration], of: &str, id: u
 }
 
 pub(crate) fn any_takes_function(registrations: &[Registration], service: u16, id: u16) -> bool
-    ensures { result
+    ensures value { result
         ≡ list_any (λ r. spec.takes_function service id (registration_of r)) registrations.now }
 {
     registrations
@@ -72,7 +73,7 @@ pub(crate) fn any_takes_function(registrations: &[Registration], service: u16, i
 
 /// The registration at a place, if there is one.
 pub(crate) fn registration_at(registrations: &[Registration], at: usize) -> Option<&Registration>
-    ensures { option_copied result ≡ slice_get registrations.now at }
+    ensures value { option_copied result ≡ slice_get registrations.now at }
 {
     if at < registrations.len() {
         Some(&registrations[at])
@@ -86,7 +87,7 @@ pub(crate) fn find_member<'a>(
     of: &str,
     name: &str,
 ) -> Option<&'a Registration>
-    ensures { option_copied result
+    ensures value { option_copied result
         ≡ find (λ r. spec.takes_member of.now name.now (registration_of r)) registrations.now }
 {
     registrations
@@ -98,7 +99,7 @@ pub(crate) fn find_factory<'a>(
     registrations: &'a [Registration],
     of: &str,
 ) -> Option<&'a Registration>
-    ensures { option_copied result
+    ensures value { option_copied result
         ≡ find (λ r. spec.is_factory_of of.now (registration_of r)) registrations.now }
 {
     registrations
@@ -107,7 +108,7 @@ pub(crate) fn find_factory<'a>(
 }
 
 pub(crate) fn find_kind(registrations: &[Registration], kind: u16) -> Option<&Registration>
-    ensures { option_copied result
+    ensures value { option_copied result
         ≡ find (λ r. spec.takes_kind kind (registration_of r)) registrations.now }
 {
     registrations
@@ -119,7 +120,7 @@ pub(crate) fn kinds_of_services(
     alloc: Global,
     registrations: &[Registration],
 ) -> Result<Vec<u16>, AllocError>
-    ensures { IfOk result (λ kinds. kinds.items
+    ensures value { IfOk result (λ kinds. kinds.items
         ≡ filter_map (λ r. spec.service_kind (registration_of r)) registrations.now) }
 {
     let mut kinds = Vec::new(alloc);

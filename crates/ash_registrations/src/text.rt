@@ -15,7 +15,7 @@ use ash_tree::Primitive;
 use std::alloc::{AllocError, Global};
 
 fn primitive_name(primitive: Primitive) -> &'static str
-    ensures { result.now ≡ primitive_text primitive }
+    ensures value { result.now ≡ primitive_text primitive }
 {
     match primitive {
         Primitive::Bool => "bool",
@@ -27,7 +27,7 @@ fn primitive_name(primitive: Primitive) -> &'static str
 }
 
 fn result_name(of: Option<Primitive>) -> &'static str
-    ensures { result.now ≡ result_text of }
+    ensures value { result.now ≡ result_text of }
 {
     match of {
         Some(primitive) => primitive_name(primitive),
@@ -37,7 +37,7 @@ fn result_name(of: Option<Primitive>) -> &'static str
 
 // Appends the parameters after the first, each after a comma.
 fn push_more(text: &mut String, rest: &[Primitive]) -> Result<(), AllocError>
-    ensures { OnOk result
+    ensures value { OnOk result
         (string_bytes text.new ≡ string_bytes text.old ++ more_parameters rest.now) }
 {
     for primitive in rest {
@@ -49,7 +49,7 @@ fn push_more(text: &mut String, rest: &[Primitive]) -> Result<(), AllocError>
 
 // The parameters, parted by a comma without a blank.
 fn join_parameters(alloc: Global, types: &[Primitive]) -> Result<String, AllocError>
-    ensures { IfOk result (λ text. string_bytes text ≡ parameters_text types.now) }
+    ensures value { IfOk result (λ text. string_bytes text ≡ parameters_text types.now) }
 {
     let mut text = String::new(alloc);
     if let [first, rest @ ..] = types {
@@ -66,7 +66,7 @@ fn join_operation(
     name: &str,
     parameters: &str,
 ) -> Result<String, AllocError>
-    ensures { IfOk result (λ text. string_bytes text
+    ensures value { IfOk result (λ text. string_bytes text
         ≡ concat (of.now ∷ codes " " ∷ name.now ∷ codes "(" ∷ parameters.now ∷ codes ")" ∷ [])) }
 {
     [of, " ", name, "(", parameters, ")"].concat(alloc)
@@ -74,7 +74,7 @@ fn join_operation(
 
 // As `int add(int)`.
 fn operation(alloc: Global, operation: &HostFunction) -> Result<String, AllocError>
-    ensures { IfOk result (λ text. string_bytes text
+    ensures value { IfOk result (λ text. string_bytes text
         ≡ operation_text (operation_of operation.now)) }
 {
     let parameters = join_parameters(alloc, &operation.parameters)?;
@@ -83,14 +83,15 @@ fn operation(alloc: Global, operation: &HostFunction) -> Result<String, AllocErr
 }
 
 fn type_line(alloc: Global, name: &str, kind: u16) -> Result<String, AllocError>
-    ensures { IfOk result (λ text. string_bytes text ≡ line_of (TypeRegistration name.now kind)) }
+    ensures value { IfOk result (λ text. string_bytes text
+        ≡ line_of (TypeRegistration name.now kind)) }
 {
     let kind = kind.to_string(alloc)?;
     ["type ", name, " ", kind.as_str(), "\n"].concat(alloc)
 }
 
 fn factory_line(alloc: Global, of: &str, types: &[Primitive]) -> Result<String, AllocError>
-    ensures { IfOk result (λ text. string_bytes text
+    ensures value { IfOk result (λ text. string_bytes text
         ≡ line_of (FactoryRegistration of.now types.now)) }
 {
     let parameters = join_parameters(alloc, types)?;
@@ -103,7 +104,7 @@ fn method_line(
     id: u16,
     method: &HostFunction,
 ) -> Result<String, AllocError>
-    ensures { IfOk result (λ text. string_bytes text
+    ensures value { IfOk result (λ text. string_bytes text
         ≡ line_of (MethodRegistration of.now id (operation_of method.now))) }
 {
     let id = id.to_string(alloc)?;
@@ -119,7 +120,7 @@ fn join_property(
     value: &str,
     name: &str,
 ) -> Result<String, AllocError>
-    ensures { IfOk result (λ text. string_bytes text
+    ensures meaning { IfOk result (λ text. string_bytes text
         ≡ concat (codes "property " ∷ of.now ∷ codes " " ∷ id.now ∷ codes " " ∷ value.now
         ∷ codes " " ∷ name.now ∷ codes "\n" ∷ [])) }
 {
@@ -133,7 +134,7 @@ fn property_line(
     value: Primitive,
     name: &str,
 ) -> Result<String, AllocError>
-    ensures { IfOk result (λ text. string_bytes text
+    ensures meaning { IfOk result (λ text. string_bytes text
         ≡ line_of (PropertyRegistration of.now id value name.now)) }
 {
     let id = id.to_string(alloc)?;
@@ -141,7 +142,7 @@ fn property_line(
 }
 
 fn service_line(alloc: Global, kind: u16) -> Result<String, AllocError>
-    ensures { IfOk result (λ text. string_bytes text ≡ line_of (ServiceRegistration kind)) }
+    ensures value { IfOk result (λ text. string_bytes text ≡ line_of (ServiceRegistration kind)) }
 {
     let kind = kind.to_string(alloc)?;
     ["service ", kind.as_str(), "\n"].concat(alloc)
@@ -153,7 +154,7 @@ fn function_line(
     id: u16,
     function: &HostFunction,
 ) -> Result<String, AllocError>
-    ensures { IfOk result (λ text. string_bytes text
+    ensures value { IfOk result (λ text. string_bytes text
         ≡ line_of (FunctionRegistration service id (operation_of function.now))) }
 {
     let service = service.to_string(alloc)?;
@@ -173,7 +174,8 @@ fn function_line(
 
 /// The line of a registration, with its line feed.
 pub(crate) fn line(alloc: Global, registration: &Registration) -> Result<String, AllocError>
-    ensures { IfOk result (λ text. string_bytes text ≡ line_of (registration_of registration.now)) }
+    ensures value { IfOk result (λ text. string_bytes text
+        ≡ line_of (registration_of registration.now)) }
 {
     match registration {
         Registration::Type { name, kind } => type_line(alloc, name, *kind),

@@ -20,7 +20,7 @@ impl Registry {
         requires named { (name : List ℕ)
             → takes_name name (registration_of registration) ≡ bytes_eq name (string_bytes key) }
         requires free { list_any (takes_name (string_bytes key)) (registered self.old) ≡ false }
-        ensures { RegisteredIf
+        ensures registered { RegisteredIf
             (cause_of_many (nat_le max count) (registered self.old) (registration_of registration))
             (registration_of registration ∷ []) result (registered self.old) (registered self.new) }
     {
@@ -38,8 +38,9 @@ impl Registry {
         count: usize,
         max: usize,
     ) -> Result<(), RegistryFault>
-        requires { (name : List ℕ) → takes_name name (registration_of registration) ≡ false }
-        ensures { RegisteredIf
+        requires name_free { (name : List ℕ) → takes_name name (registration_of registration)
+            ≡ false }
+        ensures registered { RegisteredIf
             (cause_of_many (nat_le max count) (registered self.old) (registration_of registration))
             (registration_of registration ∷ []) result (registered self.old) (registered self.new) }
     {
@@ -51,8 +52,9 @@ impl Registry {
 
     // Adds a registration that nothing else refuses, and that takes no name of a type or function.
     pub(crate) fn add(&mut self, registration: Registration) -> Result<(), RegistryFault>
-        requires { (name : List ℕ) → takes_name name (registration_of registration) ≡ false }
-        ensures { RegisteredIf
+        requires name_free { (name : List ℕ) → takes_name name (registration_of registration)
+            ≡ false }
+        ensures registered { RegisteredIf
             (cause_of_many false (registered self.old) (registration_of registration))
             (registration_of registration ∷ []) result (registered self.old) (registered self.new) }
     {

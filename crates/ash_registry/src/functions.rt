@@ -49,7 +49,7 @@ impl Registry {
         declared: Option<Declaration>,
         id: u16,
     ) -> Result<(), RegistryFault>
-        ensures { RegisteredIf
+        ensures registered { RegisteredIf
             (refusal_of_declared_function (registered self.old) service id
             (option_map declaration_of declared))
             (function_registration service id (option_map declaration_of declared)) result
@@ -65,7 +65,7 @@ impl Registry {
 
     // Whether a name is taken among types and functions, or a number among the functions of a service.
     fn takes_function_or_name(&self, name: &str, service: u16, id: u16) -> bool
-        ensures { result ≡ (list_any (takes_name name.now) (registered self.now)
+        ensures value { result ≡ (list_any (takes_name name.now) (registered self.now)
             || list_any (takes_function service id) (registered self.now)) }
     {
         self.table.takes_name(name) || self.table.takes_function(service, id)
@@ -77,7 +77,7 @@ impl Registry {
         signature: Signature,
         id: u16,
     ) -> Result<(), RegistryFault>
-        ensures { RegisteredIf
+        ensures registered { RegisteredIf
             (refusal_of_operation (registered self.old) service id (signature_of signature))
             (FunctionRegistration service id (primitive_operation (signature_of signature)) ∷ [])
             result (registered self.old) (registered self.new) }
@@ -100,9 +100,10 @@ impl Registry {
         signature: Signature,
         id: u16,
     ) -> Result<(), RegistryFault>
-        requires { list_any (takes_name (string_bytes signature.name)) (registered self.old)
+        requires name_free { list_any (takes_name (string_bytes signature.name))
+            (registered self.old)
             ≡ false }
-        ensures { RegisteredIf
+        ensures registered { RegisteredIf
             (cause_of_many
             (nat_le max_registered_functions (count_by is_function (registered self.old)))
             (registered self.old)

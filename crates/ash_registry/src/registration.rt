@@ -68,7 +68,7 @@ impl Registry {
         name_class: NameClass,
         kind: u16,
     ) -> Result<(), RegistryFault>
-        ensures { RegisteredIf
+        ensures registered { RegisteredIf
             (refusal_of_type (registered self.old) name.now (name_class_of name_class) kind)
             (TypeRegistration name.now kind ∷ []) result
             (registered self.old) (registered self.new) }
@@ -81,7 +81,8 @@ impl Registry {
     }
 
     fn named_type(&mut self, name: &str, kind: u16) -> Result<(), RegistryFault>
-        ensures { RegisteredIf (refusal_of_type (registered self.old) name.now NameText kind)
+        ensures registered { RegisteredIf (refusal_of_type (registered self.old) name.now NameText
+            kind)
             (TypeRegistration name.now kind ∷ []) result
             (registered self.old) (registered self.new) }
     {
@@ -137,7 +138,7 @@ impl Registry {
         declared: Option<Declaration>,
         id: u16,
     ) -> Result<(), RegistryFault>
-        ensures { RegisteredIf
+        ensures registered { RegisteredIf
             (refusal_of_declared_method (registered self.old) of.now id
             (option_map declaration_of declared))
             (method_registration of.now id (option_map declaration_of declared)) result
@@ -155,7 +156,7 @@ impl Registry {
         signature: Signature,
         id: u16,
     ) -> Result<(), RegistryFault>
-        ensures { RegisteredIf
+        ensures registered { RegisteredIf
             (refusal_of_signature (registered self.old) of.now id (signature_of signature))
             (MethodRegistration of.now id (primitive_operation (signature_of signature)) ∷ [])
             result (registered self.old) (registered self.new) }
@@ -176,7 +177,7 @@ impl Registry {
     }
 
     fn add_method(&mut self, of: &str, signature: Signature, id: u16) -> Result<(), RegistryFault>
-        ensures { RegisteredIf
+        ensures registered { RegisteredIf
             (cause_of_many
             (nat_le max_registered_members (count_by (is_member_of of.now) (registered self.old)))
             (registered self.old)
@@ -216,7 +217,7 @@ impl Registry {
         declared: Option<Declaration>,
         id: u16,
     ) -> Result<(), RegistryFault>
-        ensures { RegisteredIf
+        ensures registered { RegisteredIf
             (refusal_of_declared_property (registered self.old) of.now id
             (option_map declaration_of declared))
             (property_registration of.now id (option_map declaration_of declared)) result
@@ -234,7 +235,7 @@ impl Registry {
         property: Property,
         id: u16,
     ) -> Result<(), RegistryFault>
-        ensures { RegisteredIf
+        ensures registered { RegisteredIf
             (refusal_of_value (registered self.old) of.now id (type_of property.of)
             (string_bytes property.name))
             (value_registration of.now id (type_of property.of) (string_bytes property.name)) result
@@ -253,7 +254,7 @@ impl Registry {
 
     // The fault of a property of an object type.
     fn fault_of_object(&self, of: &Type) -> RegistryFault
-        ensures { Some result
+        ensures value { Some result
             ≡ cause (is_unknown (registered self.now) (type_of of.now)) UnknownType
             (Some NotPrimitive) }
     {
@@ -271,7 +272,7 @@ impl Registry {
         name: String,
         id: u16,
     ) -> Result<(), RegistryFault>
-        ensures { RegisteredIf
+        ensures registered { RegisteredIf
             (refusal_of_primitive (registered self.old) of.now id value (string_bytes name))
             (PropertyRegistration of.now id value (string_bytes name) ∷ [])
             result (registered self.old) (registered self.new) }
@@ -311,7 +312,7 @@ impl Registry {
         of: &str,
         declared: Option<Declaration>,
     ) -> Result<(), RegistryFault>
-        ensures { RegisteredIf
+        ensures registered { RegisteredIf
             (refusal_of_declared_factory (registered self.old) of.now
             (option_map declaration_of declared))
             (factory_registration of.now (option_map declaration_of declared)) result
@@ -324,7 +325,7 @@ impl Registry {
     }
 
     fn factory_of_signature(&mut self, of: &str, signature: Signature) -> Result<(), RegistryFault>
-        ensures { RegisteredIf
+        ensures registered { RegisteredIf
             (cause (not (gives_handle_of of.now (signature_of signature).result)) BadDeclaration
             (refusal_of_constructor (registered self.old) of.now
             (signature_of signature).parameters))
@@ -340,7 +341,7 @@ impl Registry {
 
     #[tactic(auto, using(ash_registrations::proofs::Mapped::any_mapped, ash_registrations::proofs::Mapped::filter_mapped))]
     fn constructor(&mut self, of: &str, parameters: &[Type]) -> Result<(), RegistryFault>
-        ensures { RegisteredIf
+        ensures registered { RegisteredIf
             (refusal_of_constructor (registered self.old) of.now (map type_of parameters.now))
             (FactoryRegistration of.now (filter_map primitive_of (map type_of parameters.now)) ∷ [])
             result (registered self.old) (registered self.new) }

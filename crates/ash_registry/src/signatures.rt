@@ -15,7 +15,7 @@ use std::alloc::{AllocError, Global};
 
 // The type, where it is a primitive.
 fn primitive(of: &Type) -> Option<Primitive>
-    ensures { result ≡ primitive_of (type_of of.now) }
+    ensures value { result ≡ primitive_of (type_of of.now) }
 {
     match &of.kind {
         TypeKind::Primitive(primitive) => Some(*primitive),
@@ -25,7 +25,7 @@ fn primitive(of: &Type) -> Option<Primitive>
 
 // The primitives among types.
 pub(crate) fn primitives(alloc: Global, types: &[Type]) -> Result<Vec<Primitive>, AllocError>
-    ensures { IfOk result (λ primitive_types.
+    ensures value { IfOk result (λ primitive_types.
         primitive_types.items ≡ filter_map (λ t. primitive_of (type_of t)) types.now) }
 {
     types.iter().filter_map(|t| primitive(t)).collect(alloc)
@@ -34,7 +34,7 @@ pub(crate) fn primitives(alloc: Global, types: &[Type]) -> Result<Vec<Primitive>
 /// A signature whose types are primitive.
 #[tactic(auto, using(ash_registrations::proofs::Mapped::filter_mapped))]
 pub(crate) fn operation(alloc: Global, signature: Signature) -> Result<HostFunction, AllocError>
-    ensures { IfOk result (λ primitive_types.
+    ensures value { IfOk result (λ primitive_types.
         operation_of primitive_types ≡ primitive_operation (signature_of signature)) }
 {
     let Signature {
@@ -58,7 +58,7 @@ pub(crate) fn operation(alloc: Global, signature: Signature) -> Result<HostFunct
 impl Registry {
     // Whether the elements of an array are handles of a type that isn't registered.
     fn is_unknown_element(&self, of: &Element) -> bool
-        ensures { result ≡ is_unknown_element (registered self.now) (element_of of.now) }
+        ensures value { result ≡ is_unknown_element (registered self.now) (element_of of.now) }
     {
         match &of.kind {
             ElementKind::Primitive(_) => false,
@@ -68,7 +68,7 @@ impl Registry {
 
     // Whether a type names an object type that isn't registered.
     pub(crate) fn is_unknown(&self, of: &Type) -> bool
-        ensures { result ≡ is_unknown (registered self.now) (type_of of.now) }
+        ensures value { result ≡ is_unknown (registered self.now) (type_of of.now) }
     {
         match &of.kind {
             TypeKind::Primitive(_) => false,
@@ -81,7 +81,8 @@ impl Registry {
 
     // Whether one of these types names an object type that isn't registered.
     pub(crate) fn any_unknown(&self, types: &[Type]) -> bool
-        ensures { result ≡ list_any (λ t. is_unknown (registered self.now) (type_of t)) types.now }
+        ensures value { result ≡ list_any (λ t. is_unknown (registered self.now) (type_of t))
+            types.now }
     {
         types.iter().any(|t| self.is_unknown(t))
     }
@@ -89,7 +90,7 @@ impl Registry {
     // Whether a signature names an object type that isn't registered.
     #[tactic(auto, using(ash_registrations::proofs::Mapped::any_mapped))]
     pub(crate) fn names_unknown(&self, signature: &Signature) -> bool
-        ensures { result
+        ensures value { result
             ≡ list_any (is_unknown (registered self.now)) (types_of (signature_of signature.now)) }
     {
         match &signature.result {
@@ -101,7 +102,7 @@ impl Registry {
 
 // Whether a type is no primitive.
 fn is_no_primitive(of: &Type) -> bool
-    ensures { result ≡ is_object (type_of of.now) }
+    ensures value { result ≡ is_object (type_of of.now) }
 {
     primitive(of).is_none()
 }
@@ -109,7 +110,7 @@ fn is_no_primitive(of: &Type) -> bool
 /// Whether a signature names a type that is no primitive.
 #[tactic(auto, using(ash_registrations::proofs::Mapped::any_mapped))]
 pub(crate) fn names_object(signature: &Signature) -> bool
-    ensures { result ≡ list_any is_object (types_of (signature_of signature.now)) }
+    ensures value { result ≡ list_any is_object (types_of (signature_of signature.now)) }
 {
     match &signature.result {
         Some(of) => is_no_primitive(of) || has_object(&signature.parameters),
@@ -119,14 +120,14 @@ pub(crate) fn names_object(signature: &Signature) -> bool
 
 // Whether one of these types is no primitive.
 pub(crate) fn has_object(types: &[Type]) -> bool
-    ensures { result ≡ list_any (λ t. is_object (type_of t)) types.now }
+    ensures value { result ≡ list_any (λ t. is_object (type_of t)) types.now }
 {
     types.iter().any(|t| is_no_primitive(t))
 }
 
 /// Whether a result is a handle of a type.
 pub(crate) fn gives_handle(result_type: &Option<Type>, of: &str) -> bool
-    ensures { result ≡ gives_handle_of of.now (option_map type_of result_type.now) }
+    ensures value { result ≡ gives_handle_of of.now (option_map type_of result_type.now) }
 {
     match result_type {
         Some(result_type) => is_handle(result_type, of),
@@ -136,7 +137,7 @@ pub(crate) fn gives_handle(result_type: &Option<Type>, of: &str) -> bool
 
 // Whether a type is a handle of a type of this name.
 fn is_handle(result_type: &Type, of: &str) -> bool
-    ensures { result ≡ gives_handle_of of.now (Some (type_of result_type.now)) }
+    ensures value { result ≡ gives_handle_of of.now (Some (type_of result_type.now)) }
 {
     match &result_type.kind {
         TypeKind::Handle(name) => of == name.as_str(),

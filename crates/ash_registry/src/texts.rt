@@ -54,7 +54,7 @@ pub(crate) fn read_name(alloc: Global, text: &str) -> Result<NameClass, Registry
 
 // What a text of this length is as a name, by its tokens.
 fn name_class_of_tokens(tokens: &[Token], len: usize) -> NameClass
-    ensures { name_class_of result ≡ class_of_tokens len (lexemes tokens.now) }
+    ensures value { name_class_of result ≡ class_of_tokens len (lexemes tokens.now) }
 {
     match tokens {
         [only] => name_class_of_token(only, len),
@@ -64,7 +64,7 @@ fn name_class_of_tokens(tokens: &[Token], len: usize) -> NameClass
 
 // What a text of this length is as a name, by its only token.
 fn name_class_of_token(only: &Token, len: usize) -> NameClass
-    ensures { name_class_of result ≡ class_of_token len (lexeme_of only.now) }
+    ensures value { name_class_of result ≡ class_of_token len (lexeme_of only.now) }
 {
     if only.from == 0 && only.to == len {
         name_class_of_word(&only.kind)
@@ -75,7 +75,7 @@ fn name_class_of_token(only: &Token, len: usize) -> NameClass
 
 // What a text that is one token is as a name.
 fn name_class_of_word(kind: &TokenKind) -> NameClass
-    ensures { name_class_of result ≡ class_of_meaning (meaning_of kind.now) }
+    ensures value { name_class_of result ≡ class_of_meaning (meaning_of kind.now) }
 {
     match kind {
         TokenKind::Name(_) => NameClass::Name,
@@ -104,7 +104,7 @@ fn parse_whole(
     tokens: &[Token],
     text: &str,
 ) -> Result<Option<Declaration>, RegistryFault>
-    requires { IsLexed text.now (Some (lexemes tokens.now)) }
+    requires lexed { IsLexed text.now (Some (lexemes tokens.now)) }
     ensures declared { IfOk result (λ d. IsDeclarationOf text.now (option_map declaration_of d)) }
     ensures only_memory { IfErr result (λ fault. fault ≡ NoMemory) }
 {
@@ -118,7 +118,7 @@ fn parse_whole(
 
 // Whether memory ran out.
 fn ran_out(fault: ParseFault) -> bool
-    ensures { (result ≡ true) ↔ (fault ≡ ParseFault.NoMemory) }
+    ensures exact { (result ≡ true) ↔ (fault ≡ ParseFault.NoMemory) }
 {
     matches!(fault, ParseFault::NoMemory)
 }

@@ -1,5 +1,5 @@
 -- What the code answers of a source is the script that it spells, or the fault for which it spells none.
-use Rattle.std.proofs.Common.{◌≡◌, ℕ, List, Result, Ok, Err, IfOk, IfErr, sym, ◌∙◌, ap, subst}
+use Rattle.std.proofs.Common.{◌≡◌, ℕ, List, Result, Ok, Err, IfOk, IfErr, ◌∙◌, ap, subst}
 use Rattle.ash_lex.specs.Tokens.{Lexeme, lexemes}
 use Rattle.ash_lex.specs.declared.tokens.Token.{Token}
 use Rattle.ash_lex.specs.declared.faults.LexFault.{LexFault}
@@ -38,17 +38,12 @@ halt_is ts fault halt first reported =
       reported = reported ∙ ap (λ n. fault_at n halt) (seen_end ts);
     }
 
-by_fault : (ts : List Token) (fault : ParseFault) → ReportsFirst FirstSyntaxFault ts fault
+pub fault_read : (ts : List Token) (fault : ParseFault) → ReportsFirst FirstSyntaxFault ts fault
     → RefusesWhere (HasNoItems (lexemes ts)) (Unit {0}) (syntactic_error fault)
-by_fault ts parse_faults.NoMemory h = tt
-by_fault ts (parse_faults.Unexpected at) h = halt_is ts (parse_faults.Unexpected at) h.0 h.2 h.1
-by_fault ts (parse_faults.Unsupported word at) h = halt_is ts (parse_faults.Unsupported word at) h.0 h.2 h.1
-by_fault ts (parse_faults.TooDeep at) h = halt_is ts (parse_faults.TooDeep at) h.0 h.2 h.1
-
-pub fault_read : (ts : List Token) (fault : ParseFault) → ReportsFirst FirstSyntaxFault ts fault → (error : SourceError)
-    → error ≡ syntactic_error fault → RefusesWhere (HasNoItems (lexemes ts)) (Unit {0}) error
-fault_read ts fault h error is =
-    subst (RefusesWhere (HasNoItems (lexemes ts)) (Unit {0})) (sym is) (by_fault ts fault h)
+fault_read ts parse_faults.NoMemory h = tt
+fault_read ts (parse_faults.Unexpected at) h = halt_is ts (parse_faults.Unexpected at) h.0 h.2 h.1
+fault_read ts (parse_faults.Unsupported word at) h = halt_is ts (parse_faults.Unsupported word at) h.0 h.2 h.1
+fault_read ts (parse_faults.TooDeep at) h = halt_is ts (parse_faults.TooDeep at) h.0 h.2 h.1
 
 -- what the code answers of a source
 

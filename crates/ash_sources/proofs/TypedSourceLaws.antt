@@ -1,5 +1,5 @@
 -- What a source is typed as is what the rules say, and what the code answers.
-use Rattle.std.proofs.Common.{◌≡◌, ◌↔◌, ℕ, List, Result, Ok, Err, refl, sym, ◌∙◌, ap, subst}
+use Rattle.std.proofs.Common.{◌≡◌, ◌↔◌, ℕ, List, Result, Ok, Err, refl, sym, ◌∙◌, ap}
 use Rattle.ash_tree.specs.Tree.{Item}
 use Rattle.ash_registry.specs.AcceptedRegistrations.{Registration}
 use Rattle.ash_typed.specs.Modules.{Module as Typed}
@@ -17,7 +17,6 @@ use Rattle.ash_sources.specs.CheckedSource.{SourceResult, Checks, no_tokens, has
 use Rattle.ash_sources.specs.Scripts.{SpellsScript, HasNoScript}
 use Rattle.ash_sources.specs.TypedSource.{IsTypedSource, typed_or_fault, check_items}
 use Rattle.ash_sources.specs.TypedSource.{typed_if_checked, typed_source}
-use Rattle.ash_sources.specs.declared.fault.SourceError.{SourceError}
 use Rattle.ash_sources.specs.SourceFaults.{SourceFault, checked_error, TakesMemoryFor, RefusesSource}
 use Rattle.ash_sources.proofs.CheckedSourceLaws.{checked_source-is, takes_text}
 use Rattle.ash_sources.proofs.CheckedAnswers.{spelled_checked, unspelled_checked}
@@ -34,10 +33,9 @@ reports_as answer (script_errors.Fault fault) h = ap typed_or_fault h
 reports_as answer script_errors.NoMemory h = takes_items answer
 
 pub items_untyped : (registered : List Registration) (items : List Item) (error : ScriptError)
-    → ReportsFault (checked registered items) error → (reported : SourceError) → reported ≡ checked_error error
-    → RefusesSource (check_items registered items) reported
-items_untyped registered items error h reported is =
-    subst (RefusesSource (check_items registered items)) (sym is) (reports_as (checked registered items) error h)
+    → ReportsFault (checked registered items) error
+    → RefusesSource (check_items registered items) (checked_error error)
+items_untyped registered items error h = reports_as (checked registered items) error h
 
 -- a source that spells a script is typed as the script is
 

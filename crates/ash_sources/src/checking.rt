@@ -53,10 +53,8 @@ pub(crate) fn checked_module(
     ensures refused { IfErr result (RefusesSource (checked_source (registered registry.now)
         source.now)) }
 {
-    match script_of(alloc, source) {
-        Ok(script) => check_module(alloc, registry, script),
-        Err(error) => Err(error),
-    }
+    let script = script_of(alloc, source)?;
+    check_module(alloc, registry, script)
 }
 
 /// Checks a source as `load` does, with these registrations, and runs nothing. It is `Ok` where nothing is
@@ -85,10 +83,8 @@ pub fn check_source(alloc: Global, registry: &Registry, source: &[u8]) -> Result
     ensures refused { IfErr result (RefusesSource (checked_source (registered registry.now)
         source.now)) }
 {
-    match checked_module(alloc, registry, source) {
-        Ok(_script) => Ok(()),
-        Err(why) => Err(why),
-    }
+    checked_module(alloc, registry, source)?;
+    Ok(())
 }
 
 /// Checking a source comes to one script that is typed, or to one fault.

@@ -22,10 +22,7 @@ fn script_with_tokens(alloc: Global, tokens: &[Token]) -> Result<Module, SourceE
         (items_of script)) }
     ensures refused { IfErr result (RefusesWhere (HasNoItems (lexemes tokens.now)) (Unit {0})) }
 {
-    match parse_module(alloc, tokens) {
-        Ok(script) => Ok(script),
-        Err(fault) => Err(fault.into()),
-    }
+    Ok(parse_module(alloc, tokens)?)
 }
 
 /// The script that a source spells.

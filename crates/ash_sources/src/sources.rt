@@ -90,10 +90,8 @@ impl Sources<'_> {
         ensures refused { IfErr result
             (RefusesSource (read_source (rules_of self.now) source.now)) }
     {
-        match script_of(alloc, source) {
-            Ok(script) => self.admit(alloc, &script),
-            Err(error) => Err(error),
-        }
+        let script = script_of(alloc, source)?;
+        self.admit(alloc, &script)
     }
 
     /// The name of the registered type of a kind. A kind that no type has has none.

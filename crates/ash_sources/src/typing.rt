@@ -36,10 +36,7 @@ pub(crate) fn type_script(
     ensures refused { IfErr result (RefusesSource (check_items (registered registry.now)
         (items_of script.now))) }
 {
-    match check(alloc, registry, script) {
-        Ok(checked) => Ok(checked.into_module()),
-        Err(error) => Err(error.into()),
-    }
+    Ok(check(alloc, registry, script)?.into_module())
 }
 
 /// A source is typed as the rules say, where no class reaches itself; it has a fault exactly where checking it comes to

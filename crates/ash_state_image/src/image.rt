@@ -53,7 +53,7 @@ const IMAGE_TAG: u8 = 1;
 
 /// The bytes as the text of what is registered.
 fn as_text(alloc: Global, bytes: &[u8]) -> Result<String, ReadError>
-    ensures { ReturnsField (λ text. string_bytes text) result
+    ensures field { ReturnsField (λ text. string_bytes text) result
         (if is_text bytes.now then Some bytes.now else None) }
 {
     if bytes.len() > MAX_REGISTERED_TEXT_BYTES {
@@ -67,7 +67,8 @@ fn as_text(alloc: Global, bytes: &[u8]) -> Result<String, ReadError>
 
 #[tactic(auto, unfolding(crate::specs::ImageReading::registered_at))]
 fn registered_of(alloc: Global, bytes: &[u8]) -> Result<(String, &[u8]), ReadError>
-    ensures { ReturnsField (λ x. (string_bytes x.0, x.1.now)) result (registered_at bytes.now) }
+    ensures field { ReturnsField (λ x. (string_bytes x.0, x.1.now)) result
+        (registered_at bytes.now) }
 {
     let (length, rest) = u32_at(bytes)?;
     let (text, rest) = prefix(rest, length as usize)?;
@@ -82,7 +83,7 @@ fn state_of(
     version: Version,
     bytes: &[u8],
 ) -> Result<(StoredState, &[u8]), ReadError>
-    ensures { ReturnsField (λ x. (snapshot_of x.0, x.1.now)) result
+    ensures field { ReturnsField (λ x. (snapshot_of x.0, x.1.now)) result
         (snapshot_at version bytes.now) }
 {
     let (registered, rest) = registered_of(alloc, bytes)?;
@@ -212,16 +213,17 @@ pub fn version_one_moves()
 
 /// A length, and the text of what is registered.
 fn write_registered(out: &mut Vec<u8>, registered: &str) -> Result<(), AllocError>
-    requires { length registered.now ≤ max_registered_text_bytes }
-    ensures { OnOk result (out.new.items ≡ out.old.items ++ text 4 registered.now) }
+    requires within { length registered.now ≤ max_registered_text_bytes }
+    ensures value { OnOk result (out.new.items ≡ out.old.items ++ text 4 registered.now) }
 {
     write_u32(out, registered.len() as u32)?;
     out.extend_from_slice(registered.as_bytes())
 }
 
 fn write_image_into(out: &mut Vec<u8>, state: StateParts<'_>) -> Result<(), AllocError>
-    requires { FitsVersion Two (snapshot_in state) }
-    ensures { OnOk result (out.new.items ≡ out.old.items ++ image_of (snapshot_in state.entry)) }
+    requires fits_version { FitsVersion Two (snapshot_in state) }
+    ensures value { OnOk result (out.new.items
+        ≡ out.old.items ++ image_of (snapshot_in state.entry)) }
 {
     write_u16(out, VERSION)?;
     write_registered(out, state.registered)?;

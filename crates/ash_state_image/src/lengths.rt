@@ -29,7 +29,7 @@ fn word_length(value: Word) -> usize
 }
 
 fn words_length(words: &[Word]) -> usize
-    requires { length words.now < 2 ^ 16 }
+    requires within { length words.now < 2 ^ 16 }
     ensures exact { result ≡ length (flat_map word words.now) }
     ensures most { result ≤ 9 * 2 ^ 16 }
 {
@@ -56,7 +56,7 @@ fn element_length(of: ElementType) -> usize
 }
 
 fn host_length(parts: HostParts<'_>) -> usize
-    requires { FitsHost parts.kind parts.state.now }
+    requires fits_host { FitsHost parts.kind parts.state.now }
     ensures exact { result ≡ length (host parts.entry.kind parts.entry.state.now) }
     ensures most { result < 2 ^ 11 }
 {
@@ -64,7 +64,7 @@ fn host_length(parts: HostParts<'_>) -> usize
 }
 
 fn body_length(body: BodyParts<'_>) -> usize
-    requires { FitsPlain (plain_in body) }
+    requires fits_plain { FitsPlain (plain_in body) }
     ensures exact { result ≡ length (plain (plain_in body.entry)) }
     ensures most { result ≤ 9 * 2 ^ 16 + 7 }
 {
@@ -78,7 +78,7 @@ fn body_length(body: BodyParts<'_>) -> usize
 }
 
 fn object_length(parts: ObjectParts<'_>) -> usize
-    requires { FitsObject Two (object_in parts) }
+    requires fits_object { FitsObject Two (object_in parts) }
     ensures exact { result ≡ length (object (object_in parts.entry)) }
     ensures most { result < 2 ^ 20 }
 {
@@ -86,7 +86,7 @@ fn object_length(parts: ObjectParts<'_>) -> usize
 }
 
 fn objects_length(objects: &[ObjectParts<'_>]) -> usize
-    requires { FitObjects Two (objects_in objects.now) }
+    requires fit_objects { FitObjects Two (objects_in objects.now) }
     ensures exact { result ≡ length (flat_map object (objects_in objects.now)) }
     ensures most { result ≤ 2 ^ 32 }
 {
@@ -98,7 +98,7 @@ fn objects_length(objects: &[ObjectParts<'_>]) -> usize
 }
 
 fn services_length(services: &[HostParts<'_>]) -> usize
-    requires { FitServices (services_in services.now) }
+    requires fit_services { FitServices (services_in services.now) }
     ensures exact { result ≡ length (flat_map service (services_in services.now)) }
     ensures most { result ≤ 2 ^ 15 }
 {
@@ -110,7 +110,7 @@ fn services_length(services: &[HostParts<'_>]) -> usize
 }
 
 fn module_length(parts: ModuleParts<'_>) -> usize
-    requires { FitsModule (module_in parts) }
+    requires fits_module { FitsModule (module_in parts) }
     ensures exact { result ≡ length (loaded_module (module_in parts.entry)) }
     ensures most { result < 2 ^ 20 }
 {
@@ -118,7 +118,7 @@ fn module_length(parts: ModuleParts<'_>) -> usize
 }
 
 fn modules_length(modules: &[ModuleParts<'_>]) -> usize
-    requires { FitModules (modules_in modules.now) }
+    requires fit_modules { FitModules (modules_in modules.now) }
     ensures exact { result ≡ length (flat_map loaded_module (modules_in modules.now)) }
     ensures most { result ≤ 2 ^ 24 }
 {
@@ -131,7 +131,7 @@ fn modules_length(modules: &[ModuleParts<'_>]) -> usize
 
 /// What services, modules and objects have beside their counts.
 fn lists_length(state: StateParts<'_>) -> usize
-    requires { FitsVersion Two (snapshot_in state) }
+    requires fits_version { FitsVersion Two (snapshot_in state) }
     ensures exact { result ≡ length (flat_map service (services_in state.entry.services.now))
         + length (flat_map loaded_module (modules_in state.entry.modules.now))
         + length (flat_map object (objects_in state.entry.objects.now)) }

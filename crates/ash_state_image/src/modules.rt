@@ -27,7 +27,7 @@ use std::alloc::{AllocError, Global};
 
 /// The bytes as a module's name.
 fn as_name(alloc: Global, bytes: &[u8]) -> Result<String, ReadError>
-    ensures { ReturnsField (λ name. string_bytes name) result
+    ensures field { ReturnsField (λ name. string_bytes name) result
         (if is_module_name bytes.now then Some bytes.now else None) }
 {
     if !is_module_name(bytes) {
@@ -41,7 +41,7 @@ fn as_name(alloc: Global, bytes: &[u8]) -> Result<String, ReadError>
 
 #[tactic(auto, unfolding(crate::specs::ImageReading::name_at))]
 fn name_of(alloc: Global, bytes: &[u8]) -> Result<(String, &[u8]), ReadError>
-    ensures { ReturnsField (λ x. (string_bytes x.0, x.1.now)) result (name_at bytes.now) }
+    ensures field { ReturnsField (λ x. (string_bytes x.0, x.1.now)) result (name_at bytes.now) }
 {
     let (length, rest) = u8_at(bytes)?;
     let (name, rest) = prefix(rest, length as usize)?;
@@ -66,7 +66,7 @@ fn source_of(bytes: &[u8]) -> Result<(&[u8], &[u8]), ReadError>
 
 #[tactic(auto, unfolding(crate::specs::ImageReading::module_at, crate::specs::ImageReading::globals_at))]
 fn module_of(alloc: Global, bytes: &[u8]) -> Result<(StoredModule, &[u8]), ReadError>
-    ensures { ReturnsField (λ x. (module_of x.0, x.1.now)) result (module_at bytes.now) }
+    ensures field { ReturnsField (λ x. (module_of x.0, x.1.now)) result (module_at bytes.now) }
 {
     let (name, rest) = name_of(alloc, bytes)?;
     let (source, rest) = source_of(rest)?;
@@ -90,7 +90,7 @@ fn counted_modules(
     count: u8,
     bytes: &[u8],
 ) -> Result<(Vec<StoredModule>, &[u8]), ReadError>
-    ensures { ReturnsField (λ x. (modules_of x.0.items, x.1.now)) result
+    ensures field { ReturnsField (λ x. (modules_of x.0.items, x.1.now)) result
         (times_at module_at count bytes.now) }
 {
     let mut modules = Vec::new(alloc);
@@ -121,8 +121,9 @@ pub fn modules_of(alloc: Global, bytes: &[u8]) -> Result<(Vec<StoredModule>, &[u
 }
 
 fn write_module(out: &mut Vec<u8>, parts: ModuleParts<'_>) -> Result<(), AllocError>
-    requires { FitsModule (module_in parts) }
-    ensures { OnOk result (out.new.items ≡ out.old.items ++ loaded_module (module_in parts.entry)) }
+    requires fits_module { FitsModule (module_in parts) }
+    ensures value { OnOk result (out.new.items
+        ≡ out.old.items ++ loaded_module (module_in parts.entry)) }
 {
     write_u8(out, parts.name.len() as u8)?;
     out.extend_from_slice(parts.name.as_bytes())?;
@@ -134,8 +135,8 @@ fn write_module(out: &mut Vec<u8>, parts: ModuleParts<'_>) -> Result<(), AllocEr
 
 /// Each of the modules.
 fn write_each(out: &mut Vec<u8>, modules: &[ModuleParts<'_>]) -> Result<(), AllocError>
-    requires { AllByRecursion FitsModule (modules_in modules.now) }
-    ensures { OnOk result (out.new.items
+    requires fits_module { AllByRecursion FitsModule (modules_in modules.now) }
+    ensures value { OnOk result (out.new.items
         ≡ out.old.items ++ flat_map loaded_module (modules_in modules.now)) }
 {
     for parts in modules {

@@ -24,7 +24,7 @@ use std::alloc::{AllocError, Global};
 
 /// Whether a version has such objects.
 fn has_version(version: Version, body: &StoredBody) -> bool
-    ensures { result ≡ has_version version (plain_of body.now) }
+    ensures value { result ≡ has_version version (plain_of body.now) }
 {
     match (version, body) {
         (Version::One, StoredBody::Array(_)) => false,
@@ -39,7 +39,7 @@ fn versioned_body(
     version: Version,
     bytes: &[u8],
 ) -> Result<(StoredBody, &[u8]), ReadError>
-    ensures { ReturnsField (λ x. (plain_of x.0, x.1.now)) result (body_at version bytes.now) }
+    ensures field { ReturnsField (λ x. (plain_of x.0, x.1.now)) result (body_at version bytes.now) }
 {
     let (body, rest) = body_of(alloc, bytes)?;
     if !has_version(version, &body) {
@@ -54,7 +54,8 @@ fn object_of(
     version: Version,
     bytes: &[u8],
 ) -> Result<(StoredObject, &[u8]), ReadError>
-    ensures { ReturnsField (λ x. (object_of x.0, x.1.now)) result (object_at version bytes.now) }
+    ensures field { ReturnsField (λ x. (object_of x.0, x.1.now)) result
+        (object_at version bytes.now) }
 {
     let (number, rest) = u64_at(bytes)?;
     let (body, rest) = versioned_body(alloc, version, rest)?;
@@ -68,7 +69,7 @@ fn counted_objects(
     count: u32,
     bytes: &[u8],
 ) -> Result<(Vec<StoredObject>, &[u8]), ReadError>
-    ensures { ReturnsField (λ x. (objects_of x.0.items, x.1.now)) result
+    ensures field { ReturnsField (λ x. (objects_of x.0.items, x.1.now)) result
         (times_at (object_at version) count bytes.now) }
 {
     let mut objects = Vec::new(alloc);
@@ -83,7 +84,7 @@ fn counted_objects(
 
 /// Whether each number is below the next.
 fn do_rise(objects: &[StoredObject]) -> bool
-    ensures { result ≡ do_rise (numbers (objects_of objects.now)) }
+    ensures value { result ≡ do_rise (numbers (objects_of objects.now)) }
 {
     let Some((mut last, rest)) = objects.split_first() else {
         return true;
@@ -119,8 +120,8 @@ pub fn objects_of(
 }
 
 fn write_object(out: &mut Vec<u8>, parts: ObjectParts<'_>) -> Result<(), AllocError>
-    requires { FitsObject Two (object_in parts) }
-    ensures { OnOk result (out.new.items ≡ out.old.items ++ object (object_in parts.entry)) }
+    requires fits_object { FitsObject Two (object_in parts) }
+    ensures value { OnOk result (out.new.items ≡ out.old.items ++ object (object_in parts.entry)) }
 {
     write_u64(out, parts.number)?;
     write_body(out, parts.body)
@@ -128,8 +129,8 @@ fn write_object(out: &mut Vec<u8>, parts: ObjectParts<'_>) -> Result<(), AllocEr
 
 /// Each of the objects.
 fn write_each(out: &mut Vec<u8>, objects: &[ObjectParts<'_>]) -> Result<(), AllocError>
-    requires { AllByRecursion (FitsObject Two) (objects_in objects.now) }
-    ensures { OnOk result (out.new.items
+    requires fits_object { AllByRecursion (FitsObject Two) (objects_in objects.now) }
+    ensures value { OnOk result (out.new.items
         ≡ out.old.items ++ flat_map object (objects_in objects.now)) }
 {
     for parts in objects {

@@ -62,7 +62,7 @@ fn element_of(bytes: &[u8]) -> Result<(ElementType, &[u8]), ReadError>
 
 #[tactic(auto, unfolding(crate::specs::ObjectBytes::script_at, crate::specs::ObjectBytes::fields_at))]
 fn script_of(alloc: Global, bytes: &[u8]) -> Result<(StoredScript, &[u8]), ReadError>
-    ensures { ReturnsField (λ x. (script_of x.0, x.1.now)) result (script_at bytes.now) }
+    ensures field { ReturnsField (λ x. (script_of x.0, x.1.now)) result (script_at bytes.now) }
 {
     let (owner, rest) = u8_at(bytes)?;
     let (class, rest) = u16_at(rest)?;
@@ -97,7 +97,7 @@ pub fn host_of(alloc: Global, bytes: &[u8]) -> Result<(StoredHost, &[u8]), ReadE
 
 #[tactic(auto, unfolding(crate::specs::ObjectBytes::array_at, crate::specs::ObjectBytes::elements_at))]
 fn array_of(alloc: Global, bytes: &[u8]) -> Result<(StoredArray, &[u8]), ReadError>
-    ensures { ReturnsField (λ x. (array_of x.0, x.1.now)) result (array_at bytes.now) }
+    ensures field { ReturnsField (λ x. (array_of x.0, x.1.now)) result (array_at bytes.now) }
 {
     let (element, rest) = element_of(bytes)?;
     let (count, rest) = u16_at(rest)?;
@@ -132,7 +132,7 @@ pub fn body_of(alloc: Global, bytes: &[u8]) -> Result<(StoredBody, &[u8]), ReadE
 }
 
 fn write_element(out: &mut Vec<u8>, of: ElementType) -> Result<(), AllocError>
-    ensures { OnOk result (out.new.items ≡ out.old.items ++ element (element_of of)) }
+    ensures value { OnOk result (out.new.items ≡ out.old.items ++ element (element_of of)) }
 {
     match of {
         ElementType::Bool => write_u8(out, 0),
@@ -153,8 +153,8 @@ fn write_element(out: &mut Vec<u8>, of: ElementType) -> Result<(), AllocError>
 }
 
 fn write_script(out: &mut Vec<u8>, object: ScriptParts<'_>) -> Result<(), AllocError>
-    requires { FitsScript object.owner object.class object.fields.now }
-    ensures { OnOk result (out.new.items
+    requires fits_script { FitsScript object.owner object.class object.fields.now }
+    ensures value { OnOk result (out.new.items
         ≡ out.old.items ++ script object.entry.owner object.entry.class object.entry.fields.now) }
 {
     write_u8(out, object.owner)?;
@@ -175,8 +175,8 @@ pub fn write_host(out: &mut Vec<u8>, object: HostParts<'_>) -> Result<(), AllocE
 }
 
 fn write_array(out: &mut Vec<u8>, object: ArrayParts<'_>) -> Result<(), AllocError>
-    requires { FitsArray (element_of object.element) object.elements.now }
-    ensures { OnOk result (out.new.items
+    requires fits_array { FitsArray (element_of object.element) object.elements.now }
+    ensures value { OnOk result (out.new.items
         ≡ out.old.items ++ array (element_of object.entry.element) object.entry.elements.now) }
 {
     write_element(out, object.element)?;

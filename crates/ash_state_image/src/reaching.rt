@@ -26,7 +26,8 @@ struct Search {
 /// Marks the object at an index, if it is not marked.
 fn mark(index: usize, search: &mut Search) -> Result<(), AllocError>
     requires within { index < length search.old.marked.items }
-    ensures { OnOk result (progress_of search.new ≡ with_marked index (progress_of search.old)) }
+    ensures value { OnOk result (progress_of search.new
+        ≡ with_marked index (progress_of search.old)) }
 {
     if search.marked[index] {
         return Ok(());
@@ -40,7 +41,7 @@ fn mark(index: usize, search: &mut Search) -> Result<(), AllocError>
 fn look_for(number: u64, alive: &[u64], search: &mut Search) -> Result<(), AllocError>
     requires rise { IsTrue (do_rise alive.now) }
     requires size { length search.old.marked.items ≡ length alive.now }
-    ensures { OnOk result (Visited alive.now (number ∷ [])
+    ensures visited { OnOk result (Visited alive.now (number ∷ [])
         (progress_of search.old) (progress_of search.new)) }
 {
     match alive.binary_search(&number) {
@@ -51,7 +52,7 @@ fn look_for(number: u64, alive: &[u64], search: &mut Search) -> Result<(), Alloc
 
 /// The number of the object that a word is a handle to.
 fn handle_of(word: Word) -> Option<u64>
-    ensures { result ≡ handle word }
+    ensures value { result ≡ handle word }
 {
     match word {
         Word::Object(number) => Some(number),
@@ -62,7 +63,7 @@ fn handle_of(word: Word) -> Option<u64>
 fn visit_word(word: Word, alive: &[u64], search: &mut Search) -> Result<(), AllocError>
     requires rise { IsTrue (do_rise alive.now) }
     requires size { length search.old.marked.items ≡ length alive.now }
-    ensures { OnOk result (Visited alive.now (handles (word ∷ []))
+    ensures visited { OnOk result (Visited alive.now (handles (word ∷ []))
         (progress_of search.old) (progress_of search.new)) }
 {
     match handle_of(word) {
@@ -75,7 +76,7 @@ fn visit_word(word: Word, alive: &[u64], search: &mut Search) -> Result<(), Allo
 fn visit(words: &[Word], alive: &[u64], search: &mut Search) -> Result<(), AllocError>
     requires rise { IsTrue (do_rise alive.now) }
     requires size { length search.old.marked.items ≡ length alive.now }
-    ensures { OnOk result (Visited alive.now (handles words.now)
+    ensures visited { OnOk result (Visited alive.now (handles words.now)
         (progress_of search.old) (progress_of search.new)) }
 {
     for word in words {
@@ -92,7 +93,7 @@ fn visit_globals(
 ) -> Result<(), AllocError>
     requires rise { IsTrue (do_rise alive.now) }
     requires size { length search.old.marked.items ≡ length alive.now }
-    ensures { OnOk result (Visited alive.now (held_by (modules_of modules.now))
+    ensures visited { OnOk result (Visited alive.now (held_by (modules_of modules.now))
         (progress_of search.old) (progress_of search.new)) }
 {
     for module in modules {
@@ -119,7 +120,7 @@ fn follow(state: &StoredState, alive: &[u64], search: &mut Search) -> Result<(),
 
 /// So many that are not marked.
 fn unmarked(alloc: Global, count: usize) -> Result<Vec<bool>, AllocError>
-    ensures { IfOk result (λ marked. marked.items ≡ replicate count false) }
+    ensures value { IfOk result (λ marked. marked.items ≡ replicate count false) }
 {
     let mut marked = Vec::with_capacity(alloc, count)?;
     for _ in 0..count {
@@ -129,7 +130,7 @@ fn unmarked(alloc: Global, count: usize) -> Result<Vec<bool>, AllocError>
 }
 
 fn all_marked(marked: &[bool]) -> bool
-    ensures { result ≡ list_all (λ b. b) marked.now }
+    ensures value { result ≡ list_all (λ b. b) marked.now }
 {
     for is_marked in marked {
         if !*is_marked {

@@ -18,14 +18,14 @@ use ash_host::Word;
 use std::alloc::{AllocError, Global};
 
 fn is_given(object: &StoredObject, last: u64) -> bool
-    ensures { result ≡ is_given last (object_of object.now) }
+    ensures value { result ≡ is_given last (object_of object.now) }
 {
     object.number > 0 && object.number <= last
 }
 
 /// Whether each number is above 0, and at most the last that was given.
 fn are_given(objects: &[StoredObject], last: u64) -> bool
-    ensures { result ≡ list_all (is_given last) (objects_of objects.now) }
+    ensures value { result ≡ list_all (is_given last) (objects_of objects.now) }
 {
     for object in objects {
         if !is_given(object, last) {
@@ -36,7 +36,7 @@ fn are_given(objects: &[StoredObject], last: u64) -> bool
 }
 
 fn is_placed(body: &StoredBody, modules: usize) -> bool
-    ensures { result ≡ is_placed modules (plain_of body.now) }
+    ensures value { result ≡ is_placed modules (plain_of body.now) }
 {
     match body {
         StoredBody::Script(script) => (script.owner as usize) < modules,
@@ -50,7 +50,7 @@ fn is_placed(body: &StoredBody, modules: usize) -> bool
 
 /// Whether each object is of a module that is there.
 fn are_placed(objects: &[StoredObject], modules: usize) -> bool
-    ensures { result ≡ list_all (λ e. is_placed modules e.1) (objects_of objects.now) }
+    ensures value { result ≡ list_all (λ e. is_placed modules e.1) (objects_of objects.now) }
 {
     for object in objects {
         if !is_placed(&object.body, modules) {
@@ -62,7 +62,7 @@ fn are_placed(objects: &[StoredObject], modules: usize) -> bool
 
 /// Whether an array of such elements may hold a word, as far as the array says it.
 fn is_element(of: ElementType, word: Word) -> bool
-    ensures { result ≡ is_element (element_of of) word }
+    ensures value { result ≡ is_element (element_of of) word }
 {
     match of {
         ElementType::Bool => matches!(word, Word::Bool(_)),
@@ -75,7 +75,7 @@ fn is_element(of: ElementType, word: Word) -> bool
 }
 
 fn all_elements(of: ElementType, words: &[Word]) -> bool
-    ensures { result ≡ list_all (is_element (element_of of)) words.now }
+    ensures value { result ≡ list_all (is_element (element_of of)) words.now }
 {
     for word in words {
         if !is_element(of, *word) {
@@ -87,7 +87,7 @@ fn all_elements(of: ElementType, words: &[Word]) -> bool
 
 /// Whether the elements of an array are of its type.
 fn are_elements(body: &StoredBody) -> bool
-    ensures { result ≡ are_elements (plain_of body.now) }
+    ensures value { result ≡ are_elements (plain_of body.now) }
 {
     match body {
         StoredBody::Array(array) => all_elements(array.element, &array.elements),
@@ -97,7 +97,7 @@ fn are_elements(body: &StoredBody) -> bool
 
 /// Whether the elements of each array are of its type.
 fn have_their_types(objects: &[StoredObject]) -> bool
-    ensures { result ≡ list_all (λ e. are_elements e.1) (objects_of objects.now) }
+    ensures value { result ≡ list_all (λ e. are_elements e.1) (objects_of objects.now) }
 {
     for object in objects {
         if !are_elements(&object.body) {
@@ -108,7 +108,7 @@ fn have_their_types(objects: &[StoredObject]) -> bool
 }
 
 fn numbers_of(alloc: Global, objects: &[StoredObject]) -> Result<Vec<u64>, AllocError>
-    ensures { IfOk result (λ found. found.items ≡ numbers (objects_of objects.now)) }
+    ensures value { IfOk result (λ found. found.items ≡ numbers (objects_of objects.now)) }
 {
     let mut found = Vec::with_capacity(alloc, objects.len())?;
     for object in objects {
@@ -118,16 +118,16 @@ fn numbers_of(alloc: Global, objects: &[StoredObject]) -> Result<Vec<u64>, Alloc
 }
 
 fn is_alive(alive: &[u64], number: u64) -> bool
-    requires { IsTrue (do_rise alive.now) }
-    ensures { result ≡ is_among alive.now number }
+    requires rising { IsTrue (do_rise alive.now) }
+    ensures value { result ≡ is_among alive.now number }
 {
     alive.binary_search(&number).is_ok()
 }
 
 /// Whether the handles among words are to objects of these numbers.
 fn all_live(words: &[Word], alive: &[u64]) -> bool
-    requires { IsTrue (do_rise alive.now) }
-    ensures { result ≡ all_live alive.now words.now }
+    requires rising { IsTrue (do_rise alive.now) }
+    ensures value { result ≡ all_live alive.now words.now }
 {
     for word in words {
         if let Word::Object(number) = *word {
@@ -140,8 +140,8 @@ fn all_live(words: &[Word], alive: &[u64]) -> bool
 }
 
 fn modules_live(modules: &[StoredModule], alive: &[u64]) -> bool
-    requires { IsTrue (do_rise alive.now) }
-    ensures { result ≡ list_all (module_lives alive.now) (modules_of modules.now) }
+    requires rising { IsTrue (do_rise alive.now) }
+    ensures value { result ≡ list_all (module_lives alive.now) (modules_of modules.now) }
 {
     for module in modules {
         if !all_live(&module.globals, alive) {
@@ -152,8 +152,8 @@ fn modules_live(modules: &[StoredModule], alive: &[u64]) -> bool
 }
 
 fn objects_live(objects: &[StoredObject], alive: &[u64]) -> bool
-    requires { IsTrue (do_rise alive.now) }
-    ensures { result ≡ list_all (object_lives alive.now) (objects_of objects.now) }
+    requires rising { IsTrue (do_rise alive.now) }
+    ensures value { result ≡ list_all (object_lives alive.now) (objects_of objects.now) }
 {
     for object in objects {
         if !all_live(words_of(&object.body), alive) {
@@ -167,7 +167,7 @@ fn objects_live(objects: &[StoredObject], alive: &[u64]) -> bool
 fn is_linked(state: &StoredState, alive: &[u64]) -> bool
     requires rise { IsTrue (do_rise alive.now) }
     requires alive { alive.now ≡ numbers (objects_of state.now.objects.items) }
-    ensures { result ≡ is_linked (snapshot_of state.now) }
+    ensures value { result ≡ is_linked (snapshot_of state.now) }
 {
     are_given(&state.objects, state.last)
         && are_placed(&state.objects, state.modules.len())
@@ -179,7 +179,7 @@ fn is_linked(state: &StoredState, alive: &[u64]) -> bool
 fn is_whole(state: &StoredState, alive: &[u64]) -> bool
     requires rise { IsTrue (do_rise alive.now) }
     requires alive { alive.now ≡ numbers (objects_of state.now.objects.items) }
-    ensures { result ≡ is_whole (snapshot_of state.now) }
+    ensures value { result ≡ is_whole (snapshot_of state.now) }
 {
     have_their_types(&state.objects) && is_linked(state, alive)
 }

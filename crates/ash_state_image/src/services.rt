@@ -25,7 +25,7 @@ fn counted_services(
     count: u16,
     bytes: &[u8],
 ) -> Result<(Vec<StoredHost>, &[u8]), ReadError>
-    ensures { ReturnsField (λ x. (services_of x.0.items, x.1.now)) result
+    ensures field { ReturnsField (λ x. (services_of x.0.items, x.1.now)) result
         (times_at kind_and_state_at count bytes.now) }
 {
     let mut services = Vec::new(alloc);
@@ -53,8 +53,8 @@ pub fn services_of(alloc: Global, bytes: &[u8]) -> Result<(Vec<StoredHost>, &[u8
 
 /// Each of the services.
 fn write_each(out: &mut Vec<u8>, services: &[HostParts<'_>]) -> Result<(), AllocError>
-    requires { AllByRecursion (λ s. FitsHost s.0 s.1) (services_in services.now) }
-    ensures { OnOk result (out.new.items
+    requires fits_host { AllByRecursion (λ s. FitsHost s.0 s.1) (services_in services.now) }
+    ensures value { OnOk result (out.new.items
         ≡ out.old.items ++ flat_map service (services_in services.now)) }
 {
     for parts in services {

@@ -77,7 +77,7 @@ pub fn words_of(alloc: Global, count: u16, bytes: &[u8]) -> Result<(Vec<Word>, &
 }
 
 fn write_word(out: &mut Vec<u8>, value: Word) -> Result<(), AllocError>
-    ensures { OnOk result (out.new.items ≡ out.old.items ++ word value) }
+    ensures meaning { OnOk result (out.new.items ≡ out.old.items ++ word value) }
 {
     match value {
         Word::Bool(truth) => {

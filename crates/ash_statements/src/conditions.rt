@@ -16,7 +16,7 @@ use std::alloc::{AllocError, Global};
 /// `if (condition) inner`
 #[tactic(auto, unfolding(ash_typing::specs::StatementRules::check_if))]
 pub(crate) fn build_if(line: usize, condition: TypedExpr, inner: Box<Stmt>) -> CheckResult<Stmt>
-    ensures { Agrees stmt_of result
+    ensures agrees { Agrees stmt_of result
         (definition.check_if line (Ok (typed_of condition)) (Ok (stmt_of inner.value))) }
 {
     check_bool(condition.at, condition.ty)?;
@@ -25,7 +25,7 @@ pub(crate) fn build_if(line: usize, condition: TypedExpr, inner: Box<Stmt>) -> C
 
 #[tactic(auto, using(crate::proofs::NodeLaws::if_is))]
 fn if_stmt(line: usize, condition: Tree, then: Box<Stmt>) -> Stmt
-    ensures { stmt_of result ≡ If line (expr_of condition) (stmt_of then.value) no_branch }
+    ensures value { stmt_of result ≡ If line (expr_of condition) (stmt_of then.value) no_branch }
 {
     Stmt {
         line,
@@ -45,7 +45,7 @@ pub(crate) fn build_if_else(
     inner: Box<Stmt>,
     other: Box<Stmt>,
 ) -> CheckResult<Stmt>
-    ensures { Agrees stmt_of result
+    ensures agrees { Agrees stmt_of result
         (definition.check_if_else line (Ok (typed_of condition)) (Ok (stmt_of inner.value))
         (Ok (stmt_of other.value))) }
 {
@@ -55,7 +55,7 @@ pub(crate) fn build_if_else(
 
 #[tactic(auto, using(crate::proofs::NodeLaws::if_else_is))]
 fn if_else_stmt(line: usize, condition: Tree, then: Box<Stmt>, otherwise: Box<Stmt>) -> Stmt
-    ensures { stmt_of result
+    ensures value { stmt_of result
         ≡ If line (expr_of condition) (stmt_of then.value) (branch (stmt_of otherwise.value)) }
 {
     Stmt {
@@ -70,7 +70,7 @@ fn if_else_stmt(line: usize, condition: Tree, then: Box<Stmt>, otherwise: Box<St
 
 /// A statement in a box, where there is memory for it.
 pub(crate) fn boxed_stmt(alloc: Global, inner: Stmt) -> Result<Box<Stmt>, AllocError>
-    ensures { IfOk result (λ b. b.value ≡ inner) }
+    ensures value { IfOk result (λ b. b.value ≡ inner) }
 {
     Ok(Box::new(alloc, inner)?)
 }

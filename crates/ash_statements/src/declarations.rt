@@ -41,7 +41,7 @@ pub fn ty_in(env: &Environment, of: &Type) -> Ty
 }
 
 fn element_offset(of: &Element) -> usize
-    ensures { result ≡ typing.at_element (element_of of.now) }
+    ensures value { result ≡ typing.at_element (element_of of.now) }
 {
     of.place.at
 }
@@ -75,7 +75,7 @@ pub fn check_variable_type(written: &Type, of: Ty) -> CheckResult<Ty>
 
 #[tactic(auto, unfolding(ash_typing::specs::Environment::class_construction))]
 fn class_callee<'a>(env: &Environment<'a, '_>, place: usize) -> Option<Callee<'a>>
-    ensures { option_map callee_of result
+    ensures value { option_map callee_of result
         ≡ environment.class_construction
         (map class_signature_of env.now.signatures.now.classes.items) place }
 {
@@ -89,11 +89,11 @@ fn class_callee<'a>(env: &Environment<'a, '_>, place: usize) -> Option<Callee<'a
 
 #[tactic(auto, unfolding(ash_typing::specs::Environment::kind_construction))]
 fn host_callee<'a>(env: &Environment<'a, '_>, kind: u16) -> Option<Callee<'a>>
-    ensures { option_map callee_of result
+    ensures value { option_map callee_of result
         ≡ environment.kind_construction (registered env.now.registry.now) kind }
 {
-    let call = env.registry.of_kind(kind)?;
-    env.host_type_callee(call)
+    let registration = env.registry.of_kind(kind)?;
+    env.host_type_callee(registration)
 }
 
 /// A type, with the offset at which it is written.
@@ -106,7 +106,7 @@ pub struct WrittenType {
 /// The construction of an object from so many arguments.
 #[tactic(auto, unfolding(ash_typing::specs::Environment::construction))]
 fn object_callee<'a>(env: &Environment<'a, '_>, of: ObjectType, count: usize) -> Option<Callee<'a>>
-    ensures { option_map callee_of result
+    ensures value { option_map callee_of result
         ≡ environment.construction (environment_of env.now) of count }
 {
     match of {
@@ -124,7 +124,7 @@ fn build_object(
     callee: Option<Callee>,
     arguments: Arguments,
 ) -> CheckResult<Option<Expr>>
-    ensures { Agrees optional_expr result
+    ensures agrees { Agrees optional_expr result
         (definition.constructed (classes_of env.now) arguments.at
         (map typed_of arguments.exprs.items) (option_map callee_of callee.entry)) }
 {
@@ -138,7 +138,7 @@ fn build_object(
 /// `T x`, of this type.
 #[tactic(auto, unfolding(ash_typing::specs::Declarations::begun))]
 fn build_default(env: &Environment, written: WrittenType) -> CheckResult<Option<Expr>>
-    ensures { Agrees optional_expr result
+    ensures agrees { Agrees optional_expr result
         (definition.begun (environment_of env.now) written.at written.of) }
 {
     match written.of {
@@ -155,7 +155,7 @@ fn build_default(env: &Environment, written: WrittenType) -> CheckResult<Option<
 }
 
 fn build_first_value(env: &Environment, of: Ty, typed: TypedExpr) -> CheckResult<Option<Expr>>
-    ensures { Agrees optional_expr result
+    ensures agrees { Agrees optional_expr result
         (definition.stored_first (classes_of env.now) of (typed_of typed)) }
 {
     let value = coerce_for_assignment(env, of, typed)?;
@@ -165,7 +165,7 @@ fn build_first_value(env: &Environment, of: Ty, typed: TypedExpr) -> CheckResult
 /// `T x = e`, with x at this offset: objects are not assigned.
 #[tactic(auto, unfolding(ash_typing::specs::Declarations::begun_with))]
 fn build_value(env: &Environment, at: usize, of: Ty, typed: TypedExpr) -> CheckResult<Option<Expr>>
-    ensures { Agrees optional_expr result
+    ensures agrees { Agrees optional_expr result
         (definition.begun_with (classes_of env.now) at of (typed_of typed)) }
 {
     match of {
@@ -182,7 +182,7 @@ fn build_from_one(
     of: Ty,
     mut exprs: Vec<TypedExpr>,
 ) -> CheckResult<Option<Expr>>
-    ensures { Agrees optional_expr result
+    ensures agrees { Agrees optional_expr result
         (definition.begun_by_one (classes_of env.now) at of (map typed_of exprs.items)) }
 {
     if exprs.len() != 1 {
@@ -202,7 +202,7 @@ fn build_from_arguments(
     at: usize,
     exprs: Vec<TypedExpr>,
 ) -> CheckResult<Option<Expr>>
-    ensures { Agrees optional_expr result
+    ensures agrees { Agrees optional_expr result
         (definition.begun_by (environment_of env.now) written.at at written.of
         (map typed_of exprs.items)) }
 {
@@ -228,7 +228,7 @@ fn check_initializer(
     at: usize,
     initializer: &Initializer,
 ) -> CheckResult<Option<Expr>>
-    ensures { Agrees optional_expr result
+    ensures agrees { Agrees optional_expr result
         (definition.initialized (environment_of env.now) written.at at written.of
         (initializer_of initializer.now)) }
 {

@@ -1,10 +1,11 @@
 //! Statements that leave: `break`, `continue` and `return`.
 
-ghost use Rattle.std.specs.Prelude.{◌≡◌, ◌||◌, map, option_map};
+ghost use Rattle.std.specs.Prelude.{◌≡◌, ◌||◌, map, option_map, IsErrOf};
 ghost use Rattle.ash_tree.specs.TreeViews as written;
 ghost use Rattle.ash_typed.specs.TypedTreeViews.{expr_of};
 ghost use Rattle.ash_typed.specs.BodyViews.{stmt_of};
 ghost use Rattle.ash_typing.specs.StatementRules as definition;
+ghost use Rattle.ash_environment.specs.declared.error.CheckError.TheVariants.{NoMemory};
 ghost use Rattle.ash_environment.specs.Agreement.{Agrees};
 ghost use Rattle.ash_environment.specs.EnvironmentViews.{classes_of, binding_of};
 ghost use Rattle.ash_expressions.specs.TypedExprViews.{typed_of};
@@ -17,11 +18,12 @@ use ash_tree::{Expr, Position};
 use ash_typed::{Expr as Tree, Stmt as TypedStmt, StmtKind as TypedKind};
 use ash_typing::{Rule, Ty};
 
-/// `break`, which has to leave a loop or a `switch`.
+/// `break`, which has to leave a loop or a `switch`. No memory is taken.
 #[tactic(auto, unfolding(ash_typing::specs::StatementRules::check_break))]
 pub(crate) fn check_break(scope: &Scope, place: Position) -> CheckResult<TypedStmt>
-    ensures { Agrees stmt_of result
+    ensures checked { Agrees stmt_of result
         (definition.check_break (scope.now.in_loop || scope.now.in_switch) place) }
+    ensures no_memory { IsErrOf result NoMemory → ⊥ }
 {
     let leaves = scope.in_loop || scope.in_switch;
     if !leaves {
@@ -33,10 +35,12 @@ pub(crate) fn check_break(scope: &Scope, place: Position) -> CheckResult<TypedSt
     })
 }
 
-/// `continue`, which has to be in a loop.
+/// `continue`, which has to be in a loop. No memory is taken.
 #[tactic(auto, unfolding(ash_typing::specs::StatementRules::check_continue))]
 pub(crate) fn check_continue(scope: &Scope, place: Position) -> CheckResult<TypedStmt>
-    ensures { Agrees stmt_of result (definition.check_continue scope.now.in_loop place) }
+    ensures checked { Agrees stmt_of result
+        (definition.check_continue scope.now.in_loop place) }
+    ensures no_memory { IsErrOf result NoMemory → ⊥ }
 {
     if !scope.in_loop {
         return Err(fault_at(Rule::Misplaced, place.at));
@@ -49,7 +53,7 @@ pub(crate) fn check_continue(scope: &Scope, place: Position) -> CheckResult<Type
 
 /// Whether a function of this type returns without a value.
 fn returns_nothing(of: Ty) -> bool
-    ensures { result ≡ definition.gives_nothing of }
+    ensures value { result ≡ definition.gives_nothing of }
 {
     matches!(of, Ty::Void | Ty::Unknown)
 }
@@ -57,7 +61,7 @@ fn returns_nothing(of: Ty) -> bool
 /// A value that is returned at this offset.
 #[tactic(auto, unfolding(ash_typing::specs::StatementRules::returned))]
 fn build_return_value(env: &Environment, of: Ty, at: usize, value: TypedExpr) -> CheckResult<Tree>
-    ensures { Agrees expr_of result
+    ensures agrees { Agrees expr_of result
         (definition.returned (classes_of env.now) of at (typed_of value)) }
 {
     if is_void(of) {
@@ -74,7 +78,7 @@ pub(crate) fn check_return(
     place: Position,
     value: &Option<Expr>,
 ) -> CheckResult<TypedStmt>
-    ensures { Agrees stmt_of result
+    ensures agrees { Agrees stmt_of result
         (definition.check_return (scope_of scope.now (map binding_of locals.now)) place
         (option_map written.expr_of value.now)) }
 {

@@ -1,6 +1,6 @@
 //! Loops, once their parts are typed, and the head of a `for`.
 
-ghost use Rattle.std.specs.Prelude.{◌≡◌, Ok, map, option_map, IfOk};
+ghost use Rattle.std.specs.Prelude.{◌≡◌, true, Ok, map, option_map, IfOk};
 ghost use Rattle.ash_tree.specs.TreeViews as written;
 ghost use Rattle.ash_typed.specs.TypedTreeViews.{expr_of};
 ghost use Rattle.ash_typed.specs.BodyViews.{stmt_of, head_of};
@@ -68,7 +68,7 @@ pub(crate) fn build_while(
     condition: TypedExpr,
     inner: Box<Stmt>,
 ) -> CheckResult<Stmt>
-    ensures { Agrees stmt_of result
+    ensures agrees { Agrees stmt_of result
         (definition.check_while line (Ok (typed_of condition)) (Ok (stmt_of inner.value))) }
 {
     check_bool(condition.at, condition.ty)?;
@@ -84,7 +84,7 @@ pub(crate) fn build_do_while(
     inner: Box<Stmt>,
     condition: TypedExpr,
 ) -> CheckResult<Stmt>
-    ensures { Agrees stmt_of result
+    ensures agrees { Agrees stmt_of result
         (definition.check_do_while line (Ok (stmt_of inner.value)) (Ok (typed_of condition))) }
 {
     check_bool(condition.at, condition.ty)?;
@@ -114,14 +114,12 @@ pub(crate) struct CheckedFor {
 /// `for (head condition; steps) body`
 #[tactic(auto, unfolding(ash_typing::specs::StatementRules::check_for))]
 pub(crate) fn build_for(alloc: Global, line: usize, parts: CheckedFor) -> CheckResult<Stmt>
-    ensures { Agrees stmt_of result
+    ensures agrees { Agrees stmt_of result
         (definition.check_for line (Ok (head_of parts.head))
         (Ok (optional_typed_of parts.condition)) (Ok (all_typed_of parts.steps))
         (Ok (stmt_of parts.body.value))) }
 {
-    if let Err(error) = check_optional_bool(&parts.condition) {
-        return Err(error);
-    }
+    check_optional_bool(&parts.condition)?;
     let steps = trees_of(alloc, parts.steps)?;
     let condition = optional_tree(parts.condition);
     let inside = nodes::repetition(Test::First, condition, steps, parts.body);
@@ -133,7 +131,7 @@ pub(crate) fn check_optional_expr(
     env: &Environment,
     condition: &Option<Expr>,
 ) -> CheckResult<Option<TypedExpr>>
-    ensures { Agrees optional_typed_of result
+    ensures agrees { Agrees optional_typed_of result
         (definition.check_optional (environment_of env.now)
         (option_map written.expr_of condition.now)) }
 {
@@ -144,18 +142,19 @@ pub(crate) fn check_optional_expr(
 }
 
 /// Requires that a condition is a truth value, where there is one.
-fn check_optional_bool(condition: &Option<TypedExpr>) -> CheckResult<bool>
-    ensures { Agrees (λ yes. yes) result
+fn check_optional_bool(condition: &Option<TypedExpr>) -> CheckResult<()>
+    ensures agrees { Agrees (λ _. true) result
         (definition.maybe_condition_is (optional_typed_of condition.now)) }
 {
     match condition {
-        None => Ok(true),
+        None => Ok(()),
         Some(condition) => check_bool(condition.at, condition.ty),
     }
 }
 
 fn optional_tree(condition: Option<TypedExpr>) -> Option<Tree>
-    ensures { optional_expr result ≡ option_map definition.tree_of (optional_typed_of condition) }
+    ensures value { optional_expr result ≡ option_map definition.tree_of
+        (optional_typed_of condition) }
 {
     match condition {
         None => None,
@@ -164,7 +163,7 @@ fn optional_tree(condition: Option<TypedExpr>) -> Option<Tree>
 }
 
 fn trees_of(alloc: Global, typed: Vec<TypedExpr>) -> Result<Vec<Tree>, AllocError>
-    ensures { IfOk result
+    ensures value { IfOk result
         (λ trees. map expr_of trees.items ≡ map definition.tree_of (all_typed_of typed)) }
 {
     let mut trees = Vec::with_capacity(alloc, typed.len())?;

@@ -10,7 +10,7 @@ use ash_tree::{Case, Label, Stmt, StmtKind};
 #[cycle(breaking)]
 #[tactic(auto, using(crate::proofs::ReturnLaws::if_is, crate::proofs::ReturnLaws::if_else_is))]
 fn breaks(stmt: &Stmt) -> bool
-    ensures { result ≡ definition.breaks (stmt_of stmt.now) }
+    ensures value { result ≡ definition.breaks (stmt_of stmt.now) }
 {
     match &stmt.kind {
         StmtKind::Break => true,
@@ -27,7 +27,7 @@ fn breaks(stmt: &Stmt) -> bool
 
 #[cycle(breaking)]
 fn any_breaks(body: &[Stmt]) -> bool
-    ensures { result ≡ definition.any_breaks (stmts (map stmt_of body.now)) }
+    ensures value { result ≡ definition.any_breaks (stmts (map stmt_of body.now)) }
 {
     for stmt in body {
         if breaks(stmt) {
@@ -38,7 +38,7 @@ fn any_breaks(body: &[Stmt]) -> bool
 }
 
 fn breaks_out(labels: &[Case]) -> bool
-    ensures { result ≡ definition.breaks_out (cases (map case_of labels.now)) }
+    ensures value { result ≡ definition.breaks_out (cases (map case_of labels.now)) }
 {
     for case in labels {
         if any_breaks(&case.body) {
@@ -49,13 +49,13 @@ fn breaks_out(labels: &[Case]) -> bool
 }
 
 fn is_default(label: Label) -> bool
-    ensures { result ≡ definition.is_default label }
+    ensures value { result ≡ definition.is_default label }
 {
     matches!(label, Label::Default)
 }
 
 fn has_default(labels: &[Case]) -> bool
-    ensures { result ≡ definition.has_default (cases (map case_of labels.now)) }
+    ensures value { result ≡ definition.has_default (cases (map case_of labels.now)) }
 {
     for case in labels {
         if is_default(case.label) {
@@ -69,7 +69,7 @@ fn has_default(labels: &[Case]) -> bool
 #[cycle(returning)]
 #[tactic(auto, using(crate::proofs::ReturnLaws::if_else_is))]
 fn returns(stmt: &Stmt) -> bool
-    ensures { result ≡ definition.returns (stmt_of stmt.now) }
+    ensures value { result ≡ definition.returns (stmt_of stmt.now) }
 {
     match &stmt.kind {
         StmtKind::Return(_) => true,
@@ -89,7 +89,7 @@ fn returns(stmt: &Stmt) -> bool
 /// Whether one of the statements of a body returns.
 #[cycle(returning)]
 pub(crate) fn any_returns(body: &[Stmt]) -> bool
-    ensures { result ≡ definition.any_returns (stmts (map stmt_of body.now)) }
+    ensures value { result ≡ definition.any_returns (stmts (map stmt_of body.now)) }
 {
     for stmt in body {
         if returns(stmt) {
@@ -102,7 +102,7 @@ pub(crate) fn any_returns(body: &[Stmt]) -> bool
 #[cycle(returning)]
 #[tactic(auto, using(crate::proofs::ReturnLaws::last_is))]
 fn last_returns(labels: &[Case]) -> bool
-    ensures { result ≡ definition.last_returns (cases (map case_of labels.now)) }
+    ensures value { result ≡ definition.last_returns (cases (map case_of labels.now)) }
 {
     match labels.last() {
         Some(case) => any_returns(&case.body),

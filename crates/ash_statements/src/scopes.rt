@@ -35,7 +35,7 @@ pub(crate) struct Scope<'a, 'n> {
 
 /// The locals of a block: those from the first on.
 fn locals_of_block<'b, 'n>(locals: &'b [Binding<'n>], first: usize) -> &'b [Binding<'n>]
-    ensures { result.now ≡ drop first locals.now }
+    ensures value { result.now ≡ drop first locals.now }
 {
     if first <= locals.len() {
         &locals[first..]
@@ -59,7 +59,8 @@ pub fn any_declares(all: &[Binding], name: &str) -> bool
 impl<'a, 'n> Scope<'a, 'n> {
     /// The environment of an expression.
     pub(crate) fn environment(&self, locals: &'a [Binding<'n>]) -> Environment<'a, 'n>
-        ensures { environment_of result ≡ (scope_of self.now (map binding_of locals.now)).env }
+        ensures value { environment_of result
+            ≡ (scope_of self.now (map binding_of locals.now)).env }
     {
         Environment {
             alloc: self.alloc,
@@ -71,7 +72,7 @@ impl<'a, 'n> Scope<'a, 'n> {
     }
 
     fn is_taken(&self, locals: &[Binding], name: &str) -> bool
-        ensures { result
+        ensures value { result
             ≡ scopes.is_taken (scope_of self.now (map binding_of locals.now)) name.now }
     {
         any_declares(locals_of_block(locals, self.block_start), name)

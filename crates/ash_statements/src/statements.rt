@@ -119,7 +119,7 @@ fn check_evaluation(
     place: Position,
     value: &Expr,
 ) -> CheckResult<TypedStmt>
-    ensures { Agrees stmt_of result
+    ensures agrees { Agrees stmt_of result
         (definition.check_stmt (scope_of scope.now (map binding_of locals.now))
         (Evaluate place (written.expr_of value.now))) }
 {

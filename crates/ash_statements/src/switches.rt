@@ -1,11 +1,12 @@
 //! Labels of a `switch`.
 
-ghost use Rattle.std.specs.Prelude.{◌≡◌, ◌<◌, ◌+◌, length, map, drop};
+ghost use Rattle.std.specs.Prelude.{◌≡◌, ◌<◌, ◌+◌, length, map, drop, IsErrOf};
 ghost use Rattle.std.specs.List.{list_any};
 ghost use Rattle.ash_tree.specs.Tree.{cases};
 ghost use Rattle.ash_tree.specs.TreeViews.{case_of};
 ghost use Rattle.ash_typing.specs.Labels as constants;
 ghost use Rattle.ash_typing.specs.Switches as definition;
+ghost use Rattle.ash_environment.specs.declared.error.CheckError.TheVariants.{NoMemory};
 ghost use Rattle.ash_environment.specs.Agreement.{Agrees};
 
 use ash_environment::{CheckResult, fault_at, holds};
@@ -15,7 +16,7 @@ use ash_typing::{Rule, Ty};
 
 /// The integer type of the value, where it has one.
 pub(crate) fn integer_type_in(of: Ty) -> Option<IntType>
-    ensures { result ≡ definition.integer_type_in of }
+    ensures value { result ≡ definition.integer_type_in of }
 {
     match of {
         Ty::Integer(int_type) => Some(int_type),
@@ -25,7 +26,7 @@ pub(crate) fn integer_type_in(of: Ty) -> Option<IntType>
 
 /// Whether a type holds what is this much below zero.
 fn holds_minus(int_type: IntType, number: u64) -> bool
-    ensures { result ≡ constants.holds_minus int_type number }
+    ensures value { result ≡ constants.holds_minus int_type number }
 {
     match int_type {
         IntType::Int => number <= 1 << 31,
@@ -37,7 +38,7 @@ fn holds_minus(int_type: IntType, number: u64) -> bool
 /// Whether a type holds the constant of a label. No range is known without an integer type.
 #[tactic(auto, unfolding(ash_typing::specs::Switches::is_within))]
 fn is_within(int_type: Option<IntType>, label: Label) -> bool
-    ensures { result ≡ definition.is_within int_type label }
+    ensures value { result ≡ definition.is_within int_type label }
 {
     match (int_type, label) {
         (Some(int_type), Label::Case(number)) => holds(int_type, number),
@@ -48,7 +49,7 @@ fn is_within(int_type: Option<IntType>, label: Label) -> bool
 
 /// Whether two labels have equal constants: `-0` is `0`.
 fn is_same_constant(one: Label, other: Label) -> bool
-    ensures { result ≡ constants.is_same_constant one other }
+    ensures value { result ≡ constants.is_same_constant one other }
 {
     match (one, other) {
         (Label::Case(m), Label::Case(n)) | (Label::CaseMinus(m), Label::CaseMinus(n)) => m == n,
@@ -60,7 +61,7 @@ fn is_same_constant(one: Label, other: Label) -> bool
 }
 
 fn any_is_same(before: &[Label], label: Label) -> bool
-    ensures { result ≡ list_any (constants.is_same_constant label) before.now }
+    ensures value { result ≡ list_any (constants.is_same_constant label) before.now }
 {
     for other in before {
         if is_same_constant(label, *other) {
@@ -87,7 +88,7 @@ pub(crate) struct LabelContext<'a> {
     pub(crate) is_last: bool,
 }
 
-/// The constant of a label at this offset, after the labels before it.
+/// The constant of a label at this offset, after the labels before it. No memory is taken.
 #[tactic(auto, unfolding(ash_typing::specs::Switches::check_constant))]
 fn check_constant(
     int_type: Option<IntType>,
@@ -95,7 +96,9 @@ fn check_constant(
     at: usize,
     label: Label,
 ) -> CheckResult<Label>
-    ensures { Agrees (λ l. l) result (definition.check_constant int_type before.now at label) }
+    ensures checked { Agrees (λ l. l) result
+        (definition.check_constant int_type before.now at label) }
+    ensures no_memory { IsErrOf result NoMemory → ⊥ }
 {
     if !is_within(int_type, label) {
         return Err(fault_at(Rule::ConstantOutOfRange, at));
@@ -106,12 +109,13 @@ fn check_constant(
     Ok(label)
 }
 
-/// A label at this offset: `default` has to be the last one.
+/// A label at this offset: `default` has to be the last one. No memory is taken.
 #[tactic(auto, unfolding(ash_typing::specs::Switches::check_label))]
 pub(crate) fn check_label(context: LabelContext, at: usize, label: Label) -> CheckResult<Label>
-    ensures { Agrees (λ l. l) result
+    ensures checked { Agrees (λ l. l) result
         (definition.check_label context.entry.int_type context.entry.before.now
         context.entry.is_last at label) }
+    ensures no_memory { IsErrOf result NoMemory → ⊥ }
 {
     match label {
         Label::Default => {

@@ -17,7 +17,7 @@ use std::alloc::{AllocError, Global};
 
 /// The name of the module at an index.
 fn name_at(modules: &[LoadedModule], index: u8) -> &str
-    ensures { result.now ≡ name_at (modules_seen modules.now) index }
+    ensures value { result.now ≡ name_at (modules_seen modules.now) index }
 {
     match modules.get(usize::from(index)) {
         Some(m) => m.name.as_str(),
@@ -31,7 +31,7 @@ fn element_of(
     modules: &[LoadedModule],
     of: ElementType,
 ) -> Result<Elements, AllocError>
-    ensures { IfOk result (λ e. element_seen e
+    ensures value { IfOk result (λ e. element_seen e
         ≡ element_named (name_at (modules_seen modules.now)) (element_of of)) }
 {
     match of {
@@ -57,7 +57,7 @@ fn object_of(
     modules: &[LoadedModule],
     body: StoredBody,
 ) -> Result<Object, AllocError>
-    ensures { IfOk result (λ o. object_seen o
+    ensures value { IfOk result (λ o. object_seen o
         ≡ plain_named (name_at (modules_seen modules.now)) (plain_of body)) }
 {
     match body {

@@ -24,14 +24,14 @@ use std::alloc::{AllocError, Global};
 
 /// The place of the module of a name.
 fn place_of(modules: &[LoadedModule], name: &str) -> Option<usize>
-    ensures { result ≡ position (λ m. has_name name.now (loaded_seen m)) modules.now }
+    ensures value { result ≡ position (λ m. has_name name.now (loaded_seen m)) modules.now }
 {
     modules.iter().position(|m| m.name.as_str() == name)
 }
 
 /// The index of the module of a name.
 fn index_of(modules: &[LoadedModule], name: &str) -> usize
-    ensures { result ≡ index_in (modules_seen modules.now) name.now }
+    ensures value { result ≡ index_in (modules_seen modules.now) name.now }
 {
     place_of(modules, name).unwrap_or(0)
 }

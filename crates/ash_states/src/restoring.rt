@@ -18,7 +18,7 @@ use std::alloc::{AllocError, Global};
 
 /// How a host with this registry reads sources: scripts are admitted that use nothing registered.
 pub(crate) fn sources_for(registry: &Registry) -> Sources<'_>
-    ensures { rules_of result ≡ admitting_unregistered (registered registry.now) }
+    ensures value { rules_of result ≡ admitting_unregistered (registered registry.now) }
 {
     Sources {
         registry,

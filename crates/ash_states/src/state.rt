@@ -130,12 +130,8 @@ impl HostState {
     {
         let alloc = self.state.alloc;
         let state = mem::replace(&mut self.state, first_state(alloc));
-        match step_of(&self.registry, request, budget, state) {
-            Ok(step) => {
-                self.state = step.state;
-                Ok(step.reply)
-            }
-            Err(error) => Err(error),
-        }
+        let step = step_of(&self.registry, request, budget, state)?;
+        self.state = step.state;
+        Ok(step.reply)
     }
 }

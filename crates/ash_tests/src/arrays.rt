@@ -1,6 +1,7 @@
 //! Arrays.
 
-use crate::hosts::{check_text, new_host, opened_after_crash, replies};
+use crate::checks::check_text;
+use crate::hosts::{new_host, opened_after_crash, replies};
 use crate::rows::{Row, check_rows};
 use ash_registry::Registry;
 use std::alloc::{AllocError, Global};

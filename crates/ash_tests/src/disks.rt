@@ -1,12 +1,13 @@
 //! Requests and their replies, byte for byte, of a host whose disk fails, and of one that is opened again after a
 //! crash.
 
-use crate::hosts::{
-    check, check_text, closed, crashed, created, new_host, opened, opened_after_crash, replies,
-};
+use crate::checks::{check, check_text};
+use crate::hosts::{crashed, new_host, opened_after_crash, replies};
+use crate::stores::fuses::{Failing, fuses};
 use ash_disk::{FailingDisk, MemoryDisk, Survives};
 use ash_durable::{CreateFault, Host, StoreFault};
 use ash_registry::Registry;
+use ash_store_fixtures::hosts::{closed, created, opened};
 use std::alloc::Global;
 use std::process::Abort;
 use std::test::Fail;
@@ -25,25 +26,10 @@ fn fused(
     created(alloc, a, b, Registry::new(alloc))
 }
 
-/// The disk that fails.
-#[derive(Clone, Copy)]
-enum Failing {
-    First,
-    Second,
-}
-
-/// How many calls each disk may have where one of them fails after so many.
-fn fuses(failing: Failing, calls: u64) -> (u64, u64) {
-    match failing {
-        Failing::First => (calls, u64::MAX),
-        Failing::Second => (u64::MAX, calls),
-    }
-}
-
 /// How many calls of a disk the making of a store takes.
 fn calls_of_create(alloc: Global, failing: Failing) -> Result<u64, Fail> {
     for calls in 0..100 {
-        let (first, second) = fuses(failing, calls);
+        let (first, second) = fuses(failing, calls, u64::MAX);
         match fused(alloc, first, second) {
             Ok(_) => return Ok(calls),
             Err(StoreFault::Create(CreateFault::DeviceFailed)) => {}
@@ -93,7 +79,7 @@ fn check_each(
 ) -> Result<(), Fail> {
     let made = calls_of_create(alloc, failing)?;
     for calls in 0..12 {
-        let fuses = fuses(failing, made.saturating_add(calls));
+        let fuses = fuses(failing, made.saturating_add(calls), u64::MAX);
         check_fused(rt, alloc, fuses, requests, wanted_of(rows, calls))?;
     }
     Ok(())

@@ -6,55 +6,15 @@ use ash_durable::{Host, StoreFault};
 use ash_registry::Registry;
 use ash_serve::RunFault;
 use ash_serve::run::run;
+use ash_store_fixtures::hosts::{closed, created, opened};
 use std::alloc::{AllocError, Global};
-use std::fmt::Debug;
 use std::io::{Read, Write};
-use std::process::Abort;
 use std::test::Fail;
-
-/// Compares what is found with what is wanted.
-pub fn check<T: Debug + PartialEq>(rt: &impl Abort, found: &T, wanted: &T, what: &str) {
-    if *found != *wanted {
-        panic!(rt; "{what}: found {found:?}, wanted {wanted:?}");
-    }
-}
-
-/// The same of texts.
-pub fn check_text(rt: &impl Abort, found: &str, wanted: &str, what: &str) {
-    if found != wanted {
-        panic!(rt; "{what}: found {found}, wanted {wanted}");
-    }
-}
-
-/// A host over two disks, with this registry.
-pub fn created<D: Disk + Drop>(
-    alloc: Global,
-    a: D,
-    b: D,
-    registry: Registry,
-) -> Result<Host<D>, StoreFault> {
-    Host::create(alloc, a, b, registry).map_err(|refused| refused.fault)
-}
 
 /// A host over two empty disks in memory, with this registry.
 pub fn new_host(alloc: Global, registry: Registry) -> Result<Host<MemoryDisk>, StoreFault> {
     let (a, b) = (MemoryDisk::new(alloc), MemoryDisk::new(alloc));
     created(alloc, a, b, registry)
-}
-
-/// A host with the store on these disks, or why there is none.
-pub fn opened<D: Disk + Drop>(
-    alloc: Global,
-    a: D,
-    b: D,
-    registry: Registry,
-) -> Result<Host<D>, StoreFault> {
-    Host::open(alloc, a, b, registry).map_err(|refused| refused.fault)
-}
-
-/// The two disks of a host that is closed.
-pub fn closed<D: Disk>(host: Host<D>) -> (D, D) {
-    host.close()
 }
 
 /// What a crash after so many calls leaves of a disk, or after all calls where there are fewer.

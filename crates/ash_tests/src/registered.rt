@@ -1,11 +1,13 @@
 //! Stores with what the program registers, which are opened again, with another registry too.
 
-use crate::hosts::{check, check_text, closed, new_host, opened, replies};
+use crate::checks::{check, check_text};
+use crate::hosts::{new_host, replies};
 use ash_disk::MemoryDisk;
 use ash_durable::{Host, StoreFault};
 use ash_registry::{Registry, RegistryFault};
 use ash_serve::program::registrations::registrations;
-use std::alloc::{AllocError, Global};
+use ash_store_fixtures::hosts::{closed, disk, opened, reopened};
+use std::alloc::Global;
 use std::process::Abort;
 use std::test::Fail;
 
@@ -22,10 +24,6 @@ fn one_more(alloc: Global) -> Result<Registry, RegistryFault> {
     let mut registry = registrations(alloc)?;
     registry.method("Counter", "int get()", 3)?;
     Ok(registry)
-}
-
-fn disk(alloc: Global, bytes: &[u8]) -> Result<MemoryDisk, AllocError> {
-    MemoryDisk::with_bytes(alloc, bytes)
 }
 
 /// A new store with the program's registrations.
@@ -51,10 +49,6 @@ fn refusal_with_none(alloc: Global, file: &[u8]) -> Result<Option<StoreFault>, F
 
 fn refusal_with_program(alloc: Global, file: &[u8]) -> Result<Option<StoreFault>, Fail> {
     refusal(alloc, file, registrations(alloc)?)
-}
-
-fn reopened(host: Host<MemoryDisk>) -> Result<Host<MemoryDisk>, StoreFault> {
-    host.reopen().map_err(|refused| refused.fault)
 }
 
 /// The disks of a store with the program's registrations and a module, which were handed back where it was opened with

@@ -1,6 +1,7 @@
 //! Requests that are refused, and sources as long as they may be.
 
-use crate::hosts::{check, check_text, ending, new_host, replies};
+use crate::checks::{check, check_text};
+use crate::hosts::{ending, new_host, replies};
 use crate::rows::{Row, check_rows};
 use ash_registry::Registry;
 use ash_serve::RunFault;

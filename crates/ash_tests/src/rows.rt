@@ -1,6 +1,7 @@
 //! Rows: what is asked of a host with what the program registers, and what is replied, byte for byte.
 
-use crate::hosts::{check_text, new_host, opened_after_crash, replies_within};
+use crate::checks::check_text;
+use crate::hosts::{new_host, opened_after_crash, replies_within};
 use ash_disk::MemoryDisk;
 use ash_durable::Host;
 use ash_serve::program::registrations::registrations;

@@ -1,12 +1,14 @@
 //! Serving and checking over readers and writers that fail, and a store that is served again from its disks.
 
-use crate::hosts::{check, check_text, closed, ending, new_host, opened, replies};
+use crate::checks::{check, check_text};
+use crate::hosts::{ending, new_host, replies};
 use ash_disk::{MemoryDisk, Survives};
 use ash_registry::Registry;
 use ash_serve::program::check::run_check;
 use ash_serve::program::fault::ProgramFault;
 use ash_serve::program::service::{Service, ServiceEnd, serve_stored};
 use ash_serve::{ReadFault, RunFault};
+use ash_store_fixtures::hosts::{closed, opened};
 use std::alloc::Global;
 use std::io;
 use std::io::{ErrorKind, Read, Write};

@@ -231,7 +231,7 @@ pub fn declare(vars: Vars) -> Stmt
 
 /// Two statements, each in a box.
 fn box_both(alloc: Global, one: Stmt, other: Stmt) -> Result<(Box<Stmt>, Box<Stmt>), AllocError>
-    ensures { IfOk result (λ both. (both.0.value ≡ one) × (both.1.value ≡ other)) }
+    ensures value { IfOk result (λ both. (both.0.value ≡ one) × (both.1.value ≡ other)) }
 {
     let one = box_statement(alloc, one);
     let other = box_statement(alloc, other);
@@ -239,7 +239,7 @@ fn box_both(alloc: Global, one: Stmt, other: Stmt) -> Result<(Box<Stmt>, Box<Stm
 }
 
 fn box_statement(alloc: Global, inner: Stmt) -> Result<Box<Stmt>, AllocError>
-    ensures { IfOk result (λ b. b.value ≡ inner) }
+    ensures value { IfOk result (λ b. b.value ≡ inner) }
 {
     Ok(Box::new(alloc, inner)?)
 }

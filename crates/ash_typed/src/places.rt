@@ -39,7 +39,7 @@ fn member_of(
     base: Box<Expr>,
     mut links: Vec<Link>,
 ) -> Result<Option<Place>, AllocError>
-    ensures { IfOk result (λ found.
+    ensures value { IfOk result (λ found.
         option_map place_of found ≡ place_in (all_linked (expr_of base.value) links.items)) }
 {
     match links.pop() {
@@ -64,7 +64,7 @@ fn chain_place(
     first: Box<Expr>,
     operands: Vec<Operand>,
 ) -> Result<Option<Place>, AllocError>
-    ensures { IfOk result (λ found.
+    ensures value { IfOk result (λ found.
         option_map place_of found ≡ place_in (all_chained (expr_of first.value) operands.items)) }
 {
     if operands.is_empty() {
@@ -82,7 +82,7 @@ fn lazy_place(
     first: Box<Expr>,
     others: Vec<Expr>,
 ) -> Result<Option<Place>, AllocError>
-    ensures { IfOk result (λ found.
+    ensures value { IfOk result (λ found.
         option_map place_of found
         ≡ place_in (all_lazies operator (expr_of first.value) others.items)) }
 {

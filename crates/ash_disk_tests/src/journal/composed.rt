@@ -95,7 +95,7 @@ fn composed<D: Disk + Drop>(
 ) -> Result<Journal<D>, CallerError>
     requires image_short { length image.now < 2 ^ 32 }
     requires body_short { length body.now < 2 ^ 32 }
-    ensures { IfOk result (λ j. IsTrue (D.honest first) → IsTrue (D.honest second)
+    ensures held { IfOk result (λ j. IsTrue (D.honest first) → IsTrue (D.honest second)
         → Holds D.Disk j image.now (body.now ∷ body.now ∷ [])) }
 {
     let journal = three_records(alloc, first, second, image, body)?;

@@ -31,10 +31,8 @@ impl<D: Disk> Journal<D> {
             return Err(InstallError::GenerationSpent);
         }
         let number = self.generation + 1;
-        match generation_bytes(self.alloc, number, image) {
-            Ok(bytes) => Ok(NextGeneration { number, bytes }),
-            Err(_) => Err(InstallError::NoMemory),
-        }
+        let bytes = generation_bytes(self.alloc, number, image)?;
+        Ok(NextGeneration { number, bytes })
     }
 
     /// Writes the next generation to the other file, on a journal that is ready. The file that was current isn't

@@ -30,8 +30,8 @@ pub(super) fn branches<'a>(
     condition: Expr,
     tokens: &'a [Token],
 ) -> ParseResult<'a, Expr>
-    requires { room ≤ MAX_DEPTH }
-    ensures { ParsesAs expr_of result
+    requires within { room ≤ MAX_DEPTH }
+    ensures parsed { ParsesAs expr_of result
         (reader.branches_with (reader.below_at room) (expr_of condition) (tokens_of tokens.now)) }
 {
     let place = condition.place;
@@ -55,8 +55,8 @@ fn other_branch<'a>(
     first: FirstBranch,
     tokens: &'a [Token],
 ) -> ParseResult<'a, Expr>
-    requires { room ≤ MAX_DEPTH }
-    ensures { ParsesAs expr_of result
+    requires within { room ≤ MAX_DEPTH }
+    ensures parsed { ParsesAs expr_of result
         (reader.other_branch_with (reader.below_at room) first.place (expr_of first.condition.value)
         (expr_of first.then.value) (tokens_of tokens.now)) }
 {
@@ -73,7 +73,8 @@ fn other_branch<'a>(
 
 /// A condition with both its branches.
 fn conditional(place: Position, condition: Box<Expr>, then: Box<Expr>, otherwise: Box<Expr>) -> Expr
-    ensures { expr_of result ≡ Conditional place (expr_of condition.value) (expr_of then.value)
+    ensures value { expr_of result ≡ Conditional place (expr_of condition.value)
+        (expr_of then.value)
         (expr_of otherwise.value) }
 {
     Expr {
@@ -87,7 +88,7 @@ fn conditional(place: Position, condition: Box<Expr>, then: Box<Expr>, otherwise
 }
 
 fn boxed(alloc: Global, operand: Expr) -> Result<Box<Expr>, AllocError>
-    ensures { IfOk result (λ b. b.value ≡ operand) }
+    ensures value { IfOk result (λ b. b.value ≡ operand) }
 {
     Ok(Box::new(alloc, operand)?)
 }

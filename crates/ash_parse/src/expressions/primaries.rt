@@ -20,8 +20,8 @@ use std::alloc::Global;
 #[cycle(expressions)]
 #[tactic(auto, unfolding(crate::specs::ExpressionReader::primary_with))]
 pub(super) fn primary(alloc: Global, room: u32, tokens: &[Token]) -> ParseResult<'_, Expr>
-    requires { room ≤ MAX_DEPTH }
-    ensures { ParsesAs expr_of result
+    requires within { room ≤ MAX_DEPTH }
+    ensures parsed { ParsesAs expr_of result
         (reader.primary_with (reader.below_at room) (tokens_of tokens.now)) }
 {
     let Some((next, rest)) = tokens.split_first() else {
@@ -54,8 +54,8 @@ pub(super) fn primary(alloc: Global, room: u32, tokens: &[Token]) -> ParseResult
 #[cycle(expressions)]
 #[tactic(auto, unfolding(crate::specs::ExpressionReader::new_array_with))]
 fn new_array(alloc: Global, room: u32, place: Position, tokens: &[Token]) -> ParseResult<'_, Expr>
-    requires { room ≤ MAX_DEPTH }
-    ensures { ParsesAs expr_of result
+    requires within { room ≤ MAX_DEPTH }
+    ensures parsed { ParsesAs expr_of result
         (reader.new_array_with (reader.below_at room) place (tokens_of tokens.now)) }
 {
     let (of, rest) = element(alloc, tokens)?;
@@ -67,8 +67,8 @@ fn new_array(alloc: Global, room: u32, place: Position, tokens: &[Token]) -> Par
 #[cycle(expressions)]
 #[tactic(auto, unfolding(crate::specs::ExpressionReader::cast_with))]
 fn cast(alloc: Global, room: u32, place: Position, tokens: &[Token]) -> ParseResult<'_, Expr>
-    requires { room ≤ MAX_DEPTH }
-    ensures { ParsesAs expr_of result
+    requires within { room ≤ MAX_DEPTH }
+    ensures parsed { ParsesAs expr_of result
         (reader.cast_with (reader.below_at room) place (tokens_of tokens.now)) }
 {
     let (to, rest) = target(alloc, tokens)?;
@@ -86,8 +86,8 @@ fn name_or_call<'a>(
     text: &str,
     tokens: &'a [Token],
 ) -> ParseResult<'a, Expr>
-    requires { room ≤ MAX_DEPTH }
-    ensures { ParsesAs expr_of result
+    requires within { room ≤ MAX_DEPTH }
+    ensures parsed { ParsesAs expr_of result
         (reader.name_or_call_with (reader.below_at room) place text.now (tokens_of tokens.now)) }
 {
     let name = String::from_str(alloc, text)?;

@@ -26,8 +26,8 @@ pub(super) fn while_statement<'a>(
     place: Position,
     tokens: &'a [Token],
 ) -> ParseResult<'a, Stmt>
-    requires { room ≤ MAX_DEPTH }
-    ensures { ParsesAs stmt_of result
+    requires within { room ≤ MAX_DEPTH }
+    ensures parsed { ParsesAs stmt_of result
         (reader.while_with (exprs.below_at room) (reader.nested_at room) place
         (tokens_of tokens.now)) }
 {
@@ -49,8 +49,8 @@ pub(super) fn do_statement<'a>(
     place: Position,
     tokens: &'a [Token],
 ) -> ParseResult<'a, Stmt>
-    requires { room ≤ MAX_DEPTH }
-    ensures { ParsesAs stmt_of result
+    requires within { room ≤ MAX_DEPTH }
+    ensures parsed { ParsesAs stmt_of result
         (reader.do_with (exprs.below_at room) (reader.nested_at room) place
         (tokens_of tokens.now)) }
 {
@@ -67,8 +67,8 @@ fn do_end<'a>(
     body: Box<Stmt>,
     tokens: &'a [Token],
 ) -> ParseResult<'a, Stmt>
-    requires { room ≤ MAX_DEPTH }
-    ensures { ParsesAs stmt_of result
+    requires within { room ≤ MAX_DEPTH }
+    ensures parsed { ParsesAs stmt_of result
         (reader.do_end_with (exprs.below_at room) place (stmt_of body.value)
         (tokens_of tokens.now)) }
 {
@@ -91,8 +91,8 @@ pub(super) fn for_statement<'a>(
     place: Position,
     tokens: &'a [Token],
 ) -> ParseResult<'a, Stmt>
-    requires { room ≤ MAX_DEPTH }
-    ensures { ParsesAs stmt_of result
+    requires within { room ≤ MAX_DEPTH }
+    ensures parsed { ParsesAs stmt_of result
         (reader.for_with (exprs.below_at room) (reader.nested_at room) place
         (tokens_of tokens.now)) }
 {

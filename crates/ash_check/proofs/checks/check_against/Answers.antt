@@ -21,7 +21,7 @@ use Rattle.ash_check.proofs.checks.check_against.Goals as goal
 pub returns-in_err-module-clause-answer : goal.returns-in_err-module-clause-answer
 returns-in_err-module-clause-answer c =
     let answer = checked (registered c.args.registry.now) (written_module c.args.script.now) in
-    reported_if_err c.from_residual.result (script_error c.in_err-module.field-0.0) answer (λ done. answer ≡ Ok (module_of done.typed)) c.from_residual.ensures.1 (error_is_reported (registered c.args.registry.now) (written_module c.args.script.now) c.in_err-module.field-0.0 c.in_err-module.ensures)
+    reported_if_err c.from_residual.result (script_error c.in_err-module.field-0.0) answer (λ done. answer ≡ Ok (module_of done.typed)) c.from_residual.ensures.1 (error_is_reported (registered c.args.registry.now) (written_module c.args.script.now) c.in_err-module.field-0.0 c.in_err-module.ensures.agrees)
 
 pub cycle_names-requires-clause-first : goal.cycle_names-requires-clause-first
 cycle_names-requires-clause-first c =
@@ -39,7 +39,7 @@ pub returns-in-Ok-clause-answer : goal.returns-in-Ok-clause-answer
 returns-in-Ok-clause-answer c =
     let items = written_module c.args.script.now in
     let none : reported_cycle (classes_of items) ≡ None = subst (λ r. OnOk r (reported_cycle (classes_of items) ≡ None)) c.in-Ok.is c.in_ok-ranks.ensures.none in
-    typed_is_checked (registered c.args.registry.now) items (module_of c.in_ok-module.module) c.in_ok-module.ensures none
+    typed_is_checked (registered c.args.registry.now) items (module_of c.in_ok-module.module) c.in_ok-module.ensures.agrees none
 
 pub returns-in_ok-names-in-Err-clause-answer :
     goal.returns-in_ok-names-in-Err-clause-answer
@@ -48,26 +48,26 @@ returns-in_ok-names-in-Err-clause-answer c =
     let first : ℕ = c.in-Err.cycle.first in
     let others = c.in-Err.cycle.others.items in
     let some : reported_cycle (classes_of items) ≡ Some (first, others) = subst (λ r. IfErr r (λ (cycle : Cycle). reported_cycle (classes_of items) ≡ Some (cycle.first, cycle.others.items))) c.in-Err.is c.in_ok-ranks.ensures.reported in
-    cycle_is_reported (registered c.args.registry.now) items (module_of c.in_ok-module.module) first others c.in_ok-module.ensures some ∙ ap (λ names. Err (Cyclic names)) (sym c.in_ok-names-in-Err.ensures)
+    cycle_is_reported (registered c.args.registry.now) items (module_of c.in_ok-module.module) first others c.in_ok-module.ensures.agrees some ∙ ap (λ names. Err (Cyclic names)) (sym c.in_ok-names-in-Err.ensures.value)
 
 pub returns-in_ok-names-in-Err-clause-cycle :
     goal.returns-in_ok-names-in-Err-clause-cycle
 returns-in_ok-names-in-Err-clause-cycle c =
     let classes = classes_of (written_module c.args.script.now) in
     let reported : IsReportedCycle (DeclaredClassRefers classes) c.in-Err.cycle.first c.in-Err.cycle.others.items = subst (λ r. IfErr r (λ (cycle : Cycle). IsReportedCycle (DeclaredClassRefers classes) cycle.first cycle.others.items)) c.in-Err.is c.in_ok-ranks.ensures.cycle in
-    subst (IsNamedCycle classes) (sym c.in_ok-names-in-Err.ensures) (named_cycle classes c.in-Err.cycle.first c.in-Err.cycle.others.items reported.cycle.path)
+    subst (IsNamedCycle classes) (sym c.in_ok-names-in-Err.ensures.value) (named_cycle classes c.in-Err.cycle.first c.in-Err.cycle.others.items reported.cycle.path)
 
 pub returns-in-Ok-clause-typed : goal.returns-in-Ok-clause-typed
-returns-in-Ok-clause-typed c = (check_module-exact (registered c.args.registry.now) (written_module c.args.script.now) (module_of c.in_ok-module.module)).0 c.in_ok-module.ensures
+returns-in-Ok-clause-typed c = (check_module-exact (registered c.args.registry.now) (written_module c.args.script.now) (module_of c.in_ok-module.module)).0 c.in_ok-module.ensures.agrees
 
 pub returns-in-Ok-clause-sound : goal.returns-in-Ok-clause-sound
 returns-in-Ok-clause-sound c =
     let items = written_module c.args.script.now in
     let are = subst (λ r. IfOk r (λ (ranks : Vec ℕ Global). AreRanksAlong (DeclaredClassRefers (classes_of items)) (length (classes_of items)) ranks.items)) c.in-Ok.is c.in_ok-ranks.ensures.ranks in
-    is_checked (registered c.args.registry.now) items (module_of c.in_ok-module.module) c.in-Ok.ranks.items c.requires.nested c.in_ok-module.ensures are
+    is_checked (registered c.args.registry.now) items (module_of c.in_ok-module.module) c.in-Ok.ranks.items c.requires.nested c.in_ok-module.ensures.agrees are
 
 pub invariant_of-result : goal.invariant_of-result
 invariant_of-result c =
     let items = written_module c.args.script.now in
     let are = subst (λ r. IfOk r (λ (ranks : Vec ℕ Global). AreRanksAlong (DeclaredClassRefers (classes_of items)) (length (classes_of items)) ranks.items)) c.in-Ok.is c.in_ok-ranks.ensures.ranks in
-    subst (λ (r : Registrations). IsChecked (registered r) (module_of c.in_ok-module.module) c.in-Ok.ranks.items) (sym c.of.ensures) (is_checked (registered c.args.registry.now) items (module_of c.in_ok-module.module) c.in-Ok.ranks.items c.requires.nested c.in_ok-module.ensures are)
+    subst (λ (r : Registrations). IsChecked (registered r) (module_of c.in_ok-module.module) c.in-Ok.ranks.items) (sym c.of.ensures) (is_checked (registered c.args.registry.now) items (module_of c.in_ok-module.module) c.in-Ok.ranks.items c.requires.nested c.in_ok-module.ensures.agrees are)

@@ -11,12 +11,14 @@ use Rattle.ash_classes.proofs.CycleSearches.{some_if_cycle, none_if_acyclic}
 use Rattle.ash_classes.proofs.acyclic.class_ranks.Goals as goal
 
 pub ranks-requires : goal.ranks-requires
-ranks-requires c =
-    let long = c.in_ok-referrers.ensures.places in
-    rows_within (borrowed_classes c.deref-2.result.now) c.deref-3.result.now
-    (omega (arith, ap length c.deref-3.ensures.value, long, length-borrowed_classes c.deref-2.result.now))
-    (same_rows c.in_ok-referrers.referrers.items c.deref-3.result.now (borrowed_classes c.deref-2.result.now)
-    (borrowed_classes c.deref-2.result.now) c.deref-3.ensures.value refl c.in_ok-referrers.ensures.rows)
+ranks-requires c = record {
+  within =
+      let long = c.in_ok-referrers.ensures.places in
+      rows_within (borrowed_classes c.deref-2.result.now) c.deref-3.result.now
+      (omega (arith, ap length c.deref-3.ensures.value, long, length-borrowed_classes c.deref-2.result.now))
+      (same_rows c.in_ok-referrers.referrers.items c.deref-3.result.now (borrowed_classes c.deref-2.result.now)
+      (borrowed_classes c.deref-2.result.now) c.deref-3.ensures.value refl c.in_ok-referrers.ensures.rows);
+}
 
 pub returns-clause-ranks : goal.returns-clause-ranks
 returns-clause-ranks c =

@@ -11,22 +11,24 @@ use Rattle.ash_classes.proofs.cycles.nearest.Goals as goal
 use Rattle.ash_classes.proofs.cycles.nearest.Goals.{else-eq-via-then-eq+else-contains, else-eq-via-else-eq}
 
 pub returns-then-contains : goal.returns-then-contains
-returns-then-contains c =
-    let place : ℕ = c.loop-place.place in
-    let is_row : get_or (rows_of c.args.referrers.now) place [] ≡ c.deref.result.now =
-    row_read c.args.referrers.now place c.index-referrers-place.result c.loop-place-test.true
-    c.index-referrers-place.is ∙ sym c.deref.ensures.value in
-    let goes : Goes (rows_of c.args.referrers.now) c.args.from place =
-    subst (λ (r : List ℕ). Contains r c.args.from) (sym is_row)
-    (found_in c.deref.result.now c.args.from c.if-contains.ensures.cases) in (
-      goes,
-      same_mark (get_or c.args.distances.now place None) c.args.distance (sym c.if-eq.ensures),
-      λ other step at.
-          elim (cases_lt other place) [
-            | inl lower ↦ absurd (c.loop-place.invariant other lower step at)
-            | inr higher ↦ higher
-          ],
-    )
+returns-then-contains c = record {
+  nearest =
+      let place : ℕ = c.loop-place.place in
+      let is_row : get_or (rows_of c.args.referrers.now) place [] ≡ c.deref.result.now =
+      row_read c.args.referrers.now place c.index-referrers-place.result c.loop-place-test.true
+      c.index-referrers-place.is ∙ sym c.deref.ensures.value in
+      let goes : Goes (rows_of c.args.referrers.now) c.args.from place =
+      subst (λ (r : List ℕ). Contains r c.args.from) (sym is_row)
+      (found_in c.deref.result.now c.args.from c.if-contains.ensures.cases) in (
+        goes,
+        same_mark (get_or c.args.distances.now place None) c.args.distance (sym c.if-eq.ensures),
+        λ other step at.
+            elim (cases_lt other place) [
+              | inl lower ↦ absurd (c.loop-place.invariant other lower step at)
+              | inr higher ↦ higher
+            ],
+      );
+}
 
 pub loop-place-preserved : goal.loop-place-preserved
 loop-place-preserved c = λ other less step at. elim (cases_lt other c.loop-place.place) [
@@ -49,9 +51,12 @@ loop-place-preserved c = λ other less step at. elim (cases_lt other c.loop-plac
 ]
 
 pub returns : goal.returns
-returns c = λ place step at.
-    c.loop-place.invariant place
-    (let low : place < length (rows_of c.args.referrers.now) =
-    row_of_place (rows_of c.args.referrers.now) c.args.from place step in
-    omega (arith, low, length-map c.args.referrers.now (λ (v : Vec ℕ Global). v.items), c.loop-place-test.false)) step
-    at
+returns c = record {
+  nearest =
+      λ place step at.
+      c.loop-place.invariant place
+      (let low : place < length (rows_of c.args.referrers.now) =
+      row_of_place (rows_of c.args.referrers.now) c.args.from place step in
+      omega (arith, low, length-map c.args.referrers.now (λ (v : Vec ℕ Global). v.items), c.loop-place-test.false)) step
+      at;
+}

@@ -7,11 +7,13 @@ use Rattle.ash_classes.specs.Marking.{rows_of, Goes}
 use Rattle.ash_classes.proofs.distances.distances_to.Goals as goal
 
 pub mark_row-requires : goal.mark_row-requires
-mark_row-requires c =
-    rw c.deref.ensures.value
-    (row_within c.args.referrers.now c.args.to c.index-referrers-to.result
-    (length c.in_ok-distances.distances.items) c.requires.within c.requires.place c.index-referrers-to.is
-    (rw c.in_ok-distances.ensures (length-replicate (length c.args.referrers.now) None)))
+mark_row-requires c = record {
+  within =
+      rw c.deref.ensures.value
+      (row_within c.args.referrers.now c.args.to c.index-referrers-to.result
+      (length c.in_ok-distances.distances.items) c.requires.within c.requires.place c.index-referrers-to.is
+      (rw c.in_ok-distances.ensures.value (length-replicate (length c.args.referrers.now) None)));
+}
 
 pub levels-init : goal.levels-init
 levels-init c =
@@ -23,7 +25,7 @@ levels-init c =
     c.mark_row.new.found.items
     (λ p h. subst (λ (r : List ℕ). Contains r p) is_row h)
     (λ p h. subst (λ (r : List ℕ). Contains r p) (sym is_row) h)
-    (rw (← c.in_ok-distances.ensures, ← c.new-level.ensures.items) c.in_ok-mark_row.ensures)
+    (rw (← c.in_ok-distances.ensures.value, ← c.new-level.ensures.items) c.in_ok-mark_row.ensures.marks)
 
 pub mark_level-requires-clause-places : goal.mark_level-requires-clause-places
 mark_level-requires-clause-places c =
@@ -38,11 +40,13 @@ levels-preserved c =
     next_search R (length c.args.referrers.now) c.args.to c.levels.between c.levels.distances.items
     c.mark_level.new.distances.items c.levels.level.items c.mark_level.new.found.items
     (omega (arith, eqb-false c.levels.level.len 0 some, c.levels.level.ok.0)) c.levels.invariant
-    (rw (← c.new-found.ensures.items, ← c.deref-in-levels.ensures.value) c.in_ok-mark_level.ensures)
+    (rw (← c.new-found.ensures.items, ← c.deref-in-levels.ensures.value) c.in_ok-mark_level.ensures.marks)
 
 pub returns : goal.returns
-returns c =
-    let R = Goes (rows_of c.args.referrers.now) in
-    let none : eqb c.levels.level.len 0 ≡ true = sym c.levels-test.ensures in
-    end_search R (length c.args.referrers.now) c.args.to c.levels.between c.levels.distances.items c.levels.level.items
-    (omega (arith, eqb-true c.levels.level.len 0 none, c.levels.level.ok.0)) c.levels.invariant
+returns c = record {
+  distances =
+      let R = Goes (rows_of c.args.referrers.now) in
+      let none : eqb c.levels.level.len 0 ≡ true = sym c.levels-test.ensures in
+      end_search R (length c.args.referrers.now) c.args.to c.levels.between c.levels.distances.items c.levels.level.items
+      (omega (arith, eqb-true c.levels.level.len 0 none, c.levels.level.ok.0)) c.levels.invariant;
+}

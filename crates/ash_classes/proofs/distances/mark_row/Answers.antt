@@ -6,8 +6,11 @@ pub loop-place-preserved : goal.loop-place-preserved
 loop-place-preserved c =
     marks_more c.args.row.now c.loop-place.place-index c.args.distance c.args.distances.now.items
     c.loop-place.distances.items c.mark.new.distances.items c.args.found.now.items c.loop-place.found.items
-    c.mark.new.found.items (omega arith) c.loop-place.invariant c.in_ok-mark.ensures
+    c.mark.new.found.items (omega arith) c.loop-place.invariant c.in_ok-mark.ensures.marks
 
 pub returns : goal.returns
-returns c = marks_end c.args.row.now c.loop-place.place-index c.args.distance c.args.distances.now.items
-    c.loop-place.distances.items c.args.found.now.items c.loop-place.found.items (omega arith) c.loop-place.invariant
+returns c = record {
+  marks =
+      marks_end c.args.row.now c.loop-place.place-index c.args.distance c.args.distances.now.items
+      c.loop-place.distances.items c.args.found.now.items c.loop-place.found.items (omega arith) c.loop-place.invariant;
+}

@@ -14,7 +14,7 @@ loop-to-preserved c =
     borrowed_at c.args.classes.now i c.to-item.result c.loop-to-test.true c.to-item.is in
     subst (λ (rs : List (List ℕ)). AreRowsBefore classes (i + 1) rs)
     (sym (ap rows_of c.in_ok-push.ensures.items ∙ rows_of-push c.loop-to.rows.items c.in_ok-row_of.field-0))
-    (rows_more classes other i (rows_of c.loop-to.rows.items) c.in_ok-row_of.field-0.items at c.in_ok-row_of.ensures
+    (rows_more classes other i (rows_of c.loop-to.rows.items) c.in_ok-row_of.field-0.items at c.in_ok-row_of.ensures.exact
     c.loop-to.invariant)
 
 pub returns-clause-rows : goal.returns-clause-rows

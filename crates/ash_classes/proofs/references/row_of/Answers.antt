@@ -17,15 +17,18 @@ loop-place-preserved c =
       | then-refers+in_ok-push w ↦
           subst (λ (r : List ℕ). IsRowBefore classes other (i + 1) r)
           (sym (ap (λ v. v.items) w.row-is ∙ w.in_ok-push.ensures.items))
-          (row_more classes one other i c.loop-place.row.items at (c.refers.ensures.0 w.if-refers.true)
+          (row_more classes one other i c.loop-place.row.items at (c.refers.ensures.exact.0 w.if-refers.true)
           c.loop-place.invariant)
       | else-refers w ↦
           subst (λ (r : List ℕ). IsRowBefore classes other (i + 1) r) (sym (ap (λ v. v.items) w.row-is))
           (row_same classes one other i c.loop-place.row.items at
-          (λ r. let e : c.refers.result ≡ true = c.refers.ensures.1 r in let f : c.refers.result ≡ false =
+          (λ r. let e : c.refers.result ≡ true = c.refers.ensures.exact.1 r in let f : c.refers.result ≡ false =
           w.if-refers.false in cc) c.loop-place.invariant)
     ]
 
 pub returns : goal.returns
-returns c = row_end (borrowed_classes c.args.classes.now) (class_of c.args.to.now) c.loop-place.place c.loop-place.row.items
-    (omega (arith, length-borrowed_classes c.args.classes.now, c.loop-place-test.false)) c.loop-place.invariant
+returns c = record {
+  exact =
+      row_end (borrowed_classes c.args.classes.now) (class_of c.args.to.now) c.loop-place.place c.loop-place.row.items
+      (omega (arith, length-borrowed_classes c.args.classes.now, c.loop-place-test.false)) c.loop-place.invariant;
+}

@@ -17,7 +17,7 @@ loop-call-preserved c =
             torn_more c.args.first.now c.args.calls.now c.loop-call.call-index c.call-item.result c.loop-call-test.true
             c.call-item.is w.in-Write.at w.in-Write.bytes w.deref.result.now c.loop-call.image.items
             c.match-call.image.items w.in-Write.is w.deref.ensures.value c.loop-call.invariant.left
-            (rw (← w.image-is) at w.in_ok-tear-in-Write.ensures);
+            (rw (← w.image-is) at w.in_ok-tear-in-Write.ensures.torn);
       }
       | in-Sync+in_ok-image-in-Sync w ↦
           let copied : w.in_ok-image-in-Sync.image.items ≡ c.loop-call.file.items = search rules in

@@ -20,7 +20,7 @@ loop-record-preserved c =
     AllByRecursion (IsBodyWith version (text_of before.registered)) (bodies_of l))
     left c.loop-record.invariant.shaped.1 in
     let on : LeadsOn before.registered r.body.items r.gate (Ok next) =
-    (c.in_ok-state.ensures.0 ∙ c.into_registry.ensures.same, c.in_ok-state.ensures.1) in
+    (c.in_ok-state.ensures.leads_on.0 ∙ c.into_registry.ensures.same, c.in_ok-state.ensures.leads_on.1) in
     record {
       shaped = (
         version,
@@ -33,16 +33,18 @@ loop-record-preserved c =
     }
 
 pub returns-in_err-state : goal.returns-in_err-state
-returns-in_err-state c =
-    let r = c.record-item.result in
-    let before = c.loop-record.state in
-    let later = drop (c.loop-record.record-index + 1) c.args.records.now in
-    let left = left_from c.args.records.now c.loop-record.record-index r c.loop-record-test.true c.record-item.is in
-    let fault = c.in_err-state.field-0.0 in
-    let reported : c.from_residual.result ≡ Err fault = search rules in
-    let on : LeadsOn before.registered r.body.items r.gate (Err fault) =
-    subst (λ (of : List Registration). LeadsOn of r.body.items r.gate (Err fault)) c.into_registry.ensures.same
-    c.in_err-state.ensures in
-    rw reported (c.loop-record.invariant.leads (Err fault)
-    (subst (λ (l : List Record). LeadsThrough before l (Err fault)) (sym left)
-    (through_none before r later fault on)))
+returns-in_err-state c = record {
+  leads_through =
+      let r = c.record-item.result in
+      let before = c.loop-record.state in
+      let later = drop (c.loop-record.record-index + 1) c.args.records.now in
+      let left = left_from c.args.records.now c.loop-record.record-index r c.loop-record-test.true c.record-item.is in
+      let fault = c.in_err-state.field-0.0 in
+      let reported : c.from_residual.result ≡ Err fault = search rules in
+      let on : LeadsOn before.registered r.body.items r.gate (Err fault) =
+      subst (λ (of : List Registration). LeadsOn of r.body.items r.gate (Err fault)) c.into_registry.ensures.same
+      c.in_err-state.ensures.leads_on in
+      rw reported (c.loop-record.invariant.leads (Err fault)
+      (subst (λ (l : List Record). LeadsThrough before l (Err fault)) (sym left)
+      (through_none before r later fault on)));
+}

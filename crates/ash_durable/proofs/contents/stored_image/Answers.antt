@@ -3,7 +3,9 @@ use Rattle.ash_durable.proofs.Reading.{reads_nothing}
 use Rattle.ash_durable.proofs.contents.stored_image.Goals as goal
 
 pub returns-in-None : goal.returns-in-None
-returns-in-None c = (
-  reads_nothing c.args.image.now c.in_ok-stored.field-0 c.in-None.is c.in_ok-stored.ensures.only,
-  refl,
-)
+returns-in-None c = record {
+  reads_image = (
+    reads_nothing c.args.image.now c.in_ok-stored.field-0 c.in-None.is c.in_ok-stored.ensures.only,
+    refl,
+  );
+}

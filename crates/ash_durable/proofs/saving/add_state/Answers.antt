@@ -7,32 +7,36 @@ use Rattle.ash_durable.proofs.Outcomes.{counts_as}
 use Rattle.ash_durable.proofs.saving.add_state.Goals as goal
 
 pub returns-in-Ok : goal.returns-in-Ok
-returns-in-Ok g c =
-    let state = c.args.state.now in
-    let body = c.deref.result.now in
-    let is_body : IsBodyIn Two body state = subst (λ (bytes : List ℕ). IsBodyIn Two bytes state) (sym c.deref.ensures.value)
-    c.in_ok-body.ensures.body in
-    let said = c.in-Ok.ensures in
-    adds g.D.Disk state c.args.journal.now c.append.new.self body is_body said.extends
-    said.acknowledged (said.ready (λ is. cc)) said.number said.longer
-    (record {
-      failures = counts_as _ _ _ _ _ _ (λ is. cc) (λ no. absurd no) said.cause;
-      honesty_first = said.honesty_first;
-      honesty_second = said.honesty_second;
-    })
+returns-in-Ok g c = record {
+  adds =
+      let state = c.args.state.now in
+      let body = c.deref.result.now in
+      let is_body : IsBodyIn Two body state = subst (λ (bytes : List ℕ). IsBodyIn Two bytes state) (sym c.deref.ensures.value)
+      c.in_ok-body.ensures.body in
+      let said = c.in-Ok.ensures in
+      adds g.D.Disk state c.args.journal.now c.append.new.self body is_body said.extends
+      said.acknowledged (said.ready (λ is. cc)) said.number said.longer
+      (record {
+        failures = counts_as _ _ _ _ _ _ (λ is. cc) (λ no. absurd no) said.cause;
+        honesty_first = said.honesty_first;
+        honesty_second = said.honesty_second;
+      });
+}
 
 pub returns : goal.returns
-returns g c =
-    let state = c.args.state.now in
-    let body = c.deref.result.now in
-    let is_body : IsBodyIn Two body state = subst (λ (bytes : List ℕ). IsBodyIn Two bytes state) (sym c.deref.ensures.value)
-    c.in_ok-body.ensures.body in
-    let said = c.in-Err-DeviceFailed.ensures in
-    let is_failed = ap (λ (e : AppendError). Err e) c.in-Err-DeviceFailed.field-0-is in
-    adds_not g.D.Disk state c.args.journal.now c.append.new.self body is_body said.extends
-    (said.failed is_failed)
-    (record {
-      failures = counts_as _ _ _ _ _ _ (λ is. tt) (λ is. is_failed) said.cause;
-      honesty_first = said.honesty_first;
-      honesty_second = said.honesty_second;
-    })
+returns g c = record {
+  adds =
+      let state = c.args.state.now in
+      let body = c.deref.result.now in
+      let is_body : IsBodyIn Two body state = subst (λ (bytes : List ℕ). IsBodyIn Two bytes state) (sym c.deref.ensures.value)
+      c.in_ok-body.ensures.body in
+      let said = c.in-Err-DeviceFailed.ensures in
+      let is_failed = ap (λ (e : AppendError). Err e) c.in-Err-DeviceFailed.field-0-is in
+      adds_not g.D.Disk state c.args.journal.now c.append.new.self body is_body said.extends
+      (said.failed is_failed)
+      (record {
+        failures = counts_as _ _ _ _ _ _ (λ is. tt) (λ is. is_failed) said.cause;
+        honesty_first = said.honesty_first;
+        honesty_second = said.honesty_second;
+      });
+}

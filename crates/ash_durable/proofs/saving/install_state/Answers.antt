@@ -7,33 +7,37 @@ use Rattle.ash_durable.proofs.Outcomes.{counts_as}
 use Rattle.ash_durable.proofs.saving.install_state.Goals as goal
 
 pub returns-in-Ok : goal.returns-in-Ok
-returns-in-Ok g c =
-    let state = c.args.state.now in
-    let image = c.deref.result.now in
-    let depicts : IsImageIn Two image state = subst (λ (bytes : List ℕ). IsImageIn Two bytes state)
-    (sym c.deref.ensures.value) c.in_ok-image.ensures.image in
-    let said = c.in-Ok.ensures in
-    installs g.D.Disk state c.args.journal.now c.install.new.self image depicts said.run said.installed
-    (said.ready (λ is. cc)) said.higher said.emptied
-    (record {
-      failures = counts_as _ _ _ _ _ _ (λ is. cc) (λ no. absurd no) said.cause;
-      honesty_first = said.honesty_first;
-      honesty_second = said.honesty_second;
-    })
+returns-in-Ok g c = record {
+  installs =
+      let state = c.args.state.now in
+      let image = c.deref.result.now in
+      let depicts : IsImageIn Two image state = subst (λ (bytes : List ℕ). IsImageIn Two bytes state)
+      (sym c.deref.ensures.value) c.in_ok-image.ensures.image in
+      let said = c.in-Ok.ensures in
+      installs g.D.Disk state c.args.journal.now c.install.new.self image depicts said.run said.installed
+      (said.ready (λ is. cc)) said.higher said.emptied
+      (record {
+        failures = counts_as _ _ _ _ _ _ (λ is. cc) (λ no. absurd no) said.cause;
+        honesty_first = said.honesty_first;
+        honesty_second = said.honesty_second;
+      });
+}
 
 pub returns : goal.returns
-returns g c =
-    let state = c.args.state.now in
-    let image = c.deref.result.now in
-    let depicts : IsImageIn Two image state = subst (λ (bytes : List ℕ). IsImageIn Two bytes state)
-    (sym c.deref.ensures.value) c.in_ok-image.ensures.image in
-    let said = c.in-Err-DeviceFailed.ensures in
-    let failed_by = c.in-Err-DeviceFailed.field-0-is in
-    let is_failed = ap (λ (e : InstallError). Err e) failed_by in
-    installs_not g.D.Disk state c.args.journal.now c.install.new.self image depicts said.run
-    (λ last. let spent = said.spent.1 last in cc) (said.failed is_failed)
-    (record {
-      failures = counts_as _ _ _ _ _ _ (λ is. tt) (λ is. is_failed) said.cause;
-      honesty_first = said.honesty_first;
-      honesty_second = said.honesty_second;
-    })
+returns g c = record {
+  installs =
+      let state = c.args.state.now in
+      let image = c.deref.result.now in
+      let depicts : IsImageIn Two image state = subst (λ (bytes : List ℕ). IsImageIn Two bytes state)
+      (sym c.deref.ensures.value) c.in_ok-image.ensures.image in
+      let said = c.in-Err-DeviceFailed.ensures in
+      let failed_by = c.in-Err-DeviceFailed.field-0-is in
+      let is_failed = ap (λ (e : InstallError). Err e) failed_by in
+      installs_not g.D.Disk state c.args.journal.now c.install.new.self image depicts said.run
+      (λ last. let spent = said.spent.1 last in cc) (said.failed is_failed)
+      (record {
+        failures = counts_as _ _ _ _ _ _ (λ is. tt) (λ is. is_failed) said.cause;
+        honesty_first = said.honesty_first;
+        honesty_second = said.honesty_second;
+      });
+}

@@ -7,34 +7,40 @@ use Rattle.ash_durable.proofs.OpenedJournals.{read_as, not_read, settles_one, se
 use Rattle.ash_durable.proofs.store.settle.Goals as goal
 
 pub returns-in-Err : goal.returns-in-Err
-returns-in-Err g c =
-    let with_it = registered c.args.registry in
-    let e = c.in-Err.ensures in
-    inl (not_read g.D.Disk with_it c.args.opened c.in-Err.fault c.refusal_of.result c.refusal_of.ensures.fault
-    c.refusal_of.ensures.a c.refusal_of.ensures.b e.cause
-    (read_as c.args.opened with_it (Err c.in-Err.fault)
-    c.deref.result.now c.deref-2.result.now c.deref.ensures.value c.deref-2.ensures.value e.reads))
+returns-in-Err g c = record {
+  settled =
+      let with_it = registered c.args.registry in
+      let e = c.in-Err.ensures in
+      inl (not_read g.D.Disk with_it c.args.opened c.in-Err.fault c.refusal_of.result c.refusal_of.ensures.fault
+      c.refusal_of.ensures.a c.refusal_of.ensures.b e.cause
+      (read_as c.args.opened with_it (Err c.in-Err.fault)
+      c.deref.result.now c.deref-2.result.now c.deref.ensures.value c.deref-2.ensures.value e.reads));
+}
 
 pub returns-in-One : goal.returns-in-One
-returns-in-One g c =
-    let with_it = registered c.args.registry in
-    let opened = c.args.opened in
-    let read = c.in-Ok.read in
-    let reads = read_as opened with_it (Ok read)
-    c.deref.result.now c.deref-2.result.now c.deref.ensures.value c.deref-2.ensures.value c.in-Ok.ensures.reads in
-    settles_one g.D.Disk with_it opened read.state c.upgrade.result c.in-Ok.ensures.registered
-    (λ placed. let is = reads placed in
-    (is.1, subst (λ (v : Version). AreIn v (contents_of opened)) c.in-One.is is.2))
-    c.upgrade.ensures
+returns-in-One g c = record {
+  settled =
+      let with_it = registered c.args.registry in
+      let opened = c.args.opened in
+      let read = c.in-Ok.read in
+      let reads = read_as opened with_it (Ok read)
+      c.deref.result.now c.deref-2.result.now c.deref.ensures.value c.deref-2.ensures.value c.in-Ok.ensures.reads in
+      settles_one g.D.Disk with_it opened read.state c.upgrade.result c.in-Ok.ensures.registered
+      (λ placed. let is = reads placed in
+      (is.1, subst (λ (v : Version). AreIn v (contents_of opened)) c.in-One.is is.2))
+      c.upgrade.ensures.moves;
+}
 
 pub returns : goal.returns
-returns g c =
-    let with_it = registered c.args.registry in
-    let opened = c.args.opened in
-    let read = c.in-Ok.read in
-    let reads = read_as opened with_it (Ok read)
-    c.deref.result.now c.deref-2.result.now c.deref.ensures.value c.deref-2.ensures.value c.in-Ok.ensures.reads in
-    settles_two g.D.Disk with_it opened read.state c.repair.result c.in-Ok.ensures.registered
-    (λ placed. let is = reads placed in
-    (is.1, subst (λ (v : Version). AreIn v (contents_of opened)) c.in-Two.is is.2))
-    c.repair.ensures
+returns g c = record {
+  settled =
+      let with_it = registered c.args.registry in
+      let opened = c.args.opened in
+      let read = c.in-Ok.read in
+      let reads = read_as opened with_it (Ok read)
+      c.deref.result.now c.deref-2.result.now c.deref.ensures.value c.deref-2.ensures.value c.in-Ok.ensures.reads in
+      settles_two g.D.Disk with_it opened read.state c.repair.result c.in-Ok.ensures.registered
+      (λ placed. let is = reads placed in
+      (is.1, subst (λ (v : Version). AreIn v (contents_of opened)) c.in-Two.is is.2))
+      c.repair.ensures.repairs;
+}

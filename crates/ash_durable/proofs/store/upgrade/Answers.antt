@@ -4,16 +4,18 @@ use Rattle.ash_durable.proofs.Moving.{next_settled, not_prepared, was_moved, was
 use Rattle.ash_durable.proofs.store.upgrade.Goals as goal
 
 pub returns-in-Err : goal.returns-in-Err
-returns-in-Err g c =
-    inl (not_prepared c.args.state c.args.journal c.in-Err.cause c.refusal_of.result c.refusal_of.ensures.fault
-    c.refusal_of.ensures.a c.refusal_of.ensures.b c.in-Err.ensures)
+returns-in-Err g c = record {
+  moves =
+      inl (not_prepared c.args.state c.args.journal c.in-Err.cause c.refusal_of.result c.refusal_of.ensures.fault
+      c.refusal_of.ensures.a c.refusal_of.ensures.b c.in-Err.ensures.prepares);
+}
 
 pub install_next-requires : goal.install_next-requires
 install_next-requires g c =
-    let prepared = c.in-Ok.ensures in
-    let settled = c.in_ok-found.ensures.1 in
+    let prepared = c.in-Ok.ensures.prepares in
+    let settled = c.in_ok-found.ensures.repairs.1 in
     record {
-      ready = settled.ready c.requires;
+      ready = settled.ready c.requires.not_failed;
       next = (
         prepared.0,
         next_settled c.args.journal c.in_ok-found.found.journal prepared.0 c.in-Ok.next settled.only.number_same
@@ -22,31 +24,35 @@ install_next-requires g c =
     }
 
 pub returns-in-Ok-install_next : goal.returns-in-Ok-install_next
-returns-in-Ok-install_next g c =
-    let prepared = c.in-Ok.ensures in
-    let settled = c.in_ok-found.ensures.1 in
-    let e = c.in-Ok-install_next.ensures in
-    let old = c.in_ok-found.found.journal in
-    let next = next_settled c.args.journal old prepared.0 c.in-Ok.next settled.only.number_same prepared.2 in (
-      c.in_ok-found.ensures.0,
-      old,
-      settled,
-      was_moved g.D.Disk c.args.state old c.install_next.new.self prepared.0 prepared.1 (false ≡ true) false≢true
-          e.ready e.higher e.emptied e.untouched (λ was bodies holds. e.installed prepared.0 was bodies next holds)
-          (λ was bodies holds. e.run prepared.0 was bodies next holds) e.cause e.honesty_first e.honesty_second,
-    )
+returns-in-Ok-install_next g c = record {
+  moves =
+      let prepared = c.in-Ok.ensures.prepares in
+      let settled = c.in_ok-found.ensures.repairs.1 in
+      let e = c.in-Ok-install_next.ensures in
+      let old = c.in_ok-found.found.journal in
+      let next = next_settled c.args.journal old prepared.0 c.in-Ok.next settled.only.number_same prepared.2 in (
+        c.in_ok-found.ensures.repairs.0,
+        old,
+        settled,
+        was_moved g.D.Disk c.args.state old c.install_next.new.self prepared.0 prepared.1 (false ≡ true) false≢true
+            e.ready e.higher e.emptied e.untouched (λ was bodies holds. e.installed prepared.0 was bodies next holds)
+            (λ was bodies holds. e.run prepared.0 was bodies next holds) e.cause e.honesty_first e.honesty_second,
+      );
+}
 
 pub returns-in-Err-install_next : goal.returns-in-Err-install_next
-returns-in-Err-install_next g c =
-    let prepared = c.in-Ok.ensures in
-    let settled = c.in_ok-found.ensures.1 in
-    let e = c.in-Err-install_next.ensures in
-    let old = c.in_ok-found.found.journal in
-    let next = next_settled c.args.journal old prepared.0 c.in-Ok.next settled.only.number_same prepared.2 in
-    inr (inr (
-      old,
-      settled,
-      was_not_moved g.D.Disk c.args.state old c.install_next.new.self prepared.0 prepared.1 c.refusal_of-in-Err-install_next.result
-          (true ≡ true) refl c.refusal_of-in-Err-install_next.ensures.fault c.refusal_of-in-Err-install_next.ensures.a c.refusal_of-in-Err-install_next.ensures.b e.untouched
-          (λ was bodies holds. e.run prepared.0 was bodies next holds) e.cause e.honesty_first e.honesty_second,
-    ))
+returns-in-Err-install_next g c = record {
+  moves =
+      let prepared = c.in-Ok.ensures.prepares in
+      let settled = c.in_ok-found.ensures.repairs.1 in
+      let e = c.in-Err-install_next.ensures in
+      let old = c.in_ok-found.found.journal in
+      let next = next_settled c.args.journal old prepared.0 c.in-Ok.next settled.only.number_same prepared.2 in
+      inr (inr (
+        old,
+        settled,
+        was_not_moved g.D.Disk c.args.state old c.install_next.new.self prepared.0 prepared.1 c.refusal_of-in-Err-install_next.result
+            (true ≡ true) refl c.refusal_of-in-Err-install_next.ensures.fault c.refusal_of-in-Err-install_next.ensures.a c.refusal_of-in-Err-install_next.ensures.b e.untouched
+            (λ was bodies holds. e.run prepared.0 was bodies next holds) e.cause e.honesty_first e.honesty_second,
+      ));
+}

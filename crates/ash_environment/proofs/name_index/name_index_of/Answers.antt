@@ -18,6 +18,8 @@ loop-place-preserved c =
     (placed_before c.loop-place.places c.insert.new.self place (get_or names place nothing).now (texts (drop (place + 1) names)) others c.in_ok-insert.ensures.updates)
 
 pub returns : goal.returns
-returns c =
-    let none : c.loop-place.place ≡ 0 = omega arith in
-    placed_from_none c.loop-place.places (texts c.args.names.now) (subst (λ n. ArePlacesFrom n c.loop-place.places (texts (drop n c.args.names.now))) none c.loop-place.invariant)
+returns c = record {
+  name_index =
+      let none : c.loop-place.place ≡ 0 = omega arith in
+      placed_from_none c.loop-place.places (texts c.args.names.now) (subst (λ n. ArePlacesFrom n c.loop-place.places (texts (drop n c.args.names.now))) none c.loop-place.invariant);
+}

@@ -11,7 +11,7 @@ use Rattle.ash_evaluator.proofs.ends.load_module.Goals as goal
 
 pub returns : goal.returns
 returns c =
-    let ends = c.finish.ensures (without_value (initialized (program_seen c.args.program.now) c.args.budget (activity_seen c.begun-activity.result))) (c.no_value.ensures (initialized (program_seen c.args.program.now) c.args.budget (activity_seen c.begun-activity.result)) (activity_seen c.initialize-run.new.activity) c.initialize-run.ensures) in
-    let begins = ap (λ (a : Activity). outcome_of (without_value (initialized (program_seen c.args.program.now) c.args.budget a))) c.begun-activity.ensures in
+    let ends = c.finish.ensures.outcome (without_value (initialized (program_seen c.args.program.now) c.args.budget (activity_seen c.begun-activity.result))) (c.no_value.ensures.outcome (initialized (program_seen c.args.program.now) c.args.budget (activity_seen c.begun-activity.result)) (activity_seen c.initialize-run.new.activity) c.initialize-run.ensures.run) in
+    let begins = ap (λ (a : Activity). outcome_of (without_value (initialized (program_seen c.args.program.now) c.args.budget a))) c.begun-activity.ensures.value in
     let loads = load_is (program_seen c.args.program.now) c.args.budget (world_seen c.args.world) c.in_ok-world.field-0.items (string_bytes c.in_ok-from_str.field-0) c.new.result.items c.new-2.result.items (search rules) (search rules) (search rules) (search rules) in
     record { outcome = subst (λ (o : Option Outcome). EndsAs c.finish.result o) (begins ∙ loads) ends }

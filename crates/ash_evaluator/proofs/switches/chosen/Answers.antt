@@ -11,7 +11,7 @@ use Rattle.ash_evaluator.proofs.switches.chosen.Goals as goal
 
 pub returns-then-is_empty-clause-labels : goal.returns-then-is_empty-clause-labels
 returns-then-is_empty-clause-labels c =
-    λ calls depth. chosen_default calls depth c.args.number c.args.all.now c.from_constant-found.result.now c.from_default.result.now (search rules) (grind (arith, nat_tests)) c.from_default.ensures
+    λ calls depth. chosen_default calls depth c.args.number c.args.all.now c.from_constant-found.result.now c.from_default.result.now (search rules) (grind (arith, nat_tests)) c.from_default.ensures.value
 
 pub returns-else-is_empty-clause-labels : goal.returns-else-is_empty-clause-labels
 returns-else-is_empty-clause-labels c =
@@ -19,7 +19,7 @@ returns-else-is_empty-clause-labels c =
 
 pub returns-then-is_empty-clause-smaller : goal.returns-then-is_empty-clause-smaller
 returns-then-is_empty-clause-smaller c =
-    subst (λ (cs : List case_code.Case). most size-Case cs ≤ most size-Case c.args.all.now) (sym c.from_default.ensures) (from_most is_none c.args.all.now)
+    subst (λ (cs : List case_code.Case). most size-Case cs ≤ most size-Case c.args.all.now) (sym c.from_default.ensures.value) (from_most is_none c.args.all.now)
 
 pub returns-else-is_empty-clause-smaller : goal.returns-else-is_empty-clause-smaller
 returns-else-is_empty-clause-smaller c =

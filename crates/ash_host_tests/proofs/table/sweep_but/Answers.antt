@@ -30,6 +30,6 @@ module _ {B : Type 0} where
 
 pub unhold-requires : goal.unhold-requires
 unhold-requires c = record {
-  held = let lives = c.lives.ensures c.if-not-lives.false in
+  held = let lives = c.lives.ensures.lives c.if-not-lives.false in
       held_stays c.args.number _ _ c.in_ok-sweep.ensures.collected (rw c.hold.ensures.held (some_hold c.args.number c.args.objects.now lives));
 }

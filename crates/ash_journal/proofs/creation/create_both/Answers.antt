@@ -13,9 +13,9 @@ returns-clause-created g c honest_first honest_second =
     let one = c.args.first.now in
     let two = c.args.second.now in
     let headers = c.in_ok-headers.ensures.answer honest_first honest_second in
-    let shut = c.in-Some.ensures (d.seen one) (d.seen two) headers in
+    let shut = c.in-Some.ensures.gates (d.seen one) (d.seen two) headers in
     let bytes_are : c.deref.result.now ≡ mark 1 ++ (block c.args.image.now ++ 0 ∷ []) =
-    c.deref.ensures.value ∙ c.in_ok-bytes.ensures in
+    c.deref.ensures.value ∙ c.in_ok-bytes.ensures.value in
     let first_read = c.in_ok-headers.ensures.first_read in
     let second_read = c.in_ok-headers.ensures.second_read in
     let first_shut =
@@ -40,9 +40,9 @@ returns-clause-second_cleared g c honest_first honest_second =
     let one = c.args.first.now in
     let two = c.args.second.now in
     let headers = c.in_ok-headers.ensures.answer honest_first honest_second in
-    let shut = c.in-Some.ensures (d.seen one) (d.seen two) headers in
+    let shut = c.in-Some.ensures.gates (d.seen one) (d.seen two) headers in
     let bytes_are : c.deref.result.now ≡ mark 1 ++ (block c.args.image.now ++ 0 ∷ []) =
-    c.deref.ensures.value ∙ c.in_ok-bytes.ensures in
+    c.deref.ensures.value ∙ c.in_ok-bytes.ensures.value in
     let first_read = c.in_ok-headers.ensures.first_read in
     let second_read = c.in_ok-headers.ensures.second_read in
     let first_shut =
@@ -60,9 +60,9 @@ returns-clause-first_moments g c honest_first honest_second idle =
     let one = c.args.first.now in
     let two = c.args.second.now in
     let headers = c.in_ok-headers.ensures.answer honest_first honest_second in
-    let shut = c.in-Some.ensures (d.seen one) (d.seen two) headers in
+    let shut = c.in-Some.ensures.gates (d.seen one) (d.seen two) headers in
     let bytes_are : c.deref.result.now ≡ mark 1 ++ (block c.args.image.now ++ 0 ∷ []) =
-    c.deref.ensures.value ∙ c.in_ok-bytes.ensures in
+    c.deref.ensures.value ∙ c.in_ok-bytes.ensures.value in
     let first_read = c.in_ok-headers.ensures.first_read in
     let second_read = c.in_ok-headers.ensures.second_read in
     let first_shut =
@@ -88,9 +88,9 @@ returns-in_err-start-clause-first_moments g c honest_first honest_second idle =
     let one = c.args.first.now in
     let two = c.args.second.now in
     let headers = c.in_ok-headers.ensures.answer honest_first honest_second in
-    let shut = c.in-Some.ensures (d.seen one) (d.seen two) headers in
+    let shut = c.in-Some.ensures.gates (d.seen one) (d.seen two) headers in
     let bytes_are : c.deref.result.now ≡ mark 1 ++ (block c.args.image.now ++ 0 ∷ []) =
-    c.deref.ensures.value ∙ c.in_ok-bytes.ensures in
+    c.deref.ensures.value ∙ c.in_ok-bytes.ensures.value in
     let first_read = c.in_ok-headers.ensures.first_read in
     let second_read = c.in_ok-headers.ensures.second_read in
     let first_shut =
@@ -116,9 +116,9 @@ returns-clause-second_moments g c honest_first honest_second idle =
     let one = c.args.first.now in
     let two = c.args.second.now in
     let headers = c.in_ok-headers.ensures.answer honest_first honest_second in
-    let shut = c.in-Some.ensures (d.seen one) (d.seen two) headers in
+    let shut = c.in-Some.ensures.gates (d.seen one) (d.seen two) headers in
     let bytes_are : c.deref.result.now ≡ mark 1 ++ (block c.args.image.now ++ 0 ∷ []) =
-    c.deref.ensures.value ∙ c.in_ok-bytes.ensures in
+    c.deref.ensures.value ∙ c.in_ok-bytes.ensures.value in
     let first_read = c.in_ok-headers.ensures.first_read in
     let second_read = c.in_ok-headers.ensures.second_read in
     let first_shut =
@@ -138,9 +138,9 @@ returns-in_err-start-clause-second_moments g c honest_first honest_second idle =
     let one = c.args.first.now in
     let two = c.args.second.now in
     let headers = c.in_ok-headers.ensures.answer honest_first honest_second in
-    let shut = c.in-Some.ensures (d.seen one) (d.seen two) headers in
+    let shut = c.in-Some.ensures.gates (d.seen one) (d.seen two) headers in
     let bytes_are : c.deref.result.now ≡ mark 1 ++ (block c.args.image.now ++ 0 ∷ []) =
-    c.deref.ensures.value ∙ c.in_ok-bytes.ensures in
+    c.deref.ensures.value ∙ c.in_ok-bytes.ensures.value in
     let first_read = c.in_ok-headers.ensures.first_read in
     let second_read = c.in_ok-headers.ensures.second_read in
     let first_shut =

@@ -16,7 +16,7 @@ returns-in_err-repair-clause-moments g c honest only shut =
     weaker _ _ _ _ (WhileRepaired (is_older c.args.state) [] file)
     (WhileReplaced (is_older c.args.state) c.args.bytes.now file) (λ image p. inl p)
     (subst (λ stray. HoldsThroughout d c.args.disk.now c.repair.new.disk (WhileRepaired stray [] file))
-    c.is_older.ensures call)
+    c.is_older.ensures.value call)
 
 pub returns-clause-replaced : goal.returns-clause-replaced
 returns-clause-replaced g c =
@@ -28,7 +28,7 @@ returns-clause-replaced g c =
     committed [] (drop 1 file) (record {
       honest_disk = subst IsTrue (sym c.repair.ensures.honesty) honest;
       long = refl;
-      bytes = on.bytes ∙ repaired_shut c.is_older.result file (λ closed. shut (sym c.is_older.ensures ∙ closed));
+      bytes = on.bytes ∙ repaired_shut c.is_older.result file (λ closed. shut (sym c.is_older.ensures.value ∙ closed));
       durable = on.durable;
     }))
     c.commit.ensures.committed
@@ -44,10 +44,10 @@ returns-clause-moments g c honest only shut =
     goes_on_either _ _ _ _ _ _ (WhileRepaired (is_older c.args.state) [] file)
     (WhileCommitted [] c.args.bytes.now (drop 1 file))
     (subst (λ stray. HoldsThroughout d c.args.disk.now c.repair.new.disk (WhileRepaired stray [] file))
-    c.is_older.ensures call)
+    c.is_older.ensures.value call)
     (c.commit.ensures.moments [] (drop 1 file) (record {
       honest_disk = subst IsTrue (sym c.repair.ensures.honesty) honest;
       long = refl;
-      bytes = on.bytes ∙ repaired_shut c.is_older.result file (λ closed. shut (sym c.is_older.ensures ∙ closed));
+      bytes = on.bytes ∙ repaired_shut c.is_older.result file (λ closed. shut (sym c.is_older.ensures.value ∙ closed));
       durable = on.durable;
     }))

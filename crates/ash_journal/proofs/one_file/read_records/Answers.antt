@@ -10,7 +10,7 @@ pub loop-gate-init : goal.loop-gate-init
 loop-gate-init g c = record {
   only_read = read_none g.D.Disk c.args.disk.now;
   steady = refl;
-  within = c.requires;
+  within = c.requires.bounded;
   goes_on = omega arith;
   answer = λ generation image rest honest len_is fits is at_is.
       read_start generation image rest _ _ _ _ c.new-records.ensures.items fits is at_is;

@@ -13,4 +13,4 @@ returns-in-Some-unsupported_word-clause-meaning c =
 -- a name is text
 pub unwrap-name-requires : goal.unwrap-name-requires
 unwrap-name-requires c =
-    ok_unless c.from_utf8.result _ _ c.from_utf8.ensures.cases (λ e h. h.0 (name_is_text c.args.word.now c.requires))
+    ok_unless c.from_utf8.result _ _ c.from_utf8.ensures.cases (λ e h. h.0 (name_is_text c.args.word.now c.requires.name))

@@ -22,7 +22,7 @@ returns-in_default-checked_add c = record {
       c.in_default-checked_add.ensures (omega (
         arith,
         c.in-Some.ensures,
-        c.digit_value.ensures,
+        c.digit_value.ensures.value,
         ap (λ v. v * c.args.base) c.loop-digit.invariant.so_far,
         value_in-more c.args.base c.loop-digit.digit-index
             c.args.digits.now c.requires.base c.loop-digit-test.true,

@@ -14,5 +14,5 @@ by_cases text (Some p) h = longest_piece_is text p h
 pub returns : goal.returns
 returns c = record {
   longest =
-      by_cases c.args.text.now c.by_first_byte.result (sym c.by_first_byte.ensures);
+      by_cases c.args.text.now c.by_first_byte.result (sym c.by_first_byte.ensures.value);
 }

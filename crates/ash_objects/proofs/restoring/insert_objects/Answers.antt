@@ -11,8 +11,10 @@ loop-object-init g c = record {
 }
 
 pub join-requires : goal.join-requires
-join-requires g c =
-    put_fits c.args.objects.items c.args.boxes.items c.loop-object.objects.items c.pop.new.self.items c.loop-object.boxes.items c.pop-in-Some.new.self.items c.in-Some.object c.in-Some-pop.taken c.loop-object.store.objects c.requires.in_order c.requires.fit c.loop-object.invariant.state c.in-Some.ensures.items c.in-Some-pop.ensures.items
+join-requires g c = record {
+  drawn =
+      put_fits c.args.objects.items c.args.boxes.items c.loop-object.objects.items c.pop.new.self.items c.loop-object.boxes.items c.pop-in-Some.new.self.items c.in-Some.object c.in-Some-pop.taken c.loop-object.store.objects c.requires.in_order c.requires.fit c.loop-object.invariant.state c.in-Some.ensures.items c.in-Some-pop.ensures.items;
+}
 
 pub insert-requires : goal.insert-requires
 insert-requires g c = record { unused = put_new c.args.objects.items c.args.boxes.items c.loop-object.objects.items c.pop.new.self.items c.loop-object.boxes.items c.pop-in-Some.new.self.items c.in-Some.object c.in-Some-pop.taken c.loop-object.store.objects c.requires.in_order c.requires.fit c.loop-object.invariant.state c.in-Some.ensures.items c.in-Some-pop.ensures.items }
@@ -24,5 +26,5 @@ loop-object-preserved g c =
     let within : c.vacant.result < c.reserve.new.self.room = search rules in
     record {
       listed = rw c.in-Ok.ensures.objects (listed_new c.in-Some.object.number p l c.reserve.new.self (omega (arith, within, c.vacant.ensures.slot, c.in-Ok.ensures.slot)) (λ yes. absurd (cc)) (listed_covers l _ _ c.reserve.ensures.covers c.loop-object.invariant.listed));
-      state = rw c.in-Ok.ensures.objects (put_more c.args.objects.items c.args.boxes.items c.loop-object.objects.items c.pop.new.self.items c.loop-object.boxes.items c.pop-in-Some.new.self.items c.in-Some.object c.in-Some-pop.taken c.loop-object.store.objects c.requires.in_order c.requires.fit c.loop-object.invariant.state c.in-Some.ensures.items c.in-Some-pop.ensures.items p c.join.ensures (record { uncounted = refl; waits = refl; unmarked = refl }));
+      state = rw c.in-Ok.ensures.objects (put_more c.args.objects.items c.args.boxes.items c.loop-object.objects.items c.pop.new.self.items c.loop-object.boxes.items c.pop-in-Some.new.self.items c.in-Some.object c.in-Some-pop.taken c.loop-object.store.objects c.requires.in_order c.requires.fit c.loop-object.invariant.state c.in-Some.ensures.items c.in-Some-pop.ensures.items p c.join.ensures.value (record { uncounted = refl; waits = refl; unmarked = refl }));
     }

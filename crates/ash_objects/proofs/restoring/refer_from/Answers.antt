@@ -15,7 +15,7 @@ loop-number-preserved g c =
     let next = rest_got list k 0 c.loop-number-test.true in
     let there = c.requires.there k 0 c.loop-number-test.true in
     let here = is_in_from n c.in-Some.slot cur (sym c.slot.ensures.slot ∙ c.in-Some.is) in
-    let now = c.refer_words.ensures n here in
+    let now = c.refer_words.ensures.effect n here in
     record {
       rest =
           ap (λ s. refer_objects (drop (k + 1) list) s) now ∙ turn_rest list n k cur next

@@ -15,7 +15,7 @@ loop-place-preserved g c =
     let cur = c.loop-place.boxes.items in
     let one = c.index_mut.result.now in
     let object = c.index-objects-place.result in
-    let within : k < length cur = omega (arith, c.requires, c.loop-place-test.true, c.loop-place.invariant.done.many, c.args.boxes.now.ok.0) in
+    let within : k < length cur = omega (arith, c.requires.length, c.loop-place-test.true, c.loop-place.invariant.done.many, c.args.boxes.now.ok.0) in
     record {
       done = done_more (λ place one other. (object : SavedObject) → slice_get objects place ≡ Some object → RestoresBox g.B.HostObject object.body one other) k c.args.boxes.now.items cur one c.restore_box.new.taken c.loop-place.invariant.done (got cur k one within c.index_mut.ensures.value)
           (λ other there.
@@ -34,7 +34,7 @@ returns-in_err-restore_box-clause-refused g c = λ number is.
     let h = c.loop-place.invariant.done in
     let one = c.index_mut.result.now in
     let object = c.index-objects-place.result in
-    let within : k < length cur = omega (arith, c.requires, c.loop-place-test.true, h.many, c.args.boxes.now.ok.0) in
+    let within : k < length cur = omega (arith, c.requires.length, c.loop-place-test.true, h.many, c.args.boxes.now.ok.0) in
     let p = err_from_is_err_and c.from_residual.result c.from_residual.ensures.1 in
     let reported : c.in_err-restore_box.field-0.0 ≡ TableFault.RestoreRefused number = cc in
     let r = c.in_err-restore_box.ensures.refused number (ap Err reported) in
@@ -66,6 +66,6 @@ returns-clause-restored g c = record {
       → slice_get c.args.objects.now place ≡ Some object
       → RestoresBox g.B.HostObject object.body one other) c.loop-place.place c.args.boxes.now.items
       c.loop-place.boxes.items c.loop-place.invariant.done
-      (omega (arith, c.requires, c.loop-place-test.false, c.args.boxes.now.ok.0)) place one other was is object
+      (omega (arith, c.requires.length, c.loop-place-test.false, c.args.boxes.now.ok.0)) place one other was is object
       at;
 }

@@ -17,7 +17,7 @@ loop-place-preserved g c =
     let one = c.index_mut.result.now in
     let other = c.restore_state.new.object in
     let state = c.index-states-place.result in
-    let within : k < length cur = omega (arith, c.requires, c.loop-place-test.true, c.loop-place.invariant.done.many, c.args.services.now.ok.0) in
+    let within : k < length cur = omega (arith, c.requires.length, c.loop-place-test.true, c.loop-place.invariant.done.many, c.args.services.now.ok.0) in
     record {
       done = done_more (λ place one other. (bytes : List ℕ) → slice_get (states_in states) place ≡ Some bytes → RestoresState G one bytes other) k c.args.services.now.items cur one other c.loop-place.invariant.done (got cur k one within c.index_mut.ensures.value)
           (λ bytes there.
@@ -32,7 +32,7 @@ returns-clause-restored g c = record {
       → slice_get (states_in c.args.states.now) place ≡ Some bytes
       → RestoresState g.B.HostObject one bytes other) c.loop-place.place c.args.services.now.items
       c.loop-place.services.items c.loop-place.invariant.done
-      (omega (arith, c.requires, c.loop-place-test.false, c.args.services.now.ok.0)) place one other was is bytes
+      (omega (arith, c.requires.length, c.loop-place-test.false, c.args.services.now.ok.0)) place one other was is bytes
       there;
 }
 
@@ -46,7 +46,7 @@ returns-in_err-restore_state-clause-refused g c = λ number is.
     let h = c.loop-place.invariant.done in
     let one = c.index_mut.result.now in
     let state = c.index-states-place.result in
-    let within : k < length cur = omega (arith, c.requires, c.loop-place-test.true, h.many, c.args.services.now.ok.0) in
+    let within : k < length cur = omega (arith, c.requires.length, c.loop-place-test.true, h.many, c.args.services.now.ok.0) in
     let p = err_from_is_err_and c.from_residual.result c.from_residual.ensures.1 in
     let reported : c.in_err-restore_state.field-0.0 ≡ TableFault.RestoreRefused number = cc in
     let r = c.in_err-restore_state.ensures.refused number (ap Err reported) in (

@@ -24,6 +24,6 @@ returns-clause-by_name c =
     c.as_str.result.now c.args.modules.now.items c.deref.result.now c.place_after.result c.len.result
     c.unwrap_or-place.result c.as_str.ensures.value c.deref.ensures.value
     (c.len.ensures ∙ sym c.deref.ensures.len ∙ ap length c.deref.ensures.value)
-    c.place_after.ensures c.unwrap_or-place.ensures in
+    c.place_after.ensures.value c.unwrap_or-place.ensures in
     ap (λ (items : List LoadedModule). modules_seen items) c.in_ok-insert.ensures.items
     ∙ inserted_at loaded_seen c.args.modules.now.items c.args.loaded c.unwrap_or-place.result place

@@ -22,5 +22,5 @@ returns-in_err-count-clause-task g c known =
 pub returns-clause-task : goal.returns-clause-task
 returns-clause-task g c known =
     let found : Some (named_seen (c.in-Some-2.type_name, c.in-Some-2.contents)) ≡ described_in (g.S.SourceReader.embedding c.args.sources.now).name_of_kind c.args.state.now.modules.items (object_seen c.in-Some.object.now) = ap (option_map named_seen) (sym c.in-Some-2.is) ∙ c.in_ok-type_name.ensures.described in
-    (λ j. Some (Ok (Show (shown_seen (record { number = c.args.number; type_name = c.in-Some-2.type_name; count = c.in_ok-count.ensures j; contents = c.in-Some-2.contents })))))
+    (λ j. Some (Ok (Show (shown_seen (record { number = c.args.number; type_name = c.in-Some-2.type_name; count = c.in_ok-count.ensures.value j; contents = c.in-Some-2.contents })))))
     ∙ ap (λ (r : TaskResult g.S.SourceReader.FaultSeen). Some r) (sym (shown_there (g.S.SourceReader.embedding c.args.sources.now) c.args.state.now c.args.number (object_seen c.in-Some.object.now) (named_seen (c.in-Some-2.type_name, c.in-Some-2.contents)) known c.in-Some.ensures.object found))

@@ -8,9 +8,12 @@ use Rattle.std.proofs.Common.{sym}
 use Rattle.ash_plain_steps.proofs.runs.finish_call.Goals as goal
 
 pub returns : goal.returns
-returns g c m old there e = record {
-  globals = ap (λ (v : _). v.items) c.answered.ensures.modules ∙ (c.replace_globals.ensures m there).1
-      ∙ ap (λ (v : _). let changed : LoadedModule = record m { globals = v } in set c.args.rest.modules.items c.args.place changed) c.replace-globals.ensures.value;
-  stepped = c.answered.ensures.stepped old e
-      ∙ ap (λ (v : _). answered {Fault = g.S.SourceReader.FaultSeen} (end_seen c.args.outcome.end) (modules_seen v.items) (world_seen c.args.outcome.world) old) (sym c.answered.ensures.modules);
+returns g c = record {
+  value =
+      λ m old there e. record {
+        globals = ap (λ (v : _). v.items) c.answered.ensures.modules ∙ (c.replace_globals.ensures.value m there).1
+            ∙ ap (λ (v : _). let changed : LoadedModule = record m { globals = v } in set c.args.rest.modules.items c.args.place changed) c.replace-globals.ensures.value;
+        stepped = c.answered.ensures.stepped old e
+            ∙ ap (λ (v : _). answered {Fault = g.S.SourceReader.FaultSeen} (end_seen c.args.outcome.end) (modules_seen v.items) (world_seen c.args.outcome.world) old) (sym c.answered.ensures.modules);
+      };
 }

@@ -21,14 +21,14 @@ use Rattle.ash_plain_steps.proofs.runs.invoke.Goals as goal
 pub index-m-requires : goal.index-m-requires
 index-m-requires g c =
     let ms = c.args.state.modules.items in
-    let before : c.args.call.module < length c.replace_globals-globals.new.modules.items = still_within (λ (m : code_module.LoadedModule). record m { globals = c.new-none.result }) ms c.replace_globals-globals.new.modules.items c.args.call.module c.requires.there.within c.replace_globals-globals.ensures in
+    let before : c.args.call.module < length c.replace_globals-globals.new.modules.items = still_within (λ (m : code_module.LoadedModule). record m { globals = c.new-none.result }) ms c.replace_globals-globals.new.modules.items c.args.call.module c.requires.there.within c.replace_globals-globals.ensures.value in
     let after : c.args.call.module < length c.in_ok-rest.rest.modules.items = subst (λ (v : _). c.args.call.module < length v.items) (sym c.in_ok-rest.ensures.modules) before in
     omega (arith, after, c.in_ok-rest.rest.modules.ok.0)
 
 pub finish_call-requires-clause-within : goal.finish_call-requires-clause-within
 finish_call-requires-clause-within g c =
     let ms = c.args.state.modules.items in
-    let before : c.args.call.module < length c.replace_globals-globals.new.modules.items = still_within (λ (m : code_module.LoadedModule). record m { globals = c.new-none.result }) ms c.replace_globals-globals.new.modules.items c.args.call.module c.requires.there.within c.replace_globals-globals.ensures in
+    let before : c.args.call.module < length c.replace_globals-globals.new.modules.items = still_within (λ (m : code_module.LoadedModule). record m { globals = c.new-none.result }) ms c.replace_globals-globals.new.modules.items c.args.call.module c.requires.there.within c.replace_globals-globals.ensures.value in
     subst (λ (v : _). c.args.call.module < length v.items) (sym c.in_ok-rest.ensures.modules) before
 
 pub returns-in_err-outcome-clause-stepped : goal.returns-in_err-outcome-clause-stepped
@@ -38,19 +38,19 @@ returns-in_err-outcome-clause-stepped g c m there up =
     let state = state_seen c.args.state in
     let hosts = hosts_seen c.args.hosts in
     let lending : code_module.LoadedModule = record m { globals = c.new-none.result } in
-    let items : c.in_ok-rest.rest.modules.items ≡ set ms place lending = ap (λ (v : _). v.items) c.in_ok-rest.ensures.modules ∙ (c.replace_globals-globals.ensures m there).1 in
+    let items : c.in_ok-rest.rest.modules.items ≡ set ms place lending = ap (λ (v : _). v.items) c.in_ok-rest.ensures.modules ∙ (c.replace_globals-globals.ensures.value m there).1 in
     let at : c.index-m.result.now ≡ lending = c.index-m.ensures ∙ ap (λ (l : List code_module.LoadedModule). get_or l place c.index-m.result.now) items ∙ get_or_from_slice_get (set ms place lending) place lending c.index-m.result.now (got_set ms place m lending there) in
     let name : c.as_str.result.now ≡ string_bytes m.name = c.as_str.ensures.value ∙ ap (λ (s : code_module.LoadedModule). string_bytes s.name) at in
     let world : world_seen c.in_ok-rest.world ≡ world_of m.globals.items (without_module (loaded_seen m).name (modules_seen ms)) state hosts =
     c.in_ok-rest.ensures.world
-    ∙ (λ i. world_of ((c.replace_globals-globals.ensures m there).0 i).items (modules_seen ((c.replace_globals-globals.ensures m there).1 i)) state hosts)
+    ∙ (λ i. world_of ((c.replace_globals-globals.ensures.value m there).0 i).items (modules_seen ((c.replace_globals-globals.ensures.value m there).1 i)) state hosts)
     ∙ world_lent ms place m lending state hosts up there refl c.new-none.ensures.items in
     let failed : c.from_residual-in_err-outcome.result ≡ Err c.in_err-outcome.field-0.0 = search rules in
     subst (λ (r : Result (code_step.Step g.row.S-Fault.Denot) StepError). ComesTo (step_seen g.S.SourceReader.fault_seen) r (option_map (after_call {Fault = g.S.SourceReader.FaultSeen} (loaded_seen m) state) (call_function (record { name = string_bytes m.name; tree = module_of m.tree }) c.args.call.function c.args.call.args.items c.args.budget (world_of m.globals.items (without_module (loaded_seen m).name (modules_seen ms)) state hosts)))) (sym failed)
     (no_outcome g.S.SourceReader.fault_seen c.in_err-outcome.field-0.0 (after_call (loaded_seen m) state) (call_function (record { name = string_bytes m.name; tree = module_of m.tree }) c.args.call.function c.args.call.args.items c.args.budget (world_of m.globals.items (without_module (loaded_seen m).name (modules_seen ms)) state hosts))
     (subst (λ (o : Option Outcome). ComesTo outcome_seen (Err c.in_err-outcome.field-0.0) o)
     (λ i. call_function (record { name = name i; tree = module_of (at i).tree }) c.args.call.function c.args.call.args.items c.args.budget (world i))
-    (c.in_err-outcome.ensures _ c.call_function.ensures.outcome)))
+    (c.in_err-outcome.ensures.outcome _ c.call_function.ensures.outcome)))
 
 pub returns-clause-stepped : goal.returns-clause-stepped
 returns-clause-stepped g c m there up =
@@ -61,19 +61,19 @@ returns-clause-stepped g c m there up =
     let outcome = c.in_ok-outcome.outcome in
     let lending : code_module.LoadedModule = record m { globals = c.new-none.result } in
     let new : code_module.LoadedModule = record m { globals = outcome.world.globals } in
-    let items : c.in_ok-rest.rest.modules.items ≡ set ms place lending = ap (λ (v : _). v.items) c.in_ok-rest.ensures.modules ∙ (c.replace_globals-globals.ensures m there).1 in
+    let items : c.in_ok-rest.rest.modules.items ≡ set ms place lending = ap (λ (v : _). v.items) c.in_ok-rest.ensures.modules ∙ (c.replace_globals-globals.ensures.value m there).1 in
     let at : c.index-m.result.now ≡ lending = c.index-m.ensures ∙ ap (λ (l : List code_module.LoadedModule). get_or l place c.index-m.result.now) items ∙ get_or_from_slice_get (set ms place lending) place lending c.index-m.result.now (got_set ms place m lending there) in
     let name : c.as_str.result.now ≡ string_bytes m.name = c.as_str.ensures.value ∙ ap (λ (s : code_module.LoadedModule). string_bytes s.name) at in
     let world : world_seen c.in_ok-rest.world ≡ world_of m.globals.items (without_module (loaded_seen m).name (modules_seen ms)) state hosts =
     c.in_ok-rest.ensures.world
-    ∙ (λ i. world_of ((c.replace_globals-globals.ensures m there).0 i).items (modules_seen ((c.replace_globals-globals.ensures m there).1 i)) state hosts)
+    ∙ (λ i. world_of ((c.replace_globals-globals.ensures.value m there).0 i).items (modules_seen ((c.replace_globals-globals.ensures.value m there).1 i)) state hosts)
     ∙ world_lent ms place m lending state hosts up there refl c.new-none.ensures.items in
-    let after = c.finish_call.ensures lending state (ap (λ (l : List code_module.LoadedModule). slice_get l place) items ∙ got_set ms place m lending there) (sym c.in_ok-rest.ensures.seq) in
+    let after = c.finish_call.ensures.value lending state (ap (λ (l : List code_module.LoadedModule). slice_get l place) items ∙ got_set ms place m lending there) (sym c.in_ok-rest.ensures.seq) in
     let left : modules_seen c.finish_call.result.state.modules.items ≡ update_globals (loaded_seen m).name outcome.world.globals.items (modules_seen ms) =
     ap (λ (l : List code_module.LoadedModule). modules_seen l) (after.globals ∙ ap (λ (l : List code_module.LoadedModule). set l place new) items) ∙ given_back ms place m lending new up there refl in
     ap (λ (o : Option Outcome). option_map (after_call {Fault = g.S.SourceReader.FaultSeen} (loaded_seen m) state) o)
     (sym (λ i. call_function (record { name = name i; tree = module_of (at i).tree }) c.args.call.function c.args.call.args.items c.args.budget (world i))
-    ∙ c.in_ok-outcome.ensures _ c.call_function.ensures.outcome)
+    ∙ c.in_ok-outcome.ensures.outcome _ c.call_function.ensures.outcome)
     ∙ ap (λ (s : Step g.S.SourceReader.FaultSeen). Some s)
     (sym (after.stepped ∙ ap (λ (l : List LoadedModule). answered {Fault = g.S.SourceReader.FaultSeen} (end_seen outcome.end) l (world_seen outcome.world) state) left))
 
@@ -85,8 +85,8 @@ returns-clause-consistent g c embedding known =
     let there : slice_get ms place ≡ Some m = slice_get-get_or ms place c.index-m.result.now c.requires.there.within in
     let lending : code_module.LoadedModule = record m { globals = c.new-none.result } in
     let new : code_module.LoadedModule = record m { globals = c.in_ok-outcome.outcome.world.globals } in
-    let items : c.in_ok-rest.rest.modules.items ≡ set ms place lending = ap (λ (v : _). v.items) c.in_ok-rest.ensures.modules ∙ (c.replace_globals-globals.ensures m there).1 in
-    let after = c.finish_call.ensures lending (state_seen c.args.state) (ap (λ (l : List code_module.LoadedModule). slice_get l place) items ∙ got_set ms place m lending there) (sym c.in_ok-rest.ensures.seq) in
+    let items : c.in_ok-rest.rest.modules.items ≡ set ms place lending = ap (λ (v : _). v.items) c.in_ok-rest.ensures.modules ∙ (c.replace_globals-globals.ensures.value m there).1 in
+    let after = c.finish_call.ensures.value lending (state_seen c.args.state) (ap (λ (l : List code_module.LoadedModule). slice_get l place) items ∙ got_set ms place m lending there) (sym c.in_ok-rest.ensures.seq) in
     subst (λ (l : List code_module.LoadedModule). AreConsistent embedding l)
     (sym (after.globals ∙ ap (λ (l : List code_module.LoadedModule). set l place new) items ∙ set_again ms place lending new))
     (consistent_set embedding ms place m new known there refl)

@@ -19,7 +19,7 @@ pub returns-in-Err-clause-stepped : goal.returns-in-Err-clause-stepped
 returns-in-Err-clause-stepped g c =
     is_refusal g.S.SourceReader.fault_seen g.S.SourceReader.TakesMemory (g.S.SourceReader.embedding c.args.sources.now) c.args.budget (request_seen c.args.request.now) (state_seen c.args.state) (hosts_seen c.args.hosts) c.in-Err.refusal c.replied.result
     (c.in-Err.ensures.task c.requires.consistent)
-    (ap (step_seen g.S.SourceReader.fault_seen) c.replied.ensures)
+    (ap (step_seen g.S.SourceReader.fault_seen) c.replied.ensures.value)
 
 pub returns-in-Ok-clause-defined : goal.returns-in-Ok-clause-defined
 returns-in-Ok-clause-defined g c =

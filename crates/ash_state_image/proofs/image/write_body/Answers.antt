@@ -10,20 +10,20 @@ use Rattle.ash_state_image.proofs.image.write_body.Goals as goal
 pub returns-clause-written : goal.returns-clause-written
 returns-clause-written c =
     let s = snapshot_in c.args.state in
-    c.in_ok-write_image_into.ensures ∙ ap (λ (bytes : List ℕ). bytes ++ image_of s) c.in_ok-write_u8.ensures.written
+    c.in_ok-write_image_into.ensures.value ∙ ap (λ (bytes : List ℕ). bytes ++ image_of s) c.in_ok-write_u8.ensures.written
     ∙ ap (λ (bytes : List ℕ). (bytes ++ number 1 1) ++ image_of s) c.in_ok-body.ensures.items
 
 pub returns-clause-read : goal.returns-clause-read
 returns-clause-read c = λ keeps.
     let s = snapshot_in c.args.state in
-    let written = c.in_ok-write_image_into.ensures ∙ ap (λ (bytes : List ℕ). bytes ++ image_of s) c.in_ok-write_u8.ensures.written
+    let written = c.in_ok-write_image_into.ensures.value ∙ ap (λ (bytes : List ℕ). bytes ++ image_of s) c.in_ok-write_u8.ensures.written
     ∙ ap (λ (bytes : List ℕ). (bytes ++ number 1 1) ++ image_of s) c.in_ok-body.ensures.items in
     (image_of s, written, ((c.requires.fits, refl), keeps))
 
 pub returns-clause-short : goal.returns-clause-short
 returns-clause-short c =
     let s = snapshot_in c.args.state in
-    let written = c.in_ok-write_image_into.ensures ∙ ap (λ (bytes : List ℕ). bytes ++ image_of s) c.in_ok-write_u8.ensures.written
+    let written = c.in_ok-write_image_into.ensures.value ∙ ap (λ (bytes : List ℕ). bytes ++ image_of s) c.in_ok-write_u8.ensures.written
     ∙ ap (λ (bytes : List ℕ). (bytes ++ number 1 1) ++ image_of s) c.in_ok-body.ensures.items in
     let short : length (image_tag ∷ image_of s) < 2 ^ 28 = omega (arith, image_short Two s c.requires.fits) in
     subst (λ (bytes : List ℕ). length bytes < 2 ^ 28) (sym written) short

@@ -5,5 +5,8 @@ use Rattle.ash_state_image.proofs.Listed.{all_map_at}
 use Rattle.ash_state_image.proofs.lengths.objects_length.Goals as goal
 
 pub object_length-total-requires : goal.object_length-total-requires
-object_length-total-requires c = all_map_at (FitsObject Two) object_in c.args.objects.now c.loop-parts.parts-index _ c.requires.each
-    c.loop-parts-test.true
+object_length-total-requires c = record {
+  fits_object =
+      all_map_at (FitsObject Two) object_in c.args.objects.now c.loop-parts.parts-index _ c.requires.fit_objects.each
+      c.loop-parts-test.true;
+}

@@ -5,5 +5,8 @@ use Rattle.ash_state_image.proofs.Listed.{all_map_at}
 use Rattle.ash_state_image.proofs.numbered.write_each.Goals as goal
 
 pub write_object-requires : goal.write_object-requires
-write_object-requires c = all_map_at (FitsObject Two) object_in c.args.objects.now c.loop-parts.parts-index _ c.requires
-    c.loop-parts-test.true
+write_object-requires c = record {
+  fits_object =
+      all_map_at (FitsObject Two) object_in c.args.objects.now c.loop-parts.parts-index _ c.requires.fits_object
+      c.loop-parts-test.true;
+}

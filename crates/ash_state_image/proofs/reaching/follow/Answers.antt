@@ -26,7 +26,7 @@ loop-index-preserved c =
     let old : SearchProgress = record { marked = c.loop-index.search.marked.items; pending = c.pop.new.self.items } in
     let visited = subst (λ (ns : List ℕ). Visited ns (handles (fields_of (object_of (get_or xs c.in-Some.index c.index.result.now)).1))
     old new) c.requires.alive
-    (subst (λ (ws : List Word). Visited c.args.alive.now (handles ws) old new) same c.in_ok-visit.ensures) in
+    (subst (λ (ws : List Word). Visited c.args.alive.now (handles ws) old new) same c.in_ok-visit.ensures.visited) in
     next_searches (held_by (modules_of c.args.state.now.modules.items)) xs
     c.loop-index.search.marked.items c.loop-index.search.pending.items c.pop.new.self.items c.in-Some.index
     c.in-Some.ensures.items c.loop-index.invariant c.index.result.now new

@@ -11,4 +11,4 @@ loop-word-init c = visited_start c.args.alive.now _
 pub loop-word-preserved : goal.loop-word-preserved
 loop-word-preserved c =
     visit_more c.args.alive.now c.args.words.now c.loop-word.word-index _ _ _ _ c.loop-word-test.true c.loop-word.invariant
-    c.in_ok-visit_word.ensures
+    c.in_ok-visit_word.ensures.visited

@@ -11,4 +11,4 @@ loop-module-init c = visited_start c.args.alive.now _
 pub loop-module-preserved : goal.loop-module-preserved
 loop-module-preserved c =
     visit_globals_more c.args.alive.now c.args.modules.now c.loop-module.module-index _ _ _ _ _ c.loop-module-test.true
-    c.module-item.is c.deref.ensures.value c.loop-module.invariant c.in_ok-visit.ensures
+    c.module-item.is c.deref.ensures.value c.loop-module.invariant c.in_ok-visit.ensures.visited

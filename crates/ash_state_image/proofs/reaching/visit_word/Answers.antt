@@ -6,14 +6,18 @@ use Rattle.ash_state_image.proofs.Searching.{handles_none, handles_some}
 use Rattle.ash_state_image.proofs.reaching.visit_word.Goals as goal
 
 pub returns-in-Some : goal.returns-in-Some
-returns-in-Some c =
-    on_ok_weaker c.look_for.result
-    (λ v. subst (λ (wanted : List ℕ). Visited c.args.alive.now wanted (progress_of c.args.search.now)
-    (progress_of c.look_for.new.search)) (sym (handles_some c.args.word c.in-Some.number (sym c.in-Some.ensures))) v)
-    c.look_for.ensures
+returns-in-Some c = record {
+  visited =
+      on_ok_weaker c.look_for.result
+      (λ v. subst (λ (wanted : List ℕ). Visited c.args.alive.now wanted (progress_of c.args.search.now)
+      (progress_of c.look_for.new.search)) (sym (handles_some c.args.word c.in-Some.number (sym c.in-Some.ensures.value))) v)
+      c.look_for.ensures.visited;
+}
 
 pub returns-in-None : goal.returns-in-None
-returns-in-None c =
-    subst (λ (wanted : List ℕ). Visited c.args.alive.now wanted (progress_of c.args.search.now)
-    (progress_of c.args.search.now)) (sym (handles_none c.args.word (sym c.in-None.ensures)))
-    (visited_none c.args.alive.now (progress_of c.args.search.now))
+returns-in-None c = record {
+  visited =
+      subst (λ (wanted : List ℕ). Visited c.args.alive.now wanted (progress_of c.args.search.now)
+      (progress_of c.args.search.now)) (sym (handles_none c.args.word (sym c.in-None.ensures.value)))
+      (visited_none c.args.alive.now (progress_of c.args.search.now));
+}

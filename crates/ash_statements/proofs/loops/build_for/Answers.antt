@@ -1,4 +1,5 @@
-use Rattle.std.proofs.Common.{◌≡◌, Ok, Err, ap, Result, Bool}
+use Rattle.std.proofs.Common.{ap, Bool}
+use Rattle.std.proofs.lemmas.Result.{err_from_is_err_and}
 use Rattle.ash_typing.specs.TypingResult.{TypingResult, ◌>>=◌}
 use Rattle.ash_typed.specs.StatementTree.{Stmt}
 use Rattle.ash_typing.specs.StatementRules as definition
@@ -11,6 +12,10 @@ fails_first : (error : CheckError) (first : TypingResult Bool) (rest : Bool → 
 fails_first (errors.Fault f) first rest h = ap (λ x. x >>= rest) h
 fails_first errors.NoMemory first rest h = tt
 
-pub returns-in-Err : goal.returns-in-Err
+pub returns-in_err-check_optional_bool : goal.returns-in_err-check_optional_bool
 unfolding definition.check_for
-returns-in-Err c = fails_first c.in-Err.error _ _ c.in-Err.ensures
+returns-in_err-check_optional_bool c = record {
+  agrees =
+      let p = err_from_is_err_and c.from_residual.result c.from_residual.ensures.1 in
+      rw (p.1, p.2) (fails_first c.in_err-check_optional_bool.field-0.0 _ _ c.in_err-check_optional_bool.ensures.agrees);
+}

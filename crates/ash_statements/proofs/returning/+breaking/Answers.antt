@@ -7,6 +7,8 @@ use Rattle.ash_typing.specs.Returning as definition
 use Rattle.ash_statements.proofs.returning.+breaking.Goals as goal
 
 pub breaks-returns-in-Block : goal.breaks-returns-in-Block
-breaks-returns-in-Block t c =
-    let s = c.args.stmt.now in
-    c.any_breaks.ensures ∙ ap (λ (xs : List code_stmt.Stmt). definition.any_breaks (stmts (map stmt_of xs))) c.deref.ensures.value ∙ ap definition.breaks (sym (ap (stmt_at s.place) c.in-Block.is ∙ block_is s.place c.in-Block.body))
+breaks-returns-in-Block t c = record {
+  value =
+      let s = c.args.stmt.now in
+      c.any_breaks.ensures.value ∙ ap (λ (xs : List code_stmt.Stmt). definition.any_breaks (stmts (map stmt_of xs))) c.deref.ensures.value ∙ ap definition.breaks (sym (ap (stmt_at s.place) c.in-Block.is ∙ block_is s.place c.in-Block.body));
+}

@@ -54,7 +54,7 @@ check_cases-returns-in_err-known-clause-typed t c =
     let l = (code_case.out-Case x).label in
     let same_label : check_label c.args.int_type c.loop-i.before.items last at l ≡ check_label c.args.int_type c.deref.result.now c.is_last-last.result at l =
     ap (λ before. check_label c.args.int_type before last at l) (sym c.deref.ensures.value) ∙ ap (λ b. check_label c.args.int_type c.deref.result.now b at l) (sym c.is_last-last.ensures.none_after) in
-    rw (p.1, p.2) (label_fails c.loop-i.typed.items (scope_of c.args.scope.now (locals_of c.loop-i.locals)) c.args.int_type c.loop-i.before.items labels c.loop-i.i x c.in_err-known.field-0.0 _ c.loop-i-test.true c.index-labels-i.is (subst (FailsWith c.in_err-known.field-0.0) (sym same_label) c.in_err-known.ensures) c.loop-i.invariant.0)
+    rw (p.1, p.2) (label_fails c.loop-i.typed.items (scope_of c.args.scope.now (locals_of c.loop-i.locals)) c.args.int_type c.loop-i.before.items labels c.loop-i.i x c.in_err-known.field-0.0 _ c.loop-i-test.true c.index-labels-i.is (subst (FailsWith c.in_err-known.field-0.0) (sym same_label) c.in_err-known.ensures.checked) c.loop-i.invariant.0)
 
 pub check_cases-returns-in_err-body-clause-typed : goal.check_cases-returns-in_err-body-clause-typed
 check_cases-returns-in_err-body-clause-typed t c =
@@ -68,7 +68,7 @@ check_cases-returns-in_err-body-clause-typed t c =
     ap (λ before. check_label c.args.int_type before last at l) (sym c.deref.ensures.value) ∙ ap (λ b. check_label c.args.int_type c.deref.result.now b at l) (sym c.is_last-last.ensures.none_after) in
     let scope = scope_of c.args.scope.now (locals_of c.loop-i.locals) in
     let body : check_stmts scope (written.stmts (map stmt_of (code_case.out-Case x).body.items)) ≡ check_stmts scope (written.stmts (map stmt_of c.deref-in-loop-i.result.now)) = ap (λ xs. check_stmts scope (written.stmts (map stmt_of xs))) (sym c.deref-in-loop-i.ensures.value) in
-    rw (p.1, p.2) (labelled_fails c.loop-i.typed.items scope c.args.int_type c.loop-i.before.items labels c.loop-i.i x c.in_ok-known.known c.in_err-body.field-0.0 _ c.loop-i-test.true c.index-labels-i.is (same_label ∙ c.in_ok-known.ensures) (subst (FailsWith c.in_err-body.field-0.0) (sym body) c.in_err-body.ensures.typed) c.loop-i.invariant.0)
+    rw (p.1, p.2) (labelled_fails c.loop-i.typed.items scope c.args.int_type c.loop-i.before.items labels c.loop-i.i x c.in_ok-known.known c.in_err-body.field-0.0 _ c.loop-i-test.true c.index-labels-i.is (same_label ∙ c.in_ok-known.ensures.checked) (subst (FailsWith c.in_err-body.field-0.0) (sym body) c.in_err-body.ensures.typed) c.loop-i.invariant.0)
 
 pub check_cases-loop-i-preserved : goal.check_cases-loop-i-preserved
 check_cases-loop-i-preserved t c =
@@ -82,7 +82,7 @@ check_cases-loop-i-preserved t c =
     let scope = scope_of c.args.scope.now (locals_of c.loop-i.locals) in
     let body : check_stmts scope (written.stmts (map stmt_of (code_case.out-Case x).body.items)) ≡ check_stmts scope (written.stmts (map stmt_of c.deref-in-loop-i.result.now)) = ap (λ xs. check_stmts scope (written.stmts (map stmt_of xs))) (sym c.deref-in-loop-i.ensures.value) in
     let next = scope_of c.args.scope.now (locals_of c.check_block.new.locals) in (
-      cases_step c.loop-i.typed.items c.push-in-loop-i.new.self.items c.case.result scope next c.args.int_type c.loop-i.before.items c.push.new.self.items labels c.loop-i.i x c.in_ok-known.known (typed_views.body_of c.in_ok-body.body.items) _ c.in_ok-push-2.ensures.items c.in_ok-push.ensures.items (ap (scope_of c.args.scope.now) c.in_ok-body.ensures.unchanged) c.loop-i-test.true c.index-labels-i.is (same_label ∙ c.in_ok-known.ensures) (body ∙ c.in_ok-body.ensures.typed) c.case.ensures.label_first c.loop-i.invariant.0,
+      cases_step c.loop-i.typed.items c.push-in-loop-i.new.self.items c.case.result scope next c.args.int_type c.loop-i.before.items c.push.new.self.items labels c.loop-i.i x c.in_ok-known.known (typed_views.body_of c.in_ok-body.body.items) _ c.in_ok-push-2.ensures.items c.in_ok-push.ensures.items (ap (scope_of c.args.scope.now) c.in_ok-body.ensures.unchanged) c.loop-i-test.true c.index-labels-i.is (same_label ∙ c.in_ok-known.ensures.checked) (body ∙ c.in_ok-body.ensures.typed) c.case.ensures.label_first c.loop-i.invariant.0,
       c.in_ok-body.ensures.unchanged ∙ c.loop-i.invariant.1,
     )
 

@@ -3,4 +3,7 @@ use Rattle.ash_states.proofs.Placed.{index_is}
 use Rattle.ash_states.proofs.parts.index_of.Goals as goal
 
 pub returns : goal.returns
-returns c = c.unwrap_or.ensures ∙ ap (λ (o : Option ℕ). unwrap_or o 0) c.place_of.ensures ∙ index_is c.args.modules.now c.args.name.now
+returns c = record {
+  value = c.unwrap_or.ensures ∙ ap (λ (o : Option ℕ). unwrap_or o 0) c.place_of.ensures.value
+      ∙ index_is c.args.modules.now c.args.name.now;
+}

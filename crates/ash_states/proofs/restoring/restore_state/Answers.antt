@@ -30,7 +30,7 @@ returns-in_default c =
     let registrations : List Registration = registered c.args.registry.now in
     let read : ReadsModules (embedding_for registrations) (modules_of c.args.stored.modules.items) (option_map vec_items c.in_ok-modules.field-0) =
     subst (λ (rules : SourceRules). ReadsModules (embedding_of rules) (modules_of c.args.stored.modules.items) (option_map vec_items c.in_ok-modules.field-0))
-    c.sources_for-sources.ensures c.in_ok-modules.ensures.exact in
+    c.sources_for-sources.ensures.value c.in_ok-modules.ensures.exact in
     let none = rw c.in_default.is at read in
     record { exact = unread registrations (snapshot_of c.args.stored) none }
 
@@ -41,7 +41,7 @@ returns-then-not-is_well_typed c =
     let ms : List code_module.LoadedModule = c.in-Some.modules.items in
     let read : ReadsModules (embedding_for registrations) (modules_of c.args.stored.modules.items) (option_map vec_items c.in_ok-modules.field-0) =
     subst (λ (rules : SourceRules). ReadsModules (embedding_of rules) (modules_of c.args.stored.modules.items) (option_map vec_items c.in_ok-modules.field-0))
-    c.sources_for-sources.ensures c.in_ok-modules.ensures.exact in
+    c.sources_for-sources.ensures.value c.in_ok-modules.ensures.exact in
     let some = rw c.in-Some.is at read in
     let objects : c.in_ok-objects.objects ≡ (state_of snapshot).objects =
     c.in_ok-objects.ensures.named
@@ -63,7 +63,7 @@ returns c =
     let ms : List code_module.LoadedModule = c.in-Some.modules.items in
     let read : ReadsModules (embedding_for registrations) (modules_of c.args.stored.modules.items) (option_map vec_items c.in_ok-modules.field-0) =
     subst (λ (rules : SourceRules). ReadsModules (embedding_of rules) (modules_of c.args.stored.modules.items) (option_map vec_items c.in_ok-modules.field-0))
-    c.sources_for-sources.ensures c.in_ok-modules.ensures.exact in
+    c.sources_for-sources.ensures.value c.in_ok-modules.ensures.exact in
     let some = rw c.in-Some.is at read in
     let objects : c.in_ok-objects.objects ≡ (state_of snapshot).objects =
     c.in_ok-objects.ensures.named

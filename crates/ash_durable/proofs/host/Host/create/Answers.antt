@@ -17,5 +17,5 @@ returns g c = record {
         state_is = ap (λ (s : HostState). Some s) is;
         seq_is = ap (λ (s : HostState). s.state.seq) is;
       })
-      (subst (λ (s : HostState). WasMade device s c.args.a c.args.b c.in_ok-journal.journal) is c.in_ok-journal.ensures);
+      (subst (λ (s : HostState). WasMade device s c.args.a c.args.b c.in_ok-journal.journal) is c.in_ok-journal.ensures.makes);
 }

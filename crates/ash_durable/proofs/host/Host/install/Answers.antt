@@ -7,31 +7,37 @@ use Rattle.ash_durable.proofs.Requesting.{install_ok, install_refused, install_f
 use Rattle.ash_durable.proofs.host.Host.install.Goals as goal
 
 pub returns-in-Ok : goal.returns-in-Ok
-returns-in-Ok g c =
-    let device = g.D.Disk in
-    let runs : IsSome (state_unless c.self.inside.stopped c.self.inside.state) =
-    subst (λ (host : Hosted g.row.D.Denot). IsSome host.state) (sym c.self.view_is) c.requires in
-    subst (λ (host : Hosted g.row.D.Denot). TriesInstall device host (Ok tt)
-    (seen_host c.self.inside.stopped c.self.inside.state c.install_state.new.journal)) c.self.view_is
-    (install_ok device c.self.inside.stopped c.self.inside.state c.self.inside.journal c.install_state.new.journal runs
-    c.in-Ok.ensures)
+returns-in-Ok g c = record {
+  tries_install =
+      let device = g.D.Disk in
+      let runs : IsSome (state_unless c.self.inside.stopped c.self.inside.state) =
+      subst (λ (host : Hosted g.row.D.Denot). IsSome host.state) (sym c.self.view_is) c.requires.state in
+      subst (λ (host : Hosted g.row.D.Denot). TriesInstall device host (Ok tt)
+      (seen_host c.self.inside.stopped c.self.inside.state c.install_state.new.journal)) c.self.view_is
+      (install_ok device c.self.inside.stopped c.self.inside.state c.self.inside.journal c.install_state.new.journal runs
+      c.in-Ok.ensures.installs);
+}
 
 pub returns-in-DeviceFailed : goal.returns-in-DeviceFailed
-returns-in-DeviceFailed g c =
-    let device = g.D.Disk in
-    let runs : IsSome (state_unless c.self.inside.stopped c.self.inside.state) =
-    subst (λ (host : Hosted g.row.D.Denot). IsSome host.state) (sym c.self.view_is) c.requires in
-    subst (λ (host : Hosted g.row.D.Denot). TriesInstall device host (Err the.DeviceFailed)
-    (seen_host (Some c.seq.result) c.self.inside.state c.install_state.new.journal)) c.self.view_is
-    (install_failed device c.seq.result c.self.inside.stopped c.self.inside.state c.self.inside.journal
-    c.install_state.new.journal runs c.seq.ensures.number (rw c.in-DeviceFailed.is at c.in-Err.ensures))
+returns-in-DeviceFailed g c = record {
+  tries_install =
+      let device = g.D.Disk in
+      let runs : IsSome (state_unless c.self.inside.stopped c.self.inside.state) =
+      subst (λ (host : Hosted g.row.D.Denot). IsSome host.state) (sym c.self.view_is) c.requires.state in
+      subst (λ (host : Hosted g.row.D.Denot). TriesInstall device host (Err the.DeviceFailed)
+      (seen_host (Some c.seq.result) c.self.inside.state c.install_state.new.journal)) c.self.view_is
+      (install_failed device c.seq.result c.self.inside.stopped c.self.inside.state c.self.inside.journal
+      c.install_state.new.journal runs c.seq.ensures.number (rw c.in-DeviceFailed.is at c.in-Err.ensures.installs));
+}
 
 pub returns-in_default : goal.returns-in_default
-returns-in_default g c =
-    let device = g.D.Disk in
-    let runs : IsSome (state_unless c.self.inside.stopped c.self.inside.state) =
-    subst (λ (host : Hosted g.row.D.Denot). IsSome host.state) (sym c.self.view_is) c.requires in
-    subst (λ (host : Hosted g.row.D.Denot). TriesInstall device host (Err c.in-Err.refusal)
-    (seen_host c.self.inside.stopped c.self.inside.state c.install_state.new.journal)) c.self.view_is
-    (install_refused device c.self.inside.stopped c.self.inside.state c.in-Err.refusal c.self.inside.journal
-    c.install_state.new.journal runs c.in_default.not-DeviceFailed c.in-Err.ensures)
+returns-in_default g c = record {
+  tries_install =
+      let device = g.D.Disk in
+      let runs : IsSome (state_unless c.self.inside.stopped c.self.inside.state) =
+      subst (λ (host : Hosted g.row.D.Denot). IsSome host.state) (sym c.self.view_is) c.requires.state in
+      subst (λ (host : Hosted g.row.D.Denot). TriesInstall device host (Err c.in-Err.refusal)
+      (seen_host c.self.inside.stopped c.self.inside.state c.install_state.new.journal)) c.self.view_is
+      (install_refused device c.self.inside.stopped c.self.inside.state c.in-Err.refusal c.self.inside.journal
+      c.install_state.new.journal runs c.in_default.not-DeviceFailed c.in-Err.ensures.installs);
+}

@@ -18,7 +18,7 @@ returns-in_err-interface c =
     let all = c.args.self.now.interfaces.items in
     let place = c.in_ok-place.field-0.now in
     let first = c.in_ok-place.ensures.value ∙ c.args.self.now.interfaces_indexed name ∙ place_mapped name (λ x. x.name.now) all in
-    let none = c.in_err-interface.ensures ∙ ap (λ xs. slice_get xs place) c.deref.ensures.value in
+    let none = c.in_err-interface.ensures.value ∙ ap (λ xs. slice_get xs place) c.deref.ensures.value in
     record { interface_found = ap (option_map placed_interface) c.from_residual-in_err-interface.ensures ∙ ap (option_map (λ x. (place, interface_signature_of x))) none ∙ sym (first_placed (is_interface_named name) interface_signature_of all (Some place) first) }
 
 pub returns : goal.returns
@@ -27,5 +27,5 @@ returns c =
     let all = c.args.self.now.interfaces.items in
     let place = c.in_ok-place.field-0.now in
     let first = c.in_ok-place.ensures.value ∙ c.args.self.now.interfaces_indexed name ∙ place_mapped name (λ x. x.name.now) all in
-    let there = c.in_ok-interface.ensures ∙ ap (λ xs. slice_get xs place) c.deref.ensures.value in
+    let there = c.in_ok-interface.ensures.value ∙ ap (λ xs. slice_get xs place) c.deref.ensures.value in
     record { interface_found = ap (option_map (λ x. (place, interface_signature_of x))) there ∙ sym (first_placed (is_interface_named name) interface_signature_of all (Some place) first) }

@@ -8,17 +8,17 @@ use Rattle.ash_journal.proofs.FilesLaws.{at_rest, append_files, append_extends, 
 use Rattle.ash_journal.proofs.RunLaws.{same_extends}
 use Rattle.ash_journal.proofs.journal.Journal.append.Goals as goal
 
-pub returns-in-Err-clause-extends : goal.returns-in-Err-clause-extends
-returns-in-Err-clause-extends g c image bodies holds =
+pub returns-in_err-bytes-clause-extends : goal.returns-in_err-bytes-clause-extends
+returns-in_err-bytes-clause-extends g c image bodies holds =
     same_extends g.D.Disk (first_disk c.args.self.now) (second_disk c.args.self.now)
     (IsContents (image, bodies ++ c.args.body.now ∷ []))
 
-pub returns-in-Err-commit-clause-extends : goal.returns-in-Err-commit-clause-extends
-returns-in-Err-commit-clause-extends g c image bodies holds =
+pub returns-in-Err-clause-extends : goal.returns-in-Err-clause-extends
+returns-in-Err-clause-extends g c image bodies holds =
     let d = g.D.Disk in
     let j = c.args.self.now in
     let f = holds.files in
-    let bytes_are : c.deref.result.now ≡ block c.args.body.now ++ 0 ∷ [] = c.deref.ensures.value ∙ c.in-Ok.ensures in
+    let bytes_are : c.deref.result.now ≡ block c.args.body.now ++ 0 ∷ [] = c.deref.ensures.value ∙ c.in_ok-bytes.ensures.value in
     let prefix = committed_bytes j.generation image bodies in
     let rests = at_rest d j.generation j.end j.record_bytes j.stray j.other_state j.current c.commit.new.disk j.other
     image bodies c.args.body.now f holds.repaired c.requires.short in
@@ -34,11 +34,11 @@ returns-clause-acknowledged g c image bodies holds =
     let d = g.D.Disk in
     let j = c.args.self.now in
     let f = holds.files in
-    let bytes_are : c.deref.result.now ≡ block c.args.body.now ++ 0 ∷ [] = c.deref.ensures.value ∙ c.in-Ok.ensures in
+    let bytes_are : c.deref.result.now ≡ block c.args.body.now ++ 0 ∷ [] = c.deref.ensures.value ∙ c.in_ok-bytes.ensures.value in
     let prefix = committed_bytes j.generation image bodies in
     let rests = at_rest d j.generation j.end j.record_bytes j.stray j.other_state j.current c.commit.new.disk j.other
     image bodies c.args.body.now f holds.repaired c.requires.short in
-    let on = c.in-Ok-commit.ensures.committed prefix f.after
+    let on = c.in-Ok.ensures.committed prefix f.after
     (record { honest_disk = f.current_honest; long = sym f.end_is; bytes = rests; durable = f.current_durable }) in
     let on' = subst
     (λ (l : List ℕ). IsOn d c.commit.new.disk (prefix ++ 1 ∷ (l ++ drop (length l) f.after))) bytes_are on in
@@ -59,7 +59,7 @@ returns-clause-extends g c image bodies holds =
     let d = g.D.Disk in
     let j = c.args.self.now in
     let f = holds.files in
-    let bytes_are : c.deref.result.now ≡ block c.args.body.now ++ 0 ∷ [] = c.deref.ensures.value ∙ c.in-Ok.ensures in
+    let bytes_are : c.deref.result.now ≡ block c.args.body.now ++ 0 ∷ [] = c.deref.ensures.value ∙ c.in_ok-bytes.ensures.value in
     let prefix = committed_bytes j.generation image bodies in
     let rests = at_rest d j.generation j.end j.record_bytes j.stray j.other_state j.current c.commit.new.disk j.other
     image bodies c.args.body.now f holds.repaired c.requires.short in
@@ -72,5 +72,5 @@ returns-clause-extends g c image bodies holds =
 
 pub returns-clause-longer : goal.returns-clause-longer
 returns-clause-longer g c =
-    let bytes_are : c.deref.result.now ≡ block c.args.body.now ++ 0 ∷ [] = c.deref.ensures.value ∙ c.in-Ok.ensures in
+    let bytes_are : c.deref.result.now ≡ block c.args.body.now ++ 0 ∷ [] = c.deref.ensures.value ∙ c.in_ok-bytes.ensures.value in
     omega (arith, c.len-added.ensures, ap length bytes_are, c.deref.ensures.len, record_long c.args.body.now)

@@ -43,7 +43,7 @@ returns-in-Err-repair-clause-extends g c image bodies f =
     c.repair-2.new.disk image bodies f j.swapped
     (g.met.D.Disk.seen_may_stay j.current f.current_honest) (g.met.D.Disk.seen_may_stay j.other f.other_honest) one
     (subst (λ stray. HoldsThroughout d j.other c.repair-2.new.disk (WhileRepaired stray [] (d.seen j.other)))
-    c.is_stray.ensures two)
+    c.is_stray.ensures.value two)
 
 pub returns-clause-settled : goal.returns-clause-settled
 returns-clause-settled g c image bodies f =
@@ -58,15 +58,15 @@ returns-clause-settled g c image bodies f =
     }) in
     let on_o = c.in-Ok-repair.ensures.repaired [] (d.seen j.other)
     (record { honest_disk = f.other_honest; long = refl; bytes = refl; durable = f.other_durable }) in
-    let on_o' = subst (λ stray. IsOn d c.repair-2.new.disk (repaired stray (d.seen j.other))) c.is_stray.ensures on_o in
+    let on_o' = subst (λ stray. IsOn d c.repair-2.new.disk (repaired stray (d.seen j.other))) c.is_stray.ensures.value on_o in
     let files = settle_files d j.generation j.end j.record_bytes j.stray j.other_state j.current c.repair.new.disk
     j.other c.repair-2.new.disk image bodies f c.repair.ensures.honesty c.repair-2.ensures.honesty on_c on_o' in
     let files' =
     subst (λ other_state.
     FilesAre d j.generation j.end j.record_bytes false other_state c.repair.new.disk c.repair-2.new.disk image
-    bodies) (sym c.repaired-self.ensures) files in
+    bodies) (sym c.repaired-self.ensures.value) files in
     let ready = subst
-    (λ other_state. NeedsNoRepair false other_state) (sym c.repaired-self.ensures) (repaired_ready j.other_state) in
+    (λ other_state. NeedsNoRepair false other_state) (sym c.repaired-self.ensures.value) (repaired_ready j.other_state) in
     record {
       files = files';
       repaired = ready;
@@ -91,7 +91,7 @@ returns-clause-extends g c image bodies f =
     c.repair-2.new.disk image bodies f j.swapped
     (g.met.D.Disk.seen_may_stay j.current f.current_honest) (g.met.D.Disk.seen_may_stay j.other f.other_honest) one
     (subst (λ stray. HoldsThroughout d j.other c.repair-2.new.disk (WhileRepaired stray [] (d.seen j.other)))
-    c.is_stray.ensures two)
+    c.is_stray.ensures.value two)
 
 pub returns-in-Err-clause-gates : goal.returns-in-Err-clause-gates
 returns-in-Err-clause-gates g c image bodies f =

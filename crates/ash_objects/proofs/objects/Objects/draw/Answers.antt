@@ -16,7 +16,7 @@ returns-in_default-clause-pool g c = (
   λ _. (
     λ full. absurd (omega (arith, c.in_ok-number.ensures.room, full)),
     λ spent. let no = c.in_ok-number.ensures.spent.1 (λ full. absurd (omega (arith, c.in_ok-number.ensures.room, full)), spent) in absurd (cc),
-    rw (← c.self.view_is) (sym (rw c.deref.ensures.value at c.place_of_kind.ensures) ∙ c.in_default.is),
+    rw (← c.self.view_is) (sym (rw c.deref.ensures.value at c.place_of_kind.ensures.value) ∙ c.in_default.is),
   ),
   λ _. refl,
 )
@@ -24,19 +24,19 @@ returns-in_default-clause-pool g c = (
 pub returns-then-is_err-clause-pool : goal.returns-then-is_err-clause-pool
 returns-then-is_err-clause-pool g c = (
   λ e. absurd (cc),
-  λ h. let none = rw (← c.self.view_is) at h.2 in let both = sym c.in-Some.is ∙ (rw c.deref.ensures.value at c.place_of_kind.ensures) ∙ none in absurd (cc),
+  λ h. let none = rw (← c.self.view_is) at h.2 in let both = sym c.in-Some.is ∙ (rw c.deref.ensures.value at c.place_of_kind.ensures.value) ∙ none in absurd (cc),
 )
 
 pub returns-in-Err-clause-pool : goal.returns-in-Err-clause-pool
 returns-in-Err-clause-pool g c = (
   λ e. absurd (cc),
-  λ h. let none = rw (← c.self.view_is) at h.2 in let both = sym c.in-Some.is ∙ (rw c.deref.ensures.value at c.place_of_kind.ensures) ∙ none in absurd (cc),
+  λ h. let none = rw (← c.self.view_is) at h.2 in let both = sym c.in-Some.is ∙ (rw c.deref.ensures.value at c.place_of_kind.ensures.value) ∙ none in absurd (cc),
 )
 
 pub returns-clause-pool : goal.returns-clause-pool
 returns-clause-pool g c = (
   λ e. absurd (cc),
-  λ h. let none = rw (← c.self.view_is) at h.2 in let both = sym c.in-Some.is ∙ (rw c.deref.ensures.value at c.place_of_kind.ensures) ∙ none in absurd (cc),
+  λ h. let none = rw (← c.self.view_is) at h.2 in let both = sym c.in-Some.is ∙ (rw c.deref.ensures.value at c.place_of_kind.ensures.value) ∙ none in absurd (cc),
 )
 
 pub invariant_of-self-2 : goal.invariant_of-self-2
@@ -66,7 +66,7 @@ returns-clause-drawn g c =
     let put : living_in c.insert.new.self.objects ≡ with_at c.in_ok-number.number (new_object c.in_default-insert.field-0 (Host c.remove.result)) (living_in l) =
     ap living_in c.in_default-insert.ensures.objects
     ∙ view_new c.in_ok-number.number (record { slot = c.in_default-insert.field-0; waiting = true; item = record { count = 0; touched = true; body = Host c.remove.result } }) l t.in_order t.counted (absent l c.self.inside.last c.in_ok-number.number t.given later) (All-nil (λ word. IfSome (handle word) (Lives l))) refl refl in
-    let first = sym (rw c.deref.ensures.value at c.place_of_kind.ensures) ∙ c.in-Some.is in
+    let first = sym (rw c.deref.ensures.value at c.place_of_kind.ensures.value) ∙ c.in-Some.is in
     let within : c.in-Some.place < length c.self.inside.pool.items = search rules in
     rw (← c.self.view_is)
     (drawn_is g.B.HostObject c.args.kind _ c.in_ok-number.number c.in_default-insert.field-0 c.in-Some.place c.remove.result _ _ first (got c.self.inside.pool.items c.in-Some.place c.remove.result within c.remove.ensures.value) number put c.remove.ensures.items)

@@ -8,31 +8,34 @@ use Rattle.ash_objects.proofs.objects.Objects.elements.Goals as goal
 
 pub item-requires : goal.item-requires
 item-requires g c = record {
-  occupied = let at = rw (← c.self.view_is) at c.requires.1 in
-      (c.requires.0, in_view c.requires.0 c.args.slot c.self.inside.store.objects at);
+  occupied = let at = rw (← c.self.view_is) at c.requires.has_elements_in.1 in
+      (c.requires.has_elements_in.0, in_view c.requires.has_elements_in.0 c.args.slot c.self.inside.store.objects at);
 }
 
 pub unreachable-requires : goal.unreachable-requires
 unreachable-requires g c =
     let l = c.self.inside.store.objects in
-    let here = in_view c.requires.0 c.args.slot l (rw (← c.self.view_is) at c.requires.1) in
-    let some = rw (← c.self.view_is) at c.requires.2 in
-    let is = elements_view c.requires.0 l c.item.result.now (c.item.ensures.value c.requires.0 here) ∙ ap elements_of c.in-Script.is in
+    let here = in_view c.requires.has_elements_in.0 c.args.slot l (rw (← c.self.view_is) at c.requires.has_elements_in.1) in
+    let some = rw (← c.self.view_is) at c.requires.has_elements_in.2 in
+    let is = elements_view c.requires.has_elements_in.0 l c.item.result.now (c.item.ensures.value c.requires.has_elements_in.0 here) ∙ ap elements_of c.in-Script.is in
     let none = subst (λ (v : Option (List Word)). IsSome v) is some in
     absurd (cc)
 
 pub unreachable-requires-in-Host : goal.unreachable-requires-in-Host
 unreachable-requires-in-Host g c =
     let l = c.self.inside.store.objects in
-    let here = in_view c.requires.0 c.args.slot l (rw (← c.self.view_is) at c.requires.1) in
-    let some = rw (← c.self.view_is) at c.requires.2 in
-    let is = elements_view c.requires.0 l c.item.result.now (c.item.ensures.value c.requires.0 here) ∙ ap elements_of c.in-Host.is in
+    let here = in_view c.requires.has_elements_in.0 c.args.slot l (rw (← c.self.view_is) at c.requires.has_elements_in.1) in
+    let some = rw (← c.self.view_is) at c.requires.has_elements_in.2 in
+    let is = elements_view c.requires.has_elements_in.0 l c.item.result.now (c.item.ensures.value c.requires.has_elements_in.0 here) ∙ ap elements_of c.in-Host.is in
     let none = subst (λ (v : Option (List Word)). IsSome v) is some in
     absurd (cc)
 
 pub returns : goal.returns
-returns g c = λ number is.
-    let l = c.self.inside.store.objects in
-    let here = in_view number c.args.slot l (rw (← c.self.view_is) at is) in
-    let same = elements_view number l c.item.result.now (c.item.ensures.value number here) ∙ ap elements_of c.in-Array.is in
-    rw (← c.self.view_is) (same ∙ ap Some (sym c.as_slice.ensures.words))
+returns g c = record {
+  value =
+      λ number is.
+      let l = c.self.inside.store.objects in
+      let here = in_view number c.args.slot l (rw (← c.self.view_is) at is) in
+      let same = elements_view number l c.item.result.now (c.item.ensures.value number here) ∙ ap elements_of c.in-Array.is in
+      rw (← c.self.view_is) (same ∙ ap Some (sym c.as_slice.ensures.words));
+}

@@ -19,10 +19,12 @@ grow_elements-requires g c = record {
 }
 
 pub mark-requires : goal.mark-requires
-mark-requires g c =
-    let l = c.self.inside.store.objects in
-    let at = rw (← c.self.view_is) at c.requires.array.1 in
-    slot_within c.requires.array.0 c.args.slot l _ (in_view c.requires.array.0 c.args.slot l at) c.self.invariant.listed
+mark-requires g c = record {
+  within =
+      let l = c.self.inside.store.objects in
+      let at = rw (← c.self.view_is) at c.requires.array.1 in
+      slot_within c.requires.array.0 c.args.slot l _ (in_view c.requires.array.0 c.args.slot l at) c.self.invariant.listed;
+}
 
 pub invariant_of-self-2 : goal.invariant_of-self-2
 invariant_of-self-2 g c =

@@ -26,16 +26,18 @@ returns-in_err-restore_services-clause-refused g c = λ number is.
     subst (λ (n : ℕ). IsRefused g.B.HostObject c.args.stored.objects.items (states_in c.args.states.now) c.args.pool.items c.args.services.items n) (sym r.0) (Service before left drawn r.1)
 
 pub restore_boxes-requires : goal.restore_boxes-requires
-restore_boxes-requires g c =
-    let G = g.B.HostObject in
-    let objects = c.args.stored.objects.items in
-    let pool = c.args.pool.items in
-    let left = c.take_boxes.new.pool.items in
-    let before = c.in_ok-boxes.boxes.items in
-    let drawn : draw_boxes G objects pool ≡ Enough before left = rw c.deref.ensures.value at c.in_ok-boxes.ensures.enough in
-    let many = fit_length objects before (fit_drawn G objects pool before left drawn) in
-    let here = ap length c.deref-2.ensures.value in
-    omega (arith, many, here, c.in_ok-boxes.boxes.ok.0)
+restore_boxes-requires g c = record {
+  length =
+      let G = g.B.HostObject in
+      let objects = c.args.stored.objects.items in
+      let pool = c.args.pool.items in
+      let left = c.take_boxes.new.pool.items in
+      let before = c.in_ok-boxes.boxes.items in
+      let drawn : draw_boxes G objects pool ≡ Enough before left = rw c.deref.ensures.value at c.in_ok-boxes.ensures.enough in
+      let many = fit_length objects before (fit_drawn G objects pool before left drawn) in
+      let here = ap length c.deref-2.ensures.value in
+      omega (arith, many, here, c.in_ok-boxes.boxes.ok.0);
+}
 
 pub returns-in_err-restore_boxes-clause-refused : goal.returns-in_err-restore_boxes-clause-refused
 returns-in_err-restore_boxes-clause-refused g c = λ number is.
@@ -86,7 +88,7 @@ invariant_of-result g c =
     let l = c.insert_objects.new.store.objects in
     let few : length objects ≤ 4096 = omega (arith, c.requires.few, c.args.stored.objects.ok.0) in
     let all : c.deref-4.result.now ≡ numbers l = c.deref-4.ensures.value ∙ c.in_ok-list.ensures.numbers ∙ ap (λ (os : List SavedObject). numbers (stored_in os)) c.deref-3.ensures.value ∙ sym (put_numbers objects after l c.in_ok-insert_objects.ensures.inserted) in
-    rw (c.refer_from.ensures, all) (record {
+    rw (c.refer_from.ensures.effect, all) (record {
       listed =
           listed_faces (refer_objects (numbers l) l) l _
           (λ m. referred_face (numbers l) m l) c.in_ok-insert_objects.ensures.listed;
@@ -108,4 +110,4 @@ returns-clause-objects g c =
     let few : length objects ≤ 4096 = omega (arith, c.requires.few, c.args.stored.objects.ok.0) in
     let back : RestoresBoxes G objects before after = subst (λ (os : List SavedObject). RestoresBoxes G os before after) c.deref-2.ensures.value c.in_ok-restore_boxes.ensures.restored in
     let all : c.deref-4.result.now ≡ numbers l = c.deref-4.ensures.value ∙ c.in_ok-list.ensures.numbers ∙ ap (λ (os : List SavedObject). numbers (stored_in os)) c.deref-3.ensures.value ∙ sym (put_numbers objects after l c.in_ok-insert_objects.ensures.inserted) in
-    rw (c.refer_from.ensures, all) (is_restored G objects pool left before after l c.args.stored.last drawn back c.in_ok-insert_objects.ensures.inserted c.requires.numbered few c.requires.short c.requires.alive c.restore_services.new.services.items c.new.result.items)
+    rw (c.refer_from.ensures.effect, all) (is_restored G objects pool left before after l c.args.stored.last drawn back c.in_ok-insert_objects.ensures.inserted c.requires.numbered few c.requires.short c.requires.alive c.restore_services.new.services.items c.new.result.items)

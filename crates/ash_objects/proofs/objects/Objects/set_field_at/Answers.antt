@@ -30,10 +30,12 @@ write_word-before-requires g c = record {
 }
 
 pub mark-requires : goal.mark-requires
-mark-requires g c =
-    let l = c.self.inside.store.objects in
-    let at = rw (← c.self.view_is) at c.requires.there.1 in
-    slot_within c.requires.there.0 c.args.slot l _ (in_view c.requires.there.0 c.args.slot l at) c.self.invariant.listed
+mark-requires g c = record {
+  within =
+      let l = c.self.inside.store.objects in
+      let at = rw (← c.self.view_is) at c.requires.there.1 in
+      slot_within c.requires.there.0 c.args.slot l _ (in_view c.requires.there.0 c.args.slot l at) c.self.invariant.listed;
+}
 
 pub remove_ref-requires : goal.remove_ref-requires
 remove_ref-requires g c = record {

@@ -6,9 +6,11 @@ use Rattle.ash_objects.proofs.Listed.{slot_within, listed_change, listed_covers}
 use Rattle.ash_objects.proofs.objects.Objects.set_prop_at.Goals as goal
 
 pub mark-requires : goal.mark-requires
-mark-requires g c =
-    let at = rw (← c.self.view_is) at c.requires.host.1 in
-    slot_within c.requires.host.0 c.args.slot c.self.inside.store.objects _ (in_view c.requires.host.0 c.args.slot c.self.inside.store.objects at) c.self.invariant.listed
+mark-requires g c = record {
+  within =
+      let at = rw (← c.self.view_is) at c.requires.host.1 in
+      slot_within c.requires.host.0 c.args.slot c.self.inside.store.objects _ (in_view c.requires.host.0 c.args.slot c.self.inside.store.objects at) c.self.invariant.listed;
+}
 
 pub set_in-requires : goal.set_in-requires
 set_in-requires g c = record {

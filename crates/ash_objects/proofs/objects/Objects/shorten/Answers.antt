@@ -15,37 +15,40 @@ pub take_elements-words-requires : goal.take_elements-words-requires
 take_elements-words-requires g c = record {
   array = let l = c.self.inside.store.objects in
       let t = c.self.invariant.table in
-      let n = c.requires.0 in
+      let n = c.requires.array_of_table.0 in
       let len = c.args.len in
-      let a = found_array n l (rw (← c.self.view_is) at c.requires.2) in
-      let at = rw (← c.self.view_is) at c.requires.1 in
+      let a = found_array n l (rw (← c.self.view_is) at c.requires.array_of_table.2) in
+      let at = rw (← c.self.view_is) at c.requires.array_of_table.1 in
       let here = in_view n c.args.slot l at in
       (n, here, subst (λ v. IsSome v) (sym a.1) refl);
 }
 
 pub release_words-requires : goal.release_words-requires
-release_words-requires g c = λ m.
-    let l = c.self.inside.store.objects in
-    let t = c.self.invariant.table in
-    let n = c.requires.0 in
-    let len = c.args.len in
-    let a = found_array n l (rw (← c.self.view_is) at c.requires.2) in
-    let at = rw (← c.self.view_is) at c.requires.1 in
-    let here = in_view n c.args.slot l at in
-    let taken = c.take_elements-words.ensures.taken n here in
-    let elements = some_if _ _ a.0 a.1 (c.take_elements-words.ensures.elements n here) in
-    let es = (a.0).elements in
-    let cut = c.suffix.ensures.suffix ∙ ap (λ (ws : List Word). drop len ws) elements in
-    rw (cut, taken) (covers_shorter n len a.0 l _ _ t a.1 m)
+release_words-requires g c = record {
+  within =
+      λ m.
+      let l = c.self.inside.store.objects in
+      let t = c.self.invariant.table in
+      let n = c.requires.array_of_table.0 in
+      let len = c.args.len in
+      let a = found_array n l (rw (← c.self.view_is) at c.requires.array_of_table.2) in
+      let at = rw (← c.self.view_is) at c.requires.array_of_table.1 in
+      let here = in_view n c.args.slot l at in
+      let taken = c.take_elements-words.ensures.taken n here in
+      let elements = some_if _ _ a.0 a.1 (c.take_elements-words.ensures.elements n here) in
+      let es = (a.0).elements in
+      let cut = c.suffix.ensures.suffix ∙ ap (λ (ws : List Word). drop len ws) elements in
+      rw (cut, taken) (covers_shorter n len a.0 l _ _ t a.1 m);
+}
 
 pub set_elements-requires : goal.set_elements-requires
 set_elements-requires g c = record {
   array = let l = c.self.inside.store.objects in
       let t = c.self.invariant.table in
-      let n = c.requires.0 in
+      let n = c.requires.array_of_table.0 in
       let len = c.args.len in
-      let a = found_array n l (rw (← c.self.view_is) at c.requires.2) in
-      let at = rw (← c.self.view_is) at c.requires.1 in
+      let a = found_array n l (rw (← c.self.view_is) at c.requires.array_of_table.2) in
+      let at = rw (← c.self.view_is) at c.requires.array_of_table.1 in
       let here = in_view n c.args.slot l at in
       let taken = c.take_elements-words.ensures.taken n here in
       let elements = some_if _ _ a.0 a.1 (c.take_elements-words.ensures.elements n here) in
@@ -58,19 +61,21 @@ set_elements-requires g c = record {
 }
 
 pub mark-requires : goal.mark-requires
-mark-requires g c =
-    let l = c.self.inside.store.objects in
-    let at = rw (← c.self.view_is) at c.requires.1 in
-    slot_within c.requires.0 c.args.slot l _ (in_view c.requires.0 c.args.slot l at) c.self.invariant.listed
+mark-requires g c = record {
+  within =
+      let l = c.self.inside.store.objects in
+      let at = rw (← c.self.view_is) at c.requires.array_of_table.1 in
+      slot_within c.requires.array_of_table.0 c.args.slot l _ (in_view c.requires.array_of_table.0 c.args.slot l at) c.self.invariant.listed;
+}
 
 pub invariant_of-self : goal.invariant_of-self
 invariant_of-self g c =
     let l = c.self.inside.store.objects in
     let t = c.self.invariant.table in
-    let n = c.requires.0 in
+    let n = c.requires.array_of_table.0 in
     let len = c.args.len in
-    let a = found_array n l (rw (← c.self.view_is) at c.requires.2) in
-    let at = rw (← c.self.view_is) at c.requires.1 in
+    let a = found_array n l (rw (← c.self.view_is) at c.requires.array_of_table.2) in
+    let at = rw (← c.self.view_is) at c.requires.array_of_table.1 in
     let here = in_view n c.args.slot l at in
     let taken = c.take_elements-words.ensures.taken n here in
     let elements = some_if _ _ a.0 a.1 (c.take_elements-words.ensures.elements n here) in
@@ -94,22 +99,25 @@ invariant_of-self g c =
     })
 
 pub returns : goal.returns
-returns g c = λ n is.
-    let l = c.self.inside.store.objects in
-    let t = c.self.invariant.table in
-    let len = c.args.len in
-    let at = rw (← c.self.view_is) at is in
-    let here = in_view n c.args.slot l at in
-    rw (← c.self.view_is) (each_some _ _ (λ array found.
-    let there = sym (array_view n l) ∙ found in
-    let taken = c.take_elements-words.ensures.taken n here in
-    let elements = some_if _ _ array there (c.take_elements-words.ensures.elements n here) in
-    let es = array.elements in
-    let cut = c.suffix.ensures.suffix ∙ ap (λ (ws : List Word). drop len ws) elements in
-    let released : c.release_words.new.store.objects ≡ release_all (drop len es) (change_at n (refilled []) l) =
-    c.release_words.ensures.objects ∙ ap (λ (ws : List Word). release_all ws c.take_elements-words.new.store.objects) cut ∙ ap (λ (k : List (ℕ × SlotEntry _)). release_all (drop len es) k) taken in
-    let put_here = subst (λ (k : List (ℕ × SlotEntry _)). IsIn n c.args.slot k) (sym released) (in_shorter n len array l _ _ t there c.args.slot here) in
-    let put = c.set_elements.ensures.refilled n put_here in
-    let all : c.set_elements.new.store.objects ≡ change_at n (refilled (take len es)) (release_all (drop len es) (change_at n (refilled []) l)) =
-    put ∙ ap (λ (ws : List Word). change_at n (refilled ws) c.release_words.new.store.objects) (c.truncate.ensures.shortened ∙ ap (λ (ws : List Word). take len ws) elements) ∙ ap (λ (k : List (ℕ × SlotEntry _)). change_at n (refilled (take len es)) k) released in
-    rw (all, view_shorter n len array l _ _ t there) refl))
+returns g c = record {
+  effect =
+      λ n is.
+      let l = c.self.inside.store.objects in
+      let t = c.self.invariant.table in
+      let len = c.args.len in
+      let at = rw (← c.self.view_is) at is in
+      let here = in_view n c.args.slot l at in
+      rw (← c.self.view_is) (each_some _ _ (λ array found.
+      let there = sym (array_view n l) ∙ found in
+      let taken = c.take_elements-words.ensures.taken n here in
+      let elements = some_if _ _ array there (c.take_elements-words.ensures.elements n here) in
+      let es = array.elements in
+      let cut = c.suffix.ensures.suffix ∙ ap (λ (ws : List Word). drop len ws) elements in
+      let released : c.release_words.new.store.objects ≡ release_all (drop len es) (change_at n (refilled []) l) =
+      c.release_words.ensures.objects ∙ ap (λ (ws : List Word). release_all ws c.take_elements-words.new.store.objects) cut ∙ ap (λ (k : List (ℕ × SlotEntry _)). release_all (drop len es) k) taken in
+      let put_here = subst (λ (k : List (ℕ × SlotEntry _)). IsIn n c.args.slot k) (sym released) (in_shorter n len array l _ _ t there c.args.slot here) in
+      let put = c.set_elements.ensures.refilled n put_here in
+      let all : c.set_elements.new.store.objects ≡ change_at n (refilled (take len es)) (release_all (drop len es) (change_at n (refilled []) l)) =
+      put ∙ ap (λ (ws : List Word). change_at n (refilled ws) c.release_words.new.store.objects) (c.truncate.ensures.shortened ∙ ap (λ (ws : List Word). take len ws) elements) ∙ ap (λ (k : List (ℕ × SlotEntry _)). change_at n (refilled (take len es)) k) released in
+      rw (all, view_shorter n len array l _ _ t there) refl));
+}

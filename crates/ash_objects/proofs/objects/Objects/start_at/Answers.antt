@@ -6,46 +6,51 @@ use Rattle.ash_objects.proofs.Listed.{slot_within, listed_change, listed_covers}
 use Rattle.ash_objects.proofs.objects.Objects.start_at.Goals as goal
 
 pub mark-requires : goal.mark-requires
-mark-requires g c =
-    let at = rw (← c.self.view_is) at c.requires.1 in
-    slot_within c.requires.0 c.args.slot c.self.inside.store.objects _ (in_view c.requires.0 c.args.slot c.self.inside.store.objects at) c.self.invariant.listed
+mark-requires g c = record {
+  within =
+      let at = rw (← c.self.view_is) at c.requires.host_of_table.1 in
+      slot_within c.requires.host_of_table.0 c.args.slot c.self.inside.store.objects _ (in_view c.requires.host_of_table.0 c.args.slot c.self.inside.store.objects at) c.self.invariant.listed;
+}
 
 pub start_in-requires : goal.start_in-requires
 start_in-requires g c = record {
   host = let l = c.self.inside.store.objects in
-      let at = rw (← c.self.view_is) at c.requires.1 in
-      let some = rw (← c.self.view_is) at c.requires.2 in
-      (c.requires.0, in_view c.requires.0 c.args.slot l at, some_box c.requires.0 l some);
+      let at = rw (← c.self.view_is) at c.requires.host_of_table.1 in
+      let some = rw (← c.self.view_is) at c.requires.host_of_table.2 in
+      (c.requires.host_of_table.0, in_view c.requires.host_of_table.0 c.args.slot l at, some_box c.requires.host_of_table.0 l some);
 }
 
 pub invariant_of-self : goal.invariant_of-self
 invariant_of-self g c =
     let l = c.self.inside.store.objects in
-    let at = rw (← c.self.view_is) at c.requires.1 in
-    let a = c.start_in.ensures.answered c.requires.0 (in_view c.requires.0 c.args.slot l at) in
+    let at = rw (← c.self.view_is) at c.requires.host_of_table.1 in
+    let a = c.start_in.ensures.answered c.requires.host_of_table.0 (in_view c.requires.host_of_table.0 c.args.slot l at) in
     rw a.becomes (record {
-      table = table_box c.requires.0 l _ _ a.before a.after c.self.invariant.table a.was;
+      table = table_box c.requires.host_of_table.0 l _ _ a.before a.after c.self.invariant.table a.was;
       listed =
-          listed_change c.requires.0 c.args.slot (boxed a.after) l _
-          (λ p. refl) (in_view c.requires.0 c.args.slot l at) c.mark.ensures.listed
+          listed_change c.requires.host_of_table.0 c.args.slot (boxed a.after) l _
+          (λ p. refl) (in_view c.requires.host_of_table.0 c.args.slot l at) c.mark.ensures.listed
           (listed_covers l _ _ c.mark.ensures.covers c.self.invariant.listed);
     })
 
 pub returns : goal.returns
-returns g c = λ number is.
-    let l = c.self.inside.store.objects in
-    let at = rw (← c.self.view_is) at is in
-    let a = c.start_in.ensures.answered number (in_view number c.args.slot l at) in
-    record {
-      before = a.before;
-      after = a.after;
-      was = rw (← c.self.view_is) (box_view number l ∙ a.was);
-      responds = a.responds;
-      becomes =
-          rw (
-            ← c.self.view_is,
-            a.becomes,
-            view_box number l a.before a.after c.self.invariant.table.in_order
-                c.self.invariant.table.counted a.was,
-          ) refl;
-    }
+returns g c = record {
+  value =
+      λ number is.
+      let l = c.self.inside.store.objects in
+      let at = rw (← c.self.view_is) at is in
+      let a = c.start_in.ensures.answered number (in_view number c.args.slot l at) in
+      record {
+        before = a.before;
+        after = a.after;
+        was = rw (← c.self.view_is) (box_view number l ∙ a.was);
+        responds = a.responds;
+        becomes =
+            rw (
+              ← c.self.view_is,
+              a.becomes,
+              view_box number l a.before a.after c.self.invariant.table.in_order
+                  c.self.invariant.table.counted a.was,
+            ) refl;
+      };
+}

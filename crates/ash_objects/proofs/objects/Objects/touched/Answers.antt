@@ -16,7 +16,7 @@ invariant_of-self g c =
 pub returns-clause-living : goal.returns-clause-living
 returns-clause-living g c =
     let l = c.self.inside.store.objects in
-    let sorted = c.sort_numbers.ensures (marked_in l) (marked_rise l c.self.invariant.table.in_order) c.unmark_listed.ensures.numbers in
+    let sorted = c.sort_numbers.ensures.effect (marked_in l) (marked_rise l c.self.invariant.table.in_order) c.unmark_listed.ensures.numbers in
     rw (← c.self.view_is) (sorted ∙ sym (marked_is l l))
 
 pub returns-clause-cleared : goal.returns-clause-cleared

@@ -17,5 +17,5 @@ returns c = record {
   by_name =
       found_by (takes_name c.args.name.now) registration_of c.args.self.now.registrations.items (Some c.in_ok-at.at.now)
       (option_copied c.registration_at.result) (c.in_ok-at.ensures.value ∙ c.args.self.now.placed c.args.name.now)
-      (c.registration_at.ensures ∙ ap (λ rs. slice_get rs c.in_ok-at.at.now) c.deref.ensures.value);
+      (c.registration_at.ensures.value ∙ ap (λ rs. slice_get rs c.in_ok-at.at.now) c.deref.ensures.value);
 }

@@ -11,4 +11,4 @@ returns-clause-registers c =
     for_declared c.args.decl.now (not (is_known (registered c.args.self.now) c.args.of.now)) UnknownType
     (refusal_of_declared_factory (registered c.args.self.now) c.args.of.now)
     (factory_registration c.args.of.now) _ _ _ _
-    c.in_ok-declared.ensures.declared (grind (arith, nat_tests)) c.factory_of_declaration.ensures
+    c.in_ok-declared.ensures.declared (grind (arith, nat_tests)) c.factory_of_declaration.ensures.registered

@@ -13,4 +13,4 @@ returns-clause-registers c =
     (refusal_of_declared_function (registered c.args.self.now) c.args.service c.args.id)
     (function_registration c.args.service c.args.id) _ _ _ _ c.in_ok-declared.ensures.declared
     (grind (arith, nat_tests))
-    c.function_of_declaration.ensures
+    c.function_of_declaration.ensures.registered

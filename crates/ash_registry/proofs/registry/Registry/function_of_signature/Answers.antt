@@ -10,23 +10,27 @@ use Rattle.ash_registry.proofs.Verdicts.{skip_cause, refused_by_cause}
 use Rattle.ash_registry.proofs.registry.Registry.function_of_signature.Goals as goal
 
 pub returns-then-takes_function_or_name : goal.returns-then-takes_function_or_name
-returns-then-takes_function_or_name c =
-    let taken : Bool =
-    list_any (takes_name (signature_of c.args.signature).name) (registered c.args.self.now)
-    || list_any (takes_function c.args.service c.args.id) (registered c.args.self.now) in
-    let named = c.as_str.ensures.value in
-    let e : taken ≡ true = cc (c.takes_function_or_name.ensures, c.if-takes_function_or_name.true) in
-    skip_cause (list_any (is_unknown (registered c.args.self.now)) (types_of (signature_of c.args.signature)))
-    UnknownType _ _ _ _ _ (sym c.names_unknown.ensures ∙ c.if-names_unknown.false)
-    (skip_cause (list_any is_object (types_of (signature_of c.args.signature))) NotPrimitive _ _ _ _ _
-    (sym c.names_object.ensures ∙ c.if-names_object.false)
-    (refused_by_cause taken NameTaken _ _ _ e))
+returns-then-takes_function_or_name c = record {
+  registered =
+      let taken : Bool =
+      list_any (takes_name (signature_of c.args.signature).name) (registered c.args.self.now)
+      || list_any (takes_function c.args.service c.args.id) (registered c.args.self.now) in
+      let named = c.as_str.ensures.value in
+      let e : taken ≡ true = cc (c.takes_function_or_name.ensures.value, c.if-takes_function_or_name.true) in
+      skip_cause (list_any (is_unknown (registered c.args.self.now)) (types_of (signature_of c.args.signature)))
+      UnknownType _ _ _ _ _ (sym c.names_unknown.ensures.value ∙ c.if-names_unknown.false)
+      (skip_cause (list_any is_object (types_of (signature_of c.args.signature))) NotPrimitive _ _ _ _ _
+      (sym c.names_object.ensures.value ∙ c.if-names_object.false)
+      (refused_by_cause taken NameTaken _ _ _ e));
+}
 
 pub add_function-requires : goal.add_function-requires
-add_function-requires c =
-    let named_so : Bool = list_any (takes_name (signature_of c.args.signature).name) (registered c.args.self.now) in
-    let numbered_so : Bool = list_any (takes_function c.args.service c.args.id) (registered c.args.self.now) in
-    let named = c.as_str.ensures.value in
-    let none : (named_so || numbered_so) ≡ false =
-    cc (c.takes_function_or_name.ensures, c.if-takes_function_or_name.false) in
-    (or_parts named_so numbered_so none).0
+add_function-requires c = record {
+  name_free =
+      let named_so : Bool = list_any (takes_name (signature_of c.args.signature).name) (registered c.args.self.now) in
+      let numbered_so : Bool = list_any (takes_function c.args.service c.args.id) (registered c.args.self.now) in
+      let named = c.as_str.ensures.value in
+      let none : (named_so || numbered_so) ≡ false =
+      cc (c.takes_function_or_name.ensures.value, c.if-takes_function_or_name.false) in
+      (or_parts named_so numbered_so none).0;
+}

@@ -11,4 +11,4 @@ returns-clause-registers c =
     for_declared c.args.decl.now (not (is_known (registered c.args.self.now) c.args.of.now)) UnknownType
     (refusal_of_declared_method (registered c.args.self.now) c.args.of.now c.args.id)
     (method_registration c.args.of.now c.args.id) _ _ _ _ c.in_ok-declared.ensures.declared (grind (arith, nat_tests))
-    c.method_of_declaration.ensures
+    c.method_of_declaration.ensures.registered

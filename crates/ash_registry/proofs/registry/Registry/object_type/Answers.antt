@@ -8,5 +8,5 @@ returns c = record {
   registers =
       for_name_class c.args.name.now
       (λ s. refusal_of_type (registered c.args.self.now) c.args.name.now s c.args.kind) _ _ _ _ _
-      c.in_ok-name_class.ensures.classified c.classified_type.ensures;
+      c.in_ok-name_class.ensures.classified c.classified_type.ensures.registered;
 }

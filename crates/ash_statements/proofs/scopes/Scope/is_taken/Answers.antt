@@ -6,6 +6,8 @@ use Rattle.ash_environment.specs.EnvironmentViews.{binding_of}
 use Rattle.ash_statements.proofs.scopes.Scope.is_taken.Goals as goal
 
 pub returns : goal.returns
-returns c =
-    let same = ap (λ xs. list_any (declares c.args.name.now) (map binding_of xs)) c.locals_of_block.ensures in
-    c.any_declares.ensures.name_declared ∙ same ∙ ap (list_any (declares c.args.name.now)) (sym (drop-map binding_of c.args.self.now.block_start c.args.locals.now))
+returns c = record {
+  value =
+      let same = ap (λ xs. list_any (declares c.args.name.now) (map binding_of xs)) c.locals_of_block.ensures.value in
+      c.any_declares.ensures.name_declared ∙ same ∙ ap (list_any (declares c.args.name.now)) (sym (drop-map binding_of c.args.self.now.block_start c.args.locals.now));
+}

@@ -1,7 +1,7 @@
 //! Damaged stores: files that are cut, and files with another byte at a place.
 
 use crate::checks::{check, check_bytes};
-use crate::store::{file_with, loaded};
+use crate::stores::store::{file_with, loaded};
 use ash_disk::MemoryDisk;
 use ash_durable::{OpenFault, StoreFault};
 use ash_registry::Registry;

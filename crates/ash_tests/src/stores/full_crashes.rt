@@ -1,9 +1,9 @@
 //! Stops of a store whose next request installs a generation, at every call of either disk, and what crashes leave.
 
 use crate::checks::check;
-use crate::crashes::is_held;
-use crate::fuses::{Failing, fuses};
-use crate::plans::{Plan, Step, Stopped, handle_plan};
+use crate::stores::crashes::is_held;
+use crate::stores::fuses::{Failing, fuses};
+use crate::stores::plans::{Plan, Step, Stopped, handle_plan};
 use ash_disk::{MemoryDisk, Survives};
 use ash_store_fixtures::full::{AT_THE_LIMIT, full_file};
 use ash_store_fixtures::hosts::{SOURCE, disk, image_after};

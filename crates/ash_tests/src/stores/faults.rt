@@ -1,7 +1,7 @@
 //! Stores that are there already or damaged, and disks that fail.
 
 use crate::checks::{check, check_bytes, check_text};
-use crate::fuses::{Failing, fuses};
+use crate::stores::fuses::{Failing, fuses};
 use ash_disk::{FailingDisk, MemoryDisk, Survives};
 use ash_durable::{CreateFault, Host, OpenFault, StoreFault};
 use ash_plain_steps::request::Request;

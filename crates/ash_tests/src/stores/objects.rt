@@ -2,7 +2,7 @@
 //! is asked of a host is data, so that each call is proved once and not in each test.
 
 use crate::checks::check_text;
-use crate::store::check_survives;
+use crate::stores::store::check_survives;
 use ash_disk::{MemoryDisk, Survives};
 use ash_registry::Registry;
 use ash_store_fixtures::hosts::{closed, crashed, opened};

@@ -1,7 +1,8 @@
 //! Stores on two disks: their bytes, and crashes between requests. What is asked of a host is data, so that each call
 //! is proved once and not in each test.
 
-use crate::checks::{RunSeries, check, check_bytes, check_lives, check_run, check_text};
+use crate::checks::{check, check_bytes, check_text};
+use crate::stores::runs::{RunSeries, check_lives, check_run};
 use ash_disk::{MemoryDisk, Survives};
 use ash_durable::{OpenFault, StoreFault};
 use ash_store_fixtures::hosts::{closed, crashed, found, second_generation, with_modules};

@@ -1,8 +1,9 @@
 //! Stores of version 1, as they were written before there were arrays. They are by hand. An opening moves them to
 //! version 2.
 
-use crate::checks::{RunSeries, check, check_lives};
-use crate::damage::changed;
+use crate::checks::check;
+use crate::stores::damage::changed;
+use crate::stores::runs::{RunSeries, check_lives};
 use ash_durable::{Host, OpenFault, StoreFault};
 use ash_registry::Registry;
 use ash_store_fixtures::hosts::{

@@ -1,7 +1,8 @@
 //! New generations: by a snapshot, and in place of records of 16,777,216 bytes or more. What is asked of a host is
 //! data, so that each call is proved once and not in each test.
 
-use crate::checks::{RunSeries, check, check_bytes, check_calls, check_lives, check_text};
+use crate::checks::{check, check_bytes, check_text};
+use crate::stores::runs::{RunSeries, check_calls, check_lives};
 use ash_disk::{MemoryDisk, Survives};
 use ash_durable::{FULL_RECORD_BYTES, Host};
 use ash_registry::Registry;

@@ -1,8 +1,8 @@
 //! Stops at every call of either disk, and what crashes leave of both, at each moment of the request in progress.
 
 use crate::checks::check;
-use crate::fuses::{Failing, fuses};
-use crate::plans::{Plan, Reached, Step, Stopped, handle_plan};
+use crate::stores::fuses::{Failing, fuses};
+use crate::stores::plans::{Plan, Reached, Step, Stopped, handle_plan};
 use ash_disk::{MemoryDisk, Survives};
 use ash_durable::{Host, OpenFault, StoreFault};
 use ash_registry::Registry;

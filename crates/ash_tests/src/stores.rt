@@ -1,6 +1,5 @@
 //! Tests of the host without its requests' bytes: its calls, stores on two disks with what is registered, and a host
-//! whose disks fail, or which crashes, at each moment. It has tests alone, so that the crates with the code are proved
-//! once.
+//! whose disks fail, or which crashes, at each moment.
 //!
 //! Of disks that do not fail: `host` has the host's calls, `store` the bytes of stores and crashes between requests,
 //! `objects` what is found of objects after these, `versions` stores of version 1, `damage` and `registered` what is
@@ -8,34 +7,19 @@
 //!
 //! Of disks that do: `snapshots` has new generations, `faults` disks that fail; `crashes`, `moves` and `full_crashes`
 //! disks that fail, with crashes at each moment, of small stores, of an empty one of version 1, and of one that is
-//! full: what is done to these is in `plans`, and where disks fail in `fuses`.
-#![tactic(auto)]
+//! full: what is done to these is in `plans`, and where disks fail in `fuses`. `runs` compares what a run leaves.
 
-#[cfg(test)]
-mod checks;
-#[cfg(test)]
 mod crashes;
-#[cfg(test)]
 mod damage;
-#[cfg(test)]
 mod faults;
-#[cfg(test)]
 mod full_crashes;
-#[cfg(test)]
-mod fuses;
-#[cfg(test)]
+pub(crate) mod fuses;
 mod host;
-#[cfg(test)]
 mod moves;
-#[cfg(test)]
 mod objects;
-#[cfg(test)]
 mod plans;
-#[cfg(test)]
 mod registered;
-#[cfg(test)]
+mod runs;
 mod snapshots;
-#[cfg(test)]
 mod store;
-#[cfg(test)]
 mod versions;

@@ -1,32 +1,11 @@
-//! Comparisons that say what was compared.
+//! Runs over stores, compared with what they are to answer and to leave.
 
+use crate::checks::check_text;
 use ash_disk::MemoryDisk;
 use ash_store_fixtures::lives::{File, Run, bytes_of, disks_of, lived};
 use std::alloc::Global;
-use std::fmt::Debug;
 use std::process::Abort;
 use std::test::Fail;
-
-/// Compares what is found with what is wanted.
-pub fn check<T: Debug + PartialEq>(rt: &impl Abort, found: &T, wanted: &T, what: &str) {
-    if *found != *wanted {
-        panic!(rt; "{what}: found {found:?}, wanted {wanted:?}");
-    }
-}
-
-/// The same of bytes.
-pub fn check_bytes(rt: &impl Abort, found: &[u8], wanted: &[u8], what: &str) {
-    if found != wanted {
-        panic!(rt; "{what}: found {found:?}, wanted {wanted:?}");
-    }
-}
-
-/// The same of texts.
-pub fn check_text(rt: &impl Abort, found: &str, wanted: &str, what: &str) {
-    if found != wanted {
-        panic!(rt; "{what}: found {found}, wanted {wanted}");
-    }
-}
 
 /// Compares how many writes and syncs two disks have had.
 pub fn check_calls(

@@ -1,6 +1,7 @@
 //! The calls of a host, each once, where memory is ample.
 
-use crate::checks::{RunSeries, check, check_life, check_text};
+use crate::checks::{check, check_text};
+use crate::stores::runs::{RunSeries, check_life};
 use ash_disk::MemoryDisk;
 use ash_durable::Host;
 use ash_plain_steps::request::Request;

@@ -2,8 +2,8 @@
 //! crash leaves then, the next opening leaves the first file as it was, and the state in version 2 in the second.
 
 use crate::checks::{check, check_bytes};
-use crate::crashes::{Crash, crash_of};
-use crate::fuses::{Failing, fuses};
+use crate::stores::crashes::{Crash, crash_of};
+use crate::stores::fuses::{Failing, fuses};
 use ash_disk::{FailingDisk, MemoryDisk};
 use ash_durable::{Host, HostRefused, OpenFault, StoreFault};
 use ash_registry::Registry;

@@ -1,0 +1,89 @@
+# How edits that are tried in one check are judged: by what the prover writes of the function that each of them changes. The
+# prover's words are given here, and the prover is not asked.
+
+# judged WANTED WORDS: how an edit of the function `f` of a module is judged where the prover writes these words
+judged() {
+    local found
+    found=$(PYTHONDONTWRITEBYTECODE=1 PYTHONPATH=tests python3 -c '
+import sys
+import together
+body, words = together.Body("low::part", "f", "", 1, 9), sys.argv[1]
+print("refused" if together.own_reason(body, words) else "waits" if together.waits(body, words) else "open")' "$2")
+    [ "$found" = "$1" ]
+    verdict $? "an edit of which the prover writes: $2 (wanted $1, found $found)"
+}
+
+judged refused 'fn low::part::f: not proved'
+judged refused 'fn low::part::Type::f: no proof: expected answers in ./proofs/f/Answers.antt; `search` did not prove `returns`'
+judged open 'fn low::part::f: proved'
+judged open 'fn low::part::f: could not tell'
+judged open 'fn low::other::f: not proved'
+judged open 'fn low::part::Type::f: not proved
+fn low::part::f: proved'
+judged open './proofs/part/f/Answers.antt:3:1: error: `x` was not admitted
+fn low::part::f: not proved'
+judged open 'fn low::part::f: no proof: it is in a cycle of calls with `g`'
+judged waits 'fn low::part::f: no proof: it calls `g`, which is not proved'
+judged waits 'fn low::part::f: no proof: it calls `g` and `h`, which are not proved'
+judged waits 'fn low::part::f: no proof: in `h`, of this cycle of calls: it calls `g`, which is not proved'
+judged waits 'fn low::part::f: not proved; it calls `g`, which is not proved'
+judged waits 'fn low::part::f: not proved; it waits for the proof of `g`'
+
+# A crate of two functions in a circle and two apart: which bodies there are, and which edits share a copy.
+mkdir -p "$scratch/low/src" "$scratch/edits"
+cat > "$scratch/low/src/lib.rt" <<'SOURCE'
+#[cycle(parity)]
+fn even(n: u8) -> bool
+    ensures exact { result ≡ is_even n }
+{
+    n == 0 || odd(n - 1)
+}
+
+#[cycle(parity)]
+fn odd(n: u8) -> bool {
+    n != 0 && even(n - 1)
+}
+
+fn one() -> u8 {
+    1
+}
+
+fn two() -> u8 {
+    one() + 1
+}
+SOURCE
+edit() { printf 'file: src/lib.rt\nold: %s\nnew: %s\n' "$2" "$3" > "$scratch/edits/$1.edit"; }
+edit circle1 'n == 0 ||' 'n == 1 ||'
+edit circle2 'n != 0 &&' 'n != 1 &&'
+edit contract 'is_even n' 'is_odd n'
+edit one '    1' '    2'
+edit two 'one() + 1' 'one() + 2'
+PYTHONDONTWRITEBYTECODE=1 PYTHONPATH=tests python3 - "$scratch" > "$scratch/output" 2> "$scratch/error" <<'PROGRAM'
+import glob
+import os
+import sys
+import types
+import together
+
+
+def read_edit(edit, folder):
+    with open(edit) as lines:
+        path, old, new = (it.rstrip("\n").partition(": ")[2] for it in lines)
+    with open(f"{folder}/{path}") as file:
+        return {path: file.read().replace(old, new)}, None
+
+
+rt, room = types.SimpleNamespace(read_edit=read_edit), sys.argv[1]
+crate = types.SimpleNamespace(name="low", folder=f"{room}/low")
+edits = sorted(glob.glob(f"{room}/edits/*.edit"))
+changes = {it: together.change_of(rt, crate, it) for it in edits}
+names = lambda group: " ".join(os.path.basename(it)[:-5] for it in group)
+print("alone:", names(it for it in edits if not changes[it]))
+left = [it for it in edits if changes[it]]
+while left:
+    group = together.next_group(left, changes)
+    print("together:", names(group))
+    left = [it for it in left if it not in group]
+PROGRAM
+printf '%s\n' 'alone: contract' 'together: circle1 one two' 'together: circle2' | cmp -s - "$scratch/output"
+verdict $? "edits that share a copy: $(cat "$scratch/output" "$scratch/error")"
