@@ -32,7 +32,9 @@ fn check_trees(
     let second = parsed(alloc, tokens);
     let fault = outcome_of(alloc, first.as_ref().err())?;
     check_text(rt, fault.as_str(), "ok", row);
-    check_true(rt, first == second, row);
+    let first = format!(in alloc; "{first:?}")?;
+    let second = format!(in alloc; "{second:?}")?;
+    check_true(rt, first.as_str() == second.as_str(), row);
     Ok(())
 }
 

@@ -6,7 +6,7 @@ use crate::tree::types::{Element, Primitive, TypeName};
 
 /// An expression, at its first token.
 #[cycle(expressions)]
-#[derive(Debug, PartialEq, Drop)]
+#[derive(Debug, Drop)]
 pub struct Expr {
     pub place: Position,
     pub kind: ExprKind,
@@ -14,7 +14,7 @@ pub struct Expr {
 
 /// What an expression is.
 #[cycle(expressions)]
-#[derive(Debug, PartialEq, Drop)]
+#[derive(Debug, Drop)]
 pub enum ExprKind {
     Number(u64),
     Bool(bool),
@@ -73,7 +73,7 @@ pub enum ExprKind {
 
 /// What follows an operand.
 #[cycle(expressions)]
-#[derive(Debug, PartialEq, Drop)]
+#[derive(Debug, Drop)]
 pub enum Suffix {
     /// `.name`, at the name
     Field {
@@ -96,7 +96,7 @@ pub enum Suffix {
 
 /// An operator and its right operand.
 #[cycle(expressions)]
-#[derive(Debug, PartialEq, Drop)]
+#[derive(Debug, Drop)]
 pub struct Link {
     pub operator: BinaryOp,
     pub operand: Expr,

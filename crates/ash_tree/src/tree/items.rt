@@ -5,13 +5,13 @@ use crate::tree::statements::{Stmt, Vars};
 use crate::tree::types::{Type, TypeName};
 
 /// A script: what it declares, in order.
-#[derive(Debug, PartialEq, Drop)]
+#[derive(Debug, Drop)]
 pub struct Module {
     pub items: Vec<Item>,
 }
 
 /// A declaration of a module.
-#[derive(Debug, PartialEq, Drop)]
+#[derive(Debug, Drop)]
 pub enum Item {
     Class(Class),
     Interface(Interface),
@@ -20,7 +20,7 @@ pub enum Item {
 }
 
 /// A class, at its name, with the interfaces that it lists.
-#[derive(Debug, PartialEq, Drop)]
+#[derive(Debug, Drop)]
 pub struct Class {
     pub place: Position,
     pub name: String,
@@ -29,7 +29,7 @@ pub struct Class {
 }
 
 /// An interface, at its name.
-#[derive(Debug, PartialEq, Drop)]
+#[derive(Debug, Drop)]
 pub struct Interface {
     pub place: Position,
     pub name: String,
@@ -37,7 +37,7 @@ pub struct Interface {
 }
 
 /// A method that an interface declares, at its name. Without a result type it is `void`.
-#[derive(Debug, PartialEq, Drop)]
+#[derive(Debug, Drop)]
 pub struct InterfaceMethod {
     pub place: Position,
     pub result: Option<Type>,
@@ -46,7 +46,7 @@ pub struct InterfaceMethod {
 }
 
 /// What a class declares.
-#[derive(Debug, PartialEq, Drop)]
+#[derive(Debug, Drop)]
 pub enum Member {
     Function(Function),
     Vars(Vars),
@@ -54,7 +54,7 @@ pub enum Member {
 }
 
 /// A function, at its name. Without a result type it is `void`.
-#[derive(Debug, PartialEq, Drop)]
+#[derive(Debug, Drop)]
 pub struct Function {
     pub place: Position,
     pub result: Option<Type>,
@@ -64,7 +64,7 @@ pub struct Function {
 }
 
 /// `name(parameters) { body }` in a class, at the name.
-#[derive(Debug, PartialEq, Drop)]
+#[derive(Debug, Drop)]
 pub struct Constructor {
     pub place: Position,
     pub name: String,
@@ -73,7 +73,7 @@ pub struct Constructor {
 }
 
 /// A parameter of a function, at its name.
-#[derive(Debug, PartialEq, Drop)]
+#[derive(Debug, Drop)]
 pub struct Parameter {
     pub of: Type,
     pub place: Position,

@@ -5,14 +5,14 @@ use crate::tree::places::Position;
 use crate::tree::types::Type;
 
 /// Variables of one type, one at the least: `type decl, ..;`
-#[derive(Debug, PartialEq, Drop)]
+#[derive(Debug, Drop)]
 pub struct Vars {
     pub of: Type,
     pub decls: Vec<Decl>,
 }
 
 /// A variable, at its name.
-#[derive(Debug, PartialEq, Drop)]
+#[derive(Debug, Drop)]
 pub struct Decl {
     pub place: Position,
     pub name: String,
@@ -20,7 +20,7 @@ pub struct Decl {
 }
 
 /// What a variable begins with.
-#[derive(Debug, PartialEq, Drop)]
+#[derive(Debug, Drop)]
 pub enum Initializer {
     /// Nothing is written.
     Default,
@@ -32,7 +32,7 @@ pub enum Initializer {
 
 /// A statement, or the declaration of variables in a block, at its first token.
 #[cycle(statements)]
-#[derive(Debug, PartialEq, Drop)]
+#[derive(Debug, Drop)]
 pub struct Stmt {
     pub place: Position,
     pub kind: StmtKind,
@@ -40,7 +40,7 @@ pub struct Stmt {
 
 /// What a statement is.
 #[cycle(statements)]
-#[derive(Debug, PartialEq, Drop)]
+#[derive(Debug, Drop)]
 pub enum StmtKind {
     /// `;`
     Empty,
@@ -85,7 +85,7 @@ pub enum StmtKind {
 /// A label of a `switch`, at its constant (the `-` where there is one) or at the word `default`, with the statements
 /// after it.
 #[cycle(statements)]
-#[derive(Debug, PartialEq, Drop)]
+#[derive(Debug, Drop)]
 pub struct Case {
     pub place: Position,
     pub label: Label,
