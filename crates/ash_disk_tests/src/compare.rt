@@ -3,11 +3,6 @@
 
 use std::process::Abort;
 
-/// Looks at what is to be true.
-pub(crate) fn check_true(rt: &impl Abort, found: bool, row: &str, what: &str) {
-    assert!(rt; found, "{row}: {what}");
-}
-
 /// Compares a number with the one that is wanted.
 pub(crate) fn check_number(rt: &impl Abort, found: u64, wanted: u64, row: &str, what: &str) {
     assert_eq!(rt; found, wanted, "{row}: {what}");

@@ -1,7 +1,7 @@
 //! Disks: that calls succeed, what a real file holds, and how much the crash images differ. No clause states these. The
 //! calls are data, so that each is proved once and not in each test.
 
-use crate::compare::{check_bytes, check_number, check_true};
+use crate::compare::{check_bytes, check_number};
 use ash_disk::{Disk, FailingDisk, FileDisk, MemoryDisk, Survives, write_durably};
 use std::alloc::{AllocError, Global};
 use std::path::PathBuf;
@@ -279,12 +279,7 @@ fn kinds_of(disk: &MemoryDisk, seeds: u64) -> Result<[bool; 4], AllocError> {
 fn torn_images_differ(rt: HostRuntime) -> Result<(), Fail> {
     let disk = four_calls(&rt, rt.alloc())?;
     let kinds = kinds_of(&disk, 200)?;
-    check_true(
-        &rt,
-        kinds == [true; 4],
-        "of 200 seeds",
-        "each kind of image",
-    );
+    assert_eq!(rt; kinds, [true; 4], "each kind of image, of 200 seeds");
     Ok(())
 }
 
@@ -355,7 +350,7 @@ fn path_of(rt: &HostRuntime) -> Result<PathBuf, Fail> {
 fn a_file_is_read_after_it_is_opened_again(rt: HostRuntime) -> Result<(), Fail> {
     let path = path_of(&rt)?;
     let is_absent = open_file(&rt, path.as_str(), OpenMode::Existing).is_err();
-    check_true(&rt, is_absent, "before it is made", "no file is there");
+    assert!(rt; is_absent, "no file is there before it is made");
     for (what, mode, steps) in &USES {
         let mut disk = open_file(&rt, path.as_str(), *mode)?;
         check_steps(&rt, &mut disk, steps, what);

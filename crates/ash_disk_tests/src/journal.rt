@@ -4,7 +4,7 @@
 //! `composed` a caller, proved, that makes every call, `crashes` stops a run at each call of a disk, and `faults`
 //! compares damaged files with a reading of the layout by hand.
 
-use crate::compare::{check_number, check_true};
+use crate::compare::check_number;
 use crate::disks::check_disk;
 use ash_disk::{Disk, MemoryDisk};
 use ash_journal::{
@@ -178,7 +178,7 @@ fn begin(
         Start::Open(image, records) => {
             let found = open(alloc, disks.0, disks.1)?;
             let is_same = has_contents(&found, image, records);
-            check_true(rt, is_same, run.what, "the image and the records");
+            assert!(rt; is_same, "{}: the image and the records", run.what);
             Ok(found.journal)
         }
     }

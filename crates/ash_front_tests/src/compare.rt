@@ -8,11 +8,6 @@ pub(crate) fn check_text(rt: &impl Abort, found: &str, wanted: &str, row: &str) 
     assert_eq!(rt; found, wanted, "at {row:?}");
 }
 
-/// Looks at what is to be true.
-pub(crate) fn check_true(rt: &impl Abort, found: bool, row: &str) {
-    assert!(rt; found, "at {row:?}");
-}
-
 /// Compares a number with the one that is wanted of this row.
 pub(crate) fn check_number(rt: &impl Abort, found: usize, wanted: usize, row: &str) {
     assert_eq!(rt; found, wanted, "at {row:?}");

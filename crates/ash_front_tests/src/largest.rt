@@ -1,6 +1,6 @@
 //! Sources of 65,536 bytes: their trees are shallow, so that comparing and dropping one takes little stack.
 
-use crate::compare::{check_number, check_text, check_true};
+use crate::compare::{check_number, check_text};
 use crate::declarations::{outcome_of, parsed};
 use crate::tokens::{coded_fault, push_times};
 use ash_lex::{MAX_SOURCE_BYTES, Token, lex};
@@ -34,7 +34,7 @@ fn check_trees(
     check_text(rt, fault.as_str(), "ok", row);
     let first = format!(in alloc; "{first:?}")?;
     let second = format!(in alloc; "{second:?}")?;
-    check_true(rt, first.as_str() == second.as_str(), row);
+    check_text(rt, first.as_str(), second.as_str(), row);
     Ok(())
 }
 

@@ -6,15 +6,28 @@ ghost use Rattle.ash_state_image.specs.declared.fields.ReadError.TheVariants.{No
 
 use byteorder::{ByteOrder, LittleEndian};
 use std::alloc::{AllocError, AllocFailed};
+use std::error::Error;
+use std::fmt;
 
 /// Why nothing was read.
-#[derive(Drop)]
+#[derive(Clone, Copy, Debug, PartialEq, Eq)]
 pub enum ReadError {
     /// Memory was refused.
     NoMemory,
     /// The bytes spell nothing.
     Damaged,
 }
+
+impl fmt::Display for ReadError {
+    fn fmt<W: fmt::Write>(&self, f: &mut fmt::Formatter<W>) -> fmt::Result {
+        f.write_str(match self {
+            ReadError::NoMemory => "memory was refused",
+            ReadError::Damaged => "the bytes are no part of an image",
+        })
+    }
+}
+
+impl Error for ReadError {}
 
 impl From<AllocError> for ReadError {
     ghost from_gives = { λ _ e. e ≡ NoMemory };

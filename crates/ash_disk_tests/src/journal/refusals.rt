@@ -1,6 +1,5 @@
 //! What a journal is not created over, and how faults are written.
 
-use crate::compare::check_true;
 use ash_disk::{DeviceFailed, MemoryDisk};
 use ash_journal::{AppendError, CreateFault, InstallError, Journal, OpenFault};
 use std::alloc::Global;
@@ -57,8 +56,8 @@ fn check_created(rt: &impl Abort, alloc: Global, row: &FilePair) -> Result<(), F
     let first = MemoryDisk::with_bytes(alloc, row.1)?;
     let second = MemoryDisk::with_bytes(alloc, row.2)?;
     let (fault, is_same) = refusal(alloc, first, second, row);
-    check_true(rt, fault == row.3, row.0, "why no journal is created");
-    check_true(rt, is_same, row.0, "the files stay as they were");
+    assert_eq!(rt; fault, row.3, "{}: why no journal is created", row.0);
+    assert!(rt; is_same, "{}: the files stay as they were", row.0);
     Ok(())
 }
 

@@ -1,7 +1,7 @@
 //! Each byte of an image changed to every other, and each cut, whatever is registered: what is left is refused, or is
 //! the image of another state.
 
-use crate::stored::compare::{check_bytes, check_count, check_true};
+use crate::stored::compare::{ReadAs, check_bytes, check_count, check_read_as, read_as};
 use crate::stored::encoding::encoded;
 use crate::stored::images::{
     NOTHING, ONE, ONE_MODULE, Parts, THREE_TAGS, TWO, TWO_TAGS, image, with_byte,
@@ -128,7 +128,7 @@ fn check_cuts(rt: &impl Abort, alloc: Global, row: &Row) -> Result<(), Fail> {
     let image = image(alloc, version, rest)?;
     for length in 0..image.len() {
         let cut = image.get(..length).unwrap_or_default();
-        check_true(rt, read_image(alloc, cut)?.is_none(), what);
+        check_read_as(rt, read_as(&read_image(alloc, cut)?), ReadAs::Nothing, what);
     }
     Ok(())
 }

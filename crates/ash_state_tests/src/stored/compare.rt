@@ -45,10 +45,3 @@ pub(crate) fn check_read_as(rt: &impl Abort, found: ReadAs, wanted: ReadAs, what
         panic!(rt; "{what}: found {found:?}, wanted {wanted:?}");
     }
 }
-
-/// Looks at what is to be true of this.
-pub(crate) fn check_true(rt: &impl Abort, found: bool, what: &str) {
-    if !found {
-        panic!(rt; "{what}");
-    }
-}

@@ -4,7 +4,7 @@
 ghost use Rattle.ash_state_image.specs.Rules.{IsShaped};
 ghost use Rattle.ash_state_image.specs.SnapshotViews.{snapshot_of};
 
-use crate::stored::compare::{check_bytes, check_count, check_true};
+use crate::stored::compare::{ReadAs, check_bytes, check_count, check_read_as};
 use crate::stored::images::{
     DANGLING, EACH_WORD, NOTHING, OF_TWO_MODULES, ONE, ONE_MODULE, ONE_SERVICE, Parts, STORED,
     THREE_TAGS, TWO, TWO_TAGS, image, with_byte,
@@ -120,21 +120,21 @@ fn in_version_two(alloc: Global, bytes: &[u8]) -> Result<Vec<u8>, AllocError> {
     with_byte(alloc, bytes, 0, 2)
 }
 
-/// Whether bytes are the image of a host. Its image is these bytes, in version 2.
-fn is_of_host(
+/// Whether bytes are read as the image of a host with this registered. Its image is these bytes, in version 2.
+fn read_as_host(
     rt: &impl Abort,
     alloc: Global,
     registered: Registered,
     bytes: &[u8],
     what: &str,
-) -> Result<bool, Fail> {
+) -> Result<ReadAs, Fail> {
     match reads_as(alloc, registry_of(alloc, registered)?, bytes)? {
         Some(state) => {
             let wanted = in_version_two(alloc, bytes)?;
             check_bytes(rt, &state.image()?, &wanted, what);
-            Ok(true)
+            Ok(ReadAs::Image)
         }
-        None => Ok(false),
+        None => Ok(ReadAs::Nothing),
     }
 }
 
@@ -150,7 +150,7 @@ fn count_at(
     let mut count = 0_usize;
     for byte in 0..=255 {
         let bytes = with_byte(alloc, image, place, byte)?;
-        if byte != old && is_of_host(rt, alloc, row.3, &bytes, row.0)? {
+        if byte != old && read_as_host(rt, alloc, row.3, &bytes, row.0)? == ReadAs::Image {
             count = count.wrapping_add(1);
         }
     }
@@ -159,7 +159,8 @@ fn count_at(
 
 fn check_changes(rt: &impl Abort, alloc: Global, row: &Row) -> Result<(), Fail> {
     let image = image(alloc, row.1, row.2)?;
-    check_true(rt, is_of_host(rt, alloc, row.3, &image, row.0)?, row.0);
+    let unchanged = read_as_host(rt, alloc, row.3, &image, row.0)?;
+    check_read_as(rt, unchanged, ReadAs::Image, row.0);
     let mut count = 0_usize;
     for place in 0..image.len() {
         count = count.wrapping_add(count_at(rt, alloc, row, &image, place)?);
@@ -181,7 +182,8 @@ fn check_cuts(rt: &impl Abort, alloc: Global, row: &Row) -> Result<(), Fail> {
     let image = image(alloc, row.1, row.2)?;
     for length in 0..image.len() {
         let cut = image.get(..length).unwrap_or_default();
-        check_true(rt, !is_of_host(rt, alloc, row.3, cut, row.0)?, row.0);
+        let found = read_as_host(rt, alloc, row.3, cut, row.0)?;
+        check_read_as(rt, found, ReadAs::Nothing, row.0);
     }
     Ok(())
 }
@@ -226,7 +228,8 @@ const REFUSED: [Refused; 8] = [
 fn check_refused(rt: &impl Abort, alloc: Global, row: &Refused) -> Result<(), Fail> {
     let (what, rest, registered) = *row;
     let image = image(alloc, TWO, rest)?;
-    check_true(rt, !is_of_host(rt, alloc, registered, &image, what)?, what);
+    let found = read_as_host(rt, alloc, registered, &image, what)?;
+    check_read_as(rt, found, ReadAs::Nothing, what);
     Ok(())
 }
 
@@ -255,8 +258,8 @@ fn check_exchanged(rt: &impl Abort, alloc: Global, row: Exchanged) -> Result<(),
     let (what, place, byte) = row;
     let image = image(alloc, TWO, OF_TWO_MODULES)?;
     let changed = with_byte(alloc, &image, place, byte)?;
-    let is_one = is_of_host(rt, alloc, Registered::Nothing, &changed, what)?;
-    check_true(rt, !is_one, what);
+    let found = read_as_host(rt, alloc, Registered::Nothing, &changed, what)?;
+    check_read_as(rt, found, ReadAs::Nothing, what);
     Ok(())
 }
 
@@ -265,8 +268,8 @@ fn objects_of_two_modules(rt: HostRuntime) -> Result<(), Fail> {
     let what = "objects of two modules";
     let image = image(rt.alloc(), TWO, OF_TWO_MODULES)?;
     check_count(&rt, image.len(), 241, what);
-    let is_one = is_of_host(&rt, rt.alloc(), Registered::Nothing, &image, what)?;
-    check_true(&rt, is_one, what);
+    let found = read_as_host(&rt, rt.alloc(), Registered::Nothing, &image, what)?;
+    check_read_as(&rt, found, ReadAs::Image, what);
     for row in &EXCHANGED {
         check_exchanged(&rt, rt.alloc(), *row)?;
     }
