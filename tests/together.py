@@ -164,7 +164,9 @@ def is_proved(rt, crate, flags, kept):
 def must_fail_all(rt, crate, edits, flags):
     """Tries a crate's edits, and returns of each whether the prover refuses it, and the line to write of it. As rt does, it
     tries edits anew from nothing where they are not refused over what earlier checks kept, or where that is not sound at the
-    end. It tries none of a crate that is not proved without them."""
+    end. It tries none of a crate that is not proved without them, and checks nothing where there are no edits."""
+    if not edits:
+        return []
     with tempfile.TemporaryDirectory(prefix="rt-edits-") as kept:
         # once more, where memory ran out
         if not is_proved(rt, crate, flags, kept) and not is_proved(rt, crate, flags, kept):

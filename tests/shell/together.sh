@@ -84,6 +84,8 @@ while left:
     group = together.next_group(left, changes)
     print("together:", names(group))
     left = [it for it in left if it not in group]
+# a crate without edits is not checked once more (this rt checks nothing)
+print("without edits:", together.must_fail_all(rt, crate, [], []))
 PROGRAM
-printf '%s\n' 'alone: contract' 'together: circle1 one two' 'together: circle2' | cmp -s - "$scratch/output"
+printf '%s\n' 'alone: contract' 'together: circle1 one two' 'together: circle2' 'without edits: []' | cmp -s - "$scratch/output"
 verdict $? "edits that share a copy: $(cat "$scratch/output" "$scratch/error")"
