@@ -1,6 +1,6 @@
 //! The environment of an expression, and what its names mean in it.
 
-ghost use Rattle.std.specs.Prelude.{◌≡◌, map, option_map, IfOk, OnErr, IsSome, IsNone};
+ghost use Rattle.std.specs.Prelude.{◌≡◌, map, option_map, IfOk, OnErr, IsSome};
 ghost use Rattle.std.specs.Option.{option_copied};
 ghost use Rattle.ash_registrations.specs.Registered.{registered};
 ghost use Rattle.ash_registrations.specs.Registrations.{registration_of};
@@ -20,7 +20,7 @@ use crate::parameters::Parameters;
 use crate::signatures::{Binding, ClassSignature, Signatures};
 use crate::types::{result_type, ty_of, var_type};
 use ash_registrations::{Registration, Registrations};
-use ash_typed::{CallTarget, Expr, ObjectMember, ObjectType, Variable, nodes};
+use ash_typed::{CallTarget, Expr, ExprKind, ObjectMember, ObjectType, Variable, nodes};
 use ash_typing::{Callable, Ty};
 use std::alloc::{AllocError, Global};
 
@@ -48,30 +48,50 @@ fn class_field(class: usize, of: &ClassSignature, name: &str) -> Option<(ObjectM
     Some((member, ty))
 }
 
-/// A local, with its type.
-fn local_named(locals: &[Binding], name: &str) -> Option<(Expr, Ty)>
-    ensures value { option_map known_of result
-        ≡ environment.local_in (map binding_of locals.now) name.now }
+/// A local, with its type. Memory is taken only where there is one.
+fn local_named(
+    alloc: Global,
+    locals: &[Binding],
+    name: &str,
+) -> Result<Option<(Expr, Ty)>, AllocError>
+    ensures local_found { IfOk result
+        (λ found. option_map known_of found
+        ≡ environment.local_in (map binding_of locals.now) name.now) }
+    ensures memory { OnErr result
+        (IsSome (environment.local_in (map binding_of locals.now) name.now)) }
 {
-    let (slot, of) = last_binding(locals, name)?;
+    let Some((slot, of)) = last_binding(locals, name) else {
+        return Ok(None);
+    };
     let local = Variable::Local {
         slot,
         of: var_type(of),
     };
-    Some((Expr::Variable(local), of))
+    let tree = Expr::new(alloc, ExprKind::Variable(local))?;
+    Ok(Some((tree, of)))
 }
 
-/// A global, with its type.
-fn global_named(signatures: &Signatures, name: &str) -> Option<(Expr, Ty)>
-    ensures value { option_map known_of result
-        ≡ environment.global_in (map binding_of signatures.now.globals.items) name.now }
+/// A global, with its type. Memory is taken only where there is one.
+fn global_named(
+    alloc: Global,
+    signatures: &Signatures,
+    name: &str,
+) -> Result<Option<(Expr, Ty)>, AllocError>
+    ensures global_found { IfOk result
+        (λ found. option_map known_of found
+        ≡ environment.global_in (map binding_of signatures.now.globals.items) name.now) }
+    ensures memory { OnErr result
+        (IsSome (environment.global_in (map binding_of signatures.now.globals.items) name.now)) }
 {
-    let (place, of) = signatures.global(name)?;
+    let Some((place, of)) = signatures.global(name) else {
+        return Ok(None);
+    };
     let global = Variable::Global {
         place,
         of: var_type(of),
     };
-    Some((Expr::Variable(global), of))
+    let tree = Expr::new(alloc, ExprKind::Variable(global))?;
+    Ok(Some((tree, of)))
 }
 
 /// A property of a registered type, with its type.
@@ -116,27 +136,27 @@ impl<'a, 'n> Environment<'a, 'n> {
         let Some((member, of)) = class_field(place, class, name) else {
             return Ok(None);
         };
-        Ok(Some((nodes::member(self.alloc, Expr::This(place), member)?, of)))
+        let this = Expr::new(self.alloc, ExprKind::This(place))?;
+        Ok(Some((nodes::member(self.alloc, this, member)?, of)))
     }
 
     /// A name alone, with its type: the last local of the name, else a field of the object that runs, else a global.
-    /// `None` is that it is none of these; `Err`, that memory was refused, which only a field takes.
+    /// `None` is that it is none of these; `Err`, that memory was refused, which is taken only for what there is.
     #[tactic(auto, unfolding(ash_typing::specs::Environment::variable_in))]
     pub fn variable(&self, name: &str) -> Result<Option<(Expr, Ty)>, AllocError>
         ensures variable_found { IfOk result
             (λ found. option_map known_of found
             ≡ environment.variable_in (environment_of self.now) name.now) }
         ensures memory { OnErr result
-            (IsNone (environment.local_in (map binding_of self.now.locals.now) name.now)
-            × IsSome (environment.own_field_in (environment_of self.now) name.now)) }
+            (IsSome (environment.variable_in (environment_of self.now) name.now)) }
     {
-        if let Some(local) = local_named(self.locals, name) {
+        if let Some(local) = local_named(self.alloc, self.locals, name)? {
             return Ok(Some(local));
         }
         if let Some(field) = self.own_field(name)? {
             return Ok(Some(field));
         }
-        Ok(global_named(self.signatures, name))
+        global_named(self.alloc, self.signatures, name)
     }
 
     /// A method of the object that runs, as it is called.

@@ -8,7 +8,7 @@ use Rattle.ash_typed.specs.declared.tree.operations.Change.{Change}
 use Rattle.ash_typed.specs.declared.types.ObjectType.{ObjectType}
 use Rattle.ash_typed.specs.TypedTree.{Expr, Place}
 use Rattle.ash_typed.specs.TypeOf.{ValueType, value, as_value, value_of_result, type_of, type_of_place, type_of_member}
-use Rattle.ash_typed.specs.TypeOf.{result_of_method, result_of_target, altered_type, chosen_type}
+use Rattle.ash_typed.specs.TypeOf.{result_of_method, result_of_target, altered_type}
 use Rattle.ash_typed.specs.Signatures.{ModuleSignatures}
 use Rattle.ash_typed.specs.SoundOperations.{IsSoundMember, field, property, IsMethod, of_class, of_interface, of_host}
 use Rattle.ash_typed.specs.SoundOperations.{of_array, IsTarget, function, service, class, host, empty_array}

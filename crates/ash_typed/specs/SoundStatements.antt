@@ -4,7 +4,7 @@
 -- `IsSoundStmt scope s`: the statement `s` is sound in this scope, and declares no variable that is seen after it.
 -- `AreSoundStmts scope ss`: so are the statements of a block, each of which sees the variables that those before it
 -- declare.
-use Rattle.std.specs.Prelude.{◌≡◌, ◌≢◌, ◌<◌, ◌≤◌, ◌^◌, ℕ, zero, suc, ℤ, pos, negsuc, Bool, true, false, List, [], ◌∷◌}
+use Rattle.std.specs.Prelude.{◌≡◌, ◌≢◌, ◌≤◌, ◌^◌, ℕ, zero, suc, ℤ, pos, negsuc, Bool, true, List, [], ◌∷◌}
 use Rattle.std.specs.Prelude.{◌++◌, Option, Some, None}
 use Rattle.std.specs.List.{AllByRecursion}
 use Rattle.ash_tree.specs.declared.tree.statements.Label.{Label}

@@ -1,7 +1,8 @@
 -- These definitions say what the code's typed trees represent.
 use Rattle.std.specs.Prelude.{List, [], ◌∷◌}
 use Rattle.ash_typed.specs.declared.tree.expressions.Expr as code
-use Rattle.ash_typed.specs.declared.tree.expressions.Expr.TheVariants as variants
+use Rattle.ash_typed.specs.declared.tree.expressions.ExprKind as kind_code
+use Rattle.ash_typed.specs.declared.tree.expressions.ExprKind.TheVariants as kinds
 use Rattle.ash_typed.specs.declared.tree.expressions.Place as place
 use Rattle.ash_typed.specs.declared.tree.expressions.Place.TheVariants as places
 use Rattle.ash_typed.specs.declared.tree.expressions.Link as link
@@ -15,50 +16,54 @@ use Rattle.ash_typed.specs.TypedTree.{no_expr}
 use Rattle.ash_typed.specs.TypedTree.{expr, converted}
 
 abbrev mutual
-  pub expr_of : code.Expr → Expr
-  expr_of (variants.Number int_type value) = Number int_type value
-  expr_of (variants.Bool b) = Truth b
-  expr_of variants.Null = Null
-  expr_of (variants.This class) = This class
-  expr_of (variants.Variable v) = Read (Stored v)
-  expr_of (variants.Path' a base shape row) = linked_by (expr_of base) row
-  expr_of (variants.Convert' conversion a value) = Convert conversion (expr_of value)
-  expr_of (variants.Cast' to a e) = Cast to (expr_of e)
-  expr_of (variants.Change' change a e) = Alter change (expr_of e)
-  expr_of (variants.Chain' a first shape row) = chained_by (expr_of first) row
-  expr_of (variants.Lazy' op a first shape row) = lazies_by op (expr_of first) row
-  expr_of (variants.Conditional' a c b t d e) = Conditional (expr_of c) (expr_of t) (expr_of e)
-  expr_of (variants.Assign' p a value) = Assign (place_of p) (expr_of value)
-  expr_of (variants.Update' p of calculation a value) = Update (place_of p) of calculation (expr_of value)
-  expr_of (variants.Step p of step) = Count (place_of p) of step
-  expr_of (variants.Call' target parameters shape row) = Call target parameters.items (exprs_of row)
+  pub expr_in : kind_code.ExprKind → Expr
+  expr_in (kinds.Number int_type value) = Number int_type value
+  expr_in (kinds.Bool b) = Truth b
+  expr_in kinds.Null = Null
+  expr_in (kinds.This class) = This class
+  expr_in (kinds.Variable v) = Read (Stored v)
+  expr_in (kinds.Path' a base shape row) = linked_by (expr_in base) row
+  expr_in (kinds.Convert' conversion a value) = Convert conversion (expr_in value)
+  expr_in (kinds.Cast' to a e) = Cast to (expr_in e)
+  expr_in (kinds.Change' change a e) = Alter change (expr_in e)
+  expr_in (kinds.Chain' a first shape row) = chained_by (expr_in first) row
+  expr_in (kinds.Lazy' op a first shape row) = lazies_by op (expr_in first) row
+  expr_in (kinds.Conditional' a c b t d e) = Conditional (expr_in c) (expr_in t) (expr_in e)
+  expr_in (kinds.Assign' p a value) = Assign (place_of p) (expr_in value)
+  expr_in (kinds.Update' p of calculation a value) = Update (place_of p) of calculation (expr_in value)
+  expr_in (kinds.Step p of step) = Count (place_of p) of step
+  expr_in (kinds.Call' target parameters shape row) = Call target parameters.items (exprs_of row)
 
   pub place_of : place.Place → Place
   place_of (places.Variable v) = Stored v
-  place_of (places.Member' a object member) = Held (expr_of object) member
-  place_of (places.Element' a array b index of) = Indexed (expr_of array) (expr_of index) of
+  place_of (places.Member' a object member) = Held (expr_in object) member
+  place_of (places.Element' a array b index of) = Indexed (expr_in array) (expr_in index) of
 
-  pub linked_by : {n : _} → Expr → code.Row_of-Link n → Expr
-  linked_by e code.end_of-Link = e
-  linked_by e (code.more_of-Link l rest) = linked_by (linked e l) rest
+  pub linked_by : {n : _} → Expr → kind_code.Row_of-Link n → Expr
+  linked_by e kind_code.end_of-Link = e
+  linked_by e (kind_code.more_of-Link l rest) = linked_by (linked e l) rest
 
   pub linked : Expr → link.Link → Expr
   linked e (links.Member member) = Read (Held e member)
-  linked e (links.Index' a index of) = Read (Indexed e (expr_of index) of)
+  linked e (links.Index' a index of) = Read (Indexed e (expr_in index) of)
   linked e (links.Invoke' method parameters shape row) = Invoke e method parameters.items (exprs_of row)
 
-  pub chained_by : {n : _} → Expr → code.Row_of-Operand n → Expr
-  chained_by e code.end_of-Operand = e
-  chained_by e (code.more_of-Operand before operation value rest) =
-      chained_by (Operate operation (converted before e) (expr_of value)) rest
+  pub chained_by : {n : _} → Expr → kind_code.Row_of-Operand n → Expr
+  chained_by e kind_code.end_of-Operand = e
+  chained_by e (kind_code.more_of-Operand before operation a value rest) =
+      chained_by (Operate operation (converted before e) (expr_in value)) rest
 
-  pub lazies_by : {n : _} → Lazy → Expr → code.Row_of-Expr n → Expr
-  lazies_by op e code.end_of-Expr = e
-  lazies_by op e (code.more_of-Expr x rest) = lazies_by op (Lazily op e (expr_of x)) rest
+  pub lazies_by : {n : _} → Lazy → Expr → kind_code.Row_of-Expr n → Expr
+  lazies_by op e kind_code.end_of-Expr = e
+  lazies_by op e (kind_code.more_of-Expr a x rest) = lazies_by op (Lazily op e (expr_in x)) rest
 
-  pub exprs_of : {n : _} → code.Row_of-Expr n → Exprs
-  exprs_of code.end_of-Expr = no_expr
-  exprs_of (code.more_of-Expr e rest) = expr (expr_of e) (exprs_of rest)
+  pub exprs_of : {n : _} → kind_code.Row_of-Expr n → Exprs
+  exprs_of kind_code.end_of-Expr = no_expr
+  exprs_of (kind_code.more_of-Expr a e rest) = expr (expr_in e) (exprs_of rest)
+
+-- `expr_of e` is the expression that the code's represents.
+abbrev pub expr_of : code.Expr → Expr
+expr_of e = expr_in e.kind.value
 
 -- `chained e o` is an operator with its right operand, after its left operand.
 abbrev pub chained : Expr → operand.Operand → Expr

@@ -21,7 +21,7 @@ mod types;
 
 pub use ash_integers::IntType;
 pub use soundness::types_of_expressions;
-pub use tree::expressions::{Expr, Link, Operand, Place};
+pub use tree::expressions::{Expr, ExprKind, Link, Operand, Place};
 pub use tree::items::{Class, Function, Implementation, Interface, Module, Signature, Variables};
 pub use tree::operations::{
     ArrayMethod, Calculation, Calculator, CallTarget, Change, Comparator, Conversion, IncrementOp,

@@ -1,19 +1,17 @@
 //! Nodes of typed trees.
 
-ghost use Rattle.std.specs.Prelude.{◌≡◌, [], ◌∷◌, ◌++◌, map, option_map, IfOk, Box, box_value};
-ghost use Rattle.std.specs.declared.alloc.Global.{Global};
-ghost use Rattle.ash_typed.specs.declared.tree.expressions.Expr.{Expr as IndexExpr};
+ghost use Rattle.std.specs.Prelude.{◌≡◌, [], ◌∷◌, ◌++◌, map, option_map, IfOk};
 ghost use Rattle.ash_typed.specs.TypedTree.{Read, Held, Indexed, Invoke, Cast, Alter};
 ghost use Rattle.ash_typed.specs.TypedTree.{Lazily, Conditional, Assign, Update};
 ghost use Rattle.ash_typed.specs.TypedTree.{Count, Call, exprs, converted};
 ghost use Rattle.ash_typed.specs.StatementTree.{Block, Repeat, For, repeated};
 ghost use Rattle.ash_typed.specs.StatementTree.{Switch, labelled, cases};
-ghost use Rattle.ash_typed.specs.TypedTreeViews.{expr_of, place_of, linked, chained};
+ghost use Rattle.ash_typed.specs.TypedTreeViews.{expr_in, expr_of, place_of, linked, chained};
 ghost use Rattle.ash_typed.specs.BodyViews.{stmt_of, head_of, loop_of, case_of, body_of};
 ghost use Rattle.ash_typed.specs.Flat.{base_of, links_of, first_of, operands_of, others_of};
 
 pub use crate::places::place;
-use crate::tree::expressions::{Expr, Link, Operand, Place};
+use crate::tree::expressions::{Expr, ExprKind, Link, Operand, Place};
 use crate::tree::operations::{
     Calculation, CallTarget, Change, Conversion, IncrementOp, Lazy, Method, ObjectMember,
 };
@@ -24,16 +22,21 @@ use ash_tree::Label;
 use std::alloc::{AllocError, Global};
 
 /// A call of what is named as its target, with the types of its parameters.
-#[tactic(auto, using(crate::proofs::Rows::call_is))]
-pub fn call(target: CallTarget, parameters: Vec<VarType>, arguments: Vec<Expr>) -> Expr
-    ensures calls_target { expr_of result
-        ≡ Call target parameters.items (exprs (map expr_of arguments.items)) }
+pub fn call(
+    alloc: Global,
+    target: CallTarget,
+    parameters: Vec<VarType>,
+    arguments: Vec<Expr>,
+) -> Result<Expr, AllocError>
+    ensures calls_target { IfOk result (λ e.
+        expr_of e ≡ Call target parameters.items (exprs (map expr_of arguments.items))) }
 {
-    Expr::Call {
+    let kind = ExprKind::Call {
         target,
         parameters,
         arguments,
-    }
+    };
+    Expr::new(alloc, kind)
 }
 
 /// What a link makes of an expression. A path takes it as one link more, so that it nests no deeper.
@@ -43,26 +46,26 @@ pub fn link(alloc: Global, base: Expr, next: Link) -> Result<Expr, AllocError>
     ensures same_base { IfOk result (λ e. base_of e ≡ base_of base) }
     ensures one_path { IfOk result (λ e. links_of e ≡ links_of base ++ next ∷ []) }
 {
-    match base {
-        Expr::Path { base, mut links } => {
+    match Box::into_inner(base.kind) {
+        ExprKind::Path { base, mut links } => {
             links.push(next)?;
-            Ok(Expr::Path { base, links })
+            Expr::new(alloc, ExprKind::Path { base, links })
         }
-        base => first_link(alloc, base, next),
+        kind => first_link(alloc, kind, next),
     }
 }
 
-/// A path of one link.
+/// A path of one link, after an expression of this kind.
 #[tactic(auto, using(crate::proofs::Rows::path_is))]
-fn first_link(alloc: Global, base: Expr, next: Link) -> Result<Expr, AllocError>
-    ensures value { IfOk result (λ e. expr_of e ≡ linked (expr_of base) next) }
-    ensures same_base { IfOk result (λ e. base_of e ≡ base) }
+fn first_link(alloc: Global, kind: ExprKind, next: Link) -> Result<Expr, AllocError>
+    ensures value { IfOk result (λ e. expr_of e ≡ linked (expr_in kind) next) }
+    ensures same_base { IfOk result (λ e. base_of e ≡ kind) }
     ensures one_link { IfOk result (λ e. links_of e ≡ next ∷ []) }
 {
     let mut links = Vec::with_capacity(alloc, 1)?;
     links.push(next)?;
-    let base = Box::new(alloc, base)?;
-    Ok(Expr::Path { base, links })
+    let base = Expr::new(alloc, kind)?;
+    Expr::new(alloc, ExprKind::Path { base, links })
 }
 
 /// What an object holds.
@@ -79,10 +82,8 @@ pub fn element(alloc: Global, array: Expr, index: Expr, of: Element) -> Result<E
     ensures value { IfOk result (λ e.
         expr_of e ≡ Read (Indexed (expr_of array) (expr_of index) of)) }
     ensures same_base { IfOk result (λ e. base_of e ≡ base_of array) }
-    ensures one_path { IfOk result (λ e. (boxed : Box IndexExpr Global) × (box_value boxed ≡ index)
-        × (links_of e ≡ links_of array ++ Link.Index boxed of ∷ [])) }
+    ensures one_path { IfOk result (λ e. links_of e ≡ links_of array ++ Link.Index index of ∷ []) }
 {
-    let index = Box::new(alloc, index)?;
     link(alloc, array, Link::Index { index, of })
 }
 
@@ -117,29 +118,29 @@ pub fn operate(alloc: Global, first: Expr, next: Operand) -> Result<Expr, AllocE
     ensures same_first { IfOk result (λ e. first_of e ≡ first_of first) }
     ensures one_chain { IfOk result (λ e. operands_of e ≡ operands_of first ++ next ∷ []) }
 {
-    match first {
-        Expr::Chain {
+    match Box::into_inner(first.kind) {
+        ExprKind::Chain {
             first,
             mut operands,
         } => {
             operands.push(next)?;
-            Ok(Expr::Chain { first, operands })
+            Expr::new(alloc, ExprKind::Chain { first, operands })
         }
-        first => first_operator(alloc, first, next),
+        kind => first_operator(alloc, kind, next),
     }
 }
 
-/// A chain of one operator.
+/// A chain of one operator, whose first operand is of this kind.
 #[tactic(auto, using(crate::proofs::Rows::chain_is))]
-fn first_operator(alloc: Global, first: Expr, next: Operand) -> Result<Expr, AllocError>
-    ensures value { IfOk result (λ e. expr_of e ≡ chained (expr_of first) next) }
-    ensures same_first { IfOk result (λ e. first_of e ≡ first) }
+fn first_operator(alloc: Global, kind: ExprKind, next: Operand) -> Result<Expr, AllocError>
+    ensures value { IfOk result (λ e. expr_of e ≡ chained (expr_in kind) next) }
+    ensures same_first { IfOk result (λ e. first_of e ≡ kind) }
     ensures one_operator { IfOk result (λ e. operands_of e ≡ next ∷ []) }
 {
     let mut operands = Vec::with_capacity(alloc, 1)?;
     operands.push(next)?;
-    let first = Box::new(alloc, first)?;
-    Ok(Expr::Chain { first, operands })
+    let first = Expr::new(alloc, kind)?;
+    Expr::new(alloc, ExprKind::Chain { first, operands })
 }
 
 /// `&&` or `||` between two operands. A row of operands of the same operator takes one more, so that it nests no
@@ -150,45 +151,52 @@ pub fn lazily(alloc: Global, operator: Lazy, first: Expr, next: Expr) -> Result<
     ensures one_row { IfOk result (λ e.
         others_of operator e ≡ others_of operator first ++ next ∷ []) }
 {
-    match first {
-        Expr::Lazy {
+    match Box::into_inner(first.kind) {
+        ExprKind::Lazy {
             operator: before,
             first,
             mut others,
         } => {
             if before != operator {
-                let first = Expr::Lazy {
+                let kind = ExprKind::Lazy {
                     operator: before,
                     first,
                     others,
                 };
-                return first_lazily(alloc, operator, first, next);
+                return first_lazily(alloc, operator, kind, next);
             }
             others.push(next)?;
-            Ok(Expr::Lazy {
+            let kind = ExprKind::Lazy {
                 operator,
                 first,
                 others,
-            })
+            };
+            Expr::new(alloc, kind)
         }
-        first => first_lazily(alloc, operator, first, next),
+        kind => first_lazily(alloc, operator, kind, next),
     }
 }
 
-/// A row of two operands.
+/// A row of two operands, of which the first is of this kind.
 #[tactic(auto, using(crate::proofs::Rows::lazy_is, crate::proofs::Rows::all_lazies_append))]
-fn first_lazily(alloc: Global, operator: Lazy, first: Expr, next: Expr) -> Result<Expr, AllocError>
-    ensures value { IfOk result (λ e. expr_of e ≡ Lazily operator (expr_of first) (expr_of next)) }
+fn first_lazily(
+    alloc: Global,
+    operator: Lazy,
+    kind: ExprKind,
+    next: Expr,
+) -> Result<Expr, AllocError>
+    ensures value { IfOk result (λ e. expr_of e ≡ Lazily operator (expr_in kind) (expr_of next)) }
     ensures one_other { IfOk result (λ e. others_of operator e ≡ next ∷ []) }
 {
     let mut others = Vec::with_capacity(alloc, 1)?;
     others.push(next)?;
-    let first = Box::new(alloc, first)?;
-    Ok(Expr::Lazy {
+    let first = Expr::new(alloc, kind)?;
+    let kind = ExprKind::Lazy {
         operator,
         first,
         others,
-    })
+    };
+    Expr::new(alloc, kind)
 }
 
 /// The value, converted where a conversion is named.
@@ -202,10 +210,7 @@ pub fn convert(
 {
     match conversion {
         None => Ok(value),
-        Some(conversion) => {
-            let value = Box::new(alloc, value)?;
-            Ok(Expr::Convert { conversion, value })
-        }
+        Some(conversion) => Expr::new(alloc, ExprKind::Convert { conversion, value }),
     }
 }
 
@@ -213,16 +218,14 @@ pub fn convert(
 pub fn cast(alloc: Global, to: ObjectType, value: Expr) -> Result<Expr, AllocError>
     ensures cast_to_type { IfOk result (λ e. expr_of e ≡ Cast to (expr_of value)) }
 {
-    let value = Box::new(alloc, value)?;
-    Ok(Expr::Cast { to, value })
+    Expr::new(alloc, ExprKind::Cast { to, value })
 }
 
 /// `-operand`, `~operand` or `!operand`
 pub fn alter(alloc: Global, change: Change, operand: Expr) -> Result<Expr, AllocError>
     ensures operator_applied { IfOk result (λ e. expr_of e ≡ Alter change (expr_of operand)) }
 {
-    let operand = Box::new(alloc, operand)?;
-    Ok(Expr::Change { change, operand })
+    Expr::new(alloc, ExprKind::Change { change, operand })
 }
 
 /// `condition ? then : otherwise`
@@ -235,14 +238,12 @@ pub fn conditional(
     ensures branches_in_order { IfOk result (λ e.
         expr_of e ≡ Conditional (expr_of condition) (expr_of then) (expr_of otherwise)) }
 {
-    let condition = Box::new(alloc, condition)?;
-    let then = Box::new(alloc, then)?;
-    let otherwise = Box::new(alloc, otherwise)?;
-    Ok(Expr::Conditional {
+    let kind = ExprKind::Conditional {
         condition,
         then,
         otherwise,
-    })
+    };
+    Expr::new(alloc, kind)
 }
 
 /// `place = value`
@@ -250,8 +251,7 @@ pub fn assign(alloc: Global, place: Place, value: Expr) -> Result<Expr, AllocErr
     ensures value_assigned { IfOk result (λ e.
         expr_of e ≡ Assign (place_of place) (expr_of value)) }
 {
-    let value = Box::new(alloc, value)?;
-    Ok(Expr::Assign { place, value })
+    Expr::new(alloc, ExprKind::Assign { place, value })
 }
 
 /// `place op= value`
@@ -265,20 +265,25 @@ pub fn update(
     ensures place_updated { IfOk result (λ e.
         expr_of e ≡ Update (place_of place) of calculation (expr_of value)) }
 {
-    let value = Box::new(alloc, value)?;
-    Ok(Expr::Update {
+    let kind = ExprKind::Update {
         place,
         of,
         calculation,
         value,
-    })
+    };
+    Expr::new(alloc, kind)
 }
 
 /// `++` or `--`
-pub fn count(place: Place, of: IntType, step: IncrementOp) -> Expr
-    ensures place_counted { expr_of result ≡ Count (place_of place) of step }
+pub fn count(
+    alloc: Global,
+    place: Place,
+    of: IntType,
+    step: IncrementOp,
+) -> Result<Expr, AllocError>
+    ensures place_counted { IfOk result (λ e. expr_of e ≡ Count (place_of place) of step) }
 {
-    Expr::Step { place, of, step }
+    Expr::new(alloc, ExprKind::Step { place, of, step })
 }
 
 /// `{ body }`

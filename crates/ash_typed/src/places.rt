@@ -4,7 +4,7 @@ ghost use Rattle.std.specs.Prelude.{◌≡◌, option_map, IfOk};
 ghost use Rattle.ash_typed.specs.TypedTree.{place_in};
 ghost use Rattle.ash_typed.specs.TypedTreeViews.{expr_of, place_of, all_linked, all_chained, all_lazies};
 
-use crate::tree::expressions::{Expr, Link, Operand, Place};
+use crate::tree::expressions::{Expr, ExprKind, Link, Operand, Place};
 use crate::tree::operations::Lazy;
 use std::alloc::{AllocError, Global};
 
@@ -15,44 +15,44 @@ pub fn place(alloc: Global, expr: Expr) -> Result<Option<Place>, AllocError>
     ensures place_read { IfOk result (λ found.
         option_map place_of found ≡ place_in (expr_of expr)) }
 {
-    match expr {
-        Expr::Variable(variable) => Ok(Some(Place::Variable(variable))),
-        Expr::Path { base, links } => member_of(alloc, base, links),
-        Expr::Number { .. } | Expr::Bool(_) | Expr::Null | Expr::This(_) => Ok(None),
-        Expr::Chain { first, operands } => chain_place(alloc, first, operands),
-        Expr::Lazy {
+    match Box::into_inner(expr.kind) {
+        ExprKind::Variable(variable) => Ok(Some(Place::Variable(variable))),
+        ExprKind::Path { base, links } => member_of(alloc, base, links),
+        ExprKind::Number { .. } | ExprKind::Bool(_) | ExprKind::Null | ExprKind::This(_) => Ok(
+            None,
+        ),
+        ExprKind::Chain { first, operands } => chain_place(alloc, first, operands),
+        ExprKind::Lazy {
             operator,
             first,
             others,
         } => lazy_place(alloc, operator, first, others),
-        Expr::Convert { .. } | Expr::Cast { .. } | Expr::Change { .. } => Ok(None),
-        Expr::Conditional { .. } | Expr::Assign { .. } | Expr::Update { .. } => Ok(None),
-        Expr::Step { .. } | Expr::Call { .. } => Ok(None),
+        ExprKind::Convert { .. } | ExprKind::Cast { .. } | ExprKind::Change { .. } => Ok(None),
+        ExprKind::Conditional { .. } | ExprKind::Assign { .. } | ExprKind::Update { .. } => Ok(
+            None,
+        ),
+        ExprKind::Step { .. } | ExprKind::Call { .. } => Ok(None),
     }
 }
 
 /// What the last link holds, of what the links before it give.
 #[cycle(places)]
 #[tactic(auto, using(crate::proofs::Rows::path_is, crate::proofs::Rows::all_linked_append))]
-fn member_of(
-    alloc: Global,
-    base: Box<Expr>,
-    mut links: Vec<Link>,
-) -> Result<Option<Place>, AllocError>
+fn member_of(alloc: Global, base: Expr, mut links: Vec<Link>) -> Result<Option<Place>, AllocError>
     ensures value { IfOk result (λ found.
-        option_map place_of found ≡ place_in (all_linked (expr_of base.value) links.items)) }
+        option_map place_of found ≡ place_in (all_linked (expr_of base) links.items)) }
 {
     match links.pop() {
         Some(Link::Member(member)) => {
-            let object = Box::new(alloc, Expr::Path { base, links })?;
+            let object = Expr::new(alloc, ExprKind::Path { base, links })?;
             Ok(Some(Place::Member { object, member }))
         }
         Some(Link::Index { index, of }) => {
-            let array = Box::new(alloc, Expr::Path { base, links })?;
+            let array = Expr::new(alloc, ExprKind::Path { base, links })?;
             Ok(Some(Place::Element { array, index, of }))
         }
         Some(Link::Invoke { .. }) => Ok(None),
-        None => place(alloc, Box::into_inner(base)),
+        None => place(alloc, base),
     }
 }
 
@@ -61,14 +61,14 @@ fn member_of(
 #[tactic(auto, using(crate::proofs::Rows::chain_is, crate::proofs::Rows::no_place_chained))]
 fn chain_place(
     alloc: Global,
-    first: Box<Expr>,
+    first: Expr,
     operands: Vec<Operand>,
 ) -> Result<Option<Place>, AllocError>
     ensures value { IfOk result (λ found.
-        option_map place_of found ≡ place_in (all_chained (expr_of first.value) operands.items)) }
+        option_map place_of found ≡ place_in (all_chained (expr_of first) operands.items)) }
 {
     if operands.is_empty() {
-        return place(alloc, Box::into_inner(first));
+        return place(alloc, first);
     }
     Ok(None)
 }
@@ -79,15 +79,15 @@ fn chain_place(
 fn lazy_place(
     alloc: Global,
     operator: Lazy,
-    first: Box<Expr>,
+    first: Expr,
     others: Vec<Expr>,
 ) -> Result<Option<Place>, AllocError>
     ensures value { IfOk result (λ found.
         option_map place_of found
-        ≡ place_in (all_lazies operator (expr_of first.value) others.items)) }
+        ≡ place_in (all_lazies operator (expr_of first) others.items)) }
 {
     if others.is_empty() {
-        return place(alloc, Box::into_inner(first));
+        return place(alloc, first);
     }
     Ok(None)
 }

@@ -3,17 +3,37 @@
 //! Operators of one level and the suffixes of an operand are lists, so that a tree is no deeper where a sum is
 //! long.
 
+ghost use Rattle.std.specs.Prelude.{◌≡◌, IfOk, box_value};
+
 use crate::tree::operations::{
     Calculation, CallTarget, Change, Conversion, IncrementOp, Lazy, Method, ObjectMember,
     Operation, Variable,
 };
 use crate::types::{Element, ObjectType, VarType};
 use ash_integers::IntType;
+use std::alloc::{AllocError, Global};
 
-/// A typed expression.
+/// A typed expression: a box, so that what holds one stays small.
 #[cycle(typed_expressions)]
 #[derive(Drop)]
-pub enum Expr {
+pub struct Expr {
+    pub kind: Box<ExprKind>,
+}
+
+impl Expr {
+    /// An expression of this kind.
+    pub fn new(alloc: Global, kind: ExprKind) -> Result<Expr, AllocError>
+        ensures of_kind { IfOk result (λ e. box_value e.kind ≡ kind) }
+    {
+        let kind = Box::new(alloc, kind)?;
+        Ok(Expr { kind })
+    }
+}
+
+/// What a typed expression is.
+#[cycle(typed_expressions)]
+#[derive(Drop)]
+pub enum ExprKind {
     /// A number of an integer type that holds it.
     Number {
         of: IntType,
@@ -27,42 +47,42 @@ pub enum Expr {
     Variable(Variable),
     /// What the links make of it, one after the other.
     Path {
-        base: Box<Expr>,
+        base: Expr,
         links: Vec<Link>,
     },
     Convert {
         conversion: Conversion,
-        value: Box<Expr>,
+        value: Expr,
     },
     /// `cast<T>(value)`, of a class or an interface: null where the object is not of it.
     Cast {
         to: ObjectType,
-        value: Box<Expr>,
+        value: Expr,
     },
     Change {
         change: Change,
-        operand: Box<Expr>,
+        operand: Expr,
     },
     /// What the operators make of it, one after the other.
     Chain {
-        first: Box<Expr>,
+        first: Expr,
         operands: Vec<Operand>,
     },
     /// The first operand, then the others as long as they leave open what comes out.
     Lazy {
         operator: Lazy,
-        first: Box<Expr>,
+        first: Expr,
         others: Vec<Expr>,
     },
     Conditional {
-        condition: Box<Expr>,
-        then: Box<Expr>,
-        otherwise: Box<Expr>,
+        condition: Expr,
+        then: Expr,
+        otherwise: Expr,
     },
     /// `place = value` or `@place = value`
     Assign {
         place: Place,
-        value: Box<Expr>,
+        value: Expr,
     },
     /// `place op= value`, at a place of type `of`: what it holds is converted to the type of the calculation, and what
     /// comes out is converted back.
@@ -70,7 +90,7 @@ pub enum Expr {
         place: Place,
         of: IntType,
         calculation: Calculation,
-        value: Box<Expr>,
+        value: Expr,
     },
     Step {
         place: Place,
@@ -91,13 +111,13 @@ pub enum Expr {
 pub enum Place {
     Variable(Variable),
     Member {
-        object: Box<Expr>,
+        object: Expr,
         member: ObjectMember,
     },
     /// `array[index]`, with an index of type `uint`.
     Element {
-        array: Box<Expr>,
-        index: Box<Expr>,
+        array: Expr,
+        index: Expr,
         of: Element,
     },
 }
@@ -110,7 +130,7 @@ pub enum Link {
     Member(ObjectMember),
     /// What an array has at an index of type `uint`.
     Index {
-        index: Box<Expr>,
+        index: Expr,
         of: Element,
     },
     /// What its method gives. The parameters are the types of the arguments, in order.
