@@ -242,7 +242,7 @@ fn index(alloc: Global, room: u32, tokens: &[Token]) -> ParseResult<'_, Suffix>
 {
     let (value, rest) = nested_assign(alloc, room, tokens)?;
     let (_, rest) = expect(Sign::CloseBracket, rest)?;
-    Ok((nodes::index(alloc, value)?, rest))
+    Ok((nodes::index(value), rest))
 }
 
 /// `"(" assign ")"`

@@ -31,7 +31,7 @@ use Rattle.ash_tree.specs.TreeViews.{operation_of, stmt_at, stmt_of, stmts_of, c
 
 pub exprs_of-row : {n : _} (row : Row_of-Expr n) → exprs_of row ≡ exprs (map expr_of (items-the_row-Expr n row))
 exprs_of-row end_of-Expr = refl
-exprs_of-row (more_of-Expr p k rest) = ap (expr (expr_at p k)) (exprs_of-row rest)
+exprs_of-row (more_of-Expr p a k rest) = ap (expr (expr_at p k)) (exprs_of-row rest)
 
 pub suffixes_of-row : {n : _} (row : Row_of-Suffix n)
     → suffixes_of row ≡ suffixes (map suffix_of (items-the_row-Suffix n row))
@@ -40,7 +40,7 @@ suffixes_of-row (more_of-Suffix s rest) = ap (suffix (suffix_of s)) (suffixes_of
 
 pub links_of-row : {n : _} (row : Row_of-Link n) → links_of row ≡ links (map operation_of (items-the_row-Link n row))
 links_of-row end_of-Link = refl
-links_of-row (more_of-Link o p k rest) = ap (link o (expr_at p k)) (links_of-row rest)
+links_of-row (more_of-Link o p a k rest) = ap (link o (expr_at p k)) (links_of-row rest)
 
 pub call_is : (p : Position) (name : String Global) (es : Vec code_expr.Expr Global)
     → expr_at p (kinds.Call name es) ≡ Call p (string_bytes name) (exprs (map expr_of es.items))
@@ -54,12 +54,12 @@ pub method_is : (p : Position) (name : String Global) (es : Vec code_expr.Expr G
     → suffix_of (kinds.Method p name es) ≡ Method p (string_bytes name) (exprs (map expr_of es.items))
 method_is p name es = search (rules, kinds.the_lemmas, exprs_of-row)
 
-pub binary_is : (p : Position) (first : Box code_expr.Expr Global) (ls : Vec code_link.Link Global)
-    → expr_at p (kinds.Binary first ls) ≡ Binary p (expr_of first.value) (links (map operation_of ls.items))
+pub binary_is : (p : Position) (first : code_expr.Expr) (ls : Vec code_link.Link Global)
+    → expr_at p (kinds.Binary first ls) ≡ Binary p (expr_of first) (links (map operation_of ls.items))
 binary_is p first ls = search (rules, kinds.the_lemmas, links_of-row)
 
-pub postfix_is : (p : Position) (operand : Box code_expr.Expr Global) (ss : Vec code_suffix.Suffix Global)
-    → expr_at p (kinds.Postfix operand ss) ≡ Postfix p (expr_of operand.value) (suffixes (map suffix_of ss.items))
+pub postfix_is : (p : Position) (operand : code_expr.Expr) (ss : Vec code_suffix.Suffix Global)
+    → expr_at p (kinds.Postfix operand ss) ≡ Postfix p (expr_of operand) (suffixes (map suffix_of ss.items))
 postfix_is p operand ss = search (rules, kinds.the_lemmas, suffixes_of-row)
 
 -- an operand with something after it is a node of its own
@@ -97,15 +97,15 @@ place_is p kind_cases.Null = refl
 place_is p kind_cases.This = refl
 place_is p (kind_cases.Name t) = refl
 place_is p (kind_cases.Call' t shape es) = refl
-place_is p (kind_cases.Brackets' a q k) = refl
-place_is p (kind_cases.Convert' t a q k) = refl
+place_is p (kind_cases.Brackets' q a k) = refl
+place_is p (kind_cases.Convert' t q a k) = refl
 place_is p (kind_cases.NewArray' t shape es) = refl
-place_is p (kind_cases.Cast' t a q k) = refl
-place_is p (kind_cases.Postfix' a q k shape ss) = refl
-place_is p (kind_cases.Unary' o a q k) = refl
-place_is p (kind_cases.Binary' a q k shape ls) = refl
-place_is p (kind_cases.Conditional' a q k b r l c s m) = refl
-place_is p (kind_cases.Assign' a q k o b r l) = refl
+place_is p (kind_cases.Cast' t q a k) = refl
+place_is p (kind_cases.Postfix' q a k shape ss) = refl
+place_is p (kind_cases.Unary' o q a k) = refl
+place_is p (kind_cases.Binary' q a k shape ls) = refl
+place_is p (kind_cases.Conditional' q a k r b l s c m) = refl
+place_is p (kind_cases.Assign' q a k o r b l) = refl
 
 pub type_place_is : (p : Position) (k : type_kind.TypeKind) → place_of_type (type_at p k) ≡ p
 type_place_is p (type_cases.Primitive k) = refl

@@ -75,24 +75,24 @@ abbrev mutual
   expr_at p exprs_code.This = This p
   expr_at p (exprs_code.Name t) = Name p (string_bytes t)
   expr_at p (exprs_code.Call' t shape es) = Call p (string_bytes t) (exprs_of es)
-  expr_at p (exprs_code.Brackets' a q k) = Brackets p (expr_at q k)
-  expr_at p (exprs_code.Convert' t a q k) = Convert p t (expr_at q k)
+  expr_at p (exprs_code.Brackets' q a k) = Brackets p (expr_at q k)
+  expr_at p (exprs_code.Convert' t q a k) = Convert p t (expr_at q k)
   expr_at p (exprs_code.NewArray' t shape es) = NewArray p (element_of t.value) (exprs_of es)
-  expr_at p (exprs_code.Cast' t a q k) = Cast p (type_name_of t) (expr_at q k)
-  expr_at p (exprs_code.Postfix' a q k shape ss) = Postfix p (expr_at q k) (suffixes_of ss)
-  expr_at p (exprs_code.Unary' o a q k) = Unary p o (expr_at q k)
-  expr_at p (exprs_code.Binary' a q k shape ls) = Binary p (expr_at q k) (links_of ls)
-  expr_at p (exprs_code.Conditional' a q k b r l c s m) = Conditional p (expr_at q k) (expr_at r l) (expr_at s m)
-  expr_at p (exprs_code.Assign' a q k o b r l) = Assign p (expr_at q k) o (expr_at r l)
+  expr_at p (exprs_code.Cast' t q a k) = Cast p (type_name_of t) (expr_at q k)
+  expr_at p (exprs_code.Postfix' q a k shape ss) = Postfix p (expr_at q k) (suffixes_of ss)
+  expr_at p (exprs_code.Unary' o q a k) = Unary p o (expr_at q k)
+  expr_at p (exprs_code.Binary' q a k shape ls) = Binary p (expr_at q k) (links_of ls)
+  expr_at p (exprs_code.Conditional' q a k r b l s c m) = Conditional p (expr_at q k) (expr_at r l) (expr_at s m)
+  expr_at p (exprs_code.Assign' q a k o r b l) = Assign p (expr_at q k) o (expr_at r l)
 
   pub exprs_of : {n : _} → expr_kind.Row_of-Expr n → Exprs
   exprs_of expr_kind.end_of-Expr = no_expr
-  exprs_of (expr_kind.more_of-Expr p k rest) = expr (expr_at p k) (exprs_of rest)
+  exprs_of (expr_kind.more_of-Expr p a k rest) = expr (expr_at p k) (exprs_of rest)
 
   pub suffix_of : suffix_code.Suffix → Suffix
   suffix_of (suffixes_code.Field p t) = Field p (string_bytes t)
   suffix_of (suffixes_code.Method' p t shape es) = Method p (string_bytes t) (exprs_of es)
-  suffix_of (suffixes_code.Index' a q k) = Index (expr_at q k)
+  suffix_of (suffixes_code.Index' q a k) = Index (expr_at q k)
   suffix_of suffixes_code.Increment = Increment
   suffix_of suffixes_code.Decrement = Decrement
 
@@ -102,10 +102,10 @@ abbrev mutual
 
   pub links_of : {n : _} → expr_kind.Row_of-Link n → Links
   links_of expr_kind.end_of-Link = no_link
-  links_of (expr_kind.more_of-Link o p k rest) = link o (expr_at p k) (links_of rest)
+  links_of (expr_kind.more_of-Link o p a k rest) = link o (expr_at p k) (links_of rest)
 
 abbrev pub expr_of : expr_code.Expr → Expr
-expr_of e = expr_at e.place e.kind
+expr_of e = expr_at e.place e.kind.value
 
 -- `operation_of l` is the operator with its right operand that the code's link represents.
 abbrev pub operation_of : link_code.Link → OperatorLink

@@ -2,11 +2,11 @@
 
 ghost use Rattle.std.specs.Prelude.{◌≡◌, map, option_map, string_bytes, IfOk};
 ghost use Rattle.ash_tree.specs.Tree.{Call, Brackets, Convert, NewArray, Cast};
-ghost use Rattle.ash_tree.specs.Tree.{Unary, Assign, Method, Index};
+ghost use Rattle.ash_tree.specs.Tree.{Unary, Conditional, Assign, Method, Index};
 ghost use Rattle.ash_tree.specs.Tree.{Evaluate, Declare, Block, Switch};
 ghost use Rattle.ash_tree.specs.Tree.{For, place_of, place_of_type};
 ghost use Rattle.ash_tree.specs.Tree.{exprs, chained, suffixed, stmts, labelled, cases};
-ghost use Rattle.ash_tree.specs.TreeViews.{expr_of, suffix_of, operation_of, stmt_of, case_of, vars_of};
+ghost use Rattle.ash_tree.specs.TreeViews.{expr_at, expr_of, suffix_of, operation_of, stmt_of, case_of, vars_of};
 ghost use Rattle.ash_tree.specs.TreeViews.{type_of, element_of, type_name_of};
 
 use crate::tree::expressions::{Expr, ExprKind, Link, Suffix};
@@ -16,15 +16,25 @@ use crate::tree::statements::{Case, Label, Stmt, StmtKind, Vars};
 use crate::tree::types::{Element, Primitive, TypeName};
 use std::alloc::{AllocError, Global};
 
-/// `name(arguments)`
-pub fn call(place: Position, name: String, arguments: Vec<Expr>) -> Expr
-    ensures calls_name { expr_of result
-        ≡ Call place (string_bytes name) (exprs (map expr_of arguments.items)) }
+/// An expression of this kind, at its first token.
+pub fn expression(alloc: Global, place: Position, kind: ExprKind) -> Result<Expr, AllocError>
+    ensures placed { IfOk result (λ e. expr_of e ≡ expr_at place kind) }
 {
-    Expr {
-        place,
-        kind: ExprKind::Call { name, arguments },
-    }
+    let kind = Box::new(alloc, kind)?;
+    Ok(Expr { place, kind })
+}
+
+/// `name(arguments)`
+pub fn call(
+    alloc: Global,
+    place: Position,
+    name: String,
+    arguments: Vec<Expr>,
+) -> Result<Expr, AllocError>
+    ensures calls_name { IfOk result (λ e. expr_of e
+        ≡ Call place (string_bytes name) (exprs (map expr_of arguments.items))) }
+{
+    expression(alloc, place, ExprKind::Call { name, arguments })
 }
 
 /// `.name(arguments)`
@@ -50,10 +60,7 @@ pub fn new_array(
         ≡ NewArray place (element_of of) (exprs (map expr_of arguments.items))) }
 {
     let of = Box::new(alloc, of)?;
-    Ok(Expr {
-        place,
-        kind: ExprKind::NewArray { of, arguments },
-    })
+    expression(alloc, place, ExprKind::NewArray { of, arguments })
 }
 
 /// The first operand, with the operators after it where there are any.
@@ -64,13 +71,8 @@ pub fn binary(alloc: Global, first: Expr, links: Vec<Link>) -> Result<Expr, Allo
     if links.is_empty() {
         return Ok(first);
     }
-    Ok(Expr {
-        place: first.place,
-        kind: ExprKind::Binary {
-            first: Box::new(alloc, first)?,
-            links,
-        },
-    })
+    let place = first.place;
+    expression(alloc, place, ExprKind::Binary { first, links })
 }
 
 /// The operand, with the suffixes after it where there are any.
@@ -81,13 +83,8 @@ pub fn postfix(alloc: Global, operand: Expr, suffixes: Vec<Suffix>) -> Result<Ex
     if suffixes.is_empty() {
         return Ok(operand);
     }
-    Ok(Expr {
-        place: operand.place,
-        kind: ExprKind::Postfix {
-            operand: Box::new(alloc, operand)?,
-            suffixes,
-        },
-    })
+    let place = operand.place;
+    expression(alloc, place, ExprKind::Postfix { operand, suffixes })
 }
 
 /// `{ body }`
@@ -126,8 +123,7 @@ pub fn case(place: Position, label: Label, body: Vec<Stmt>) -> Case
 pub fn brackets(alloc: Global, place: Position, inner: Expr) -> Result<Expr, AllocError>
     ensures in_brackets { IfOk result (λ e. expr_of e ≡ Brackets place (expr_of inner)) }
 {
-    let kind = ExprKind::Brackets(Box::new(alloc, inner)?);
-    Ok(Expr { place, kind })
+    expression(alloc, place, ExprKind::Brackets(inner))
 }
 
 /// `to(value)`
@@ -139,11 +135,7 @@ pub fn convert(
 ) -> Result<Expr, AllocError>
     ensures conversion_applied { IfOk result (λ e. expr_of e ≡ Convert place to (expr_of value)) }
 {
-    let value = Box::new(alloc, value)?;
-    Ok(Expr {
-        place,
-        kind: ExprKind::Convert { to, value },
-    })
+    expression(alloc, place, ExprKind::Convert { to, value })
 }
 
 /// `cast<to>(value)`
@@ -151,18 +143,14 @@ pub fn cast(alloc: Global, place: Position, to: TypeName, value: Expr) -> Result
     ensures cast_to_type { IfOk result (λ e. expr_of e
         ≡ Cast place (type_name_of to) (expr_of value)) }
 {
-    let value = Box::new(alloc, value)?;
-    Ok(Expr {
-        place,
-        kind: ExprKind::Cast { to, value },
-    })
+    expression(alloc, place, ExprKind::Cast { to, value })
 }
 
 /// `[value]`
-pub fn index(alloc: Global, value: Expr) -> Result<Suffix, AllocError>
-    ensures indexed_by_value { IfOk result (λ s. suffix_of s ≡ Index (expr_of value)) }
+pub fn index(value: Expr) -> Suffix
+    ensures indexed_by_value { suffix_of result ≡ Index (expr_of value) }
 {
-    Ok(Suffix::Index(Box::new(alloc, value)?))
+    Suffix::Index(value)
 }
 
 /// `operator operand`
@@ -175,11 +163,26 @@ pub fn unary(
     ensures operator_applied { IfOk result (λ e. expr_of e
         ≡ Unary place operator (expr_of operand)) }
 {
-    let operand = Box::new(alloc, operand)?;
-    Ok(Expr {
-        place,
-        kind: ExprKind::Unary { operator, operand },
-    })
+    expression(alloc, place, ExprKind::Unary { operator, operand })
+}
+
+/// `condition ? then : otherwise`
+pub fn conditional(
+    alloc: Global,
+    place: Position,
+    condition: Expr,
+    then: Expr,
+    otherwise: Expr,
+) -> Result<Expr, AllocError>
+    ensures branches_in_order { IfOk result (λ e. expr_of e
+        ≡ Conditional place (expr_of condition) (expr_of then) (expr_of otherwise)) }
+{
+    let kind = ExprKind::Conditional {
+        condition,
+        then,
+        otherwise,
+    };
+    expression(alloc, place, kind)
 }
 
 /// `target operator value`
@@ -194,16 +197,12 @@ pub fn assign(
         ≡ Assign (place_of (expr_of target)) (expr_of target) operator (expr_of value)) }
 {
     let place = target.place;
-    let target = Box::new(alloc, target)?;
-    let value = Box::new(alloc, value)?;
-    Ok(Expr {
-        place,
-        kind: ExprKind::Assign {
-            target,
-            operator,
-            value,
-        },
-    })
+    let kind = ExprKind::Assign {
+        target,
+        operator,
+        value,
+    };
+    expression(alloc, place, kind)
 }
 
 /// The statement that only evaluates an expression.

@@ -1,8 +1,7 @@
 //! Reads the branches of a conditional.
 
-ghost use Rattle.std.specs.Prelude.{◌≡◌, ◌≤◌, IfOk};
+ghost use Rattle.std.specs.Prelude.{◌≤◌};
 ghost use Rattle.ash_tree.specs.GrammarTokens.{tokens_of};
-ghost use Rattle.ash_tree.specs.Tree.{Conditional};
 ghost use Rattle.ash_tree.specs.TreeViews.{expr_of};
 ghost use Rattle.ash_parse.specs.Readers.{ParsesAs};
 ghost use Rattle.ash_parse.specs.ExpressionReader as reader;
@@ -11,14 +10,14 @@ use super::{MAX_DEPTH, nested_assign};
 use crate::cursor::expect;
 use crate::error::ParseResult;
 use ash_lex::{Sign, Token};
-use ash_tree::{Expr, ExprKind, Position};
-use std::alloc::{AllocError, Global};
+use ash_tree::{Expr, Position, nodes};
+use std::alloc::Global;
 
 /// A condition with the first of its branches, and where they are.
 struct FirstBranch {
     place: Position,
-    condition: Box<Expr>,
-    then: Box<Expr>,
+    condition: Expr,
+    then: Expr,
 }
 
 /// `assign ":" assign`, after the `?`
@@ -35,9 +34,7 @@ pub(super) fn branches<'a>(
         (reader.branches_with (reader.below_at room) (expr_of condition) (tokens_of tokens.now)) }
 {
     let place = condition.place;
-    let condition = boxed(alloc, condition)?;
     let (then, rest) = nested_assign(alloc, room, tokens)?;
-    let then = boxed(alloc, then)?;
     let first = FirstBranch {
         place,
         condition,
@@ -57,8 +54,8 @@ fn other_branch<'a>(
 ) -> ParseResult<'a, Expr>
     requires within { room ≤ MAX_DEPTH }
     ensures parsed { ParsesAs expr_of result
-        (reader.other_branch_with (reader.below_at room) first.place (expr_of first.condition.value)
-        (expr_of first.then.value) (tokens_of tokens.now)) }
+        (reader.other_branch_with (reader.below_at room) first.place (expr_of first.condition)
+        (expr_of first.then) (tokens_of tokens.now)) }
 {
     let FirstBranch {
         place,
@@ -67,28 +64,6 @@ fn other_branch<'a>(
     } = first;
     let (_, rest) = expect(Sign::Colon, tokens)?;
     let (otherwise, rest) = nested_assign(alloc, room, rest)?;
-    let otherwise = boxed(alloc, otherwise)?;
-    Ok((conditional(place, condition, then, otherwise), rest))
-}
-
-/// A condition with both its branches.
-fn conditional(place: Position, condition: Box<Expr>, then: Box<Expr>, otherwise: Box<Expr>) -> Expr
-    ensures value { expr_of result ≡ Conditional place (expr_of condition.value)
-        (expr_of then.value)
-        (expr_of otherwise.value) }
-{
-    Expr {
-        place,
-        kind: ExprKind::Conditional {
-            condition,
-            then,
-            otherwise,
-        },
-    }
-}
-
-fn boxed(alloc: Global, operand: Expr) -> Result<Box<Expr>, AllocError>
-    ensures value { IfOk result (λ b. b.value ≡ operand) }
-{
-    Ok(Box::new(alloc, operand)?)
+    let read = nodes::conditional(alloc, place, condition, then, otherwise)?;
+    Ok((read, rest))
 }

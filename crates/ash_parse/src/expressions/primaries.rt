@@ -47,7 +47,7 @@ pub(super) fn primary(alloc: Global, room: u32, tokens: &[Token]) -> ParseResult
         TokenKind::Reserved(ReservedWord::This) => ExprKind::This,
         _ => return Err(ParseError::Unexpected(tokens)),
     };
-    Ok((Expr { place, kind }, rest))
+    Ok((nodes::expression(alloc, place, kind)?, rest))
 }
 
 /// `"<" elem ">" args`, after the word `array`
@@ -93,8 +93,8 @@ fn name_or_call<'a>(
     let name = String::from_str(alloc, text)?;
     if !next_is_sign(Sign::OpenParenthesis, tokens) {
         let kind = ExprKind::Name(name);
-        return Ok((Expr { place, kind }, tokens));
+        return Ok((nodes::expression(alloc, place, kind)?, tokens));
     }
     let (arguments, rest) = arguments(alloc, room, tokens)?;
-    Ok((nodes::call(place, name, arguments), rest))
+    Ok((nodes::call(alloc, place, name, arguments)?, rest))
 }

@@ -9,7 +9,7 @@ use crate::tree::types::{Element, Primitive, TypeName};
 #[derive(Debug, Drop)]
 pub struct Expr {
     pub place: Position,
-    pub kind: ExprKind,
+    pub kind: Box<ExprKind>,
 }
 
 /// What an expression is.
@@ -27,11 +27,11 @@ pub enum ExprKind {
         arguments: Vec<Expr>,
     },
     /// `(inner)`
-    Brackets(Box<Expr>),
+    Brackets(Expr),
     /// `to(value)`
     Convert {
         to: Primitive,
-        value: Box<Expr>,
+        value: Expr,
     },
     /// `array<of>(arguments)`; the element's type is boxed, so that every other expression stays small
     NewArray {
@@ -41,33 +41,33 @@ pub enum ExprKind {
     /// `cast<to>(value)`
     Cast {
         to: TypeName,
-        value: Box<Expr>,
+        value: Expr,
     },
     /// An operand with suffixes, one at the least, in order.
     Postfix {
-        operand: Box<Expr>,
+        operand: Expr,
         suffixes: Vec<Suffix>,
     },
     Unary {
         operator: UnaryOp,
-        operand: Box<Expr>,
+        operand: Expr,
     },
     /// Operands of operators of one level, one operator at the least. They group to the left.
     Binary {
-        first: Box<Expr>,
+        first: Expr,
         links: Vec<Link>,
     },
     /// `condition ? then : otherwise`
     Conditional {
-        condition: Box<Expr>,
-        then: Box<Expr>,
-        otherwise: Box<Expr>,
+        condition: Expr,
+        then: Expr,
+        otherwise: Expr,
     },
     /// `target operator value`
     Assign {
-        target: Box<Expr>,
+        target: Expr,
         operator: AssignOp,
-        value: Box<Expr>,
+        value: Expr,
     },
 }
 
@@ -87,7 +87,7 @@ pub enum Suffix {
         arguments: Vec<Expr>,
     },
     /// `[index]`
-    Index(Box<Expr>),
+    Index(Expr),
     /// `++`
     Increment,
     /// `--`

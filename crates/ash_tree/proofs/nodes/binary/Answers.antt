@@ -9,10 +9,10 @@ pub returns : goal.returns
 returns c = record {
   operators_in_order =
       let some : 0 < length (map operation_of c.args.links.items) = grind (arith, common_steps) in
-      binary_is c.args.first.place c.in_ok-new.field-0 c.args.links
-      ∙ ap (λ e. Binary c.args.first.place (expr_of e)
-      (links (map operation_of c.args.links.items))) c.in_ok-new.ensures.ok
+      let made =
+      binary_is c.args.first.place c.args.first c.args.links
       ∙ ap (λ q. Binary q (expr_of c.args.first) (links (map operation_of c.args.links.items)))
-      (sym (place_is c.args.first.place c.args.first.kind))
-      ∙ sym (chained-some (expr_of c.args.first) (map operation_of c.args.links.items) some);
+      (sym (place_is c.args.first.place c.args.first.kind.value))
+      ∙ sym (chained-some (expr_of c.args.first) (map operation_of c.args.links.items) some) in
+      rw (← made) c.expression.ensures.placed;
 }

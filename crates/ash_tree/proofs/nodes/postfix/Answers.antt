@@ -9,10 +9,10 @@ pub returns : goal.returns
 returns c = record {
   suffixes_in_order =
       let some : 0 < length (map suffix_of c.args.suffixes.items) = grind (arith, common_steps) in
-      postfix_is c.args.operand.place c.in_ok-new.field-0 c.args.suffixes
-      ∙ ap (λ e. Postfix c.args.operand.place (expr_of e)
-      (suffixes (map suffix_of c.args.suffixes.items))) c.in_ok-new.ensures.ok
+      let made =
+      postfix_is c.args.operand.place c.args.operand c.args.suffixes
       ∙ ap (λ q. Postfix q (expr_of c.args.operand) (suffixes (map suffix_of c.args.suffixes.items)))
-      (sym (place_is c.args.operand.place c.args.operand.kind))
-      ∙ sym (suffixed-some (expr_of c.args.operand) (map suffix_of c.args.suffixes.items) some);
+      (sym (place_is c.args.operand.place c.args.operand.kind.value))
+      ∙ sym (suffixed-some (expr_of c.args.operand) (map suffix_of c.args.suffixes.items) some) in
+      rw (← made) c.expression.ensures.placed;
 }
