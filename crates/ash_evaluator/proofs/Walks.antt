@@ -1,9 +1,10 @@
 -- Phrases that the code walks part by part come to what their definitions say.
-use Rattle.std.proofs.Common.{◌≡◌, ◌<◌, ◌≤◌, ◌+◌, ℕ, length, get_or, map, drop, append-nil, List, [], ◌∷◌, Option, Some, None, refl, sym, ap, ◌∙◌, ◌++◌, append_assoc, Box, Vec, Global, rules}
+use Rattle.std.proofs.Common.{◌≡◌, ◌<◌, ◌≤◌, ◌+◌, ℕ, length, get_or, map, drop, append-nil, List, [], ◌∷◌, Option, Some, None, refl, sym, ap, ◌∙◌, ◌++◌, append_assoc, Vec, Global, rules}
 use Rattle.std.proofs.lemmas.List.{drop_more, drop_all}
 use Rattle.ash_host.specs.declared.word.Word.{Word}
 use Rattle.ash_typed.specs.declared.tree.expressions.Expr as expr_code
-use Rattle.ash_typed.specs.declared.tree.expressions.Expr.TheViews as views
+use Rattle.ash_typed.specs.declared.tree.expressions.ExprKind as kind_code
+use Rattle.ash_typed.specs.declared.tree.expressions.ExprKind.TheViews as views
 use Rattle.ash_typed.specs.declared.tree.expressions.Link as link_code
 use Rattle.ash_typed.specs.declared.tree.expressions.Link.TheVariants as links
 use Rattle.ash_typed.specs.declared.tree.expressions.Operand as operand_code
@@ -14,7 +15,7 @@ use Rattle.ash_typed.specs.declared.tree.operations.CallTarget.{CallTarget}
 use Rattle.ash_typed.specs.declared.tree.operations.Method.{Method}
 use Rattle.ash_typed.specs.declared.types.VarType.{VarType}
 use Rattle.ash_typed.specs.TypedTree.{Expr, Exprs, exprs, Operate, Lazily, converted}
-use Rattle.ash_typed.specs.TypedTreeViews.{expr_of, linked, chained, all_linked, all_chained, all_lazies}
+use Rattle.ash_typed.specs.TypedTreeViews.{expr_in, expr_of, linked, chained, all_linked, all_chained, all_lazies}
 use Rattle.ash_typed.proofs.Rows.{path_is, chain_is, lazy_is, call_is, exprs_of-row}
 use Rattle.ash_phrases.specs.Activity.{Activity}
 use Rattle.ash_phrases.specs.Runs.{Progress, Done, Ended, NoStep, Run, give, onward, ◌>>=◌}
@@ -67,23 +68,23 @@ module _ (calls : Calls) where
 
   -- nodes of the code's trees
 
-  pub chain_follows : (e : expr_code.Expr) (first : Box expr_code.Expr Global) (os : Vec operand_code.Operand Global) (a : Activity) → e ≡ views.Chain first os → expression calls (expr_of e) a ≡ onward (expression calls (expr_of first.value) a) (operands_run calls os.items)
-  chain_follows e first os a is =
-      ap (λ (x : Expr). expression calls x a) (ap expr_of is ∙ chain_is first os) ∙ operands_follow (expr_of first.value) os.items a
+  pub chain_follows : (k : kind_code.ExprKind) (first : expr_code.Expr) (os : Vec operand_code.Operand Global) (a : Activity) → k ≡ views.Chain first os → expression calls (expr_in k) a ≡ onward (expression calls (expr_of first) a) (operands_run calls os.items)
+  chain_follows k first os a is =
+      ap (λ (x : Expr). expression calls x a) (ap expr_in is ∙ chain_is first os) ∙ operands_follow (expr_of first) os.items a
 
-  pub call_follows : (e : expr_code.Expr) (target : CallTarget) (ps : Vec VarType Global) (es : Vec expr_code.Expr Global) (a : Activity) → e ≡ views.Call target ps es → expression calls (expr_of e) a ≡ target_run calls target es.items a
-  call_follows e target ps es a is = ap (λ (x : Expr). expression calls x a) (ap expr_of is ∙ call_is target ps es)
+  pub call_follows : (k : kind_code.ExprKind) (target : CallTarget) (ps : Vec VarType Global) (es : Vec expr_code.Expr Global) (a : Activity) → k ≡ views.Call target ps es → expression calls (expr_in k) a ≡ target_run calls target es.items a
+  call_follows k target ps es a is = ap (λ (x : Expr). expression calls x a) (ap expr_in is ∙ call_is target ps es)
 
   pub invoke_follows : (l : link_code.Link) (method : Method) (ps : Vec VarType Global) (es : Vec expr_code.Expr Global) (handle : Word) (a : Activity) → l ≡ views.Invoke method ps es → link_run calls l handle a ≡ invocation_run calls handle method es.items a
   invoke_follows l method ps es handle a is = ap (λ (x : link_code.Link). link_run calls x handle a) is ∙ search (rules, views.the_lemmas, exprs_of-row)
 
-  pub path_follows : (e : expr_code.Expr) (base : Box expr_code.Expr Global) (ls : Vec link_code.Link Global) (a : Activity) → e ≡ views.Path base ls → expression calls (expr_of e) a ≡ onward (expression calls (expr_of base.value) a) (links_run calls ls.items)
-  path_follows e base ls a is =
-      ap (λ (x : Expr). expression calls x a) (ap expr_of is ∙ path_is base ls) ∙ links_follow (expr_of base.value) ls.items a
+  pub path_follows : (k : kind_code.ExprKind) (base : expr_code.Expr) (ls : Vec link_code.Link Global) (a : Activity) → k ≡ views.Path base ls → expression calls (expr_in k) a ≡ onward (expression calls (expr_of base) a) (links_run calls ls.items)
+  path_follows k base ls a is =
+      ap (λ (x : Expr). expression calls x a) (ap expr_in is ∙ path_is base ls) ∙ links_follow (expr_of base) ls.items a
 
-  pub lazy_follows : (e : expr_code.Expr) (op : Lazy) (first : Box expr_code.Expr Global) (xs : Vec expr_code.Expr Global) (a : Activity) → e ≡ views.Lazy op first xs → expression calls (expr_of e) a ≡ onward (expression calls (expr_of first.value) a) (lazies_run calls op xs.items)
-  lazy_follows e op first xs a is =
-      ap (λ (x : Expr). expression calls x a) (ap expr_of is ∙ lazy_is op first xs) ∙ lazies_follow op (expr_of first.value) xs.items a
+  pub lazy_follows : (k : kind_code.ExprKind) (op : Lazy) (first : expr_code.Expr) (xs : Vec expr_code.Expr Global) (a : Activity) → k ≡ views.Lazy op first xs → expression calls (expr_in k) a ≡ onward (expression calls (expr_of first) a) (lazies_run calls op xs.items)
+  lazy_follows k op first xs a is =
+      ap (λ (x : Expr). expression calls x a) (ap expr_in is ∙ lazy_is op first xs) ∙ lazies_follow op (expr_of first) xs.items a
 
 -- arguments, one after the other
 

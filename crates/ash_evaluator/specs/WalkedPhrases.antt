@@ -9,7 +9,7 @@ use Rattle.ash_typed.specs.declared.tree.operations.Lazy.{Lazy}
 use Rattle.ash_typed.specs.declared.tree.operations.CallTarget.{CallTarget}
 use Rattle.ash_typed.specs.declared.tree.operations.Method.{Method}
 use Rattle.ash_typed.specs.TypedTree.{Expr, Exprs, exprs}
-use Rattle.ash_typed.specs.TypedTreeViews.{expr_of, exprs_of}
+use Rattle.ash_typed.specs.TypedTreeViews.{expr_in, expr_of, exprs_of}
 use Rattle.ash_typed.specs.StatementTree.{Head, Loop, cases}
 use Rattle.ash_typed.specs.declared.tree.statements.Case as case_code
 use Rattle.ash_typed.specs.BodyViews.{case_of}
@@ -44,7 +44,7 @@ abbrev pub link_run : Calls → link_code.Link → Word → Run Word
 link_run calls (links.Member member) handle =
     object_of handle >>= (λ number. give (location_of_member member number)) >>= read >>= give_held
 link_run calls (links.Index' a index of) handle =
-    expression calls (expr_of index) >>= element_at handle >>= read >>= give_held
+    expression calls (expr_in index) >>= element_at handle >>= read >>= give_held
 link_run calls (links.Invoke' method parameters shape row) handle =
     arguments calls (exprs_of row) >>= (λ args. object_of handle >>= (λ number. invoke calls method number args))
 

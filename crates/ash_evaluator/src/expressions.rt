@@ -21,7 +21,7 @@ use ash_plain::locations::{Location, location_of_member, location_of_variable};
 use ash_plain_data::classes::ModuleCallee;
 use ash_plain_data::operators::{altered, converted_by, converted_to, is_true, numeral};
 use ash_plain_data::run_error::RunResult;
-use ash_typed::{Calculation, CallTarget, Expr, IntType, Lazy, Link, Method, Operand, Place};
+use ash_typed::{Calculation, CallTarget, Expr, ExprKind, IntType, Lazy, Link, Method, Operand, Place};
 
 impl<F: Fn(&mut Activity, ModuleCallee) -> RunResult<Option<Word>> + Drop> Evaluator<'_, '_, F> {
     #[cycle(expressions)]
@@ -31,52 +31,52 @@ impl<F: Fn(&mut Activity, ModuleCallee) -> RunResult<Option<Word>> + Drop> Evalu
         ensures run { RunsAs (λ w. w) result (activity_seen activity.new)
             (expression (calls_seen self.now) (expr_of expr.now) (activity_seen activity.old)) }
     {
-        match expr {
-            Expr::Number { of, value } => Ok(numeral(*of, *value)),
-            Expr::Bool(value) => Ok(Word::Bool(*value)),
-            Expr::Null => Ok(Word::Null),
-            Expr::This(_) => activity.this_held(),
-            Expr::Variable(variable) => activity.read_held(location_of_variable(*variable)),
-            Expr::Path { base, links } => self.path(activity, base, links),
-            Expr::Convert { conversion, value } => {
+        match &*expr.kind {
+            ExprKind::Number { of, value } => Ok(numeral(*of, *value)),
+            ExprKind::Bool(value) => Ok(Word::Bool(*value)),
+            ExprKind::Null => Ok(Word::Null),
+            ExprKind::This(_) => activity.this_held(),
+            ExprKind::Variable(variable) => activity.read_held(location_of_variable(*variable)),
+            ExprKind::Path { base, links } => self.path(activity, base, links),
+            ExprKind::Convert { conversion, value } => {
                 let word = self.expression(activity, value)?;
                 Ok(converted_to(conversion.to, word))
             }
-            Expr::Cast { to, value } => {
+            ExprKind::Cast { to, value } => {
                 let word = self.expression(activity, value)?;
                 Ok(self.cast(activity, *to, word))
             }
-            Expr::Change { change, operand } => {
+            ExprKind::Change { change, operand } => {
                 let word = self.expression(activity, operand)?;
                 Ok(altered(*change, word))
             }
-            Expr::Chain { first, operands } => self.chain(activity, first, operands),
-            Expr::Lazy {
+            ExprKind::Chain { first, operands } => self.chain(activity, first, operands),
+            ExprKind::Lazy {
                 operator,
                 first,
                 others,
             } => self.lazy_row(activity, *operator, first, others),
-            Expr::Conditional {
+            ExprKind::Conditional {
                 condition,
                 then,
                 otherwise,
             } => self.conditional(activity, condition, then, otherwise),
-            Expr::Assign { place, value } => {
+            ExprKind::Assign { place, value } => {
                 let word = self.expression(activity, value)?;
                 let location = self.location(activity, place)?;
                 activity.store(word, location)
             }
-            Expr::Update {
+            ExprKind::Update {
                 place,
                 of,
                 calculation,
                 value,
             } => self.update(activity, place, *of, *calculation, value),
-            Expr::Step { place, of, step } => {
+            ExprKind::Step { place, of, step } => {
                 let location = self.location(activity, place)?;
                 activity.count_at(*of, *step, location)
             }
-            Expr::Call {
+            ExprKind::Call {
                 target,
                 arguments,
                 ..

@@ -13,7 +13,7 @@ use crate::operators::unify_operands;
 use crate::typed_expr::{TypedExpr, coerce_for_assignment, integer_type};
 use ash_environment::{CheckResult, Environment, fault_at};
 use ash_tree::AssignOp;
-use ash_typed::{Calculation, Calculator, Expr, Place, nodes};
+use ash_typed::{Calculation, Calculator, ExprKind, Place, nodes};
 use ash_typing::{Rule, Ty};
 use std::alloc::Global;
 
@@ -35,7 +35,7 @@ fn build_update(
     ensures agrees { Agrees typed_of result
         (typing.updated target.at target.of (place_of target.place) operator (typed_of value)) }
 {
-    let left = TypedExpr::value(target.at, target.of, Expr::Null);
+    let left = TypedExpr::of_kind(alloc, target.at, target.of, ExprKind::Null)?;
     let unified = unify_operands(alloc, calculator_operator(operator), left, value)?;
     let int_type = integer_type(target.at, target.of)?;
     let calculation = Calculation {

@@ -14,7 +14,7 @@ use crate::typed_expr::{TypedExpr, coerce_for_assignment};
 use ash_environment::{
     Callee, CheckResult, Environment, MethodCallee, Parameters, fault_at, var_type,
 };
-use ash_typed::{Expr, Method, ObjectMember, ObjectType, VarType, nodes};
+use ash_typed::{Expr, ExprKind, Method, ObjectMember, ObjectType, VarType, nodes};
 use ash_typing::{Callable, Rule, Ty};
 use std::alloc::{AllocError, Global};
 
@@ -92,9 +92,10 @@ fn call_tree(
                 method,
                 result,
             };
-            nodes::invoke(alloc, Expr::This(class), method, parameters, arguments)
+            let this = Expr::new(alloc, ExprKind::This(class))?;
+            nodes::invoke(alloc, this, method, parameters, arguments)
         }
-        Callable::Target(target) => Ok(nodes::call(target, parameters, arguments)),
+        Callable::Target(target) => nodes::call(alloc, target, parameters, arguments),
     }
 }
 
@@ -145,14 +146,14 @@ pub(crate) fn callee_named<'a>(env: &Environment<'a, '_>, name: Name) -> CheckRe
 }
 
 /// `this`
-pub(crate) fn check_this(at: usize, class: Option<usize>) -> CheckResult<TypedExpr>
+pub(crate) fn check_this(alloc: Global, at: usize, class: Option<usize>) -> CheckResult<TypedExpr>
     ensures agrees { Agrees typed_of result (typing.this_at at class) }
 {
     match class {
         None => Err(fault_at(Rule::Misplaced, at)),
         Some(class) => {
             let of = Ty::Handle(ObjectType::Class(class));
-            Ok(TypedExpr::value(at, of, Expr::This(class)))
+            TypedExpr::of_kind(alloc, at, of, ExprKind::This(class))
         }
     }
 }
@@ -245,7 +246,7 @@ pub(crate) fn build_method_call(
         (map typed_of arguments.exprs.items) (optional_method_callee method.entry)) }
 {
     let Some(method) = method else {
-        return Ok(TypedExpr::value(base.at, Ty::Unknown, Expr::Null));
+        return TypedExpr::of_kind(env.alloc, base.at, Ty::Unknown, ExprKind::Null);
     };
     let arguments = check_arguments(env, &method.parameters, arguments)?;
     let types = method.parameters.types(env.alloc)?;

@@ -24,7 +24,7 @@ use crate::operators::{
 use crate::typed_expr::TypedExpr;
 use ash_environment::{CheckResult, Environment, element_named, object_named};
 use ash_tree::{AssignOp, Element, Expr, ExprKind, Link, Primitive, Suffix, TypeName};
-use ash_typed::{Expr as Tree, IncrementOp};
+use ash_typed::{ExprKind as Tree, IncrementOp};
 use ash_typing::Ty;
 
 /// Checks an expression. One with parts is checked by a function of its own, so that the frame of this one, which each
@@ -36,10 +36,10 @@ pub fn check_expr(env: &Environment, side: AssignmentSide, source: &Expr) -> Che
 {
     let at = source.place.at;
     match &source.kind {
-        ExprKind::Number(number) => Ok(TypedExpr::number(at, *number)),
-        ExprKind::Bool(value) => Ok(TypedExpr::value(at, Ty::Bool, Tree::Bool(*value))),
-        ExprKind::Null => Ok(TypedExpr::value(at, Ty::Null, Tree::Null)),
-        ExprKind::This => check_this(at, env.this),
+        ExprKind::Number(number) => TypedExpr::number(env.alloc, at, *number),
+        ExprKind::Bool(value) => TypedExpr::of_kind(env.alloc, at, Ty::Bool, Tree::Bool(*value)),
+        ExprKind::Null => TypedExpr::of_kind(env.alloc, at, Ty::Null, Tree::Null),
+        ExprKind::This => check_this(env.alloc, at, env.this),
         ExprKind::Name(name) => check_name(
             env,
             Name {

@@ -212,7 +212,7 @@ pub(crate) fn build_step(
     Ok(TypedExpr::value(
         at,
         Ty::Integer(int_type),
-        nodes::count(place, int_type, step),
+        nodes::count(alloc, place, int_type, step)?,
     ))
 }
 

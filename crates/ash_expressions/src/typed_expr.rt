@@ -1,8 +1,8 @@
 //! Typed expressions, and conversions of their values.
 
-ghost use Rattle.std.specs.Prelude.{◌≡◌, true, IfOk, IsErrOf};
+ghost use Rattle.std.specs.Prelude.{◌≡◌, true, Ok, IfOk, IsErrOf};
 ghost use Rattle.ash_typed.specs.TypedTree.{converted};
-ghost use Rattle.ash_typed.specs.TypedTreeViews.{expr_of};
+ghost use Rattle.ash_typed.specs.TypedTreeViews.{expr_in, expr_of};
 ghost use Rattle.ash_typing.specs.Terms as terms;
 ghost use Rattle.ash_typing.specs.ExpressionRules as typing;
 ghost use Rattle.ash_environment.specs.declared.error.CheckError.TheVariants.{NoMemory};
@@ -11,7 +11,7 @@ ghost use Rattle.ash_environment.specs.EnvironmentViews.{classes_of};
 ghost use Rattle.ash_expressions.specs.TypedExprViews.{typed_of};
 
 use ash_environment::{CheckResult, Environment, conversion, fault_at, fits, holds, number_type};
-use ash_typed::{Expr, IntType, nodes};
+use ash_typed::{Expr, ExprKind, IntType, nodes};
 use ash_typing::{Form, OperatorClass, Rule, Ty};
 use std::alloc::{AllocError, Global};
 
@@ -37,6 +37,19 @@ impl TypedExpr {
         }
     }
 
+    /// An expression of this kind, which is neither a number nor a place.
+    pub(crate) fn of_kind(
+        alloc: Global,
+        at: usize,
+        ty: Ty,
+        kind: ExprKind,
+    ) -> CheckResult<TypedExpr>
+        ensures agrees { Agrees typed_of result (Ok (typing.term_at at ty (expr_in kind))) }
+    {
+        let tree = Expr::new(alloc, kind)?;
+        Ok(TypedExpr::value(at, ty, tree))
+    }
+
     /// What can be assigned: the tree reads the place.
     pub(crate) fn place(at: usize, ty: Ty, tree: Expr) -> TypedExpr
         ensures value { typed_of result ≡ typing.read_at at ty (expr_of tree) }
@@ -50,19 +63,21 @@ impl TypedExpr {
     }
 
     /// A number by itself.
-    pub(crate) fn number(at: usize, number: u64) -> TypedExpr
-        ensures value { typed_of result ≡ typing.placed at (terms.number_term number) }
+    pub(crate) fn number(alloc: Global, at: usize, number: u64) -> CheckResult<TypedExpr>
+        ensures agrees { Agrees typed_of result (Ok (typing.placed at (terms.number_term number))) }
     {
         let int_type = number_type(number);
-        TypedExpr {
+        let kind = ExprKind::Number {
+            of: int_type,
+            value: number,
+        };
+        let tree = Expr::new(alloc, kind)?;
+        Ok(TypedExpr {
             at,
             ty: Ty::Integer(int_type),
             form: Form::Number(number),
-            tree: Expr::Number {
-                of: int_type,
-                value: number,
-            },
-        }
+            tree,
+        })
     }
 }
 
@@ -129,7 +144,7 @@ fn adapt_number(other: Form, of: Ty, typed: &mut TypedExpr)
         (Form::Number(_), _, Form::Number(_)) => {}
         (_, Ty::Integer(int_type), Form::Number(number)) if holds(int_type, number) => {
             typed.ty = Ty::Integer(int_type);
-            typed.tree = Expr::Number {
+            *typed.tree.kind = ExprKind::Number {
                 of: int_type,
                 value: number,
             };

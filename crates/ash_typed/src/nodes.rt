@@ -62,9 +62,9 @@ fn first_link(alloc: Global, kind: ExprKind, next: Link) -> Result<Expr, AllocEr
     ensures same_base { IfOk result (λ e. base_of e ≡ kind) }
     ensures one_link { IfOk result (λ e. links_of e ≡ next ∷ []) }
 {
+    let base = Expr::new(alloc, kind)?;
     let mut links = Vec::with_capacity(alloc, 1)?;
     links.push(next)?;
-    let base = Expr::new(alloc, kind)?;
     Expr::new(alloc, ExprKind::Path { base, links })
 }
 
@@ -137,9 +137,9 @@ fn first_operator(alloc: Global, kind: ExprKind, next: Operand) -> Result<Expr, 
     ensures same_first { IfOk result (λ e. first_of e ≡ kind) }
     ensures one_operator { IfOk result (λ e. operands_of e ≡ next ∷ []) }
 {
+    let first = Expr::new(alloc, kind)?;
     let mut operands = Vec::with_capacity(alloc, 1)?;
     operands.push(next)?;
-    let first = Expr::new(alloc, kind)?;
     Expr::new(alloc, ExprKind::Chain { first, operands })
 }
 
@@ -188,9 +188,9 @@ fn first_lazily(
     ensures value { IfOk result (λ e. expr_of e ≡ Lazily operator (expr_in kind) (expr_of next)) }
     ensures one_other { IfOk result (λ e. others_of operator e ≡ next ∷ []) }
 {
+    let first = Expr::new(alloc, kind)?;
     let mut others = Vec::with_capacity(alloc, 1)?;
     others.push(next)?;
-    let first = Expr::new(alloc, kind)?;
     let kind = ExprKind::Lazy {
         operator,
         first,

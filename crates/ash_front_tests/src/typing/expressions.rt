@@ -9,7 +9,7 @@ use ash_expressions::{AssignmentSide, TypedExpr, check_expr};
 use ash_registrations::Registrations;
 use ash_tree as written;
 use ash_tree::{Initializer, Item, Module};
-use ash_typed::{Expr, Operands, Operation};
+use ash_typed::{Expr, ExprKind, Operands, Operation};
 use std::alloc::{AllocError, Global};
 use std::fmt::Debug;
 
@@ -78,10 +78,10 @@ fn compared(operation: Operation) -> Operands {
 
 /// What the last operator takes its operands for.
 fn operands_in(tree: &Expr) -> Option<Operands> {
-    match tree {
-        Expr::Chain { operands, .. } => Some(compared(operands.last()?.operation)),
-        Expr::Lazy { .. } => Some(Operands::Bools),
-        Expr::Update { calculation, .. } => Some(Operands::Integers(calculation.of)),
+    match &*tree.kind {
+        ExprKind::Chain { operands, .. } => Some(compared(operands.last()?.operation)),
+        ExprKind::Lazy { .. } => Some(Operands::Bools),
+        ExprKind::Update { calculation, .. } => Some(Operands::Integers(calculation.of)),
         _ => None,
     }
 }

@@ -1,7 +1,7 @@
 //! The lines of statements and the slots of locals.
 
 use crate::typing::sources::checked;
-use ash_typed::{Expr, Function, Stmt, StmtKind, Variable};
+use ash_typed::{ExprKind, Function, Stmt, StmtKind, Variable};
 use std::alloc::{AllocError, Global};
 use std::test::Fail;
 
@@ -12,8 +12,8 @@ fn local_in(stmt: &Stmt) -> Option<usize> {
         StmtKind::Return(value) => value,
         _ => return None,
     };
-    match value {
-        Some(Expr::Variable(Variable::Local { slot, .. })) => Some(*slot),
+    match &*value.as_ref()?.kind {
+        ExprKind::Variable(Variable::Local { slot, .. }) => Some(*slot),
         _ => None,
     }
 }

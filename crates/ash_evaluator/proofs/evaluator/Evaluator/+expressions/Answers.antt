@@ -8,25 +8,25 @@ use Rattle.ash_evaluator.proofs.evaluator.Evaluator.+expressions.Goals as goal
 pub expression-returns-in-Path : goal.expression-returns-in-Path
 expression-returns-in-Path g t c = record {
   run =
-      rw (path_follows (calls_seen c.args.self.now) c.args.expr.now c.in-Path.base c.in-Path.links (activity_seen c.args.activity.now) c.in-Path.is) (search rules);
+      rw (path_follows (calls_seen c.args.self.now) c.args.expr.now.kind.value c.in-Path.base c.in-Path.links (activity_seen c.args.activity.now) (sym c.deref.ensures ∙ c.in-Path.is)) (search rules);
 }
 
 pub expression-returns-in-Chain : goal.expression-returns-in-Chain
 expression-returns-in-Chain g t c = record {
   run =
-      rw (chain_follows (calls_seen c.args.self.now) c.args.expr.now c.in-Chain.first c.in-Chain.operands (activity_seen c.args.activity.now) c.in-Chain.is) (search rules);
+      rw (chain_follows (calls_seen c.args.self.now) c.args.expr.now.kind.value c.in-Chain.first c.in-Chain.operands (activity_seen c.args.activity.now) (sym c.deref.ensures ∙ c.in-Chain.is)) (search rules);
 }
 
 pub expression-returns-in-Lazy : goal.expression-returns-in-Lazy
 expression-returns-in-Lazy g t c = record {
   run =
-      rw (lazy_follows (calls_seen c.args.self.now) c.args.expr.now c.in-Lazy.operator c.in-Lazy.first c.in-Lazy.others (activity_seen c.args.activity.now) c.in-Lazy.is) (search rules);
+      rw (lazy_follows (calls_seen c.args.self.now) c.args.expr.now.kind.value c.in-Lazy.operator c.in-Lazy.first c.in-Lazy.others (activity_seen c.args.activity.now) (sym c.deref.ensures ∙ c.in-Lazy.is)) (search rules);
 }
 
 pub expression-returns-in-Call : goal.expression-returns-in-Call
 expression-returns-in-Call g t c = record {
   run =
-      rw (call_follows (calls_seen c.args.self.now) c.args.expr.now c.in-Call.target _ c.in-Call.arguments (activity_seen c.args.activity.now) c.in-Call.is) (search rules);
+      rw (call_follows (calls_seen c.args.self.now) c.args.expr.now.kind.value c.in-Call.target _ c.in-Call.arguments (activity_seen c.args.activity.now) (sym c.deref.ensures ∙ c.in-Call.is)) (search rules);
 }
 
 pub link-returns-in-Invoke : goal.link-returns-in-Invoke
