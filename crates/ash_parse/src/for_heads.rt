@@ -28,16 +28,15 @@ pub fn first(alloc: Global, room: u32, tokens: &[Token]) -> ParseResult<'_, Stmt
 {
     if next_is_sign(Sign::Semicolon, tokens) {
         let (place, rest) = expect(Sign::Semicolon, tokens)?;
-        let kind = StmtKind::Empty;
-        return Ok((Stmt { place, kind }, rest));
+        return Ok((nodes::statement(alloc, place, StmtKind::Empty)?, rest));
     }
     if is_vars(tokens) {
         let (vars, rest) = vars_statement(alloc, room, tokens)?;
-        return Ok((nodes::declare(vars), rest));
+        return Ok((nodes::declare(alloc, vars)?, rest));
     }
     let (value, rest) = nested_assign(alloc, room, tokens)?;
     let (_, rest) = expect(Sign::Semicolon, rest)?;
-    Ok((nodes::evaluate(value), rest))
+    Ok((nodes::evaluate(alloc, value)?, rest))
 }
 
 /// `[assign] ";"`, in the head of a `for`

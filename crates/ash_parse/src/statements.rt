@@ -6,7 +6,7 @@
 ghost use Rattle.std.specs.Prelude.{◌≡◌, ◌≤◌, map, option_map, IfOk};
 ghost use Rattle.ash_tree.specs.GrammarTokens.{tokens_of};
 ghost use Rattle.ash_tree.specs.Tree.{If, IfElse};
-ghost use Rattle.ash_tree.specs.TreeViews.{expr_of, stmt_at, stmt_of, case_of};
+ghost use Rattle.ash_tree.specs.TreeViews.{expr_of, stmt_of, case_of};
 ghost use Rattle.ash_parse.specs.Readers.{ParsesAs};
 ghost use Rattle.ash_parse.specs.ExpressionReader as exprs;
 ghost use Rattle.ash_parse.specs.StatementReader as reader;
@@ -50,7 +50,7 @@ fn evaluate(alloc: Global, room: u32, tokens: &[Token]) -> ParseResult<'_, Stmt>
 {
     let (value, rest) = assign(alloc, room, tokens)?;
     let (_, rest) = expect(Sign::Semicolon, rest)?;
-    Ok((nodes::evaluate(value), rest))
+    Ok((nodes::evaluate(alloc, value)?, rest))
 }
 
 /// A statement that is one deeper.
@@ -63,23 +63,6 @@ fn nested(alloc: Global, room: u32, tokens: &[Token]) -> ParseResult<'_, Stmt>
         return Err(limit(tokens));
     }
     statement(alloc, room - 1, tokens)
-}
-
-/// A statement that is one deeper, in a box: what holds it while it reads on holds the box only.
-#[cycle(statements)]
-fn inner(alloc: Global, room: u32, tokens: &[Token]) -> ParseResult<'_, Box<Stmt>>
-    requires within { room ≤ MAX_DEPTH }
-    ensures parsed { ParsesAs (λ x. stmt_of x.value) result
-        (reader.nested_at room (tokens_of tokens.now)) }
-{
-    let (read, rest) = nested(alloc, room, tokens)?;
-    Ok((boxed(alloc, read)?, rest))
-}
-
-fn boxed(alloc: Global, statement: Stmt) -> Result<Box<Stmt>, AllocError>
-    ensures value { IfOk result (λ b. b.value ≡ statement) }
-{
-    Ok(Box::new(alloc, statement)?)
 }
 
 #[cycle(statements)]
@@ -96,9 +79,9 @@ fn statement(alloc: Global, room: u32, tokens: &[Token]) -> ParseResult<'_, Stmt
     match stmt_token(&next.kind) {
         StmtToken::Block => {
             let (body, rest) = block(alloc, room, tokens)?;
-            Ok((nodes::block(place, body), rest))
+            Ok((nodes::block(alloc, place, body)?, rest))
         }
-        StmtToken::Empty => Ok((simple(place, StmtKind::Empty), rest)),
+        StmtToken::Empty => Ok((nodes::statement(alloc, place, StmtKind::Empty)?, rest)),
         StmtToken::If => if_statement(alloc, room, place, rest),
         StmtToken::While => while_statement(alloc, room, place, rest),
         StmtToken::Do => do_statement(alloc, room, place, rest),
@@ -106,15 +89,16 @@ fn statement(alloc: Global, room: u32, tokens: &[Token]) -> ParseResult<'_, Stmt
         StmtToken::Switch => switch_statement(alloc, room, place, rest),
         StmtToken::Break => {
             let (_, rest) = expect(Sign::Semicolon, rest)?;
-            Ok((simple(place, StmtKind::Break), rest))
+            Ok((nodes::statement(alloc, place, StmtKind::Break)?, rest))
         }
         StmtToken::Continue => {
             let (_, rest) = expect(Sign::Semicolon, rest)?;
-            Ok((simple(place, StmtKind::Continue), rest))
+            Ok((nodes::statement(alloc, place, StmtKind::Continue)?, rest))
         }
         StmtToken::Return => {
             let (value, rest) = return_value(alloc, room, rest)?;
-            Ok((simple(place, StmtKind::Return(value)), rest))
+            let kind = StmtKind::Return(value);
+            Ok((nodes::statement(alloc, place, kind)?, rest))
         }
         StmtToken::Other => evaluate(alloc, room, tokens),
         StmtToken::End | StmtToken::Else | StmtToken::Case | StmtToken::Default => {
@@ -123,17 +107,12 @@ fn statement(alloc: Global, room: u32, tokens: &[Token]) -> ParseResult<'_, Stmt
     }
 }
 
-fn simple(place: Position, kind: StmtKind) -> Stmt
-    ensures value { stmt_of result ≡ stmt_at place kind }
-{
-    Stmt { place, kind }
-}
-
 /// The condition of an `if` with its branch, and where the `if` is.
+#[derive(Drop)]
 struct IfHead {
     place: Position,
     condition: Expr,
-    then: Box<Stmt>,
+    then: Stmt,
 }
 
 /// `"(" assign ")" stmt [ "else" stmt ]`, after the `if`
@@ -151,7 +130,7 @@ fn if_statement<'a>(
         (tokens_of tokens.now)) }
 {
     let (condition, rest) = bracketed(alloc, room, tokens)?;
-    let (then, rest) = inner(alloc, room, rest)?;
+    let (then, rest) = nested(alloc, room, rest)?;
     let head = IfHead {
         place,
         condition,
@@ -161,28 +140,34 @@ fn if_statement<'a>(
 }
 
 /// An `if` that ends with its branch.
-fn if_only(place: Position, condition: Expr, then: Box<Stmt>) -> Stmt
-    ensures value { stmt_of result ≡ If place (expr_of condition) (stmt_of then.value) }
+fn if_only(alloc: Global, head: IfHead) -> Result<Stmt, AllocError>
+    ensures value { IfOk result (λ s. stmt_of s
+        ≡ If head.place (expr_of head.condition) (stmt_of head.then)) }
 {
-    Stmt {
+    let IfHead {
         place,
-        kind: StmtKind::If { condition, then },
-    }
+        condition,
+        then,
+    } = head;
+    nodes::statement(alloc, place, StmtKind::If { condition, then })
 }
 
 /// An `if` with both its branches.
-fn if_else(place: Position, condition: Expr, then: Box<Stmt>, otherwise: Box<Stmt>) -> Stmt
-    ensures value { stmt_of result ≡ IfElse place (expr_of condition) (stmt_of then.value)
-        (stmt_of otherwise.value) }
+fn if_else(alloc: Global, head: IfHead, otherwise: Stmt) -> Result<Stmt, AllocError>
+    ensures value { IfOk result (λ s. stmt_of s
+        ≡ IfElse head.place (expr_of head.condition) (stmt_of head.then) (stmt_of otherwise)) }
 {
-    Stmt {
+    let IfHead {
         place,
-        kind: StmtKind::IfElse {
-            condition,
-            then,
-            otherwise,
-        },
-    }
+        condition,
+        then,
+    } = head;
+    let kind = StmtKind::IfElse {
+        condition,
+        then,
+        otherwise,
+    };
+    nodes::statement(alloc, place, kind)
 }
 
 /// `[ "else" stmt ]`
@@ -197,21 +182,16 @@ fn else_branch<'a>(
     requires within { room ≤ MAX_DEPTH }
     ensures parsed { ParsesAs stmt_of result
         (reader.else_with (reader.nested_at room) head.place (expr_of head.condition)
-        (stmt_of head.then.value) (tokens_of tokens.now)) }
+        (stmt_of head.then) (tokens_of tokens.now)) }
 {
-    let IfHead {
-        place,
-        condition,
-        then,
-    } = head;
     let Some((next, rest)) = tokens.split_first() else {
-        return Ok((if_only(place, condition, then), tokens));
+        return Ok((if_only(alloc, head)?, tokens));
     };
     if !matches!(stmt_token(&next.kind), StmtToken::Else) {
-        return Ok((if_only(place, condition, then), tokens));
+        return Ok((if_only(alloc, head)?, tokens));
     }
-    let (otherwise, rest) = inner(alloc, room, rest)?;
-    Ok((if_else(place, condition, then, otherwise), rest))
+    let (otherwise, rest) = nested(alloc, room, rest)?;
+    Ok((if_else(alloc, head, otherwise)?, rest))
 }
 
 /// `"(" assign ")" "{" { label { stmt } } "}"`, after the `switch`
@@ -231,12 +211,13 @@ fn switch_statement<'a>(
     let (value, rest) = bracketed(alloc, room, tokens)?;
     let (_, rest) = expect(Sign::OpenBrace, rest)?;
     let (cases, rest) = cases(alloc, room, rest)?;
-    switch_end(place, value, cases, rest)
+    switch_end(alloc, place, value, cases, rest)
 }
 
 /// `"}"`, after the cases of a `switch`
 #[tactic(auto, unfolding(crate::specs::StatementReader::switch_end_with))]
 fn switch_end(
+    alloc: Global,
     place: Position,
     value: Expr,
     cases: Vec<Case>,
@@ -247,7 +228,7 @@ fn switch_end(
         (tokens_of tokens.now)) }
 {
     let (_, rest) = expect(Sign::CloseBrace, tokens)?;
-    Ok((nodes::switch(place, value, cases), rest))
+    Ok((nodes::switch(alloc, place, value, cases)?, rest))
 }
 
 #[cycle(statements)]
@@ -337,7 +318,7 @@ fn local(alloc: Global, room: u32, tokens: &[Token]) -> ParseResult<'_, Stmt>
 {
     if is_vars(tokens) {
         let (vars, rest) = vars_statement(alloc, room, tokens)?;
-        return Ok((nodes::declare(vars), rest));
+        return Ok((nodes::declare(alloc, vars)?, rest));
     }
     nested(alloc, room, tokens)
 }

@@ -75,7 +75,7 @@ suffixed-some operand (x ∷ more) h = refl
 
 pub stmts_of-row : {n : _} (row : Row_of-Stmt n) → stmts_of row ≡ stmts (map stmt_of (items-the_row-Stmt n row))
 stmts_of-row end_of-Stmt = refl
-stmts_of-row (more_of-Stmt p k rest) = ap (stmt (stmt_at p k)) (stmts_of-row rest)
+stmts_of-row (more_of-Stmt p a k rest) = ap (stmt (stmt_at p k)) (stmts_of-row rest)
 
 pub cases_of-row : {n : _} (row : Row_of-Case n) → cases_of row ≡ cases (map case_of (items-the_row-Case n row))
 cases_of-row end_of-Case = refl

@@ -128,11 +128,11 @@ abbrev mutual
   stmt_at p (stmts_code.Vars v) = Declare p (vars_of v)
   stmt_at p (stmts_code.Expr e) = Evaluate p (expr_of e)
   stmt_at p (stmts_code.Block' shape ss) = Block p (stmts_of ss)
-  stmt_at p (stmts_code.If' c a q k) = If p (expr_of c) (stmt_at q k)
-  stmt_at p (stmts_code.IfElse' c a q k b r l) = IfElse p (expr_of c) (stmt_at q k) (stmt_at r l)
-  stmt_at p (stmts_code.While' c a q k) = While p (expr_of c) (stmt_at q k)
-  stmt_at p (stmts_code.DoWhile' a q k c) = DoWhile p (stmt_at q k) (expr_of c)
-  stmt_at p (stmts_code.For' a q k c es b r l) =
+  stmt_at p (stmts_code.If' c q a k) = If p (expr_of c) (stmt_at q k)
+  stmt_at p (stmts_code.IfElse' c q a k r b l) = IfElse p (expr_of c) (stmt_at q k) (stmt_at r l)
+  stmt_at p (stmts_code.While' c q a k) = While p (expr_of c) (stmt_at q k)
+  stmt_at p (stmts_code.DoWhile' q a k c) = DoWhile p (stmt_at q k) (expr_of c)
+  stmt_at p (stmts_code.For' q a k c es r b l) =
       For p (stmt_at q k) (option_map expr_of c) (map expr_of es.items) (stmt_at r l)
   stmt_at p (stmts_code.Switch' e shape cs) = Switch p (expr_of e) (cases_of cs)
   stmt_at p stmts_code.Break = Break p
@@ -141,7 +141,7 @@ abbrev mutual
 
   pub stmts_of : {n : _} → stmt_kind.Row_of-Stmt n → Stmts
   stmts_of stmt_kind.end_of-Stmt = no_stmt
-  stmts_of (stmt_kind.more_of-Stmt p k rest) = stmt (stmt_at p k) (stmts_of rest)
+  stmts_of (stmt_kind.more_of-Stmt p a k rest) = stmt (stmt_at p k) (stmts_of rest)
 
   pub cases_of : {n : _} → stmt_kind.Row_of-Case n → Cases
   cases_of stmt_kind.end_of-Case = no_case
@@ -151,7 +151,7 @@ abbrev mutual
   case_of (case_code.Case' p l shape ss) = labelled p l (stmts_of ss)
 
 abbrev pub stmt_of : stmt_code.Stmt → Stmt
-stmt_of s = stmt_at s.place s.kind
+stmt_of s = stmt_at s.place s.kind.value
 
 abbrev pub parameter_of : parameter.Parameter → Parameter
 parameter_of p = record { of = type_of p.of; place = p.place; name = string_bytes p.name }

@@ -6,7 +6,8 @@ ghost use Rattle.ash_tree.specs.Tree.{Unary, Conditional, Assign, Method, Index}
 ghost use Rattle.ash_tree.specs.Tree.{Evaluate, Declare, Block, Switch};
 ghost use Rattle.ash_tree.specs.Tree.{For, place_of, place_of_type};
 ghost use Rattle.ash_tree.specs.Tree.{exprs, chained, suffixed, stmts, labelled, cases};
-ghost use Rattle.ash_tree.specs.TreeViews.{expr_at, expr_of, suffix_of, operation_of, stmt_of, case_of, vars_of};
+ghost use Rattle.ash_tree.specs.TreeViews.{expr_at, expr_of, suffix_of, operation_of, stmt_at, stmt_of};
+ghost use Rattle.ash_tree.specs.TreeViews.{case_of, vars_of};
 ghost use Rattle.ash_tree.specs.TreeViews.{type_of, element_of, type_name_of};
 
 use crate::tree::expressions::{Expr, ExprKind, Link, Suffix};
@@ -87,28 +88,37 @@ pub fn postfix(alloc: Global, operand: Expr, suffixes: Vec<Suffix>) -> Result<Ex
     expression(alloc, place, ExprKind::Postfix { operand, suffixes })
 }
 
-/// `{ body }`
-pub fn block(place: Position, body: Vec<Stmt>) -> Stmt
-    ensures body_in_order { stmt_of result ≡ Block place (stmts (map stmt_of body.items)) }
+/// A statement of this kind, at its first token.
+pub fn statement(alloc: Global, place: Position, kind: StmtKind) -> Result<Stmt, AllocError>
+    ensures placed { IfOk result (λ s. stmt_of s ≡ stmt_at place kind) }
 {
-    Stmt {
-        place,
-        kind: StmtKind::Block(body),
-    }
+    let kind = Box::new(alloc, kind)?;
+    Ok(Stmt { place, kind })
+}
+
+/// `{ body }`
+pub fn block(alloc: Global, place: Position, body: Vec<Stmt>) -> Result<Stmt, AllocError>
+    ensures body_in_order { IfOk result (λ s. stmt_of s
+        ≡ Block place (stmts (map stmt_of body.items))) }
+{
+    statement(alloc, place, StmtKind::Block(body))
 }
 
 /// `switch (value) { labels }`
-pub fn switch(place: Position, value: Expr, labels: Vec<Case>) -> Stmt
-    ensures cases_in_order { stmt_of result
-        ≡ Switch place (expr_of value) (cases (map case_of labels.items)) }
+pub fn switch(
+    alloc: Global,
+    place: Position,
+    value: Expr,
+    labels: Vec<Case>,
+) -> Result<Stmt, AllocError>
+    ensures cases_in_order { IfOk result (λ s. stmt_of s
+        ≡ Switch place (expr_of value) (cases (map case_of labels.items))) }
 {
-    Stmt {
-        place,
-        kind: StmtKind::Switch {
-            value,
-            cases: labels,
-        },
-    }
+    let kind = StmtKind::Switch {
+        value,
+        cases: labels,
+    };
+    statement(alloc, place, kind)
 }
 
 /// A label of a `switch`, with the statements after it.
@@ -207,40 +217,22 @@ pub fn assign(
 
 /// The statement that only evaluates an expression.
 #[tactic(auto, using(crate::proofs::Rows::place_is))]
-pub fn evaluate(value: Expr) -> Stmt
-    ensures value_evaluated { stmt_of result ≡ Evaluate (place_of (expr_of value)) (expr_of value) }
+pub fn evaluate(alloc: Global, value: Expr) -> Result<Stmt, AllocError>
+    ensures value_evaluated { IfOk result (λ s. stmt_of s
+        ≡ Evaluate (place_of (expr_of value)) (expr_of value)) }
 {
-    Stmt {
-        place: value.place,
-        kind: StmtKind::Expr(value),
-    }
+    let place = value.place;
+    statement(alloc, place, StmtKind::Expr(value))
 }
 
 /// The declaration of variables in a block.
 #[tactic(auto, using(crate::proofs::Rows::type_place_is))]
-pub fn declare(vars: Vars) -> Stmt
-    ensures variables_declared { stmt_of result
-        ≡ Declare (place_of_type (type_of vars.of)) (vars_of vars) }
+pub fn declare(alloc: Global, vars: Vars) -> Result<Stmt, AllocError>
+    ensures variables_declared { IfOk result (λ s. stmt_of s
+        ≡ Declare (place_of_type (type_of vars.of)) (vars_of vars)) }
 {
-    Stmt {
-        place: vars.of.place,
-        kind: StmtKind::Vars(vars),
-    }
-}
-
-/// Two statements, each in a box.
-fn box_both(alloc: Global, one: Stmt, other: Stmt) -> Result<(Box<Stmt>, Box<Stmt>), AllocError>
-    ensures value { IfOk result (λ both. (both.0.value ≡ one) × (both.1.value ≡ other)) }
-{
-    let one = box_statement(alloc, one);
-    let other = box_statement(alloc, other);
-    Ok((one?, other?))
-}
-
-fn box_statement(alloc: Global, inner: Stmt) -> Result<Box<Stmt>, AllocError>
-    ensures value { IfOk result (λ b. b.value ≡ inner) }
-{
-    Ok(Box::new(alloc, inner)?)
+    let place = vars.of.place;
+    statement(alloc, place, StmtKind::Vars(vars))
 }
 
 /// What is between the brackets of a `for`: `first; condition; steps`.
@@ -267,14 +259,11 @@ pub fn for_loop(
         condition,
         steps,
     } = head;
-    let (first, body) = box_both(alloc, first, body)?;
-    Ok(Stmt {
-        place,
-        kind: StmtKind::For {
-            first,
-            condition,
-            steps,
-            body,
-        },
-    })
+    let kind = StmtKind::For {
+        first,
+        condition,
+        steps,
+        body,
+    };
+    statement(alloc, place, kind)
 }

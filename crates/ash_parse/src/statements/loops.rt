@@ -7,7 +7,7 @@ ghost use Rattle.ash_parse.specs.Readers.{ParsesAs};
 ghost use Rattle.ash_parse.specs.ExpressionReader as exprs;
 ghost use Rattle.ash_parse.specs.StatementReader as reader;
 
-use super::{inner, nested};
+use super::nested;
 use crate::cursor::expect;
 use crate::error::ParseResult;
 use crate::expressions::{MAX_DEPTH, bracketed, expressions};
@@ -32,12 +32,9 @@ pub(super) fn while_statement<'a>(
         (tokens_of tokens.now)) }
 {
     let (condition, rest) = bracketed(alloc, room, tokens)?;
-    let (body, rest) = inner(alloc, room, rest)?;
-    let repeated = Stmt {
-        place,
-        kind: StmtKind::While { condition, body },
-    };
-    Ok((repeated, rest))
+    let (body, rest) = nested(alloc, room, rest)?;
+    let kind = StmtKind::While { condition, body };
+    Ok((nodes::statement(alloc, place, kind)?, rest))
 }
 
 /// `stmt "while" "(" assign ")" ";"`, after the `do`
@@ -54,7 +51,7 @@ pub(super) fn do_statement<'a>(
         (reader.do_with (exprs.below_at room) (reader.nested_at room) place
         (tokens_of tokens.now)) }
 {
-    let (body, rest) = inner(alloc, room, tokens)?;
+    let (body, rest) = nested(alloc, room, tokens)?;
     do_end(alloc, room, place, body, rest)
 }
 
@@ -64,22 +61,19 @@ fn do_end<'a>(
     alloc: Global,
     room: u32,
     place: Position,
-    body: Box<Stmt>,
+    body: Stmt,
     tokens: &'a [Token],
 ) -> ParseResult<'a, Stmt>
     requires within { room ≤ MAX_DEPTH }
     ensures parsed { ParsesAs stmt_of result
-        (reader.do_end_with (exprs.below_at room) place (stmt_of body.value)
+        (reader.do_end_with (exprs.below_at room) place (stmt_of body)
         (tokens_of tokens.now)) }
 {
     let (_, rest) = expect_while(tokens)?;
     let (condition, rest) = bracketed(alloc, room, rest)?;
     let (_, rest) = expect(Sign::Semicolon, rest)?;
-    let repeated = Stmt {
-        place,
-        kind: StmtKind::DoWhile { body, condition },
-    };
-    Ok((repeated, rest))
+    let kind = StmtKind::DoWhile { body, condition };
+    Ok((nodes::statement(alloc, place, kind)?, rest))
 }
 
 /// `"(" [ vars | assign ] ";" [assign] ";" [ assign {"," assign} ] ")" stmt`, after the `for`

@@ -35,7 +35,7 @@ pub enum Initializer {
 #[derive(Debug, Drop)]
 pub struct Stmt {
     pub place: Position,
-    pub kind: StmtKind,
+    pub kind: Box<StmtKind>,
 }
 
 /// What a statement is.
@@ -51,27 +51,27 @@ pub enum StmtKind {
     Block(Vec<Stmt>),
     If {
         condition: Expr,
-        then: Box<Stmt>,
+        then: Stmt,
     },
     IfElse {
         condition: Expr,
-        then: Box<Stmt>,
-        otherwise: Box<Stmt>,
+        then: Stmt,
+        otherwise: Stmt,
     },
     While {
         condition: Expr,
-        body: Box<Stmt>,
+        body: Stmt,
     },
     DoWhile {
-        body: Box<Stmt>,
+        body: Stmt,
         condition: Expr,
     },
     /// `for (first; condition; steps) body`, where `first` declares variables, is an expression, or is empty.
     For {
-        first: Box<Stmt>,
+        first: Stmt,
         condition: Option<Expr>,
         steps: Vec<Expr>,
-        body: Box<Stmt>,
+        body: Stmt,
     },
     Switch {
         value: Expr,

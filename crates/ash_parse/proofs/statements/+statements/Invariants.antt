@@ -10,9 +10,6 @@ use Rattle.ash_parse.proofs.statements.+statements.Given as goal
 abbrev pub decreases-nested : goal.decreases-nested
 decreases-nested l = l.room * 16
 
-abbrev pub decreases-inner : goal.decreases-inner
-decreases-inner l = l.room * 16 + 1
-
 abbrev pub decreases-statement : goal.decreases-statement
 decreases-statement l = l.room * 16 + 10
 
