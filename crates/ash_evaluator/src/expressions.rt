@@ -21,7 +21,9 @@ use ash_plain::locations::{Location, location_of_member, location_of_variable};
 use ash_plain_data::classes::ModuleCallee;
 use ash_plain_data::operators::{altered, converted_by, converted_to, is_true, numeral};
 use ash_plain_data::run_error::RunResult;
-use ash_typed::{Calculation, CallTarget, Expr, ExprKind, IntType, Lazy, Link, Method, Operand, Place};
+use ash_typed::{
+    Calculation, CallTarget, Expr, ExprKind, IntType, Lazy, Link, Method, Operand, Place,
+};
 
 impl<F: Fn(&mut Activity, ModuleCallee) -> RunResult<Option<Word>> + Drop> Evaluator<'_, '_, F> {
     #[cycle(expressions)]
