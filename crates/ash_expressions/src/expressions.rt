@@ -35,7 +35,7 @@ pub fn check_expr(env: &Environment, side: AssignmentSide, source: &Expr) -> Che
         (typing.check_expr (environment_of env.now) (is_target side) (written.expr_of source.now)) }
 {
     let at = source.place.at;
-    match &source.kind {
+    match &*source.kind {
         ExprKind::Number(number) => TypedExpr::number(env.alloc, at, *number),
         ExprKind::Bool(value) => TypedExpr::of_kind(env.alloc, at, Ty::Bool, Tree::Bool(*value)),
         ExprKind::Null => TypedExpr::of_kind(env.alloc, at, Ty::Null, Tree::Null),
