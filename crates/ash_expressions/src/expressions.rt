@@ -35,7 +35,7 @@ pub fn check_expr(env: &Environment, side: AssignmentSide, source: &Expr) -> Che
         (typing.check_expr (environment_of env.now) (is_target side) (written.expr_of source.now)) }
 {
     let at = source.place.at;
-    match &source.kind {
+    match &*source.kind {
         ExprKind::Number(number) => Ok(TypedExpr::number(at, *number)),
         ExprKind::Bool(value) => Ok(TypedExpr::value(at, Ty::Bool, Tree::Bool(*value))),
         ExprKind::Null => Ok(TypedExpr::value(at, Ty::Null, Tree::Null)),

@@ -1,7 +1,7 @@
 -- Labels and branches of written statements, and what is after the last label.
 use Rattle.std.proofs.lemmas.Option.{none-some, same_Some}
 use Rattle.std.proofs.Common.{ℕ, zero, suc, ◌+◌, ◌-◌, ◌<◌, length, Some, slice_get, get_or, drop, drop-cons, add-one}
-use Rattle.std.proofs.Common.{arith, ◌≡◌, List, [], ◌∷◌, map, Bool, true, false, ◌||◌, refl, sym, ap, ◌∙◌, Box, Vec}
+use Rattle.std.proofs.Common.{arith, ◌≡◌, List, [], ◌∷◌, map, Bool, true, false, ◌||◌, refl, sym, ap, ◌∙◌, Vec}
 use Rattle.std.proofs.Common.{Global, rules}
 use Rattle.ash_tree.specs.declared.tree.places.Position.{Position}
 use Rattle.ash_tree.specs.declared.tree.statements.Label.{Label}
@@ -14,10 +14,10 @@ use Rattle.ash_tree.specs.TreeViews.{stmt_at, stmt_of, case_of, expr_of}
 use Rattle.ash_tree.proofs.Rows.{stmts_of-row}
 use Rattle.ash_typing.specs.Returning.{any_returns, last_returns, case_returns}
 
-pub if_is : (p : Position) (c : code_expr.Expr) (s : Box code_stmt.Stmt Global) → stmt_at p (stmt_views.If c s) ≡ If p (expr_of c) (stmt_of s.value)
+pub if_is : (p : Position) (c : code_expr.Expr) (s : code_stmt.Stmt) → stmt_at p (stmt_views.If c s) ≡ If p (expr_of c) (stmt_of s)
 if_is p c s = search (rules, stmt_views.the_lemmas)
 
-pub if_else_is : (p : Position) (c : code_expr.Expr) (s t : Box code_stmt.Stmt Global) → stmt_at p (stmt_views.IfElse c s t) ≡ IfElse p (expr_of c) (stmt_of s.value) (stmt_of t.value)
+pub if_else_is : (p : Position) (c : code_expr.Expr) (s t : code_stmt.Stmt) → stmt_at p (stmt_views.IfElse c s t) ≡ IfElse p (expr_of c) (stmt_of s) (stmt_of t)
 if_else_is p c s t = search (rules, stmt_views.the_lemmas)
 
 -- labels

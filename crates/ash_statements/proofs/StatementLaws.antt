@@ -1,17 +1,17 @@
 -- Statements of a block in their order, and the locals that end with it.
 use Rattle.std.proofs.Common.{◌≡◌, ℕ, List, [], ◌∷◌, ◌++◌, Ok, Err, refl, sym, subst, ap, ◌∙◌, append_assoc, append-nil}
 use Rattle.std.proofs.Common.{length, take, drop, get_or, map, ◌<◌, ◌≤◌, ◌+◌, suc, add-one, drop-cons}
-use Rattle.std.proofs.Common.{drop_of_length-le, Result, Option, option_map, rules, IfOk}
+use Rattle.std.proofs.Common.{drop_of_length-le, Result, Option, IfOk}
 use Rattle.std.proofs.lemmas.List.{take_at, take-map, length-map, map-append}
 use Rattle.std.specs.declared.vec.Vec.{Vec}
 use Rattle.std.specs.declared.alloc.Global.{Global}
 use Rattle.ash_tree.specs.declared.tree.places.Position.{Position}
+use Rattle.ash_tree.specs.declared.tree.statements.StmtKind as code_kind
 use Rattle.ash_tree.specs.declared.tree.statements.StmtKind.TheViews as kinds
 use Rattle.ash_tree.specs.declared.tree.statements.Stmt as code_stmt
 use Rattle.ash_tree.specs.declared.tree.statements.Case as code_case
 use Rattle.ash_tree.specs.declared.tree.expressions.Expr as code_expr
 use Rattle.ash_tree.specs.declared.tree.statements.Label.{Label}
-use Rattle.std.specs.declared.boxed.Box.{Box}
 use Rattle.ash_tree.specs.Tree as written
 use Rattle.ash_tree.specs.TreeViews.{stmt_at, stmt_of, case_of, expr_of}
 use Rattle.ash_tree.proofs.Rows.{block_is, switch_is}
@@ -119,11 +119,11 @@ locals_go old all new count k n h =
 
 -- blocks and switches, which hold lists
 
-pub block_of_source : (source : code_stmt.Stmt) (ss : Vec code_stmt.Stmt Global) (items : List code_stmt.Stmt) → source.kind ≡ kinds.Block ss → items ≡ ss.items → stmt_of source ≡ written.Block source.place (written.stmts (map stmt_of items))
-block_of_source source ss items is i = ap (stmt_at source.place) is ∙ block_is source.place ss ∙ ap (λ xs. written.Block source.place (written.stmts (map stmt_of xs))) (sym i)
+pub block_of_source : (source : code_stmt.Stmt) (kind : code_kind.StmtKind) (ss : Vec code_stmt.Stmt Global) (items : List code_stmt.Stmt) → kind ≡ source.kind.value → kind ≡ kinds.Block ss → items ≡ ss.items → stmt_of source ≡ written.Block source.place (written.stmts (map stmt_of items))
+block_of_source source kind ss items k is i = ap (stmt_at source.place) (sym k ∙ is) ∙ block_is source.place ss ∙ ap (λ xs. written.Block source.place (written.stmts (map stmt_of xs))) (sym i)
 
-pub switch_of_source : (source : code_stmt.Stmt) (e : code_expr.Expr) (cs : Vec code_case.Case Global) (items : List code_case.Case) → source.kind ≡ kinds.Switch e cs → items ≡ cs.items → stmt_of source ≡ written.Switch source.place (expr_of e) (written.cases (map case_of items))
-switch_of_source source e cs items is i = ap (stmt_at source.place) is ∙ switch_is source.place e cs ∙ ap (λ xs. written.Switch source.place (expr_of e) (written.cases (map case_of xs))) (sym i)
+pub switch_of_source : (source : code_stmt.Stmt) (kind : code_kind.StmtKind) (e : code_expr.Expr) (cs : Vec code_case.Case Global) (items : List code_case.Case) → kind ≡ source.kind.value → kind ≡ kinds.Switch e cs → items ≡ cs.items → stmt_of source ≡ written.Switch source.place (expr_of e) (written.cases (map case_of items))
+switch_of_source source kind e cs items k is i = ap (stmt_at source.place) (sym k ∙ is) ∙ switch_is source.place e cs ∙ ap (λ xs. written.Switch source.place (expr_of e) (written.cases (map case_of xs))) (sym i)
 
 pub block_checked : (scope inner : Scope) (s : written.Stmt) (p : Position) (ss : written.Stmts) (body : Stmts) → s ≡ written.Block p ss → inner ≡ block_of scope → check_stmts inner ss ≡ Ok body → check_stmt scope s ≡ Ok (Block p.line body)
 block_checked scope inner s p ss body is k h =
@@ -227,9 +227,6 @@ at_first scope n = record { env = scope.env; first = n; result = scope.result; i
 
 pub first_is_all : (scope : Scope) (n : ℕ) → n ≡ length scope.env.locals → at_first scope n ≡ block_of scope
 first_is_all scope n h = ap (at_first scope) h
-
-pub for_of_source : (source : code_stmt.Stmt) (f : Box code_stmt.Stmt Global) (c : Option code_expr.Expr) (es : Vec code_expr.Expr Global) (b : Box code_stmt.Stmt Global) → source.kind ≡ kinds.For f c es b → stmt_of source ≡ written.For source.place (stmt_of f.value) (option_map expr_of c) (map expr_of es.items) (stmt_of b.value)
-for_of_source source f c es b is = ap (stmt_at source.place) is ∙ search (rules, kinds.the_lemmas)
 
 pub any_ok : {A E : Type 0} (P : Type 0) (r : Result A E) → P → IfOk r (λ x. P)
 any_ok P (Ok x) p = p

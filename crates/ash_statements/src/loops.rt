@@ -37,7 +37,7 @@ pub(crate) fn check_for_head<'n>(
         ≡ scopes.after (scope_of scope.now (locals_of locals.old)) (written.stmt_of source.now)) }
 {
     let at = source.place.at;
-    match &source.kind {
+    match &*source.kind {
         StmtKind::Empty => Ok(Head::Empty),
         StmtKind::Vars(vars) => {
             let values = check_local_vars(scope, locals, vars)?;

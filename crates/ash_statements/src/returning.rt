@@ -12,7 +12,7 @@ use ash_tree::{Case, Label, Stmt, StmtKind};
 fn breaks(stmt: &Stmt) -> bool
     ensures value { result ≡ definition.breaks (stmt_of stmt.now) }
 {
-    match &stmt.kind {
+    match &*stmt.kind {
         StmtKind::Break => true,
         StmtKind::Block(body) => any_breaks(body),
         StmtKind::If { then, .. } => breaks(then),
@@ -71,7 +71,7 @@ fn has_default(labels: &[Case]) -> bool
 fn returns(stmt: &Stmt) -> bool
     ensures value { result ≡ definition.returns (stmt_of stmt.now) }
 {
-    match &stmt.kind {
+    match &*stmt.kind {
         StmtKind::Return(_) => true,
         StmtKind::Block(body) => any_returns(body),
         StmtKind::IfElse {

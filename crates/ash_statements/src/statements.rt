@@ -47,7 +47,7 @@ fn check_stmt<'n>(
         ≡ scopes.after (scope_of scope.now (locals_of locals.old)) (written.stmt_of source.now)) }
 {
     let place = source.place;
-    match &source.kind {
+    match &*source.kind {
         StmtKind::Empty => Ok(TypedStmt {
             line: place.line,
             kind: TypedKind::Empty,

@@ -10,5 +10,5 @@ pub breaks-returns-in-Block : goal.breaks-returns-in-Block
 breaks-returns-in-Block t c = record {
   value =
       let s = c.args.stmt.now in
-      c.any_breaks.ensures.value ∙ ap (λ (xs : List code_stmt.Stmt). definition.any_breaks (stmts (map stmt_of xs))) c.deref.ensures.value ∙ ap definition.breaks (sym (ap (stmt_at s.place) c.in-Block.is ∙ block_is s.place c.in-Block.body));
+      c.any_breaks.ensures.value ∙ ap (λ (xs : List code_stmt.Stmt). definition.any_breaks (stmts (map stmt_of xs))) c.deref-in-Block.ensures.value ∙ ap definition.breaks (sym (ap (stmt_at s.place) (sym c.deref.ensures ∙ c.in-Block.is) ∙ block_is s.place c.in-Block.body));
 }

@@ -36,7 +36,7 @@ pub returns-returns-in-Block : goal.returns-returns-in-Block
 returns-returns-in-Block t c = record {
   value =
       let s = c.args.stmt.now in
-      c.any_returns.ensures.value ∙ ap (λ (xs : List code_stmt.Stmt). definition.any_returns (stmts (map stmt_of xs))) c.deref.ensures.value ∙ ap definition.returns (sym (ap (stmt_at s.place) c.in-Block.is ∙ block_is s.place c.in-Block.body));
+      c.any_returns.ensures.value ∙ ap (λ (xs : List code_stmt.Stmt). definition.any_returns (stmts (map stmt_of xs))) c.deref-in-Block.ensures.value ∙ ap definition.returns (sym (ap (stmt_at s.place) (sym c.deref.ensures ∙ c.in-Block.is) ∙ block_is s.place c.in-Block.body));
 }
 
 pub returns-returns-then-not-breaks_out : goal.returns-returns-then-not-breaks_out
@@ -51,7 +51,7 @@ returns-returns-then-not-breaks_out t c = record {
         | returns-then-has_default w ↦
             let breaks : w.breaks_out.result ≡ definition.breaks_out labels = w.breaks_out.ensures.value ∙ ap (λ (xs : List code_case.Case). definition.breaks_out (cases (map case_of xs))) w.deref-then-has_default.ensures.value in
             let stays : w.breaks_out.result ≡ false = not_true w.breaks_out.result (sym w.value-is ∙ c.if-not-breaks_out.true) in
-            last ∙ closed (definition.has_default labels) (definition.breaks_out labels) (definition.last_returns labels) (sym default ∙ w.if-has_default.true) (sym breaks ∙ stays) ∙ ap definition.returns (sym (ap (stmt_at s.place) k.is ∙ switch_is s.place k.value k.labels))
+            last ∙ closed (definition.has_default labels) (definition.breaks_out labels) (definition.last_returns labels) (sym default ∙ w.if-has_default.true) (sym breaks ∙ stays) ∙ ap definition.returns (sym (ap (stmt_at s.place) (sym c.deref.ensures ∙ k.is) ∙ switch_is s.place k.value k.labels))
         | returns-else-has_default w ↦ (let e = w.value-is in let f = c.if-not-breaks_out.true in cc)
       ];
 }
@@ -63,7 +63,7 @@ returns-returns-else-not-breaks_out t c = record {
       let k = c.in-Switch in
       let labels = cases (map case_of k.labels.items) in
       let default : c.has_default.result ≡ definition.has_default labels = c.has_default.ensures.value ∙ ap (λ (xs : List code_case.Case). definition.has_default (cases (map case_of xs))) c.deref-in-Switch.ensures.value in
-      let whole = ap definition.returns (sym (ap (stmt_at s.place) k.is ∙ switch_is s.place k.value k.labels)) in
+      let whole = ap definition.returns (sym (ap (stmt_at s.place) (sym c.deref.ensures ∙ k.is) ∙ switch_is s.place k.value k.labels)) in
       c.if-not-breaks_out.false ∙ (elim c.if-has_default.branch [
         | returns-then-has_default w ↦
             let breaks : w.breaks_out.result ≡ definition.breaks_out labels = w.breaks_out.ensures.value ∙ ap (λ (xs : List code_case.Case). definition.breaks_out (cases (map case_of xs))) w.deref-then-has_default.ensures.value in

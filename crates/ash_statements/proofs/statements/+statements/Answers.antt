@@ -13,7 +13,7 @@ use Rattle.ash_environment.specs.Agreement.{Agrees, FailsWith}
 use Rattle.ash_environment.specs.EnvironmentViews.{binding_of}
 use Rattle.ash_statements.specs.StatementViews.{locals_of, scope_of}
 use Rattle.ash_statements.proofs.StatementLaws.{Extends, at_first, extends_itself, extends_next, locals_go, block_step}
-use Rattle.ash_statements.proofs.StatementLaws.{block_end, block_of_source, switch_of_source, for_of_source}
+use Rattle.ash_statements.proofs.StatementLaws.{block_end, block_of_source, switch_of_source}
 use Rattle.ash_statements.proofs.StatementLaws.{block_checked, block_fails, cases_step, label_fails, labelled_fails, cases_end}
 use Rattle.ash_statements.proofs.StatementLaws.{first_is_all, any_ok}
 use Rattle.ash_statements.proofs.statements.+statements.Goals as goal
@@ -106,13 +106,13 @@ check_inner_block-returns-clause-typed t c =
 pub check_stmt-returns-in-Block-clause-typed : goal.check_stmt-returns-in-Block-clause-typed
 check_stmt-returns-in-Block-clause-typed t c =
     let scope = scope_of c.args.scope.now (locals_of c.args.locals.now) in
-    let is = block_of_source c.args.source.now c.in-Block.body c.deref-in-Block.result.now c.in-Block.is c.deref-in-Block.ensures.value in
+    let is = block_of_source c.args.source.now _ c.in-Block.body c.deref-in-Block.result.now c.deref.ensures c.in-Block.is c.deref-in-Block.ensures.value in
     subst (λ (x : written.Stmt). Agrees typed_views.stmt_of c.check_inner_block.result (definition.check_stmt scope x)) (sym is) c.check_inner_block.ensures.typed
 
 pub check_stmt-returns-in-Switch-clause-typed : goal.check_stmt-returns-in-Switch-clause-typed
 check_stmt-returns-in-Switch-clause-typed t c =
     let scope = scope_of c.args.scope.now (locals_of c.args.locals.now) in
-    let is = switch_of_source c.args.source.now c.in-Switch.value c.in-Switch.cases c.deref-in-Switch.result.now c.in-Switch.is c.deref-in-Switch.ensures.value in
+    let is = switch_of_source c.args.source.now _ c.in-Switch.value c.in-Switch.cases c.deref-in-Switch.result.now c.deref.ensures c.in-Switch.is c.deref-in-Switch.ensures.value in
     subst (λ (x : written.Stmt). Agrees typed_views.stmt_of c.check_switch.result (definition.check_stmt scope x)) (sym is) c.check_switch.ensures.typed
 
 pub check_for-returns-clause-unchanged : goal.check_for-returns-clause-unchanged
