@@ -37,6 +37,8 @@ MEMORY_GIVEN_OUT = 0.85
 # A chain is long where it has at least this share of the lines of every other. Of a chain whose head is under way, what
 # comes after the head counts.
 LONG = 0.6
+# How many lines of a library cost as much as a line of a program.
+LINE_OF_A_PROGRAM = 3
 # How nice the head of another long chain is to that of the longest, any other task to both, and an edit to all proofs.
 NICE_OF_LONG, NICE, NICE_OF_EDITS = 3, 10, 15
 
@@ -55,13 +57,14 @@ def fills(key):
 
 
 def code_lines(name):
-    """How many lines of code a crate has. Its definitions and proofs cost far less, line by line."""
-    count = 0
-    for folder, _, files in os.walk(os.path.join("crates", name, "src")):
+    """How many lines of code a crate has, by what they cost. Its definitions and proofs cost far less, line by line; a line
+    of a program more, since all that it reaches is linked into it, and the code that lets go of its values proved once more."""
+    source, count = os.path.join("crates", name, "src"), 0
+    for folder, _, files in os.walk(source):
         for file in files:
             with open(os.path.join(folder, file), "rb") as it:
                 count += it.read().count(b"\n")
-    return count
+    return count * LINE_OF_A_PROGRAM if os.path.exists(os.path.join(source, "main.rt")) else count
 
 
 def lines_ahead(tasks):
