@@ -18,7 +18,8 @@ FILE = os.path.join(TOP, "tests", "edits.record")
 PARTS = ("src", "specs", "proofs", "must-fail")
 HEAD = (
     "# For each crate with must-fail edits: how many it has, the day when all of them were last refused, and the hash of\n"
-    "# the crate's text and the toolchain's identity on that day. Written by tests/edits; read by .ci/run.\n"
+    "# the crate's text and the toolchain's identity on that day. Written by tests/edits, or by hand from what a run of\n"
+    "# .ci/run refused; read by .ci/run.\n"
 )
 
 

@@ -9,24 +9,27 @@ use Rattle.ash_typed.specs.declared.tree.expressions.Operand as operand
 use Rattle.ash_typed.specs.declared.tree.operations.Lazy.{Lazy}
 use Rattle.ash_typed.specs.declared.tree.operations.Lazy.TheVariants as lazies
 
--- what is said below of an expression, of its kind
-
+-- An expression of a kind begins where its path begins, or at itself.
 abbrev pub base_in : kind_code.ExprKind → kind_code.ExprKind
 base_in (kinds.Path' a base shape row) = base
 base_in k = k
 
+-- An expression of a kind has the links of its path, or none.
 abbrev pub links_in : kind_code.ExprKind → List link.Link
 links_in (kinds.Path' a base shape row) = kind_code.items-the_row-Link _ row
 links_in k = []
 
+-- An expression of a kind begins with the first operand of its chain, or with itself.
 abbrev pub first_in : kind_code.ExprKind → kind_code.ExprKind
 first_in (kinds.Chain' a first shape row) = first
 first_in k = k
 
+-- An expression of a kind has the operators of its chain, or none.
 abbrev pub operands_in : kind_code.ExprKind → List operand.Operand
 operands_in (kinds.Chain' a first shape row) = kind_code.items-the_row-Operand _ row
 operands_in k = []
 
+-- An expression of a kind has the operands after its first, where it is of this lazy operator, or none.
 abbrev pub others_in : Lazy → kind_code.ExprKind → List code.Expr
 others_in lazies.And (kinds.Lazy' lazies.And a first shape row) = kind_code.items-the_row-Expr _ row
 others_in lazies.Or (kinds.Lazy' lazies.Or a first shape row) = kind_code.items-the_row-Expr _ row

@@ -15,6 +15,8 @@ use Rattle.ash_typed.specs.TypedTree.{Conditional, Assign, Update, Count, Call, 
 use Rattle.ash_typed.specs.TypedTree.{no_expr}
 use Rattle.ash_typed.specs.TypedTree.{expr, converted}
 
+-- `expr_in k` is the expression that one of the code's of this kind represents, `place_of p` is the place that the code's
+-- represents, and the definitions after them are what the code's lists make of an expression.
 abbrev mutual
   pub expr_in : kind_code.ExprKind → Expr
   expr_in (kinds.Number int_type value) = Number int_type value
