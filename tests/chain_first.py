@@ -67,6 +67,11 @@ def code_lines(name):
     return count * LINE_OF_A_PROGRAM if os.path.exists(os.path.join(source, "main.rt")) else count
 
 
+def work(key, lines):
+    """The work of a task of which rt says that it is so many lines."""
+    return lines if fills(key) else code_lines(key[0])
+
+
 def lines_ahead(tasks):
     """For each task the lines of code of the longest chain of tasks that begins with it. A line of tests takes about as long
     as any other. A task comes after those it waits for."""
@@ -152,13 +157,15 @@ def main(words):
     rt = load_rt()
 
     def share_out(tasks):
-        known = {it: (waits, lines and code_lines(it[0]), *more) for it, (waits, lines, *more) in tasks.items()}
+        known = {it: (waits, lines and work(it, lines), *more) for it, (waits, lines, *more) in tasks.items()}
         with rt.ending() if hasattr(rt, "ending") else contextlib.nullcontext():
             return in_lanes(known, rt.processors(), MEMORY_GIVEN_OUT * rt.free())
 
     rt.in_lanes = share_out
     if hasattr(rt, "must_fail_all"):
         rt.must_fail_all = functools.partial(together.must_fail_all, rt)
+    else:
+        rt.add_edits = functools.partial(together.add_edits, rt)
     # an rt that stores no proofs has no word for leaving them out
     return rt.main(["ci", *(it for it in words if it != "--anew" or it in rt.__doc__)])
 

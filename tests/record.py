@@ -5,6 +5,7 @@ text and toolchain are those on record need not have its edits tried again. Comm
 indented, are no part of that text.
 """
 
+import datetime
 import hashlib
 import os
 import re
@@ -17,10 +18,12 @@ from kit import TOP, uses_of_crates
 FILE = os.path.join(TOP, "tests", "edits.record")
 PARTS = ("src", "specs", "proofs", "must-fail")
 HEAD = (
-    "# For each crate with must-fail edits: how many it has, the day when all of them were last refused, and the hash of\n"
-    "# the crate's text and the toolchain's identity on that day. Written by tests/edits, or by hand from what a run of\n"
-    "# .ci/run refused; read by .ci/run.\n"
+    "# For each crate with must-fail edits, and each toolchain: how many edits it has, the day when all of them were last\n"
+    "# refused, the hash of the crate's text and the toolchain's identity on that day, and that identity. Written by\n"
+    "# tests/edits, or by hand from the lines with which .ci/run ends; read by .ci/run.\n"
 )
+# What rt writes of an edit that is refused.
+REFUSED = re.compile(r"(?:rt: )?must-fail (\w+)/(\S+\.edit): refused, as it must be")
 
 
 def crates():
@@ -75,26 +78,50 @@ def text_hash(crate, identity):
 
 
 def read():
-    """The lines on record: a crate's name to how many edits were refused, on which day, under which hash."""
+    """The lines on record: a crate's name and a toolchain's identity to how many edits were refused, on which day, under
+    which hash."""
     found = {}
     if os.path.exists(FILE):
         with open(FILE, encoding="utf-8") as lines:
             for line in lines:
-                words = line.partition("#")[0].split()
-                if len(words) == 4:
-                    found[words[0]] = tuple(words[1:])
+                words = line.partition("#")[0].strip().split(" ", 4)
+                if len(words) == 5:
+                    found[words[0], words[4]] = tuple(words[1:4])
     return found
+
+
+def entry(crate, identity):
+    """What the record has of a crate all of whose edits are refused today under its present text."""
+    return str(len(edits(crate))), datetime.date.today().isoformat(), text_hash(crate, identity)
+
+
+def line_of(crate, identity, entered):
+    return f"{crate} {' '.join(entered)} {identity}\n"
+
+
+def refused(lines):
+    """The names of the edits of which these lines say that they are refused, with their crates."""
+    return {(it[1], it[2]) for it in map(REFUSED.match, lines) if it}
+
+
+def is_refused(crate, found):
+    """Whether all of a crate's edits are among these that were refused."""
+    return all((crate, it) in found for it in edits(crate))
 
 
 def write(record):
     """Replaces the record, crates in the order in which they use each other."""
-    text = HEAD + "".join(f"{it} {' '.join(record[it])}\n" for it in crates() if it in record)
+    text = HEAD + "".join(
+        line_of(crate, identity, record[crate, identity])
+        for crate in crates()
+        for identity in sorted(it for name, it in record if name == crate)
+    )
     with open(FILE + ".new", "w", encoding="utf-8") as file:
         file.write(text)
     os.replace(FILE + ".new", FILE)
 
 
-# All edits are off record at once where the toolchain has changed, and would take longer than a run has on a slow machine.
+# All edits are off record at once under a new toolchain, and would take longer than a run has on a slow machine.
 # So a run tries as many as fit in these minutes, after the processor minutes that all proofs and tests take, where an
 # edit takes so much of a processor minute.
 MINUTES_OF_A_RUN, MINUTES_OF_PROOFS, MINUTES_OF_AN_EDIT = 120, 150, 0.5
@@ -119,10 +146,11 @@ def put_off(known):
 
 
 def on_record(identity):
-    """The crates with edits whose text and toolchain are those on record, each with the number of its edits and the day."""
-    record = read()
+    """The crates with edits whose text under this toolchain is the one on record, each with the number of its edits and the
+    day."""
+    found = {crate: (day, text) for (crate, it), (_, day, text) in read().items() if it == identity}
     return {
-        it: (len(edits(it)), record[it][1])
+        it: (len(edits(it)), found[it][0])
         for it in crates()
-        if edits(it) and it in record and record[it][2] == text_hash(it, identity)
+        if edits(it) and it in found and found[it][1] == text_hash(it, identity)
     }

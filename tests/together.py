@@ -161,8 +161,14 @@ def is_proved(rt, crate, flags, kept):
     return not rt.checked(crate, {}, flags, kept).returncode
 
 
+def settled(rt):
+    """What rt says of an edit that need not be tried again, that it is refused first of all. One rt only says whether it
+    is; a later one also says of those that are not what they come to."""
+    return getattr(rt, "SETTLED", (True,))
+
+
 def must_fail_all(rt, crate, edits, flags):
-    """Tries a crate's edits, and returns of each whether the prover refuses it, and the line to write of it. As rt does, it
+    """Tries a crate's edits, and returns of each what it comes to, as rt says it, and the line to write of it. As rt does, it
     tries edits anew from nothing where they are not refused over what earlier checks kept, or where that is not sound at the
     end. It tries none of a crate that is not proved without them, and checks nothing where there are no edits."""
     if not edits:
@@ -170,9 +176,20 @@ def must_fail_all(rt, crate, edits, flags):
     with tempfile.TemporaryDirectory(prefix="rt-edits-") as kept:
         # once more, where memory ran out
         if not is_proved(rt, crate, flags, kept) and not is_proved(rt, crate, flags, kept):
-            label = f"must-fail {crate.name}"
-            return [(False, f"{label}/{os.path.basename(it)}: NOT TRIED: the crate is not proved without it") for it in edits]
+            label, unsure = f"must-fail {crate.name}", getattr(rt, "UNSURE", False)
+            return [(unsure, f"{label}/{os.path.basename(it)}: NOT TRIED: the crate is not proved without it") for it in edits]
         found = try_groups(rt, crate, edits, flags, kept)
-        tried = [(True, found[it]) if it in found else rt.must_fail(crate, it, flags, kept) for it in edits]
+        tried = [(settled(rt)[0], found[it]) if it in found else rt.must_fail(crate, it, flags, kept) for it in edits]
         is_sound = is_proved(rt, crate, flags, kept)
-    return [it if is_sound and it[0] else rt.must_fail(crate, edit, flags) for edit, it in zip(edits, tried)]
+    return [it if is_sound and it[0] in settled(rt) else rt.must_fail(crate, edit, flags) for edit, it in zip(edits, tried)]
+
+
+def add_edits(rt, tasks, crate, edits, _first, waits, is_well, _kept, **_others):
+    """Adds the task that tries a crate's edits, for an rt that would add one for each of them. Returns what gives their
+    results, and what gives those of earlier runs: of none, since how an edit is judged here is not how that rt would."""
+
+    def try_all(given, _jobs):
+        return must_fail_all(rt, crate, edits, ["--jobs", "1"]) if is_well(given, len(edits)) else []
+
+    tasks[crate.name, "edits"] = waits, crate.count(rb"\n") * len(edits), rt.need(crate), try_all
+    return lambda given: given[crate.name, "edits"], dict

@@ -17,7 +17,8 @@ listed() {
 enters() {
     PYTHONDONTWRITEBYTECODE=1 PYTHONPATH="$scratch/tests" python3 -c '
 import record
-record.write({"low": ("1", "2026-01-02", record.text_hash("low", record.toolchain()))})'
+identity = record.toolchain()
+record.write({**record.read(), ("low", identity): ("1", "2026-01-02", record.text_hash("low", identity))})'
 }
 
 listed "a crate that was never tried" "low 1 edits, not on record as it is"
@@ -43,5 +44,30 @@ enters
 sed -i 's/{ 1 }/{ 3 }/' "$scratch/crates/low/src/lib.rt"
 listed "a planted change" "low 1 edits, not on record as it is"
 enters
-sed -i 's/[0-9a-f]\{4\}$/0000/' "$scratch/tests/edits.record"
+cp "$scratch/tests/edits.record" "$scratch/entered"
+sed -i 's/[0-9a-f]\{4\} rattle/0000 rattle/' "$scratch/tests/edits.record"
 listed "a hash written by hand" "low 1 edits, not on record as it is"
+cmp -s "$scratch/entered" "$scratch/tests/edits.record"
+verdict $((! $?)) "the hash was there"
+sed 's/ rattle-kit-[0-9a-z]*/ rattle-kit-0/' "$scratch/entered" > "$scratch/tests/edits.record"
+listed "another toolchain" "low 1 edits, not on record as it is"
+enters
+listed "the present toolchain again" "low 1 edits, refused on 2026-01-02"
+[ "$(grep -c '^low ' "$scratch/tests/edits.record")" -eq 2 ]
+verdict $? "a line for each toolchain"
+
+# entered LINES: what a run of the gate in which rt wrote these lines hands on for the record
+entered() {
+    PYTHONDONTWRITEBYTECODE=1 PYTHONPATH="$scratch/tests" python3 -c '
+import sys
+import record
+found = record.refused(sys.argv[1].split("\n"))
+print("".join(record.line_of(it, "kit 1", record.entry(it, "kit 1")) for it in record.crates() if record.edits(it) and record.is_refused(it, found)), end="")' "$1"
+}
+
+entered 'rt: must-fail low/two.edit: refused, as it must be: one: not proved' > "$scratch/output"
+grep -qE '^low 1 [0-9]{4}-[0-9]{2}-[0-9]{2} [0-9a-f]{64} kit 1$' "$scratch/output"
+verdict $? "a crate all of whose edits were refused: $(cat "$scratch/output")"
+[ -z "$(entered 'rt: must-fail low/two.edit: NOT REFUSED: the crate is still proved with this edit
+rt: must-fail high/two.edit: refused, as it must be')" ]
+verdict $? "a crate one of whose edits was not refused"

@@ -89,3 +89,62 @@ print("without edits:", together.must_fail_all(rt, crate, [], []))
 PROGRAM
 printf '%s\n' 'alone: contract' 'together: circle1 one two' 'together: circle2' 'without edits: []' | cmp -s - "$scratch/output"
 verdict $? "edits that share a copy: $(cat "$scratch/output" "$scratch/error")"
+
+# An edit that is not judged with others is tried by itself, over what was kept; one that is not settled so, from nothing. This
+# rt refuses `one` with others, `two` from nothing alone, and never `circle1`, where it says of them what they come to, or
+# only whether they are refused.
+PYTHONDONTWRITEBYTECODE=1 PYTHONPATH=tests python3 - "$scratch" > "$scratch/output" 2> "$scratch/error" <<'PROGRAM'
+import sys
+import types
+import together
+
+room = sys.argv[1]
+crate = types.SimpleNamespace(name="low", folder=f"{room}/low", count=lambda of: 9)
+edits = [f"{room}/edits/{it}.edit" for it in ("one", "two", "circle1")]
+verdict = "fn low::one: not proved\nfn low::two: not proved; it calls `one`, which is not proved\nlogic=not-proved"
+
+
+def read_edit(edit, folder):
+    with open(edit) as lines:
+        path, old, new = (it.rstrip("\n").partition(": ")[2] for it in lines)
+    with open(f"{folder}/{path}") as file:
+        return {path: file.read().replace(old, new)}, None
+
+
+def rt_with(ends, **others):
+    def checked(crate, texts, flags, kept):
+        return types.SimpleNamespace(returncode=bool(texts), stdout=verdict if texts else "logic=proved")
+
+    def must_fail(crate, edit, flags, kept=None):
+        name = edit.rpartition("/")[2]
+        return ends[name == "two.edit" and not kept], f"{name} {'over what was kept' if kept else 'from nothing'}"
+
+    stale = types.SimpleNamespace(STALE=types.SimpleNamespace(search=lambda it: None))
+    return types.SimpleNamespace(
+        read_edit=read_edit, checked=checked, must_fail=must_fail, unread=lambda line, texts: None, rtlib=stale, need=lambda it: 1, **others
+    )
+
+
+def show(results):
+    for end, text in results:
+        print(end, text.partition(": ")[0])
+
+
+later = rt_with(("missed", "refused"), SETTLED=("refused", "limit", "bad"), UNSURE="unsure")
+tasks = {}
+results, known = together.add_edits(later, tasks, crate, edits, [], [("low", "proof")], lambda given, new: new == 3, None, start=None)
+(key, (waits, lines, memory, call)), = tasks.items()
+print(key, waits, lines, memory, known())
+show(results({key: call({}, 1)}))
+show(together.must_fail_all(rt_with((False, True)), crate, edits, []))
+PROGRAM
+cmp -s - "$scratch/output" <<'WANTED'
+('low', 'edits') [('low', 'proof')] 27 1 {}
+refused must-fail low/one.edit
+refused two.edit from nothing
+missed circle1.edit from nothing
+True must-fail low/one.edit
+True two.edit from nothing
+False circle1.edit from nothing
+WANTED
+verdict $? "what edits come to: $(cat "$scratch/output" "$scratch/error")"
