@@ -91,12 +91,16 @@ fn check_script(
 }
 
 /// Checks scripts of each shape, of three lengths.
-pub fn run(rt: &HostRuntime, rounds: Option<u64>) -> Result<()> {
-    let registry = Registry::new(rt.alloc());
+fn check_scripts(rt: &HostRuntime, registry: &Registry, rounds: Option<u64>) -> Result<()> {
     for shape in SHAPES {
         for bytes in LENGTHS {
-            check_script(rt, &registry, shape, bytes, rounds)?;
+            check_script(rt, registry, shape, bytes, rounds)?;
         }
     }
     Ok(())
+}
+
+/// Checks the scripts with nothing registered.
+pub fn run(rt: &HostRuntime, rounds: Option<u64>) -> Result<()> {
+    check_scripts(rt, &Registry::new(rt.alloc()), rounds)
 }

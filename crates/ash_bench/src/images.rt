@@ -140,14 +140,14 @@ fn image(alloc: Global) -> Result<Vec<u8>> {
     Ok(out)
 }
 
-/// The host that has this image, with nothing registered.
-fn restored(alloc: Global, image: &[u8]) -> Result<HostState> {
+/// The host that has this image, with nothing registered, in a box, since it is large.
+fn restored(alloc: Global, image: &[u8]) -> Result<Box<HostState>> {
     let stored = match read_image(alloc, image)? {
         Some(stored) => HostState::restore(alloc, Registry::new(alloc), stored.state)?,
         None => None,
     };
     match stored {
-        Some(host) => Ok(host),
+        Some(host) => Ok(Box::new(alloc, host)?),
         None => bail!("no host has this image"),
     }
 }
@@ -173,7 +173,7 @@ fn writes(host: &HostState, image: &[u8]) -> Result<bool> {
 }
 
 /// A host with this image, which it also writes.
-fn checked(alloc: Global, image: &[u8]) -> Result<HostState> {
+fn checked(alloc: Global, image: &[u8]) -> Result<Box<HostState>> {
     let host = restored(alloc, image)?;
     if !writes(&host, image)? {
         bail!("another image is written");

@@ -92,9 +92,10 @@ fn settle(alloc: Global, objects: &mut Table) -> Result<()> {
     Ok(())
 }
 
-/// A table with so many objects, each held once, of which none waits for the sweep and none is marked.
-fn new_table(alloc: Global, living: u64) -> Result<Table> {
-    let mut objects = Objects::new(alloc, Vec::new(alloc), Vec::new(alloc));
+/// A table with so many objects, each held once, of which none waits for the sweep and none is marked. It is in a box,
+/// since it is large.
+fn new_table(alloc: Global, living: u64) -> Result<Box<Table>> {
+    let mut objects = Box::new(alloc, Objects::new(alloc, Vec::new(alloc), Vec::new(alloc)))?;
     make_held(alloc, &mut objects, living)?;
     settle(alloc, &mut objects)?;
     Ok(objects)

@@ -36,15 +36,21 @@ impl<'a> Task<'a> {
     /// Reads the words, of which the first is the program's name. `None` where they ask for nothing.
     pub fn read(words: &'a [String]) -> Option<Task<'a>> {
         match words {
-            [_, name, folder, rest @ ..] if name.as_str() == "journal" => {
-                let folder = folder.as_str();
-                Task::with_rounds(Bench::Journal { folder }, rest)
-            }
-            [_, name, rest @ ..] => {
-                Task::with_rounds(Bench::without_folder(name.as_str())?, rest)
-            }
+            [_, name, rest @ ..] => Task::named(name.as_str(), rest),
             _ => None,
         }
+    }
+
+    /// Reads the words after the name of what is measured.
+    fn named(name: &str, words: &'a [String]) -> Option<Task<'a>> {
+        if name != "journal" {
+            return Task::with_rounds(Bench::without_folder(name)?, words);
+        }
+        let [folder, rest @ ..] = words else {
+            return None;
+        };
+        let folder = folder.as_str();
+        Task::with_rounds(Bench::Journal { folder }, rest)
     }
 
     /// Reads the words after what is measured.
