@@ -6,7 +6,7 @@
 
 use crate::parsing::count;
 use crate::rates::Timing;
-use crate::sources::{LENGTHS, SHAPES, script};
+use crate::sources::{LENGTHS, SHAPES, Shape, script};
 use anyhow::Result;
 use ash_check::ScriptFault;
 use ash_registry::Registry;
@@ -24,14 +24,9 @@ fn fault(alloc: Global, registry: &Registry, text: &str) -> Result<Option<Source
     }
 }
 
-/// Prints what a source has.
-fn describe(rt: &HostRuntime, registry: &Registry, name: &str, text: &str) -> Result<()> {
-    let (tokens, items) = count(rt.alloc(), text)?;
-    println!(rt;
-        "{name}: {} bytes, {tokens} tokens, {items} items",
-        text.len()
-    )?;
-    match fault(rt.alloc(), registry, text)? {
+/// Prints how the check of a source ends.
+fn print_end(rt: &HostRuntime, fault: Option<SourceFault>) -> Result<()> {
+    match fault {
         Some(SourceFault::Checked(ScriptFault::Broken(fault))) => {
             println!(rt; "  {} {}", fault.rule.code(), fault.at)?
         }
@@ -41,6 +36,16 @@ fn describe(rt: &HostRuntime, registry: &Registry, name: &str, text: &str) -> Re
     Ok(())
 }
 
+/// Prints what a source has.
+fn describe(rt: &HostRuntime, registry: &Registry, name: &str, text: &str) -> Result<()> {
+    let (tokens, items) = count(rt.alloc(), text)?;
+    println!(rt;
+        "{name}: {} bytes, {tokens} tokens, {items} items",
+        text.len()
+    )?;
+    print_end(rt, fault(rt.alloc(), registry, text)?)
+}
+
 /// Prints how long a piece of work took on a source of so many bytes.
 fn print_timing(rt: &HostRuntime, work: &str, timing: &Timing, bytes: usize) -> Result<()> {
     let (one, speed) = (timing.microseconds(), timing.per_second(bytes as u64));
@@ -48,33 +53,54 @@ fn print_timing(rt: &HostRuntime, work: &str, timing: &Timing, bytes: usize) -> 
     Ok(())
 }
 
-/// Reads a source so many times, without the check and with it, and prints how long each took.
-fn measure(rt: &HostRuntime, registry: &Registry, text: &str, rounds: u64) -> Result<()> {
-    let mut parser = Timing::zero();
-    parser.measure(rt, rounds, || {
+/// Reads a source so many times, without the check, and prints how long it took.
+fn measure_parser(rt: &HostRuntime, text: &str, rounds: u64) -> Result<()> {
+    let mut timing = Timing::zero();
+    timing.measure(rt, rounds, || {
         count(rt.alloc(), text)?;
         Ok(())
     })?;
-    print_timing(rt, "lexer and parser", &parser, text.len())?;
-    let mut checker = Timing::zero();
-    checker.measure(rt, rounds, || {
+    print_timing(rt, "lexer and parser", &timing, text.len())
+}
+
+/// The same with the check.
+fn measure_checker(rt: &HostRuntime, registry: &Registry, text: &str, rounds: u64) -> Result<()> {
+    let mut timing = Timing::zero();
+    timing.measure(rt, rounds, || {
         fault(rt.alloc(), registry, text)?;
         Ok(())
     })?;
-    print_timing(rt, "with the checker", &checker, text.len())
+    print_timing(rt, "with the checker", &timing, text.len())
+}
+
+/// Checks a script of this shape with so many bytes.
+fn check_script(
+    rt: &HostRuntime,
+    registry: &Registry,
+    shape: Shape,
+    bytes: usize,
+    rounds: Option<u64>,
+) -> Result<()> {
+    let text = script(rt.alloc(), shape, bytes)?;
+    describe(rt, registry, shape.name, text.as_str())?;
+    if let Some(rounds) = rounds {
+        measure_parser(rt, text.as_str(), rounds)?;
+        measure_checker(rt, registry, text.as_str(), rounds)?;
+    }
+    Ok(())
 }
 
 /// Checks scripts of each shape, of three lengths.
-pub fn run(rt: &HostRuntime, rounds: Option<u64>) -> Result<()> {
-    let registry = Registry::new(rt.alloc());
+fn check_scripts(rt: &HostRuntime, registry: &Registry, rounds: Option<u64>) -> Result<()> {
     for shape in SHAPES {
         for bytes in LENGTHS {
-            let text = script(rt.alloc(), shape, bytes)?;
-            describe(rt, &registry, shape.name, text.as_str())?;
-            if let Some(rounds) = rounds {
-                measure(rt, &registry, text.as_str(), rounds)?;
-            }
+            check_script(rt, registry, shape, bytes, rounds)?;
         }
     }
     Ok(())
+}
+
+/// Checks the scripts with nothing registered.
+pub fn run(rt: &HostRuntime, rounds: Option<u64>) -> Result<()> {
+    check_scripts(rt, &Registry::new(rt.alloc()), rounds)
 }

@@ -68,17 +68,24 @@ fn measure(
     Ok(())
 }
 
+/// A journal on new files of the folder.
+fn journal_in(rt: &HostRuntime, folder: &str) -> Result<Journal<FileDisk>> {
+    let (first, second) = (file(rt, folder, "ash.a")?, file(rt, folder, "ash.b")?);
+    Ok(create(rt.alloc(), first, second)?)
+}
+
+/// Appends a round to a journal, and prints how long its records are.
+fn append_once(rt: &HostRuntime, journal: &mut Journal<FileDisk>) -> Result<()> {
+    append_round(journal)?;
+    println!(rt; "{RECORDS} records, {} bytes", journal.record_bytes())?;
+    Ok(())
+}
+
 /// Writes records to a journal in the folder.
 pub fn run(rt: &HostRuntime, folder: &str, rounds: Option<u64>) -> Result<()> {
-    let (first, second) = (file(rt, folder, "ash.a")?, file(rt, folder, "ash.b")?);
-    let mut bare = file(rt, folder, "bare")?;
-    let mut journal = create(rt.alloc(), first, second)?;
+    let mut journal = journal_in(rt, folder)?;
     match rounds {
-        Some(rounds) => measure(rt, &mut journal, &mut bare, rounds),
-        None => {
-            append_round(&mut journal)?;
-            println!(rt; "{RECORDS} records, {} bytes", journal.record_bytes())?;
-            Ok(())
-        }
+        Some(rounds) => measure(rt, &mut journal, &mut file(rt, folder, "bare")?, rounds),
+        None => append_once(rt, &mut journal),
     }
 }

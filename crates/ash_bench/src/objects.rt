@@ -75,15 +75,29 @@ fn set_field(objects: &mut Table, number: u64, word: Word) -> Result<()> {
     Ok(())
 }
 
-/// A table with so many objects, each held once, of which none waits for the sweep and none is marked.
-fn new_table(alloc: Global, living: u64) -> Result<Table> {
-    let mut objects = Objects::new(alloc, Vec::new(alloc), Vec::new(alloc));
+/// Makes so many objects, each held once.
+fn make_held(alloc: Global, objects: &mut Table, living: u64) -> Result<()> {
     for _ in 0..living {
-        let number = make(alloc, &mut objects, Word::Int(1))?;
-        hold(&mut objects, number)?;
+        let number = make(alloc, objects, Word::Int(1))?;
+        hold(objects, number)?;
     }
-    objects.sweep(&mut Vec::new(alloc))?;
+    Ok(())
+}
+
+/// Leaves no object that waits for the sweep, and none that is marked.
+fn settle(alloc: Global, objects: &mut Table) -> Result<()> {
+    let mut events = Vec::new(alloc);
+    objects.sweep(&mut events)?;
     let _ = objects.touched()?;
+    Ok(())
+}
+
+/// A table with so many objects, each held once, of which none waits for the sweep and none is marked. It is in a box,
+/// since it is large.
+fn new_table(alloc: Global, living: u64) -> Result<Box<Table>> {
+    let mut objects = Box::new(alloc, Objects::new(alloc, Vec::new(alloc), Vec::new(alloc)))?;
+    make_held(alloc, &mut objects, living)?;
+    settle(alloc, &mut objects)?;
     Ok(objects)
 }
 
@@ -275,38 +289,78 @@ fn time_touched(rt: &HostRuntime, objects: &mut Table, rounds: u64) -> Result<Ti
     Ok(timing)
 }
 
-/// How long each call takes among so many objects, and a sweep beside so many others.
+/// How long the calls of an object take.
 #[derive(Clone, Copy)]
-struct Times {
+struct ObjectTimes {
     reads: Timing,
     writes: Timing,
     handles: Timing,
     holds: Timing,
+}
+
+/// How long the calls of the whole table take, and what there is in each time of one call.
+#[derive(Clone, Copy)]
+struct TableTimes {
     sweeps: Timing,
     nothing: Timing,
     touches: Timing,
+}
+
+/// How long each call takes among so many objects, and a sweep beside so many others.
+#[derive(Clone, Copy)]
+struct Times {
+    objects: ObjectTimes,
+    table: TableTimes,
     chains: Timing,
 }
 
-fn measure(rt: &HostRuntime, living: u64, others: u64, rounds: u64) -> Result<Times> {
-    let mut objects = new_table(rt.alloc(), living)?;
-    let reads = time_reads(rt, &objects, living, rounds)?;
-    let writes = time_writes(rt, &mut objects, living, Word::Int(1), rounds)?;
-    let handles = time_writes(rt, &mut objects, living, Word::Object(1), rounds)?;
-    let holds = time_holds(rt, &mut objects, living, rounds)?;
-    let sweeps = time_empty_sweeps(rt, &mut objects, rounds)?;
-    let nothing = time_nothing(rt, rounds)?;
-    let touches = time_touched(rt, &mut objects, rounds)?;
-    let mut objects = new_table(rt.alloc(), others)?;
-    let chains = time_chains(rt, &mut objects, rounds)?;
-    Ok(Times {
+fn time_object_calls(
+    rt: &HostRuntime,
+    objects: &mut Table,
+    living: u64,
+    rounds: u64,
+) -> Result<ObjectTimes> {
+    let reads = time_reads(rt, objects, living, rounds)?;
+    let writes = time_writes(rt, objects, living, Word::Int(1), rounds)?;
+    let handles = time_writes(rt, objects, living, Word::Object(1), rounds)?;
+    let holds = time_holds(rt, objects, living, rounds)?;
+    Ok(ObjectTimes {
         reads,
         writes,
         handles,
         holds,
+    })
+}
+
+fn time_table_calls(rt: &HostRuntime, objects: &mut Table, rounds: u64) -> Result<TableTimes> {
+    let sweeps = time_empty_sweeps(rt, objects, rounds)?;
+    let nothing = time_nothing(rt, rounds)?;
+    let touches = time_touched(rt, objects, rounds)?;
+    Ok(TableTimes {
         sweeps,
         nothing,
         touches,
+    })
+}
+
+fn time_chains_beside(rt: &HostRuntime, others: u64, rounds: u64) -> Result<Timing> {
+    let mut objects = new_table(rt.alloc(), others)?;
+    time_chains(rt, &mut objects, rounds)
+}
+
+fn measure_table(rt: &HostRuntime, living: u64, rounds: u64) -> Result<(ObjectTimes, TableTimes)> {
+    let mut objects = new_table(rt.alloc(), living)?;
+    let of_objects = time_object_calls(rt, &mut objects, living, rounds)?;
+    let of_table = time_table_calls(rt, &mut objects, rounds)?;
+    Ok((of_objects, of_table))
+}
+
+fn measure(rt: &HostRuntime, living: u64, others: u64, rounds: u64) -> Result<Times> {
+    let (objects, table) = measure_table(rt, living, rounds)?;
+    let chains = time_chains_beside(rt, others, rounds)?;
+    Ok(Times {
+        objects,
+        table,
         chains,
     })
 }
@@ -318,11 +372,14 @@ fn write_time(rt: &HostRuntime, what: &str, timing: Timing, calls: u64) -> Resul
     Ok(())
 }
 
-fn write_times(rt: &HostRuntime, times: &Times) -> Result<()> {
+fn write_object_times(rt: &HostRuntime, times: &ObjectTimes) -> Result<()> {
     write_time(rt, "a field is read", times.reads, CALLS)?;
     write_time(rt, "a number is written to a field", times.writes, CALLS)?;
     write_time(rt, "a handle is written to a field", times.handles, CALLS)?;
-    write_time(rt, "a hold and its undoing", times.holds, CALLS)?;
+    write_time(rt, "a hold and its undoing", times.holds, CALLS)
+}
+
+fn write_table_times(rt: &HostRuntime, times: &TableTimes) -> Result<()> {
     write_time(rt, "a sweep with nothing to take", times.sweeps, CALLS)?;
     write_time(rt, "nothing, with the clock", times.nothing, 1)?;
     write_time(
@@ -330,7 +387,12 @@ fn write_times(rt: &HostRuntime, times: &Times) -> Result<()> {
         "what changed, after one change, with the clock",
         times.touches,
         1,
-    )?;
+    )
+}
+
+fn write_times(rt: &HostRuntime, times: &Times) -> Result<()> {
+    write_object_times(rt, &times.objects)?;
+    write_table_times(rt, &times.table)?;
     write_time(rt, "a sweep of a chain, with the clock", times.chains, 1)
 }
 

@@ -18,22 +18,44 @@ pub struct Task<'a> {
     pub rounds: Option<u64>,
 }
 
+impl<'a> Bench<'a> {
+    /// The one of this name, where it takes no folder.
+    fn without_folder(name: &str) -> Option<Bench<'a>> {
+        match name {
+            "lex" => Some(Bench::Lex),
+            "parse" => Some(Bench::Parse),
+            "check" => Some(Bench::Check),
+            "objects" => Some(Bench::Objects),
+            "image" => Some(Bench::Image),
+            _ => None,
+        }
+    }
+}
+
 impl<'a> Task<'a> {
     /// Reads the words, of which the first is the program's name. `None` where they ask for nothing.
     pub fn read(words: &'a [String]) -> Option<Task<'a>> {
-        let (bench, rest) = match words {
-            [_, name, rest @ ..] if name.as_str() == "lex" => (Bench::Lex, rest),
-            [_, name, rest @ ..] if name.as_str() == "parse" => (Bench::Parse, rest),
-            [_, name, rest @ ..] if name.as_str() == "check" => (Bench::Check, rest),
-            [_, name, rest @ ..] if name.as_str() == "objects" => (Bench::Objects, rest),
-            [_, name, rest @ ..] if name.as_str() == "image" => (Bench::Image, rest),
-            [_, name, folder, rest @ ..] if name.as_str() == "journal" => {
-                let folder = folder.as_str();
-                (Bench::Journal { folder }, rest)
-            }
-            _ => return None,
+        match words {
+            [_, name, rest @ ..] => Task::named(name.as_str(), rest),
+            _ => None,
+        }
+    }
+
+    /// Reads the words after the name of what is measured.
+    fn named(name: &str, words: &'a [String]) -> Option<Task<'a>> {
+        if name != "journal" {
+            return Task::with_rounds(Bench::without_folder(name)?, words);
+        }
+        let [folder, rest @ ..] = words else {
+            return None;
         };
-        let rounds = match rest {
+        let folder = folder.as_str();
+        Task::with_rounds(Bench::Journal { folder }, rest)
+    }
+
+    /// Reads the words after what is measured.
+    fn with_rounds(bench: Bench<'a>, words: &[String]) -> Option<Task<'a>> {
+        let rounds = match words {
             [] => None,
             [rounds] => Some(rounds.parse().ok()?),
             _ => return None,
