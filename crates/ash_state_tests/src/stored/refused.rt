@@ -1,11 +1,10 @@
 //! Bytes that are the image of nothing, each for one reason, and some that are nearly so.
 
-use crate::stored::compare::{ReadAs, check_read_as, read_as};
+use crate::stored::compare::{ReadAs, body_read_as, check_read_as, image_read_as};
 use crate::stored::images::{
-    DANGLING, EACH_WORD, MODULE_A, MODULE_B, NOTHING, ONE, ONE_MODULE, ONE_SERVICE, Parts,
-    THREE_TAGS, TWO, TWO_TAGS, image, modules, with_byte, with_tag,
+    DANGLING, EACH_WORD, MODULE_A, MODULE_B, NOTHING, ONE, ONE_MODULE, ONE_SERVICE, THREE_TAGS,
+    TWO, TWO_TAGS, image, modules, with_byte, with_tag,
 };
-use ash_state_image::image::{read_body, read_image};
 use std::alloc::{AllocError, Global};
 use std::process::Abort;
 use std::test::Fail;
@@ -43,14 +42,14 @@ fn check_both(
     wanted: ReadAs,
     what: &str,
 ) -> Result<(), Fail> {
-    check_read_as(rt, read_as(&read_image(alloc, bytes)?), wanted, what);
+    check_read_as(rt, image_read_as(alloc, bytes)?, wanted, what);
     let body = with_tag(alloc, 1, bytes)?;
-    check_read_as(rt, read_as(&read_body(alloc, &body)?), wanted, what);
+    check_read_as(rt, body_read_as(alloc, &body)?, wanted, what);
     Ok(())
 }
 
 /// Bytes: what they are called, a version, what follows it, what is done to that, and what they are read as then.
-type Row = (&'static str, &'static [u8], Parts, Change, ReadAs);
+type Row = (&'static str, &'static [u8], &'static [u8], Change, ReadAs);
 
 fn check_row(rt: &impl Abort, alloc: Global, row: &Row) -> Result<(), Fail> {
     let (what, version, rest, change, wanted) = *row;
@@ -66,7 +65,7 @@ fn check_rows(rt: &impl Abort, alloc: Global, rows: &[Row]) -> Result<(), Fail> 
 }
 
 const FRAMES: [Row; 14] = [
-    ("no bytes", b"", &[], Change::Same, ReadAs::Nothing),
+    ("no bytes", b"", b"", Change::Same, ReadAs::Nothing),
     (
         "the version 0",
         b"\x00\x00",
@@ -310,17 +309,16 @@ fn check_named(rt: &impl Abort, alloc: Global, row: Named) -> Result<(), Fail> {
     check_both(rt, alloc, &bytes, wanted, what)
 }
 
+/// The second module before the first.
+fn check_exchanged(rt: &impl Abort, alloc: Global) -> Result<(), Fail> {
+    let exchanged = modules(alloc, MODULE_A, MODULE_B)?;
+    check_both(rt, alloc, &exchanged, ReadAs::Nothing, "`a` before `B`")
+}
+
 #[test]
 fn modules_out_of_order(rt: HostRuntime) -> Result<(), Fail> {
     for row in &NAMED {
         check_named(&rt, rt.alloc(), *row)?;
     }
-    let exchanged = modules(rt.alloc(), MODULE_A, MODULE_B)?;
-    check_both(
-        &rt,
-        rt.alloc(),
-        &exchanged,
-        ReadAs::Nothing,
-        "`a` before `B`",
-    )
+    check_exchanged(&rt, rt.alloc())
 }
