@@ -132,16 +132,21 @@ fn sources_and_globals_at_their_limits(rt: HostRuntime) -> Result<(), Fail> {
     Ok(())
 }
 
-/// What an image has before its objects: no text, no request, this last number of an object, no services, and a module
-/// `m` with no source, whose global has the object 1. Then come so many objects.
-fn before_objects(alloc: Global, last: u16, objects: u16) -> Result<Vec<u8>, AllocError> {
-    let mut image = Vec::from_slice(alloc, TWO)?;
-    image.extend_from_slice(&[0; 12])?;
+/// Adds what comes before the objects: no text, no request, this last number of an object, no services, a module `m` with
+/// no source, whose global has the object 1, and how many objects there are.
+fn add_beginning(image: &mut Vec<u8>, last: u16, objects: u16) -> Result<(), AllocError> {
+    add_times(image, 0, 12)?;
     image.extend_from_slice(&u64::from(last).to_le_bytes())?;
-    image.extend_from_slice(&[0; 2])?;
+    add_times(image, 0, 2)?;
     image.extend_from_slice(b"\x01\x01m\x00\x00\x00\x00")?;
     image.extend_from_slice(b"\x01\x00\x06\x01\x00\x00\x00\x00\x00\x00\x00")?;
-    image.extend_from_slice(&u32::from(objects).to_le_bytes())?;
+    image.extend_from_slice(&u32::from(objects).to_le_bytes())
+}
+
+/// What such an image has before its objects.
+fn before_objects(alloc: Global, last: u16, objects: u16) -> Result<Vec<u8>, AllocError> {
+    let mut image = Vec::from_slice(alloc, TWO)?;
+    add_beginning(&mut image, last, objects)?;
     Ok(image)
 }
 
@@ -227,26 +232,37 @@ fn add_objects(image: &mut Vec<u8>, last: u16) -> Result<(), AllocError> {
     Ok(())
 }
 
-/// The image of so many objects, of which the first is an array with handles to all others.
-fn objects_in_an_array(alloc: Global, last: u16) -> Result<Vec<u8>, AllocError> {
-    let mut image = before_objects(alloc, last, last)?;
+/// Adds the object 1, an array with handles to all others.
+fn add_array(image: &mut Vec<u8>, last: u16) -> Result<(), AllocError> {
     image.extend_from_slice(&1_u64.to_le_bytes())?;
     image.extend_from_slice(&[3, 5, 0, 0, 0])?;
     image.extend_from_slice(&last.saturating_sub(1).to_le_bytes())?;
-    add_handles(&mut image, last)?;
+    add_handles(image, last)
+}
+
+/// The image of so many objects, of which the first is an array with handles to all others.
+fn objects_in_an_array(alloc: Global, last: u16) -> Result<Vec<u8>, AllocError> {
+    let mut image = before_objects(alloc, last, last)?;
+    add_array(&mut image, last)?;
     add_objects(&mut image, last)?;
     Ok(image)
+}
+
+/// Adds so many services that have no state.
+fn add_services(image: &mut Vec<u8>, count: u8) -> Result<(), AllocError> {
+    image.extend_from_slice(&[count, 0])?;
+    for kind in 0..count {
+        image.extend_from_slice(&[kind, 0, 0, 0])?;
+    }
+    Ok(())
 }
 
 /// The image of a state before any request with so many services that have no state.
 fn services(alloc: Global, count: u8) -> Result<Vec<u8>, AllocError> {
     let mut image = Vec::from_slice(alloc, TWO)?;
-    image.extend_from_slice(&[0; 20])?;
-    image.extend_from_slice(&[count, 0])?;
-    for kind in 0..count {
-        image.extend_from_slice(&[kind, 0, 0, 0])?;
-    }
-    image.extend_from_slice(&[0; 5])?;
+    add_times(&mut image, 0, 20)?;
+    add_services(&mut image, count)?;
+    add_times(&mut image, 0, 5)?;
     Ok(image)
 }
 

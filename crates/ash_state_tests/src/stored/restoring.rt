@@ -281,13 +281,19 @@ fn check_exchanged(rt: &impl Abort, alloc: Global, row: Exchanged) -> Result<(),
     Ok(())
 }
 
+/// The image of objects of two modules is that of a host.
+fn check_unchanged(rt: &impl Abort, alloc: Global) -> Result<(), Fail> {
+    let what = "objects of two modules";
+    let image = image(alloc, TWO, OF_TWO_MODULES)?;
+    check_count(rt, image.len(), 241, what);
+    let found = read_as_host(rt, alloc, Registered::Nothing, &image, what)?;
+    check_read_as(rt, found, ReadAs::Image, what);
+    Ok(())
+}
+
 #[test]
 fn objects_of_two_modules(rt: HostRuntime) -> Result<(), Fail> {
-    let what = "objects of two modules";
-    let image = image(rt.alloc(), TWO, OF_TWO_MODULES)?;
-    check_count(&rt, image.len(), 241, what);
-    let found = read_as_host(&rt, rt.alloc(), Registered::Nothing, &image, what)?;
-    check_read_as(&rt, found, ReadAs::Image, what);
+    check_unchanged(&rt, rt.alloc())?;
     for row in &EXCHANGED {
         check_exchanged(&rt, rt.alloc(), *row)?;
     }
