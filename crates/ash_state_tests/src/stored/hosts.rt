@@ -23,19 +23,6 @@ fn handle(state: &mut HostState, request: &Request) -> Result<(), Fail> {
     }
 }
 
-/// The state of a host with this registry after these requests, each of which is answered.
-fn after(
-    alloc: Global,
-    registry: Registry,
-    requests: &[Request<'_>],
-) -> Result<Box<HostState>, Fail> {
-    let mut state = HostState::new(alloc, registry);
-    for request in requests {
-        handle(&mut state, request)?;
-    }
-    Ok(Box::new(alloc, state)?)
-}
-
 /// What is written of a state: its image, and the body of a record that has it.
 #[derive(Drop)]
 struct Written {
@@ -43,18 +30,25 @@ struct Written {
     body: Vec<u8>,
 }
 
-/// What is written of the state of a host with this registry after these requests. Only this is compared, since a state
-/// is long where it is written out.
+fn written_of(state: &HostState) -> Result<Written, AllocError> {
+    Ok(Written {
+        image: state.image()?,
+        body: state.body()?,
+    })
+}
+
+/// What is written of the state of a host with this registry after these requests, each of which is answered. Only this
+/// is handed on, since a state is long where it is written out.
 fn written_after(
     alloc: Global,
     registry: Registry,
     requests: &[Request<'_>],
 ) -> Result<Written, Fail> {
-    let state = after(alloc, registry, requests)?;
-    Ok(Written {
-        image: state.image()?,
-        body: state.body()?,
-    })
+    let mut state = HostState::new(alloc, registry);
+    for request in requests {
+        handle(&mut state, request)?;
+    }
+    Ok(written_of(&state)?)
 }
 
 /// Compares the image of a state, and the body of a record that has it.

@@ -153,10 +153,7 @@ fn frames_of_images(rt: HostRuntime) -> Result<(), Fail> {
     check_rows(&rt, rt.alloc(), &FRAMES)
 }
 
-// In `THREE_TAGS` the last number is at 39, the service at 47, the numbers in the first global and the third at 116
-// and 134, and the objects at 142: the object 1 at 146, its tag at 154; the object 2 at 164, its tag at 172; the
-// object 4 at 189, its tag at 197.
-const OBJECTS: [Row; 18] = [
+const OBJECTS: [Row; 2] = [
     (
         "an array in version 1",
         ONE,
@@ -171,123 +168,47 @@ const OBJECTS: [Row; 18] = [
         Change::Same,
         ReadAs::Image,
     ),
-    (
-        "the last number below one",
-        TWO,
-        THREE_TAGS,
-        Change::Byte(39, 3),
-        ReadAs::Nothing,
-    ),
-    (
-        "the last number of them",
-        TWO,
-        THREE_TAGS,
-        Change::Byte(39, 4),
-        ReadAs::Image,
-    ),
-    (
-        "one service fewer",
-        TWO,
-        THREE_TAGS,
-        Change::Byte(47, 0),
-        ReadAs::Nothing,
-    ),
-    (
-        "a handle to the object 3",
-        TWO,
-        THREE_TAGS,
-        Change::Byte(134, 3),
-        ReadAs::Nothing,
-    ),
-    (
-        "the object 4 that nothing holds",
-        TWO,
-        THREE_TAGS,
-        Change::Byte(134, 2),
-        ReadAs::Nothing,
-    ),
-    (
-        "the object 1 that an array holds",
-        TWO,
-        THREE_TAGS,
-        Change::Byte(116, 2),
-        ReadAs::Image,
-    ),
-    (
-        "one object fewer",
-        TWO,
-        THREE_TAGS,
-        Change::Byte(142, 2),
-        ReadAs::Nothing,
-    ),
-    (
-        "one object more",
-        TWO,
-        THREE_TAGS,
-        Change::Byte(142, 4),
-        ReadAs::Nothing,
-    ),
-    (
-        "the number 0",
-        TWO,
-        THREE_TAGS,
-        Change::Byte(146, 0),
-        ReadAs::Nothing,
-    ),
-    (
-        "one number twice",
-        TWO,
-        THREE_TAGS,
-        Change::Byte(146, 2),
-        ReadAs::Nothing,
-    ),
-    (
-        "the tag 0 of an object",
-        TWO,
-        THREE_TAGS,
-        Change::Byte(154, 0),
-        ReadAs::Nothing,
-    ),
-    (
-        "the tag 4 of an object",
-        TWO,
-        THREE_TAGS,
-        Change::Byte(197, 4),
-        ReadAs::Nothing,
-    ),
-    (
-        "a class of no module",
-        TWO,
-        THREE_TAGS,
-        Change::Byte(155, 1),
-        ReadAs::Nothing,
-    ),
-    (
-        "elements of no module",
-        TWO,
-        THREE_TAGS,
-        Change::Byte(174, 1),
-        ReadAs::Nothing,
-    ),
-    (
-        "elements of the tag 7",
-        TWO,
-        THREE_TAGS,
-        Change::Byte(173, 7),
-        ReadAs::Nothing,
-    ),
-    (
-        "another kind",
-        TWO,
-        THREE_TAGS,
-        Change::Byte(198, 9),
-        ReadAs::Image,
-    ),
 ];
+
+/// The image `THREE_TAGS` with another byte at a place: what it is called, the place, the byte, and what it is read as.
+type Altered = (&'static str, usize, u8, ReadAs);
+
+// In `THREE_TAGS` the last number is at 39, the service at 47, the numbers in the first global and the third at 116
+// and 134, and the objects at 142: the object 1 at 146, its tag at 154; the object 2 at 164, its tag at 172; the
+// object 4 at 189, its tag at 197.
+const ALTERED: [Altered; 16] = [
+    ("the last number below one", 39, 3, ReadAs::Nothing),
+    ("the last number of them", 39, 4, ReadAs::Image),
+    ("one service fewer", 47, 0, ReadAs::Nothing),
+    ("a handle to the object 3", 134, 3, ReadAs::Nothing),
+    ("the object 4 that nothing holds", 134, 2, ReadAs::Nothing),
+    ("the object 1 that an array holds", 116, 2, ReadAs::Image),
+    ("one object fewer", 142, 2, ReadAs::Nothing),
+    ("one object more", 142, 4, ReadAs::Nothing),
+    ("the number 0", 146, 0, ReadAs::Nothing),
+    ("one number twice", 146, 2, ReadAs::Nothing),
+    ("the tag 0 of an object", 154, 0, ReadAs::Nothing),
+    ("the tag 4 of an object", 197, 4, ReadAs::Nothing),
+    ("a class of no module", 155, 1, ReadAs::Nothing),
+    ("elements of no module", 174, 1, ReadAs::Nothing),
+    ("elements of the tag 7", 173, 7, ReadAs::Nothing),
+    ("another kind", 198, 9, ReadAs::Image),
+];
+
+fn check_altered(rt: &impl Abort, alloc: Global, row: Altered) -> Result<(), Fail> {
+    let (what, place, byte, wanted) = row;
+    let image = image(alloc, TWO, THREE_TAGS)?;
+    let bytes = with_byte(alloc, &image, place, byte)?;
+    check_both(rt, alloc, &bytes, wanted, what)
+}
 
 #[test]
 fn objects_of_images(rt: HostRuntime) -> Result<(), Fail> {
-    check_rows(&rt, rt.alloc(), &OBJECTS)
+    check_rows(&rt, rt.alloc(), &OBJECTS)?;
+    for row in &ALTERED {
+        check_altered(&rt, rt.alloc(), *row)?;
+    }
+    Ok(())
 }
 
 /// Two modules: what they are called, another byte in the place of the first one's name, and what their image is
