@@ -5,27 +5,41 @@ use ash_registry::{Registry, RegistryFault};
 use std::alloc::{AllocError, Global};
 use std::test::Fail;
 
-/// What the program registers.
-fn program(alloc: Global) -> Result<Registry, RegistryFault> {
-    let mut registry = Registry::new(alloc);
+/// `Counter`, as the program registers it.
+fn register_counter(registry: &mut Registry) -> Result<(), RegistryFault> {
     registry.object_type("Counter", 1)?;
     registry.factory("Counter", "Counter@ f(int)")?;
     registry.method("Counter", "int add(int)", 1)?;
     registry.method("Counter", "void fail(int)", 2)?;
-    registry.property("Counter", "int value", 1)?;
-    registry.service(2)?;
-    registry.function(0, "int tally(int)", 1)?;
-    registry.function(0, "int total()", 2)?;
-    Ok(registry)
+    registry.property("Counter", "int value", 1)
 }
 
-/// The same, with a type `Odd` of the kind 9.
-pub fn registry(alloc: Global) -> Result<Registry, Fail> {
-    let mut registry = program(alloc)?;
+/// `Tally`, as the program registers it.
+fn register_tally(registry: &mut Registry) -> Result<(), RegistryFault> {
+    registry.service(2)?;
+    registry.function(0, "int tally(int)", 1)?;
+    registry.function(0, "int total()", 2)
+}
+
+/// A type `Odd` of the kind 9.
+fn register_odd(registry: &mut Registry) -> Result<(), RegistryFault> {
     registry.object_type("Odd", 9)?;
     registry.factory("Odd", "Odd@ f(int)")?;
-    registry.method("Odd", "int bad()", 1)?;
-    Ok(registry)
+    registry.method("Odd", "int bad()", 1)
+}
+
+/// What the program registers, and `Odd`.
+fn register(registry: &mut Registry) -> Result<(), RegistryFault> {
+    register_counter(registry)?;
+    register_tally(registry)?;
+    register_odd(registry)
+}
+
+/// What the program registers, and `Odd`: in a box, since a registry is long where it is written out.
+pub fn registry(alloc: Global) -> Result<Box<Registry>, Fail> {
+    let mut registry = Registry::new(alloc);
+    register(&mut registry)?;
+    Ok(Box::new(alloc, registry)?)
 }
 
 /// The state of a counter or a service before anything is done with it.

@@ -154,24 +154,32 @@ fn write_fault(out: &mut String, fault: &SourceFault) -> Result<(), AllocError> 
     }
 }
 
-fn write_refusal(out: &mut String, refusal: &Refusal<SourceFault>) -> Result<(), AllocError> {
-    write!(out, "refused ")?;
+/// The code and the name of a refusal. A source is refused with those of its fault.
+fn refusal_text(refusal: &Refusal<SourceFault>) -> &'static str {
     match refusal {
-        Refusal::SequenceSpent => write!(out, "410 SequenceSpent"),
-        Refusal::BadName => write!(out, "409 BadName"),
-        Refusal::ModuleTaken => write!(out, "402 ModuleTaken"),
-        Refusal::TooManyModules => write!(out, "408 TooManyModules"),
+        Refusal::SequenceSpent => "410 SequenceSpent",
+        Refusal::BadName => "409 BadName",
+        Refusal::ModuleTaken => "402 ModuleTaken",
+        Refusal::TooManyModules => "408 TooManyModules",
+        Refusal::BadSource(_) => "",
+        Refusal::NoModule => "401 NoModule",
+        Refusal::NoFunction => "403 NoFunction",
+        Refusal::NotCallable => "404 NotCallable",
+        Refusal::BadArguments => "405 BadArguments",
+        Refusal::NoGlobal => "406 NoGlobal",
+        Refusal::NoObject => "407 NoObject",
+        Refusal::Reopen => "508 Reopen",
+        Refusal::DeviceFailed => "507 DeviceFailed",
+        Refusal::NoMemory => "509 NoMemory",
+        Refusal::GenerationSpent => "511 GenerationSpent",
+    }
+}
+
+fn write_refusal(out: &mut String, refusal: &Refusal<SourceFault>) -> Result<(), AllocError> {
+    out.push_str("refused ")?;
+    match refusal {
         Refusal::BadSource(fault) => write_fault(out, fault),
-        Refusal::NoModule => write!(out, "401 NoModule"),
-        Refusal::NoFunction => write!(out, "403 NoFunction"),
-        Refusal::NotCallable => write!(out, "404 NotCallable"),
-        Refusal::BadArguments => write!(out, "405 BadArguments"),
-        Refusal::NoGlobal => write!(out, "406 NoGlobal"),
-        Refusal::NoObject => write!(out, "407 NoObject"),
-        Refusal::Reopen => write!(out, "508 Reopen"),
-        Refusal::DeviceFailed => write!(out, "507 DeviceFailed"),
-        Refusal::NoMemory => write!(out, "509 NoMemory"),
-        Refusal::GenerationSpent => write!(out, "511 GenerationSpent"),
+        _ => out.push_str(refusal_text(refusal)),
     }
 }
 
@@ -196,14 +204,23 @@ pub fn reply_text(alloc: Global, reply: &Reply<SourceFault>) -> Result<String, A
     Ok(out)
 }
 
+/// Writes an event of an object: what comes to it, and its number.
+fn write_named(out: &mut String, name: &str, number: u64) -> Result<(), AllocError> {
+    write!(out, "{name} {number}; ")
+}
+
+fn write_call(out: &mut String, target: Target, function: u16) -> Result<(), AllocError> {
+    match target {
+        Target::Object(number) => write!(out, "Called {number} {function}; "),
+        Target::Service(place) => write!(out, "Called service {place} {function}; "),
+    }
+}
+
 fn write_event(out: &mut String, event: Event) -> Result<(), AllocError> {
     match event {
-        Event::Drew(number) => write!(out, "Drew {number}; "),
-        Event::Called(Target::Object(number), method) => write!(out, "Called {number} {method}; "),
-        Event::Called(Target::Service(place), function) => {
-            write!(out, "Called service {place} {function}; ")
-        }
-        Event::Dropped(number) => write!(out, "Dropped {number}; "),
+        Event::Drew(number) => write_named(out, "Drew", number),
+        Event::Called(target, function) => write_call(out, target, function),
+        Event::Dropped(number) => write_named(out, "Dropped", number),
     }
 }
 

@@ -9,12 +9,12 @@ use crate::registered::{pool, registry, zero};
 use crate::replies::{events_text, reply_text};
 use crate::requests::{arguments_of, request_of};
 use crate::states::state_text;
-use ash_plain_steps::request::{Request, Step, StepError};
+use ash_plain_steps::request::{Reply, Request, Step, StepError};
 use ash_plain_steps::state::{Hosts, PlainState};
 use ash_plain_steps::steps::plain_step;
 use ash_sources::fault::SourceFault;
 use ash_sources::sources::{AdmittedScripts, Sources};
-use std::alloc::Global;
+use std::alloc::{AllocError, Global};
 use std::process::Abort;
 use std::test::Fail;
 
@@ -41,21 +41,6 @@ pub const HOST: Host = Host {
     admitted: AdmittedScripts::All,
 };
 
-/// The step of one request.
-fn stepped(
-    sources: &Sources<'_>,
-    budget: u64,
-    request: &Request<'_>,
-    state: PlainState,
-    hosts: Hosts,
-) -> Result<Step<SourceFault>, StepError>
-    requires consistent { AreConsistent (embedding_of (rules_of sources.now)) state.modules.items }
-    ensures consistent { IfOk result (λ s. AreConsistent (embedding_of (rules_of sources.now))
-        s.state.modules.items) }
-{
-    plain_step(sources, budget, request, state, hosts)
-}
-
 /// A row: what it shows, what is found before the first request, the requests, and the state that they leave.
 #[derive(Clone, Copy)]
 pub struct Row<'a> {
@@ -75,24 +60,58 @@ fn check_text(rt: &impl Abort, found: &str, wanted: &str, what: (&str, &str)) {
     }
 }
 
-/// Compares the reply and the events of a step.
-fn check_step(
+/// The step of one request.
+fn step_of(
+    sources: &Sources<'_>,
+    budget: u64,
+    request: &Request<'_>,
+    before: Step<SourceFault>,
+) -> Result<Step<SourceFault>, StepError>
+    requires consistent { AreConsistent (embedding_of (rules_of sources.now))
+        before.state.modules.items }
+    ensures consistent { IfOk result (λ s. AreConsistent (embedding_of (rules_of sources.now))
+        s.state.modules.items) }
+{
+    plain_step(sources, budget, request, before.state, before.hosts)
+}
+
+/// What a line comes to after what came before. Steps are in boxes, since they are long where they are written out.
+fn stepped(
+    alloc: Global,
+    sources: &Sources<'_>,
+    budget: u64,
+    line: &str,
+    before: Box<Step<SourceFault>>,
+) -> Result<Box<Step<SourceFault>>, Fail>
+    requires consistent { AreConsistent (embedding_of (rules_of sources.now))
+        before.value.state.modules.items }
+    ensures consistent { IfOk result (λ s. AreConsistent (embedding_of (rules_of sources.now))
+        s.value.state.modules.items) }
+{
+    let arguments = arguments_of(alloc, line)?;
+    let request = request_of(line, &arguments);
+    let step = step_of(sources, budget, &request, Box::into_inner(before))?;
+    Ok(Box::new(alloc, step)?)
+}
+
+/// Compares a reply and its events.
+fn check_reply(
     rt: &impl Abort,
     alloc: Global,
     what: &str,
-    step: &Step<SourceFault>,
+    found: &Reply<SourceFault>,
     wanted: (&str, &str),
 ) -> Result<(), Fail> {
     let (reply, events) = wanted;
-    let found = reply_text(alloc, &step.reply)?;
-    check_text(rt, found.as_str(), reply, (what, "the reply"));
-    let found = events_text(alloc, &step.reply)?;
-    check_text(rt, found.as_str(), events, (what, reply));
+    let text = reply_text(alloc, found)?;
+    check_text(rt, text.as_str(), reply, (what, "the reply"));
+    let text = events_text(alloc, found)?;
+    check_text(rt, text.as_str(), events, (what, reply));
     Ok(())
 }
 
 /// The state before any request, but for the last number that was given to an object.
-fn begun(alloc: Global, last: u64) -> Result<PlainState, Fail>
+fn first_state(alloc: Global, last: u64) -> Result<PlainState, AllocError>
     ensures no_modules { IfOk result (λ state. state.modules.items ≡ []) }
 {
     let mut state = PlainState::new(alloc, vec![in alloc; zero(alloc)?]?);
@@ -100,28 +119,54 @@ fn begun(alloc: Global, last: u64) -> Result<PlainState, Fail>
     Ok(state)
 }
 
-/// Runs the requests of a row, one after another, and compares the reply and the events of each, and the state
-/// that is left.
+/// What the hosts of a row bring to its requests.
+fn hosts_of(alloc: Global, row: &Row<'_>) -> Result<Hosts, Fail> {
+    Ok(Hosts {
+        pool: pool(alloc, row.host.counters)?,
+        answers: answers(alloc, row.steps)?,
+    })
+}
+
+/// What there is before the first request of a row, as a step that had nothing to do.
+fn begun(alloc: Global, row: &Row<'_>) -> Result<Box<Step<SourceFault>>, Fail>
+    ensures no_modules { IfOk result (λ s. s.value.state.modules.items ≡ []) }
+{
+    let hosts = hosts_of(alloc, row)?;
+    let state = first_state(alloc, row.host.last)?;
+    let reply = Reply::Done;
+    let step = Step {
+        reply,
+        state,
+        hosts,
+    };
+    Ok(Box::new(alloc, step)?)
+}
+
+/// Runs the requests of a row, one after another, and compares the reply and the events of each. The last step is what
+/// they lead to.
+fn check_exchanges(
+    rt: &impl Abort,
+    alloc: Global,
+    sources: &Sources<'_>,
+    row: &Row<'_>,
+) -> Result<Box<Step<SourceFault>>, Fail> {
+    let mut step = begun(alloc, row)?;
+    for (line, reply, events) in row.exchanges {
+        step = stepped(alloc, sources, row.host.budget, line, step)?;
+        check_reply(rt, alloc, row.what, &step.reply, (*reply, *events))?;
+    }
+    Ok(step)
+}
+
+/// Runs the requests of a row, and compares what each is replied, and the state that is left.
 pub fn check_row(rt: &impl Abort, alloc: Global, row: &Row<'_>) -> Result<(), Fail> {
     let registry = registry(alloc)?;
     let sources = Sources {
         registry: &registry,
         admitted: row.host.admitted,
     };
-    let mut state = begun(alloc, row.host.last)?;
-    let mut hosts = Hosts {
-        pool: pool(alloc, row.host.counters)?,
-        answers: answers(alloc, row.steps)?,
-    };
-    for (request, reply, events) in row.exchanges {
-        let arguments = arguments_of(alloc, request)?;
-        let request = request_of(request, &arguments);
-        let step = stepped(&sources, row.host.budget, &request, state, hosts)?;
-        check_step(rt, alloc, row.what, &step, (*reply, *events))?;
-        state = step.state;
-        hosts = step.hosts;
-    }
-    let found = state_text(alloc, &state, &hosts)?;
+    let step = check_exchanges(rt, alloc, &sources, row)?;
+    let found = state_text(alloc, &step.state, &step.hosts)?;
     check_text(rt, found.as_str(), row.left, (row.what, "the state"));
     Ok(())
 }

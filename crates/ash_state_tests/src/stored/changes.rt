@@ -1,10 +1,10 @@
 //! Each byte of an image changed to every other, and each cut, whatever is registered: what is left is refused, or is
 //! the image of another state.
 
-use crate::stored::compare::{ReadAs, check_bytes, check_count, check_read_as, read_as};
+use crate::stored::compare::{ReadAs, check_bytes, check_count, check_read_as, image_read_as};
 use crate::stored::encoding::encoded;
 use crate::stored::images::{
-    NOTHING, ONE, ONE_MODULE, Parts, THREE_TAGS, TWO, TWO_TAGS, image, with_byte,
+    NOTHING, ONE, ONE_MODULE, THREE_TAGS, TWO, TWO_TAGS, image, with_byte,
 };
 use ash_state_image::image::read_image;
 use std::alloc::Global;
@@ -12,7 +12,7 @@ use std::process::Abort;
 use std::test::Fail;
 
 /// An image: what it is called, its version, what follows it, and how many changes of one byte leave an image.
-type Row = (&'static str, &'static [u8], Parts, usize);
+type Row = (&'static str, &'static [u8], &'static [u8], usize);
 
 // A change of any byte of the numbers counts, of the one that is the version's one that is another version, and of
 // what is not looked into here: sources, kinds and classes.
@@ -128,7 +128,7 @@ fn check_cuts(rt: &impl Abort, alloc: Global, row: &Row) -> Result<(), Fail> {
     let image = image(alloc, version, rest)?;
     for length in 0..image.len() {
         let cut = image.get(..length).unwrap_or_default();
-        check_read_as(rt, read_as(&read_image(alloc, cut)?), ReadAs::Nothing, what);
+        check_read_as(rt, image_read_as(alloc, cut)?, ReadAs::Nothing, what);
     }
     Ok(())
 }

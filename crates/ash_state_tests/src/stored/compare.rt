@@ -1,6 +1,8 @@
 //! Comparisons that say what was compared, each in one place, so that the tests that make them are proved quickly.
 
+use ash_state_image::image::{read_body, read_image};
 use ash_state_image::stored::StoredImage;
+use std::alloc::{AllocError, Global};
 use std::process::Abort;
 
 /// What bytes are read as.
@@ -11,11 +13,21 @@ pub(crate) enum ReadAs {
 }
 
 /// What was read.
-pub(crate) fn read_as(found: &Option<StoredImage>) -> ReadAs {
+fn read_as(found: &Option<StoredImage>) -> ReadAs {
     match found {
         Some(_) => ReadAs::Image,
         None => ReadAs::Nothing,
     }
+}
+
+/// What bytes are read as, where an image is read.
+pub(crate) fn image_read_as(alloc: Global, bytes: &[u8]) -> Result<ReadAs, AllocError> {
+    Ok(read_as(&read_image(alloc, bytes)?))
+}
+
+/// What bytes are read as, where the body of a record is read.
+pub(crate) fn body_read_as(alloc: Global, bytes: &[u8]) -> Result<ReadAs, AllocError> {
+    Ok(read_as(&read_body(alloc, bytes)?))
 }
 
 /// Compares a text with the one that is wanted.

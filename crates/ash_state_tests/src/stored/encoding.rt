@@ -3,7 +3,7 @@
 use ash_host::Word;
 use ash_state_image::stored::{
     ElementType, StoredArray, StoredBody, StoredHost, StoredImage, StoredModule, StoredObject,
-    StoredScript,
+    StoredScript, StoredState,
 };
 use ash_state_image::version::Version;
 use std::alloc::{AllocError, Global};
@@ -23,30 +23,21 @@ fn four_of(length: usize) -> [u8; 4] {
     u32::try_from(length).unwrap_or(u32::MAX).to_le_bytes()
 }
 
+/// Adds a tag and what follows it.
+fn add_tagged(out: &mut Vec<u8>, tag: u8, rest: &[u8]) -> Result<(), AllocError> {
+    out.push(tag)?;
+    out.extend_from_slice(rest)
+}
+
 fn add_word(out: &mut Vec<u8>, word: Word) -> Result<(), AllocError> {
     match word {
-        Word::Bool(truth) => out.extend_from_slice(&[0, u8::from(truth)]),
-        Word::Int(number) => {
-            out.push(1)?;
-            out.extend_from_slice(&number.to_le_bytes())
-        }
-        Word::Uint(number) => {
-            out.push(2)?;
-            out.extend_from_slice(&number.to_le_bytes())
-        }
-        Word::Int64(number) => {
-            out.push(3)?;
-            out.extend_from_slice(&number.to_le_bytes())
-        }
-        Word::Uint64(number) => {
-            out.push(4)?;
-            out.extend_from_slice(&number.to_le_bytes())
-        }
-        Word::Null => out.extend_from_slice(&[5]),
-        Word::Object(number) => {
-            out.push(6)?;
-            out.extend_from_slice(&number.to_le_bytes())
-        }
+        Word::Bool(truth) => add_tagged(out, 0, &[u8::from(truth)]),
+        Word::Int(number) => add_tagged(out, 1, &number.to_le_bytes()),
+        Word::Uint(number) => add_tagged(out, 2, &number.to_le_bytes()),
+        Word::Int64(number) => add_tagged(out, 3, &number.to_le_bytes()),
+        Word::Uint64(number) => add_tagged(out, 4, &number.to_le_bytes()),
+        Word::Null => add_tagged(out, 5, &[]),
+        Word::Object(number) => add_tagged(out, 6, &number.to_le_bytes()),
     }
 }
 
@@ -143,20 +134,33 @@ fn add_objects(out: &mut Vec<u8>, objects: &[StoredObject]) -> Result<(), AllocE
     Ok(())
 }
 
-/// The bytes of an image that was read.
-pub(crate) fn encoded(alloc: Global, image: &StoredImage) -> Result<Vec<u8>, AllocError> {
-    let version = match image.version {
+fn add_version(out: &mut Vec<u8>, version: Version) -> Result<(), AllocError> {
+    let number = match version {
         Version::One => 1,
         Version::Two => 2,
     };
-    let state = &image.state;
-    let mut out = Vec::from_slice(alloc, &[version, 0])?;
+    out.extend_from_slice(&[number, 0])
+}
+
+/// What comes before the services: the text, how many requests were answered, and the last number of an object.
+fn add_beginning(out: &mut Vec<u8>, state: &StoredState) -> Result<(), AllocError> {
     out.extend_from_slice(&four_of(state.registered.len()))?;
     out.extend_from_slice(state.registered.as_bytes())?;
     out.extend_from_slice(&state.seq.to_le_bytes())?;
-    out.extend_from_slice(&state.last.to_le_bytes())?;
-    add_services(&mut out, &state.services)?;
-    add_modules(&mut out, &state.modules)?;
-    add_objects(&mut out, &state.objects)?;
+    out.extend_from_slice(&state.last.to_le_bytes())
+}
+
+fn add_state(out: &mut Vec<u8>, state: &StoredState) -> Result<(), AllocError> {
+    add_beginning(out, state)?;
+    add_services(out, &state.services)?;
+    add_modules(out, &state.modules)?;
+    add_objects(out, &state.objects)
+}
+
+/// The bytes of an image that was read.
+pub(crate) fn encoded(alloc: Global, image: &StoredImage) -> Result<Vec<u8>, AllocError> {
+    let mut out = Vec::new(alloc);
+    add_version(&mut out, image.version)?;
+    add_state(&mut out, &image.state)?;
     Ok(out)
 }

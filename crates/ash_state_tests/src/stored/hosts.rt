@@ -3,12 +3,12 @@
 use crate::stored::compare::check_bytes;
 use crate::stored::images::{
     AFTER_THREE, CONSTRUCTED, LOADED, MODULE_A, MODULE_B, NOTHING, OF_TWO_MODULES, ONE_SERVICE,
-    Parts, TWO, image, modules, with_tag,
+    TWO, image, modules, with_tag,
 };
 use ash_plain_steps::request::{Reply, Request};
-use ash_registry::Registry;
+use ash_registry::{Registry, RegistryFault};
 use ash_states::state::HostState;
-use std::alloc::Global;
+use std::alloc::{AllocError, Global};
 use std::process::Abort;
 use std::test::Fail;
 
@@ -23,49 +23,85 @@ fn handle(state: &mut HostState, request: &Request) -> Result<(), Fail> {
     }
 }
 
-/// The state of a host with nothing registered after these requests, each of which is answered.
-fn after(alloc: Global, requests: &[Request<'_>]) -> Result<HostState, Fail> {
-    let mut state = HostState::new(alloc, Registry::new(alloc));
+/// What is written of a state: its image, and the body of a record that has it.
+#[derive(Drop)]
+struct Written {
+    image: Vec<u8>,
+    body: Vec<u8>,
+}
+
+fn written_of(state: &HostState) -> Result<Written, AllocError> {
+    Ok(Written {
+        image: state.image()?,
+        body: state.body()?,
+    })
+}
+
+/// What is written of the state of a host with this registry after these requests, each of which is answered. Only this
+/// is handed on, since a state is long where it is written out.
+fn written_after(
+    alloc: Global,
+    registry: Registry,
+    requests: &[Request<'_>],
+) -> Result<Written, Fail> {
+    let mut state = HostState::new(alloc, registry);
     for request in requests {
         handle(&mut state, request)?;
     }
-    Ok(state)
+    Ok(written_of(&state)?)
 }
 
 /// Compares the image of a state, and the body of a record that has it.
 fn check_written(
     rt: &impl Abort,
     alloc: Global,
-    state: &HostState,
+    found: &Written,
     image: &[u8],
     what: &str,
-) -> Result<(), Fail> {
-    check_bytes(rt, &state.image()?, image, what);
+) -> Result<(), AllocError> {
+    check_bytes(rt, &found.image, image, what);
     let body = with_tag(alloc, 1, image)?;
-    check_bytes(rt, &state.body()?, &body, what);
+    check_bytes(rt, &found.body, &body, what);
     Ok(())
 }
 
-#[test]
-fn before_any_request(rt: HostRuntime) -> Result<(), Fail> {
-    let state = HostState::new(rt.alloc(), Registry::new(rt.alloc()));
-    let wanted = image(rt.alloc(), TWO, NOTHING)?;
-    check_written(&rt, rt.alloc(), &state, &wanted, "nothing")?;
-    let mut registry = Registry::new(rt.alloc());
-    registry.service(2)?;
-    let state = HostState::new(rt.alloc(), registry);
-    let wanted = image(rt.alloc(), TWO, ONE_SERVICE)?;
-    check_written(&rt, rt.alloc(), &state, &wanted, "a registration")
+/// What requests lead to: what they are called, each of them, and what follows the version in the image.
+type Row = (&'static str, &'static [Request<'static>], &'static [u8]);
+
+/// Compares what requests lead to where this is registered.
+fn check_registered(
+    rt: &impl Abort,
+    alloc: Global,
+    registry: Registry,
+    row: &Row,
+) -> Result<(), Fail> {
+    let (what, requests, rest) = *row;
+    let found = written_after(alloc, registry, requests)?;
+    let wanted = image(alloc, TWO, rest)?;
+    Ok(check_written(rt, alloc, &found, &wanted, what)?)
 }
 
-/// What requests lead to: what they are called, each of them, and what follows the version in the image.
-type Row = (&'static str, &'static [Request<'static>], Parts);
-
+/// Compares what requests lead to where nothing is registered.
 fn check_row(rt: &impl Abort, alloc: Global, row: &Row) -> Result<(), Fail> {
-    let (what, requests, rest) = *row;
-    let state = after(alloc, requests)?;
-    let wanted = image(alloc, TWO, rest)?;
-    check_written(rt, alloc, &state, &wanted, what)
+    check_registered(rt, alloc, Registry::new(alloc), row)
+}
+
+/// A service is registered.
+fn one_service(alloc: Global) -> Result<Registry, RegistryFault> {
+    let mut registry = Registry::new(alloc);
+    registry.service(2)?;
+    Ok(registry)
+}
+
+const NO_REQUEST: Row = ("nothing", &[], NOTHING);
+
+const NO_REQUEST_OF_A_SERVICE: Row = ("a registration", &[], ONE_SERVICE);
+
+#[test]
+fn before_any_request(rt: HostRuntime) -> Result<(), Fail> {
+    check_row(&rt, rt.alloc(), &NO_REQUEST)?;
+    let registry = one_service(rt.alloc())?;
+    check_registered(&rt, rt.alloc(), registry, &NO_REQUEST_OF_A_SERVICE)
 }
 
 const A_LOAD: Row = (
@@ -119,11 +155,16 @@ const TWO_MODULES: [Request<'static>; 4] = [
     Request::Discard { module: "k" },
 ];
 
+/// Compares what the requests of two modules lead to.
+fn check_modules(rt: &impl Abort, alloc: Global) -> Result<(), Fail> {
+    let found = written_after(alloc, Registry::new(alloc), &TWO_MODULES)?;
+    let wanted = modules(alloc, MODULE_B, MODULE_A)?;
+    Ok(check_written(rt, alloc, &found, &wanted, "two modules")?)
+}
+
 #[test]
 fn two_modules_by_name(rt: HostRuntime) -> Result<(), Fail> {
-    let state = after(rt.alloc(), &TWO_MODULES)?;
-    let wanted = modules(rt.alloc(), MODULE_B, MODULE_A)?;
-    check_written(&rt, rt.alloc(), &state, &wanted, "two modules")
+    check_modules(&rt, rt.alloc())
 }
 
 const AN_OBJECT_AND_AN_ARRAY: Row = (

@@ -1,8 +1,7 @@
 //! Images at their limits, and one step past these.
 
-use crate::stored::compare::{ReadAs, check_read_as, read_as};
+use crate::stored::compare::{ReadAs, check_read_as, image_read_as};
 use crate::stored::images::{ONE, TWO};
-use ash_state_image::image::read_image;
 use std::alloc::{AllocError, Global};
 use std::process::Abort;
 use std::test::Fail;
@@ -35,19 +34,30 @@ const MADE_UP: [MadeUp; 7] = [
     ("17 modules", 0, 0, 17, ReadAs::Nothing),
 ];
 
+/// Adds so many modules of one letter each, from `A` on, with no source and no globals.
+fn add_modules(image: &mut Vec<u8>, count: u8) -> Result<(), AllocError> {
+    image.push(count)?;
+    for place in 0..count {
+        image.extend_from_slice(&[1, b'A'.wrapping_add(place), 0, 0, 0, 0, 0, 0])?;
+    }
+    Ok(())
+}
+
+/// Adds a byte so many times.
+fn add_times(image: &mut Vec<u8>, byte: u8, count: usize) -> Result<(), AllocError> {
+    image.resize(image.len().saturating_add(count), byte)
+}
+
 /// The image of a state before any request, whose text is so many spaces, with a length of its own, and so many modules
 /// with no source and no globals.
 fn made_up(alloc: Global, version: &[u8], row: &MadeUp) -> Result<Vec<u8>, AllocError> {
     let (_, length, spaces, count, _) = *row;
     let mut image = Vec::from_slice(alloc, version)?;
     image.extend_from_slice(&length.to_le_bytes())?;
-    image.resize(6_usize.saturating_add(spaces), b' ')?;
-    image.extend_from_slice(&[0; 18])?;
-    image.push(count)?;
-    for place in 0..count {
-        image.extend_from_slice(&[1, b'A'.wrapping_add(place), 0, 0, 0, 0, 0, 0])?;
-    }
-    image.extend_from_slice(&[0; 4])?;
+    add_times(&mut image, b' ', spaces)?;
+    add_times(&mut image, 0, 18)?;
+    add_modules(&mut image, count)?;
+    add_times(&mut image, 0, 4)?;
     Ok(image)
 }
 
@@ -59,7 +69,7 @@ fn check_image(
     wanted: ReadAs,
     what: &str,
 ) -> Result<(), Fail> {
-    check_read_as(rt, read_as(&read_image(alloc, image)?), wanted, what);
+    check_read_as(rt, image_read_as(alloc, image)?, wanted, what);
     Ok(())
 }
 
@@ -79,16 +89,22 @@ fn texts_and_modules_at_their_limits(rt: HostRuntime) -> Result<(), Fail> {
     Ok(())
 }
 
-/// The image of a module `m` with a source of so many spaces, and so many globals that are null.
+/// Adds a module `m` with a source of so many spaces, and so many globals that are null.
+fn add_module(image: &mut Vec<u8>, spaces: u32, globals: u16) -> Result<(), AllocError> {
+    image.extend_from_slice(b"\x01m")?;
+    image.extend_from_slice(&spaces.to_le_bytes())?;
+    add_times(image, b' ', spaces as usize)?;
+    image.extend_from_slice(&globals.to_le_bytes())?;
+    add_times(image, 5, usize::from(globals))
+}
+
+/// The image of a state before any request that has such a module.
 fn one_module(alloc: Global, spaces: u32, globals: u16) -> Result<Vec<u8>, AllocError> {
     let mut image = Vec::from_slice(alloc, TWO)?;
-    image.extend_from_slice(&[0; 22])?;
-    image.extend_from_slice(b"\x01\x01m")?;
-    image.extend_from_slice(&spaces.to_le_bytes())?;
-    image.extend_from_slice(&vec![in alloc; b' '; spaces as usize]?)?;
-    image.extend_from_slice(&globals.to_le_bytes())?;
-    image.extend_from_slice(&vec![in alloc; 5; usize::from(globals)]?)?;
-    image.extend_from_slice(&[0; 4])?;
+    add_times(&mut image, 0, 22)?;
+    image.push(1)?;
+    add_module(&mut image, spaces, globals)?;
+    add_times(&mut image, 0, 4)?;
     Ok(image)
 }
 
@@ -116,16 +132,21 @@ fn sources_and_globals_at_their_limits(rt: HostRuntime) -> Result<(), Fail> {
     Ok(())
 }
 
-/// What an image has before its objects: no text, no request, this last number of an object, no services, and a module
-/// `m` with no source, whose global has the object 1. Then come so many objects.
-fn before_objects(alloc: Global, last: u16, objects: u16) -> Result<Vec<u8>, AllocError> {
-    let mut image = Vec::from_slice(alloc, TWO)?;
-    image.extend_from_slice(&[0; 12])?;
+/// Adds what comes before the objects: no text, no request, this last number of an object, no services, a module `m` with
+/// no source, whose global has the object 1, and how many objects there are.
+fn add_beginning(image: &mut Vec<u8>, last: u16, objects: u16) -> Result<(), AllocError> {
+    add_times(image, 0, 12)?;
     image.extend_from_slice(&u64::from(last).to_le_bytes())?;
-    image.extend_from_slice(&[0; 2])?;
+    add_times(image, 0, 2)?;
     image.extend_from_slice(b"\x01\x01m\x00\x00\x00\x00")?;
     image.extend_from_slice(b"\x01\x00\x06\x01\x00\x00\x00\x00\x00\x00\x00")?;
-    image.extend_from_slice(&u32::from(objects).to_le_bytes())?;
+    image.extend_from_slice(&u32::from(objects).to_le_bytes())
+}
+
+/// What such an image has before its objects.
+fn before_objects(alloc: Global, last: u16, objects: u16) -> Result<Vec<u8>, AllocError> {
+    let mut image = Vec::from_slice(alloc, TWO)?;
+    add_beginning(&mut image, last, objects)?;
     Ok(image)
 }
 
@@ -211,26 +232,37 @@ fn add_objects(image: &mut Vec<u8>, last: u16) -> Result<(), AllocError> {
     Ok(())
 }
 
-/// The image of so many objects, of which the first is an array with handles to all others.
-fn objects_in_an_array(alloc: Global, last: u16) -> Result<Vec<u8>, AllocError> {
-    let mut image = before_objects(alloc, last, last)?;
+/// Adds the object 1, an array with handles to all others.
+fn add_array(image: &mut Vec<u8>, last: u16) -> Result<(), AllocError> {
     image.extend_from_slice(&1_u64.to_le_bytes())?;
     image.extend_from_slice(&[3, 5, 0, 0, 0])?;
     image.extend_from_slice(&last.saturating_sub(1).to_le_bytes())?;
-    add_handles(&mut image, last)?;
+    add_handles(image, last)
+}
+
+/// The image of so many objects, of which the first is an array with handles to all others.
+fn objects_in_an_array(alloc: Global, last: u16) -> Result<Vec<u8>, AllocError> {
+    let mut image = before_objects(alloc, last, last)?;
+    add_array(&mut image, last)?;
     add_objects(&mut image, last)?;
     Ok(image)
+}
+
+/// Adds so many services that have no state.
+fn add_services(image: &mut Vec<u8>, count: u8) -> Result<(), AllocError> {
+    image.extend_from_slice(&[count, 0])?;
+    for kind in 0..count {
+        image.extend_from_slice(&[kind, 0, 0, 0])?;
+    }
+    Ok(())
 }
 
 /// The image of a state before any request with so many services that have no state.
 fn services(alloc: Global, count: u8) -> Result<Vec<u8>, AllocError> {
     let mut image = Vec::from_slice(alloc, TWO)?;
-    image.extend_from_slice(&[0; 20])?;
-    image.extend_from_slice(&[count, 0])?;
-    for kind in 0..count {
-        image.extend_from_slice(&[kind, 0, 0, 0])?;
-    }
-    image.extend_from_slice(&[0; 5])?;
+    add_times(&mut image, 0, 20)?;
+    add_services(&mut image, count)?;
+    add_times(&mut image, 0, 5)?;
     Ok(image)
 }
 

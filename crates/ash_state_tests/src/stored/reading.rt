@@ -1,10 +1,10 @@
 //! What images depict, and what the bodies of records lead to.
 
-use crate::stored::compare::{ReadAs, check_bytes, check_text, read_as};
+use crate::stored::compare::{ReadAs, body_read_as, check_bytes, check_text};
 use crate::stored::encoding::encoded;
 use crate::stored::images::{
-    EACH_WORD, LOADED, MODULE_A, MODULE_B, NOTHING, ONE, ONE_MODULE, ONE_SERVICE, Parts,
-    THREE_TAGS, TWO, TWO_TAGS, image, modules, with_tag,
+    EACH_WORD, LOADED, MODULE_A, MODULE_B, NOTHING, ONE, ONE_MODULE, ONE_SERVICE, THREE_TAGS, TWO,
+    TWO_TAGS, image, modules, with_tag,
 };
 use ash_state_image::image::{read_body, read_image};
 use ash_state_image::stored::StoredImage;
@@ -28,6 +28,28 @@ fn bytes_of(alloc: Global, found: &Option<StoredImage>) -> Result<Vec<u8>, Alloc
     }
 }
 
+/// What is made of bytes that are read as an image.
+#[derive(Drop)]
+struct Reading {
+    /// What was read, written out.
+    text: String,
+    /// What was read, as bytes.
+    bytes: Vec<u8>,
+}
+
+fn reading_of(alloc: Global, image: &[u8]) -> Result<Reading, AllocError> {
+    let found = read_image(alloc, image)?;
+    Ok(Reading {
+        text: shown(alloc, &found)?,
+        bytes: bytes_of(alloc, &found)?,
+    })
+}
+
+/// What is read of the body of a record, written out.
+fn body_shown(alloc: Global, body: &[u8]) -> Result<String, AllocError> {
+    shown(alloc, &read_body(alloc, body)?)
+}
+
 /// Compares what an image depicts, that the body which has it after the tag 1 leads to it, and that it is the image of
 /// what is read.
 fn check_read(
@@ -37,19 +59,24 @@ fn check_read(
     wanted: &str,
     what: &str,
 ) -> Result<(), Fail> {
-    let found = read_image(alloc, image)?;
-    let text = shown(alloc, &found)?;
-    check_text(rt, text.as_str(), wanted, what);
-    let again = bytes_of(alloc, &found)?;
-    check_bytes(rt, again.as_slice(), image, what);
+    let found = reading_of(alloc, image)?;
+    check_text(rt, found.text.as_str(), wanted, what);
+    check_bytes(rt, found.bytes.as_slice(), image, what);
     let body = with_tag(alloc, 1, image)?;
-    let text = shown(alloc, &read_body(alloc, &body)?)?;
+    let text = body_shown(alloc, &body)?;
     check_text(rt, text.as_str(), wanted, what);
     Ok(())
 }
 
+/// Compares that bytes are no image.
+fn check_no_image(rt: &impl Abort, alloc: Global, bytes: &[u8], what: &str) -> Result<(), Fail> {
+    let found = shown(alloc, &read_image(alloc, bytes)?)?;
+    check_text(rt, found.as_str(), "none", what);
+    Ok(())
+}
+
 /// An image: what it is called, its version, what follows it, and what it depicts.
-type Row = (&'static str, &'static [u8], Parts, &'static str);
+type Row = (&'static str, &'static [u8], &'static [u8], &'static str);
 
 const ROWS: [Row; 11] = [
     (
@@ -160,18 +187,31 @@ fn what_images_depict(rt: HostRuntime) -> Result<(), Fail> {
     Ok(())
 }
 
-#[test]
-fn two_modules_by_name(rt: HostRuntime) -> Result<(), Fail> {
-    let image = modules(rt.alloc(), MODULE_B, MODULE_A)?;
-    let wanted = "Two StoredState { registered: \"\", seq: 4, last: 0, services: [], modules: [\
+const TWO_MODULES: &str =
+    "Two StoredState { registered: \"\", seq: 4, last: 0, services: [], modules: [\
         StoredModule { name: \"B\", source: [105, 110, 116, 32, 121, 32, 61, 32, 55, 59], globals: [Int(7)] }, \
         StoredModule { name: \"a\", source: [105, 110, 116, 32, 120, 32, 61, 32, 45, 49, 59, 32, 105, 110, 116, \
         32, 122, 32, 61, 32, 50, 53, 54, 59], globals: [Int(-1), Int(256)] }], objects: [] }";
-    check_read(&rt, rt.alloc(), &image, wanted, "two modules")?;
+
+/// Compares what two modules in the order of their names depict.
+fn check_modules(rt: &impl Abort, alloc: Global) -> Result<(), Fail> {
+    let image = modules(alloc, MODULE_B, MODULE_A)?;
+    check_read(rt, alloc, &image, TWO_MODULES, "two modules")
+}
+
+#[test]
+fn two_modules_by_name(rt: HostRuntime) -> Result<(), Fail> {
+    check_modules(&rt, rt.alloc())?;
     let exchanged = modules(rt.alloc(), MODULE_A, MODULE_B)?;
-    let found = shown(rt.alloc(), &read_image(rt.alloc(), &exchanged)?)?;
-    check_text(&rt, found.as_str(), "none", "`a` before `B`");
-    Ok(())
+    check_no_image(&rt, rt.alloc(), &exchanged, "`a` before `B`")
+}
+
+/// Compares what bytes are read as with what is wanted: what they are called, and their number.
+fn check_numbered(rt: &impl Abort, found: ReadAs, wanted: ReadAs, what: (&str, usize)) {
+    let (name, number) = what;
+    if found != wanted {
+        panic!(rt; "{name} {number}: found {found:?}, wanted {wanted:?}");
+    }
 }
 
 /// Compares what bytes lead to as the body of a record.
@@ -182,53 +222,59 @@ fn check_body(
     wanted: ReadAs,
     what: (&str, usize),
 ) -> Result<(), Fail> {
-    let found = read_as(&read_body(alloc, bytes)?);
-    if found != wanted {
-        panic!(rt; "{} {}: found {found:?}, wanted {wanted:?}", what.0, what.1);
-    }
+    check_numbered(rt, body_read_as(alloc, bytes)?, wanted, what);
     Ok(())
+}
+
+/// Compares what an image after a tag leads to, which is an image after the tag 1 alone.
+fn check_tag(rt: &impl Abort, alloc: Global, tag: u8, image: &[u8]) -> Result<(), Fail> {
+    let body = with_tag(alloc, tag, image)?;
+    let wanted = match tag {
+        1 => ReadAs::Image,
+        _ => ReadAs::Nothing,
+    };
+    check_body(rt, alloc, &body, wanted, ("the tag", usize::from(tag)))
 }
 
 #[test]
 fn bodies_with_another_tag(rt: HostRuntime) -> Result<(), Fail> {
     let image = image(rt.alloc(), TWO, ONE_MODULE)?;
     for tag in 0..=255 {
-        let body = with_tag(rt.alloc(), tag, &image)?;
-        let wanted = match tag {
-            1 => ReadAs::Image,
-            _ => ReadAs::Nothing,
-        };
-        let what = ("the tag", usize::from(tag));
-        check_body(&rt, rt.alloc(), &body, wanted, what)?;
+        check_tag(&rt, rt.alloc(), tag, &image)?;
     }
     Ok(())
 }
 
+/// Compares what the first bytes lead to, of which 38 are the body of a record.
+fn check_length(rt: &impl Abort, alloc: Global, length: usize, bytes: &[u8]) -> Result<(), Fail> {
+    let bytes = bytes.get(..length).unwrap_or_default();
+    let wanted = match length {
+        38 => ReadAs::Image,
+        _ => ReadAs::Nothing,
+    };
+    check_body(rt, alloc, bytes, wanted, ("a body of bytes", length))
+}
+
+/// Cuts bytes of which 38 are the body of a record. Those are no image, though their tag is the number of a version.
+fn check_longer(rt: &impl Abort, alloc: Global, longer: &[u8]) -> Result<(), Fail> {
+    for length in 0..=longer.len() {
+        check_length(rt, alloc, length, longer)?;
+    }
+    let body = longer.get(..38).unwrap_or_default();
+    check_no_image(rt, alloc, body, "a body as an image")
+}
+
+/// An image is no body without its tag, and none where a byte comes after it.
+fn check_cut_and_longer(rt: &impl Abort, alloc: Global, image: &[u8]) -> Result<(), Fail> {
+    let what = ("an image alone, of bytes", image.len());
+    check_body(rt, alloc, image, ReadAs::Nothing, what)?;
+    let mut longer = with_tag(alloc, 1, image)?;
+    longer.push(0)?;
+    check_longer(rt, alloc, &longer)
+}
+
 #[test]
 fn bodies_that_are_cut_and_longer(rt: HostRuntime) -> Result<(), Fail> {
-    let alloc = rt.alloc();
-    let image = image(alloc, TWO, LOADED)?;
-    check_body(
-        &rt,
-        alloc,
-        &image,
-        ReadAs::Nothing,
-        ("an image alone, of bytes", image.len()),
-    )?;
-    let mut longer = with_tag(alloc, 1, &image)?;
-    longer.push(0)?;
-    // Of 38 bytes it is the body.
-    for length in 0..=longer.len() {
-        let bytes = longer.get(..length).unwrap_or_default();
-        let wanted = match length {
-            38 => ReadAs::Image,
-            _ => ReadAs::Nothing,
-        };
-        check_body(&rt, alloc, bytes, wanted, ("a body of bytes", length))?;
-    }
-    // A body is no image, though its tag is the number of a version.
-    let body = longer.get(..38).unwrap_or_default();
-    let found = shown(alloc, &read_image(alloc, body)?)?;
-    check_text(&rt, found.as_str(), "none", "a body as an image");
-    Ok(())
+    let image = image(rt.alloc(), TWO, LOADED)?;
+    check_cut_and_longer(&rt, rt.alloc(), &image)
 }

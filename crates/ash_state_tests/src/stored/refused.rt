@@ -1,11 +1,10 @@
 //! Bytes that are the image of nothing, each for one reason, and some that are nearly so.
 
-use crate::stored::compare::{ReadAs, check_read_as, read_as};
+use crate::stored::compare::{ReadAs, body_read_as, check_read_as, image_read_as};
 use crate::stored::images::{
-    DANGLING, EACH_WORD, MODULE_A, MODULE_B, NOTHING, ONE, ONE_MODULE, ONE_SERVICE, Parts,
-    THREE_TAGS, TWO, TWO_TAGS, image, modules, with_byte, with_tag,
+    DANGLING, EACH_WORD, MODULE_A, MODULE_B, NOTHING, ONE, ONE_MODULE, ONE_SERVICE, THREE_TAGS,
+    TWO, TWO_TAGS, image, modules, with_byte, with_tag,
 };
-use ash_state_image::image::{read_body, read_image};
 use std::alloc::{AllocError, Global};
 use std::process::Abort;
 use std::test::Fail;
@@ -43,14 +42,14 @@ fn check_both(
     wanted: ReadAs,
     what: &str,
 ) -> Result<(), Fail> {
-    check_read_as(rt, read_as(&read_image(alloc, bytes)?), wanted, what);
+    check_read_as(rt, image_read_as(alloc, bytes)?, wanted, what);
     let body = with_tag(alloc, 1, bytes)?;
-    check_read_as(rt, read_as(&read_body(alloc, &body)?), wanted, what);
+    check_read_as(rt, body_read_as(alloc, &body)?, wanted, what);
     Ok(())
 }
 
 /// Bytes: what they are called, a version, what follows it, what is done to that, and what they are read as then.
-type Row = (&'static str, &'static [u8], Parts, Change, ReadAs);
+type Row = (&'static str, &'static [u8], &'static [u8], Change, ReadAs);
 
 fn check_row(rt: &impl Abort, alloc: Global, row: &Row) -> Result<(), Fail> {
     let (what, version, rest, change, wanted) = *row;
@@ -66,7 +65,7 @@ fn check_rows(rt: &impl Abort, alloc: Global, rows: &[Row]) -> Result<(), Fail> 
 }
 
 const FRAMES: [Row; 14] = [
-    ("no bytes", b"", &[], Change::Same, ReadAs::Nothing),
+    ("no bytes", b"", b"", Change::Same, ReadAs::Nothing),
     (
         "the version 0",
         b"\x00\x00",
@@ -154,10 +153,7 @@ fn frames_of_images(rt: HostRuntime) -> Result<(), Fail> {
     check_rows(&rt, rt.alloc(), &FRAMES)
 }
 
-// In `THREE_TAGS` the last number is at 39, the service at 47, the numbers in the first global and the third at 116
-// and 134, and the objects at 142: the object 1 at 146, its tag at 154; the object 2 at 164, its tag at 172; the
-// object 4 at 189, its tag at 197.
-const OBJECTS: [Row; 18] = [
+const OBJECTS: [Row; 2] = [
     (
         "an array in version 1",
         ONE,
@@ -172,123 +168,47 @@ const OBJECTS: [Row; 18] = [
         Change::Same,
         ReadAs::Image,
     ),
-    (
-        "the last number below one",
-        TWO,
-        THREE_TAGS,
-        Change::Byte(39, 3),
-        ReadAs::Nothing,
-    ),
-    (
-        "the last number of them",
-        TWO,
-        THREE_TAGS,
-        Change::Byte(39, 4),
-        ReadAs::Image,
-    ),
-    (
-        "one service fewer",
-        TWO,
-        THREE_TAGS,
-        Change::Byte(47, 0),
-        ReadAs::Nothing,
-    ),
-    (
-        "a handle to the object 3",
-        TWO,
-        THREE_TAGS,
-        Change::Byte(134, 3),
-        ReadAs::Nothing,
-    ),
-    (
-        "the object 4 that nothing holds",
-        TWO,
-        THREE_TAGS,
-        Change::Byte(134, 2),
-        ReadAs::Nothing,
-    ),
-    (
-        "the object 1 that an array holds",
-        TWO,
-        THREE_TAGS,
-        Change::Byte(116, 2),
-        ReadAs::Image,
-    ),
-    (
-        "one object fewer",
-        TWO,
-        THREE_TAGS,
-        Change::Byte(142, 2),
-        ReadAs::Nothing,
-    ),
-    (
-        "one object more",
-        TWO,
-        THREE_TAGS,
-        Change::Byte(142, 4),
-        ReadAs::Nothing,
-    ),
-    (
-        "the number 0",
-        TWO,
-        THREE_TAGS,
-        Change::Byte(146, 0),
-        ReadAs::Nothing,
-    ),
-    (
-        "one number twice",
-        TWO,
-        THREE_TAGS,
-        Change::Byte(146, 2),
-        ReadAs::Nothing,
-    ),
-    (
-        "the tag 0 of an object",
-        TWO,
-        THREE_TAGS,
-        Change::Byte(154, 0),
-        ReadAs::Nothing,
-    ),
-    (
-        "the tag 4 of an object",
-        TWO,
-        THREE_TAGS,
-        Change::Byte(197, 4),
-        ReadAs::Nothing,
-    ),
-    (
-        "a class of no module",
-        TWO,
-        THREE_TAGS,
-        Change::Byte(155, 1),
-        ReadAs::Nothing,
-    ),
-    (
-        "elements of no module",
-        TWO,
-        THREE_TAGS,
-        Change::Byte(174, 1),
-        ReadAs::Nothing,
-    ),
-    (
-        "elements of the tag 7",
-        TWO,
-        THREE_TAGS,
-        Change::Byte(173, 7),
-        ReadAs::Nothing,
-    ),
-    (
-        "another kind",
-        TWO,
-        THREE_TAGS,
-        Change::Byte(198, 9),
-        ReadAs::Image,
-    ),
 ];
+
+/// The image `THREE_TAGS` with another byte at a place: what it is called, the place, the byte, and what it is read as.
+type Altered = (&'static str, usize, u8, ReadAs);
+
+// In `THREE_TAGS` the last number is at 39, the service at 47, the numbers in the first global and the third at 116
+// and 134, and the objects at 142: the object 1 at 146, its tag at 154; the object 2 at 164, its tag at 172; the
+// object 4 at 189, its tag at 197.
+const ALTERED: [Altered; 16] = [
+    ("the last number below one", 39, 3, ReadAs::Nothing),
+    ("the last number of them", 39, 4, ReadAs::Image),
+    ("one service fewer", 47, 0, ReadAs::Nothing),
+    ("a handle to the object 3", 134, 3, ReadAs::Nothing),
+    ("the object 4 that nothing holds", 134, 2, ReadAs::Nothing),
+    ("the object 1 that an array holds", 116, 2, ReadAs::Image),
+    ("one object fewer", 142, 2, ReadAs::Nothing),
+    ("one object more", 142, 4, ReadAs::Nothing),
+    ("the number 0", 146, 0, ReadAs::Nothing),
+    ("one number twice", 146, 2, ReadAs::Nothing),
+    ("the tag 0 of an object", 154, 0, ReadAs::Nothing),
+    ("the tag 4 of an object", 197, 4, ReadAs::Nothing),
+    ("a class of no module", 155, 1, ReadAs::Nothing),
+    ("elements of no module", 174, 1, ReadAs::Nothing),
+    ("elements of the tag 7", 173, 7, ReadAs::Nothing),
+    ("another kind", 198, 9, ReadAs::Image),
+];
+
+fn check_altered(rt: &impl Abort, alloc: Global, row: Altered) -> Result<(), Fail> {
+    let (what, place, byte, wanted) = row;
+    let image = image(alloc, TWO, THREE_TAGS)?;
+    let bytes = with_byte(alloc, &image, place, byte)?;
+    check_both(rt, alloc, &bytes, wanted, what)
+}
 
 #[test]
 fn objects_of_images(rt: HostRuntime) -> Result<(), Fail> {
-    check_rows(&rt, rt.alloc(), &OBJECTS)
+    check_rows(&rt, rt.alloc(), &OBJECTS)?;
+    for row in &ALTERED {
+        check_altered(&rt, rt.alloc(), *row)?;
+    }
+    Ok(())
 }
 
 /// Two modules: what they are called, another byte in the place of the first one's name, and what their image is
@@ -310,17 +230,16 @@ fn check_named(rt: &impl Abort, alloc: Global, row: Named) -> Result<(), Fail> {
     check_both(rt, alloc, &bytes, wanted, what)
 }
 
+/// The second module before the first.
+fn check_exchanged(rt: &impl Abort, alloc: Global) -> Result<(), Fail> {
+    let exchanged = modules(alloc, MODULE_A, MODULE_B)?;
+    check_both(rt, alloc, &exchanged, ReadAs::Nothing, "`a` before `B`")
+}
+
 #[test]
 fn modules_out_of_order(rt: HostRuntime) -> Result<(), Fail> {
     for row in &NAMED {
         check_named(&rt, rt.alloc(), *row)?;
     }
-    let exchanged = modules(rt.alloc(), MODULE_A, MODULE_B)?;
-    check_both(
-        &rt,
-        rt.alloc(),
-        &exchanged,
-        ReadAs::Nothing,
-        "`a` before `B`",
-    )
+    check_exchanged(&rt, rt.alloc())
 }

@@ -1,7 +1,0 @@
-use Rattle.ash_sources.specs.Sources.{rules_of, embedding_of}
-use Rattle.ash_plain_steps.specs.Consistency.{AreConsistent}
-use Rattle.ash_state_tests.proofs.rows.check_row.Given as goal
-
--- the modules so far are what their sources are read as
-abbrev pub invariant-loop-request : goal.invariant-loop-request
-invariant-loop-request g l = AreConsistent (embedding_of (rules_of l.sources)) l.state.modules.items
