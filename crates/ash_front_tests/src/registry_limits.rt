@@ -29,15 +29,24 @@ fn numbered(alloc: Global, before: &str, number: u16, after: &str) -> Result<Str
     format!(in alloc; "{before}{number}{after}")
 }
 
+/// The name or the declaration of the item of this number of those that a limit counts. A service has none.
+fn text_of_item(alloc: Global, limit: Limit, id: u16) -> Result<String, AllocError> {
+    match limit {
+        Limit::Services => Ok(String::new(alloc)),
+        Limit::Types => numbered(alloc, "T", id, ""),
+        Limit::Members => numbered(alloc, "void m", id, "()"),
+        Limit::Functions => numbered(alloc, "void f", id, "()"),
+    }
+}
+
 /// Registers the item of this number of those that a limit counts.
 fn add(alloc: Global, registry: &mut Registry, limit: Limit, id: u16) -> Result<(), RegistryFault> {
+    let text = text_of_item(alloc, limit, id)?;
     match limit {
         Limit::Services => add_service(registry, id),
-        Limit::Types => registry.object_type(numbered(alloc, "T", id, "")?.as_str(), id),
-        Limit::Members => {
-            registry.method("Counter", numbered(alloc, "void m", id, "()")?.as_str(), id)
-        }
-        Limit::Functions => registry.function(0, numbered(alloc, "void f", id, "()")?.as_str(), id),
+        Limit::Types => registry.object_type(text.as_str(), id),
+        Limit::Members => registry.method("Counter", text.as_str(), id),
+        Limit::Functions => registry.function(0, text.as_str(), id),
     }
 }
 

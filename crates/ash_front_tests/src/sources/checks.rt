@@ -16,15 +16,22 @@ fn debugged<T: Debug>(alloc: Global, value: &T) -> Result<String, AllocError> {
     format!(in alloc; "{value:?}")
 }
 
+/// A fault of the check as `Debug` prints it, without the layer that finds it.
+fn printed_script_fault(alloc: Global, fault: &ScriptFault) -> Result<String, AllocError> {
+    match fault {
+        ScriptFault::Broken(fault) => {
+            format!(in alloc; "{:?} {{ at: {} }}", fault.rule, fault.at)
+        }
+        ScriptFault::Cyclic(names) => debugged(alloc, names),
+    }
+}
+
 /// A fault as `Debug` prints it, without the layer that finds it.
 fn printed_fault(alloc: Global, fault: &SourceFault) -> Result<String, AllocError> {
     match fault {
         SourceFault::Lexical(fault) => debugged(alloc, fault),
         SourceFault::Syntactic(fault) => debugged(alloc, fault),
-        SourceFault::Checked(ScriptFault::Broken(fault)) => {
-            format!(in alloc; "{:?} {{ at: {} }}", fault.rule, fault.at)
-        }
-        SourceFault::Checked(ScriptFault::Cyclic(names)) => debugged(alloc, names),
+        SourceFault::Checked(fault) => printed_script_fault(alloc, fault),
         SourceFault::NotYet => String::from_str(alloc, "NotYet"),
     }
 }
@@ -133,10 +140,18 @@ pub(crate) fn check_sources(rt: &impl Abort, alloc: Global, rows: &[(&[u8], &str
     }
 }
 
+/// So many times this byte.
+fn push_times(source: &mut Vec<u8>, byte: u8, times: usize) -> Result<(), AllocError> {
+    for _ in 0..times {
+        source.push(byte)?;
+    }
+    Ok(())
+}
+
 /// `text`, and so many blanks after it.
 pub(crate) fn with_blanks(alloc: Global, text: &[u8], count: usize) -> Result<Vec<u8>, AllocError> {
     let mut source = Vec::from_slice(alloc, text)?;
-    source.extend_from_slice(&vec![in alloc; b' '; count]?)?;
+    push_times(&mut source, b' ', count)?;
     Ok(source)
 }
 
@@ -148,9 +163,9 @@ pub(crate) fn bracketed(
     suffix: &[u8],
 ) -> Result<Vec<u8>, AllocError> {
     let mut source = Vec::from_slice(alloc, prefix)?;
-    source.extend_from_slice(&vec![in alloc; b'('; count]?)?;
-    source.extend_from_slice(b"1")?;
-    source.extend_from_slice(&vec![in alloc; b')'; count]?)?;
+    push_times(&mut source, b'(', count)?;
+    source.push(b'1')?;
+    push_times(&mut source, b')', count)?;
     source.extend_from_slice(suffix)?;
     Ok(source)
 }

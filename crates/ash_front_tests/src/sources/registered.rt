@@ -112,12 +112,17 @@ fn read_by_steps(
     format!(in alloc; "{is_read} {name}")
 }
 
+/// Compares how reading a row's source ends, and the name of its kind, with what is wanted.
+fn check_by_steps(rt: &impl Abort, alloc: Global, row: (&str, u16, &str)) -> Result<(), Fail> {
+    let (source, kind, wanted) = row;
+    let registry = registry(alloc)?;
+    let found = read_by_steps(alloc, &registry, source.as_bytes(), kind)?;
+    check_text(rt, found.as_str(), wanted, source);
+    Ok(())
+}
+
 #[test]
 fn sources_of_steps(rt: HostRuntime) -> Result<(), Fail> {
-    let registry = registry(rt.alloc())?;
-    let found = read_by_steps(rt.alloc(), &registry, b"int n = 2;", 1)?;
-    check_text(&rt, found.as_str(), "true Counter", "a script alone");
-    let found = read_by_steps(rt.alloc(), &registry, b"Counter@ g;", 2)?;
-    check_text(&rt, found.as_str(), "false ", "a script with a counter");
-    Ok(())
+    check_by_steps(&rt, rt.alloc(), ("int n = 2;", 1, "true Counter"))?;
+    check_by_steps(&rt, rt.alloc(), ("Counter@ g;", 2, "false "))
 }
