@@ -1,16 +1,25 @@
 //! Comparisons, each in one place, so that the tests that make them are proved quickly.
 
 use ash_registry::RegistryFault;
+use std::alloc::AllocError;
 use std::process::Abort;
 
 /// Compares a text with the one that is wanted of this row.
 pub(crate) fn check_text(rt: &impl Abort, found: &str, wanted: &str, row: &str) {
-    assert_eq!(rt; found, wanted, "at {row:?}");
+    assert!(rt;
+        found == wanted,
+        "{found:?} in place of {wanted:?} at {row:?}"
+    );
 }
 
 /// Compares a number with the one that is wanted of this row.
 pub(crate) fn check_number(rt: &impl Abort, found: usize, wanted: usize, row: &str) {
-    assert_eq!(rt; found, wanted, "at {row:?}");
+    assert!(rt; found == wanted, "{found} in place of {wanted} at {row:?}");
+}
+
+/// Fails a test where memory is refused to it.
+pub(crate) fn expect_memory(rt: &impl Abort, done: Result<(), AllocError>) {
+    assert!(rt; done.is_ok(), "memory was refused");
 }
 
 /// Fails a test where a row is not met, and names that row by its place, or where a registration is refused.

@@ -1,7 +1,7 @@
 //! Registered declarations: `ok`, or the first fault by the grammar. The offsets are counted by hand.
 
-use crate::compare::check_text;
-use crate::tokens::coded_fault;
+use crate::compare::{check_text, expect_memory};
+use crate::tokens::{code_at, coded_fault};
 use ash_lex::{Token, lex};
 use ash_parse::{
     ParseFault, has_one_declaration, has_one_declaration_fault, parse_declaration, parse_module,
@@ -14,16 +14,14 @@ use std::process::Abort;
 pub(crate) fn coded(alloc: Global, fault: &ParseFault) -> Result<String, AllocError> {
     let code = fault.code();
     match fault {
-        ParseFault::Unexpected { at } | ParseFault::TooDeep { at } => {
-            format!(in alloc; "{code} {at}")
-        }
+        ParseFault::Unexpected { at } | ParseFault::TooDeep { at } => code_at(alloc, code, *at),
         ParseFault::Unsupported { word, at } => format!(in alloc; "{code} {word} {at}"),
         ParseFault::NoMemory => String::from_str(alloc, code),
     }
 }
 
 /// `ok`, or a fault.
-pub(crate) fn outcome_of(alloc: Global, fault: Option<&ParseFault>) -> Result<String, AllocError> {
+fn outcome_of(alloc: Global, fault: Option<&ParseFault>) -> Result<String, AllocError> {
     match fault {
         None => String::from_str(alloc, "ok"),
         Some(fault) => coded(alloc, fault),
@@ -45,22 +43,28 @@ fn declaration_fault(alloc: Global, tokens: &[Token]) -> Option<ParseFault> {
 /// How a registered declaration is parsed: `ok`, or its fault.
 fn declaration_outcome_of(alloc: Global, source: &str) -> Result<String, AllocError> {
     match lex(alloc, source) {
-        Ok(tokens) => Ok(outcome_of(alloc, declaration_fault(alloc, tokens.as_slice()).as_ref())?),
-        Err(fault) => Ok(coded_fault(alloc, &fault)?),
+        Ok(tokens) => outcome_of(alloc, declaration_fault(alloc, tokens.as_slice()).as_ref()),
+        Err(fault) => coded_fault(alloc, &fault),
     }
 }
 
-/// Each row has a registered declaration, and how it is parsed.
-fn check_declarations(
+/// Compares how a registered declaration is parsed with what is wanted.
+fn check_declaration(
     rt: &impl Abort,
     alloc: Global,
-    rows: &[(&str, &str)],
+    source: &str,
+    wanted: &str,
 ) -> Result<(), AllocError> {
-    for (source, wanted) in rows {
-        let found = declaration_outcome_of(alloc, source)?;
-        check_text(rt, found.as_str(), wanted, source);
-    }
+    let found = declaration_outcome_of(alloc, source)?;
+    check_text(rt, found.as_str(), wanted, source);
     Ok(())
+}
+
+/// Each row has a registered declaration, and how it is parsed.
+fn check_declarations(rt: &impl Abort, alloc: Global, rows: &[(&str, &str)]) {
+    for (source, wanted) in rows {
+        expect_memory(rt, check_declaration(rt, alloc, source, wanted));
+    }
 }
 
 static READS_DECLARATIONS: [(&str, &str); 22] = [
@@ -89,6 +93,6 @@ static READS_DECLARATIONS: [(&str, &str); 22] = [
 ];
 
 #[test]
-fn reads_declarations(rt: HostRuntime) -> Result<(), AllocError> {
+fn reads_declarations(rt: HostRuntime) {
     check_declarations(&rt, rt.alloc(), &READS_DECLARATIONS)
 }

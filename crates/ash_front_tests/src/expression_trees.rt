@@ -1,7 +1,6 @@
 //! Trees of expressions, written out by hand.
 
 use crate::trees::check_values;
-use std::alloc::AllocError;
 
 static OPERATORS: [(&str, &str); 5] = [
     // one level groups to the left, and is a list
@@ -46,7 +45,7 @@ static OPERATORS: [(&str, &str); 5] = [
 ];
 
 #[test]
-fn operators(rt: HostRuntime) -> Result<(), AllocError> {
+fn operators(rt: HostRuntime) {
     check_values(&rt, rt.alloc(), &OPERATORS)
 }
 
@@ -94,7 +93,7 @@ static INDEXES_CASTS_AND_NEW_ARRAYS: [(&str, &str); 6] = [
 ];
 
 #[test]
-fn indexes_casts_and_new_arrays(rt: HostRuntime) -> Result<(), AllocError> {
+fn indexes_casts_and_new_arrays(rt: HostRuntime) {
     check_values(&rt, rt.alloc(), &INDEXES_CASTS_AND_NEW_ARRAYS)
 }
 
@@ -135,7 +134,7 @@ static INDEXES_CASTS_AND_NEW_ARRAYS_IN_ONE_ANOTHER: [(&str, &str); 4] = [
 ];
 
 #[test]
-fn indexes_casts_and_new_arrays_in_one_another(rt: HostRuntime) -> Result<(), AllocError> {
+fn indexes_casts_and_new_arrays_in_one_another(rt: HostRuntime) {
     check_values(
         &rt,
         rt.alloc(),
@@ -168,6 +167,6 @@ static CONDITIONALS_AND_ASSIGNMENTS: [(&str, &str); 3] = [
 ];
 
 #[test]
-fn conditionals_and_assignments(rt: HostRuntime) -> Result<(), AllocError> {
+fn conditionals_and_assignments(rt: HostRuntime) {
     check_values(&rt, rt.alloc(), &CONDITIONALS_AND_ASSIGNMENTS)
 }

@@ -1,7 +1,6 @@
 //! Trees of items, written out by hand.
 
 use crate::trees::check_items;
-use std::alloc::AllocError;
 
 static ITEMS: [(&str, &str); 2] = [
     (
@@ -28,7 +27,7 @@ static ITEMS: [(&str, &str); 2] = [
 ];
 
 #[test]
-fn items(rt: HostRuntime) -> Result<(), AllocError> {
+fn items(rt: HostRuntime) {
     check_items(&rt, rt.alloc(), &ITEMS)
 }
 
@@ -67,7 +66,7 @@ static INTERFACES_AND_ARRAYS: [(&str, &str); 4] = [
 ];
 
 #[test]
-fn interfaces_and_arrays(rt: HostRuntime) -> Result<(), AllocError> {
+fn interfaces_and_arrays(rt: HostRuntime) {
     check_items(&rt, rt.alloc(), &INTERFACES_AND_ARRAYS)
 }
 
@@ -105,6 +104,6 @@ static MEMBERS_WITH_ARRAYS: [(&str, &str); 3] = [
 ];
 
 #[test]
-fn members_with_arrays(rt: HostRuntime) -> Result<(), AllocError> {
+fn members_with_arrays(rt: HostRuntime) {
     check_items(&rt, rt.alloc(), &MEMBERS_WITH_ARRAYS)
 }

@@ -1,24 +1,37 @@
 //! Sources of 65,536 bytes: their trees are shallow, so that comparing and dropping one takes little stack.
 
-use crate::compare::{check_number, check_text};
-use crate::declarations::{outcome_of, parsed};
+use crate::compare::{check_number, check_text, expect_memory};
+use crate::declarations::{coded, parsed};
 use crate::tokens::{coded_fault, push_times};
+use crate::trees::printed_tree;
 use ash_lex::{MAX_SOURCE_BYTES, Token, lex};
 use std::alloc::{AllocError, Global};
 use std::process::Abort;
 
+/// Writes a phrase again and again, as often as it leaves so many bytes of the greatest length.
+fn fill(source: &mut String, phrase: &str, left: usize) -> Result<(), AllocError> {
+    let free = MAX_SOURCE_BYTES
+        .saturating_sub(source.len())
+        .saturating_sub(left);
+    let times = free.checked_div(phrase.len()).unwrap_or(0);
+    push_times(source, phrase, times)
+}
+
 /// A source of the greatest length: a phrase again and again, and blanks after it.
 fn largest(alloc: Global, prefix: &str, phrase: &str, suffix: &str) -> Result<String, AllocError> {
     let mut source = String::from_str(alloc, prefix)?;
-    let free = MAX_SOURCE_BYTES
-        .wrapping_sub(prefix.len())
-        .wrapping_sub(suffix.len());
-    let times = free.checked_div(phrase.len()).unwrap_or(0);
-    push_times(&mut source, phrase, times)?;
+    fill(&mut source, phrase, suffix.len())?;
     source.push_str(suffix)?;
-    let blanks = MAX_SOURCE_BYTES.saturating_sub(source.len());
-    push_times(&mut source, " ", blanks)?;
+    fill(&mut source, " ", 0)?;
     Ok(source)
+}
+
+/// How these tokens are parsed: `ok`, or their fault.
+fn outcome(alloc: Global, tokens: &[Token]) -> Result<String, AllocError> {
+    match parsed(alloc, tokens) {
+        Ok(_) => String::from_str(alloc, "ok"),
+        Err(fault) => coded(alloc, &fault),
+    }
 }
 
 /// Compares two trees of these tokens.
@@ -28,12 +41,9 @@ fn check_trees(
     tokens: &[Token],
     row: &str,
 ) -> Result<(), AllocError> {
-    let first = parsed(alloc, tokens);
-    let second = parsed(alloc, tokens);
-    let fault = outcome_of(alloc, first.as_ref().err())?;
-    check_text(rt, fault.as_str(), "ok", row);
-    let first = format!(in alloc; "{first:?}")?;
-    let second = format!(in alloc; "{second:?}")?;
+    check_text(rt, outcome(alloc, tokens)?.as_str(), "ok", row);
+    let first = printed_tree(alloc, tokens)?;
+    let second = printed_tree(alloc, tokens)?;
     check_text(rt, first.as_str(), second.as_str(), row);
     Ok(())
 }
@@ -50,23 +60,20 @@ fn check(rt: &impl Abort, alloc: Global, source: &str, row: &str) -> Result<(), 
     }
 }
 
-/// Each row has what a source begins with, a phrase, and what it ends with.
-fn check_rows(
-    rt: &impl Abort,
-    alloc: Global,
-    rows: &[(&str, &str, &str)],
-) -> Result<(), AllocError> {
-    for (prefix, phrase, suffix) in rows {
-        let source = largest(alloc, prefix, phrase, suffix)?;
-        let row = format!(in alloc; "{prefix} {phrase} {suffix}")?;
-        check(rt, alloc, source.as_str(), row.as_str())?;
-    }
-    Ok(())
+/// What a source begins with, a phrase, and what it ends with.
+type Row<'a> = (&'a str, &'a str, &'a str);
+
+/// Compares two trees of a row's source.
+fn check_row(rt: &impl Abort, alloc: Global, row: Row) -> Result<(), AllocError> {
+    let (prefix, phrase, suffix) = row;
+    let source = largest(alloc, prefix, phrase, suffix)?;
+    let row = format!(in alloc; "{prefix} {phrase} {suffix}")?;
+    check(rt, alloc, source.as_str(), row.as_str())
 }
 
 #[test]
-fn largest_sources(rt: HostRuntime) -> Result<(), AllocError> {
-    let rows = &[
+fn largest_sources(rt: HostRuntime) {
+    let rows: &[Row] = &[
         ("", " ", ""),
         ("", ";", ""),
         ("", "int a;", ""),
@@ -88,7 +95,9 @@ fn largest_sources(rt: HostRuntime) -> Result<(), AllocError> {
         ("void f(array<int> a", ", array<A@>@ a", ") {}"),
         ("void f(int a", ", int a", ") {}"),
     ];
-    check_rows(&rt, rt.alloc(), rows)
+    for row in rows {
+        expect_memory(&rt, check_row(&rt, rt.alloc(), *row));
+    }
 }
 
 /// An index with an array in it whose argument is indexed by the same again, and so on to depth 64.
@@ -99,9 +108,14 @@ fn deep_index(alloc: Global) -> Result<String, AllocError> {
     Ok(phrase)
 }
 
+/// Compares two trees of the source with such indexes.
+fn check_arrays_in_indexes(rt: &impl Abort, alloc: Global) -> Result<(), AllocError> {
+    let phrase = deep_index(alloc)?;
+    let source = largest(alloc, "int a = b", phrase.as_str(), ";")?;
+    check(rt, alloc, source.as_str(), "arrays in indexes")
+}
+
 #[test]
-fn largest_source_of_arrays_in_indexes(rt: HostRuntime) -> Result<(), AllocError> {
-    let phrase = deep_index(rt.alloc())?;
-    let source = largest(rt.alloc(), "int a = b", phrase.as_str(), ";")?;
-    check(&rt, rt.alloc(), source.as_str(), "arrays in indexes")
+fn largest_source_of_arrays_in_indexes(rt: HostRuntime) {
+    expect_memory(&rt, check_arrays_in_indexes(&rt, rt.alloc()));
 }

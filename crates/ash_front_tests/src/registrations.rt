@@ -61,9 +61,9 @@ fn register_each(
     Ok(())
 }
 
-/// These registrations.
-pub(crate) fn program(alloc: Global) -> Result<Registry, RegistryFault> {
-    let mut registry = Registry::new(alloc);
+/// These registrations. They are boxed, so that no function that has them carries their parts.
+pub(crate) fn program(alloc: Global) -> Result<Box<Registry>, RegistryFault> {
+    let mut registry = Box::new(alloc, Registry::new(alloc))?;
     register_each(&mut registry, &REGISTRATIONS)?;
     Ok(registry)
 }

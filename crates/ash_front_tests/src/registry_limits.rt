@@ -24,31 +24,29 @@ fn add_service(registry: &mut Registry, kind: u16) -> Result<(), RegistryFault> 
     Ok(())
 }
 
-/// Registers the type of a kind.
-fn add_type(alloc: Global, registry: &mut Registry, kind: u16) -> Result<(), RegistryFault> {
-    let name = format!(in alloc; "T{kind}")?;
-    registry.object_type(name.as_str(), kind)
+/// A number between two texts.
+fn numbered(alloc: Global, before: &str, number: u16, after: &str) -> Result<String, AllocError> {
+    format!(in alloc; "{before}{number}{after}")
 }
 
-/// Registers the method of a number.
-fn add_method(alloc: Global, registry: &mut Registry, id: u16) -> Result<(), RegistryFault> {
-    let decl = format!(in alloc; "void m{id}()")?;
-    registry.method("Counter", decl.as_str(), id)
-}
-
-/// Registers the function of a number.
-fn add_function(alloc: Global, registry: &mut Registry, id: u16) -> Result<(), RegistryFault> {
-    let decl = format!(in alloc; "void f{id}()")?;
-    registry.function(0, decl.as_str(), id)
+/// The name or the declaration of the item of this number of those that a limit counts. A service has none.
+fn text_of_item(alloc: Global, limit: Limit, id: u16) -> Result<String, AllocError> {
+    match limit {
+        Limit::Services => Ok(String::new(alloc)),
+        Limit::Types => numbered(alloc, "T", id, ""),
+        Limit::Members => numbered(alloc, "void m", id, "()"),
+        Limit::Functions => numbered(alloc, "void f", id, "()"),
+    }
 }
 
 /// Registers the item of this number of those that a limit counts.
 fn add(alloc: Global, registry: &mut Registry, limit: Limit, id: u16) -> Result<(), RegistryFault> {
+    let text = text_of_item(alloc, limit, id)?;
     match limit {
         Limit::Services => add_service(registry, id),
-        Limit::Types => add_type(alloc, registry, id),
-        Limit::Members => add_method(alloc, registry, id),
-        Limit::Functions => add_function(alloc, registry, id),
+        Limit::Types => registry.object_type(text.as_str(), id),
+        Limit::Members => registry.method("Counter", text.as_str(), id),
+        Limit::Functions => registry.function(0, text.as_str(), id),
     }
 }
 
@@ -138,16 +136,22 @@ fn one_function_too_many(rt: HostRuntime) {
     expect(&rt, is_limit_of_functions(rt.alloc()));
 }
 
-/// Registers a type whose name ends in many `x`, of this length or as long as a name may be.
+/// A name that ends in many `x`, of this length or as long as a name may be.
+fn long_name(alloc: Global, kind: u16, len: usize) -> Result<String, AllocError> {
+    let mut name = numbered(alloc, "T", kind, "_")?;
+    let free = len.min(60_000).saturating_sub(name.len());
+    push_times(&mut name, "x", free)?;
+    Ok(name)
+}
+
+/// Registers a type with such a name.
 fn long_type(
     alloc: Global,
     registry: &mut Registry,
     kind: u16,
     len: usize,
 ) -> Result<(), RegistryFault> {
-    let mut name = format!(in alloc; "T{kind}_")?;
-    let free = len.min(60_000).saturating_sub(name.len());
-    push_times(&mut name, "x", free)?;
+    let name = long_name(alloc, kind, len)?;
     registry.object_type(name.as_str(), kind)
 }
 
@@ -182,7 +186,7 @@ fn refuses_service(registry: &mut Registry) -> Result<bool, RegistryFault> {
 }
 
 fn has_longest_text(alloc: Global) -> Result<bool, RegistryFault> {
-    let mut registry = Registry::new(alloc);
+    let mut registry = Box::new(alloc, Registry::new(alloc))?;
     fill_text(alloc, &mut registry)?;
     let is_longest = takes_the_rest(alloc, &mut registry)?;
     Ok(is_longest && refuses_service(&mut registry)?)

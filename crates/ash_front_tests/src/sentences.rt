@@ -1,19 +1,20 @@
 //! Faults as a person reads them.
 
-use crate::compare::check_text;
+use crate::compare::{check_text, expect_memory};
 use ash_lex::LexFault;
 use ash_parse::{ParseFault, UnsupportedPart};
 use ash_registry::RegistryFault;
-use std::alloc::AllocError;
+use std::alloc::{AllocError, Global};
+use std::process::Abort;
 
 const SENTENCES: &str =
     "no token begins with the character at byte 4; the text is longer than 65,536 bytes; \
     unexpected token or end at byte 12; `**` at byte 7 is not supported; \
     the name, the kind or the number is taken; memory was refused";
 
-#[test]
-fn faults_are_sentences(rt: HostRuntime) -> Result<(), AllocError> {
-    let found = format!(in rt.alloc();
+/// Faults of each of the three crates, and that memory was refused.
+fn sentences(alloc: Global) -> Result<String, AllocError> {
+    format!(in alloc;
         "{}; {}; {}; {}; {}; {}",
         LexFault::BadCharacter { at: 4 },
         LexFault::SourceTooLong,
@@ -24,7 +25,17 @@ fn faults_are_sentences(rt: HostRuntime) -> Result<(), AllocError> {
         },
         RegistryFault::NameTaken,
         RegistryFault::NoMemory
-    )?;
-    check_text(&rt, found.as_str(), SENTENCES, "faults");
+    )
+}
+
+/// Compares the sentences with those that are wanted.
+fn check_sentences(rt: &impl Abort, alloc: Global) -> Result<(), AllocError> {
+    let found = sentences(alloc)?;
+    check_text(rt, found.as_str(), SENTENCES, "faults");
     Ok(())
+}
+
+#[test]
+fn faults_are_sentences(rt: HostRuntime) {
+    expect_memory(&rt, check_sentences(&rt, rt.alloc()));
 }

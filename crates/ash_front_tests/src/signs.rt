@@ -1,6 +1,7 @@
 //! Signs, alone and two side by side.
 
-use crate::tokens::check_shown;
+use crate::compare::{check_text, expect_memory};
+use crate::tokens::{check_shown, code_at, coded_fault};
 use ash_lex::{Sign, Token, TokenKind, lex};
 use std::alloc::{AllocError, Global};
 use std::fmt::Write;
@@ -80,25 +81,54 @@ fn longest_sign(text: &str) -> Option<&'static str> {
     longest
 }
 
-/// Looks at a sign alone.
-fn check_alone(rt: &impl Abort, alloc: Global, text: &str, sign: Sign) -> Result<(), AllocError> {
+/// What `{:?}` prints of the tokens of a text, or its fault.
+fn printed_tokens(alloc: Global, text: &str) -> Result<String, AllocError> {
+    match lex(alloc, text) {
+        Ok(tokens) => format!(in alloc; "{tokens:?}"),
+        Err(fault) => coded_fault(alloc, &fault),
+    }
+}
+
+/// What `{:?}` prints of the token of a sign alone, which is so long.
+fn printed_sign(alloc: Global, sign: Sign, len: usize) -> Result<String, AllocError> {
     let token = Token {
         kind: TokenKind::Sign(sign),
         line: 1,
         from: 0,
-        to: text.len(),
+        to: len,
     };
-    let wanted = vec![in alloc; token]?;
-    assert_eq!(rt; lex(alloc, text), Ok(wanted), "at {text:?}");
+    format!(in alloc; "[{token:?}]")
+}
+
+/// Looks at a sign alone.
+fn check_alone(rt: &impl Abort, alloc: Global, text: &str, sign: Sign) -> Result<(), AllocError> {
+    let found = printed_tokens(alloc, text)?;
+    let wanted = printed_sign(alloc, sign, text.len())?;
+    check_text(rt, found.as_str(), wanted.as_str(), text);
     Ok(())
 }
 
 #[test]
-fn signs_alone(rt: HostRuntime) -> Result<(), AllocError> {
+fn signs_alone(rt: HostRuntime) {
     for (text, sign) in signs() {
-        check_alone(&rt, rt.alloc(), text, *sign)?;
+        expect_memory(&rt, check_alone(&rt, rt.alloc(), text, *sign));
     }
-    Ok(())
+}
+
+/// The longest sign that a text begins with, if it begins with no comment.
+fn sign_of(text: &str) -> Option<&'static str> {
+    if text.starts_with("//") {
+        None
+    } else {
+        longest_sign(text)
+    }
+}
+
+/// Writes the sign at a place, and gives the place after it.
+fn write_sign(out: &mut String, sign: &str, at: usize) -> Result<usize, AllocError> {
+    let to = sign.len().wrapping_add(at);
+    write!(out, "1:{at}-{to} sign {sign}; ")?;
+    Ok(to)
 }
 
 /// What two signs side by side are, by hand: the longest sign at each place, unless a comment begins.
@@ -106,39 +136,40 @@ fn signs_by_hand(alloc: Global, text: &str) -> Result<String, AllocError> {
     let mut out = String::new(alloc);
     let mut at = 0;
     for _ in 0..text.len() {
-        let Some(rest) = text.get(at..) else {
-            break;
-        };
-        if rest.starts_with("//") {
-            break;
-        }
+        let rest = text.get(at..).unwrap_or("");
         if rest.starts_with("/*") {
-            return format!(in alloc; "102 UnclosedComment {at}");
+            return code_at(alloc, "102 UnclosedComment", at);
         }
-        let Some(sign) = longest_sign(rest) else {
-            break;
-        };
-        let to = sign.len().wrapping_add(at);
-        write!(out, "1:{at}-{to} sign {sign}; ")?;
-        at = to;
+        match sign_of(rest) {
+            Some(sign) => at = write_sign(&mut out, sign, at)?,
+            None => break,
+        }
     }
     Ok(out)
 }
 
+/// Looks at two signs side by side.
+fn check_beside(
+    rt: &impl Abort,
+    alloc: Global,
+    first: &str,
+    second: &str,
+) -> Result<(), AllocError> {
+    let text = format!(in alloc; "{first}{second}")?;
+    let wanted = signs_by_hand(alloc, text.as_str())?;
+    check_shown(rt, alloc, text.as_str(), wanted.as_str())
+}
+
 /// Looks at this sign with each sign after it.
-fn check_beside_each(rt: &impl Abort, alloc: Global, first: &str) -> Result<(), AllocError> {
+fn check_beside_each(rt: &impl Abort, alloc: Global, first: &str) {
     for (second, _) in signs() {
-        let text = format!(in alloc; "{first}{second}")?;
-        let wanted = signs_by_hand(alloc, text.as_str())?;
-        check_shown(rt, alloc, text.as_str(), wanted.as_str())?;
+        expect_memory(rt, check_beside(rt, alloc, first, second));
     }
-    Ok(())
 }
 
 #[test]
-fn signs_side_by_side(rt: HostRuntime) -> Result<(), AllocError> {
+fn signs_side_by_side(rt: HostRuntime) {
     for (first, _) in signs() {
-        check_beside_each(&rt, rt.alloc(), first)?;
+        check_beside_each(&rt, rt.alloc(), first);
     }
-    Ok(())
 }

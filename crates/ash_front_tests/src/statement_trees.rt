@@ -1,7 +1,6 @@
 //! Trees of statements, written out by hand.
 
 use crate::trees::check_bodies;
-use std::alloc::AllocError;
 
 static STATEMENTS: [(&str, &str); 5] = [
     // an `else` belongs to the nearest `if`
@@ -53,7 +52,7 @@ static STATEMENTS: [(&str, &str); 5] = [
 ];
 
 #[test]
-fn statements(rt: HostRuntime) -> Result<(), AllocError> {
+fn statements(rt: HostRuntime) {
     check_bodies(&rt, rt.alloc(), &STATEMENTS)
 }
 
@@ -88,6 +87,6 @@ static STATEMENTS_WITH_ARRAYS_AND_INDEXES: [(&str, &str); 2] = [
 ];
 
 #[test]
-fn statements_with_arrays_and_indexes(rt: HostRuntime) -> Result<(), AllocError> {
+fn statements_with_arrays_and_indexes(rt: HostRuntime) {
     check_bodies(&rt, rt.alloc(), &STATEMENTS_WITH_ARRAYS_AND_INDEXES)
 }

@@ -1,6 +1,6 @@
 //! Tokens of texts, and the first faults of texts that have none. Lines and bytes are counted by hand.
 
-use crate::compare::check_text;
+use crate::compare::{check_text, expect_memory};
 use ash_lex::{LexFault, MAX_SOURCE_BYTES, Token, TokenKind, lex};
 use std::alloc::{AllocError, Global};
 use std::fmt::{Display, Write};
@@ -28,13 +28,18 @@ fn show_token(out: &mut String, token: &Token) -> Result<(), AllocError> {
     show_kind(out, &token.kind)
 }
 
+/// A code, and an offset.
+pub(crate) fn code_at(alloc: Global, code: &str, at: usize) -> Result<String, AllocError> {
+    format!(in alloc; "{code} {at}")
+}
+
 /// A fault by its code, with its offset if it has one.
 pub(crate) fn coded_fault(alloc: Global, fault: &LexFault) -> Result<String, AllocError> {
     let code = fault.code();
     match fault {
         LexFault::BadCharacter { at }
         | LexFault::UnclosedComment { at }
-        | LexFault::NumberTooLarge { at } => format!(in alloc; "{code} {at}"),
+        | LexFault::NumberTooLarge { at } => code_at(alloc, code, *at),
         LexFault::SourceTooLong | LexFault::NoMemory => String::from_str(alloc, code),
     }
 }
@@ -66,11 +71,10 @@ pub(crate) fn check_shown(
 }
 
 /// Each row has a text, and its tokens or its fault.
-fn check_rows(rt: &impl Abort, alloc: Global, rows: &[(&str, &str)]) -> Result<(), AllocError> {
+fn check_rows(rt: &impl Abort, alloc: Global, rows: &[(&str, &str)]) {
     for (text, wanted) in rows {
-        check_shown(rt, alloc, text, wanted)?;
+        expect_memory(rt, check_shown(rt, alloc, text, wanted));
     }
-    Ok(())
 }
 
 static TOKENS_OF_TEXTS: [(&str, &str); 13] = [
@@ -109,7 +113,7 @@ static TOKENS_OF_TEXTS: [(&str, &str); 13] = [
 ];
 
 #[test]
-fn tokens_of_texts(rt: HostRuntime) -> Result<(), AllocError> {
+fn tokens_of_texts(rt: HostRuntime) {
     check_rows(&rt, rt.alloc(), &TOKENS_OF_TEXTS)
 }
 
@@ -132,7 +136,7 @@ static LINES_AND_COMMENTS: [(&str, &str); 9] = [
 ];
 
 #[test]
-fn lines_and_comments(rt: HostRuntime) -> Result<(), AllocError> {
+fn lines_and_comments(rt: HostRuntime) {
     check_rows(&rt, rt.alloc(), &LINES_AND_COMMENTS)
 }
 
@@ -153,7 +157,7 @@ static FIRST_FAULTS: [(&str, &str); 13] = [
 ];
 
 #[test]
-fn first_faults(rt: HostRuntime) -> Result<(), AllocError> {
+fn first_faults(rt: HostRuntime) {
     check_rows(&rt, rt.alloc(), &FIRST_FAULTS)
 }
 
@@ -165,7 +169,7 @@ static BYTE_ORDER_MARKS: [(&str, &str); 4] = [
 ];
 
 #[test]
-fn byte_order_marks(rt: HostRuntime) -> Result<(), AllocError> {
+fn byte_order_marks(rt: HostRuntime) {
     check_rows(&rt, rt.alloc(), &BYTE_ORDER_MARKS)
 }
 
@@ -177,31 +181,41 @@ pub(crate) fn push_times(text: &mut String, part: &str, times: usize) -> Result<
     Ok(())
 }
 
-/// Each row has a part, how many of it a text has, and its fault.
-fn check_repeated(
-    rt: &impl Abort,
-    alloc: Global,
-    rows: &[(&str, usize, &str)],
-) -> Result<(), AllocError> {
-    for (part, count, wanted) in rows {
-        let mut text = String::new(alloc);
-        push_times(&mut text, part, *count)?;
-        let row = format!(in alloc; "{count} of {part:?}")?;
-        let found = shown(alloc, text.as_str())?;
-        check_text(rt, found.as_str(), wanted, row.as_str());
-    }
+/// A row with a part, how many of it a text has, and its fault.
+type Repeated<'a> = (&'a str, usize, &'a str);
+
+/// The tokens of a row's text, or its fault.
+fn shown_repeated(alloc: Global, part: &str, count: usize) -> Result<String, AllocError> {
+    let mut text = String::new(alloc);
+    push_times(&mut text, part, count)?;
+    shown(alloc, text.as_str())
+}
+
+/// Compares the fault of a row's text with the one that is wanted.
+fn check_repeated(rt: &impl Abort, alloc: Global, row: Repeated) -> Result<(), AllocError> {
+    let (part, count, wanted) = row;
+    let found = shown_repeated(alloc, part, count)?;
+    let row = format!(in alloc; "{count} of {part:?}")?;
+    check_text(rt, found.as_str(), wanted, row.as_str());
+    Ok(())
+}
+
+/// Compares the code of the fault that memory was refused.
+fn check_refused_memory(rt: &impl Abort, alloc: Global) -> Result<(), AllocError> {
+    let found = coded_fault(alloc, &LexFault::NoMemory)?;
+    check_text(rt, found.as_str(), "509 NoMemory", "no memory");
     Ok(())
 }
 
 #[test]
-fn longest_source(rt: HostRuntime) -> Result<(), AllocError> {
-    let rows = &[
+fn longest_source(rt: HostRuntime) {
+    let rows: &[Repeated] = &[
         (" ", MAX_SOURCE_BYTES, ""),
         (" ", 65_537, "107 SourceTooLong"),
         ("\"", 65_537, "107 SourceTooLong"),
     ];
-    check_repeated(&rt, rt.alloc(), rows)?;
-    let found = coded_fault(rt.alloc(), &LexFault::NoMemory)?;
-    check_text(&rt, found.as_str(), "509 NoMemory", "no memory");
-    Ok(())
+    for row in rows {
+        expect_memory(&rt, check_repeated(&rt, rt.alloc(), *row));
+    }
+    expect_memory(&rt, check_refused_memory(&rt, rt.alloc()));
 }

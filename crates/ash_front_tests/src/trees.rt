@@ -1,7 +1,7 @@
 //! What the trees are compared with. They are written out by hand: `@8` is the place of offset 8 in the first line,
 //! `@8/2` of offset 8 in the second.
 
-use crate::compare::check_text;
+use crate::compare::{check_text, expect_memory};
 use crate::declarations::{coded, parsed};
 use crate::tokens::coded_fault;
 use ash_lex::{Token, lex};
@@ -10,7 +10,7 @@ use std::alloc::{AllocError, Global};
 use std::process::Abort;
 
 /// What `{:?}` prints of the tree of these tokens, or of their fault.
-fn printed_tree(alloc: Global, tokens: &[Token]) -> Result<String, AllocError> {
+pub(crate) fn printed_tree(alloc: Global, tokens: &[Token]) -> Result<String, AllocError> {
     has_one_module(tokens);
     has_one_fault(tokens);
     match parsed(alloc, tokens) {
@@ -51,9 +51,15 @@ fn short(alloc: Global, source: &str) -> Result<String, AllocError> {
     replaced(alloc, printed(alloc, source)?, parts)
 }
 
+/// A text between two others.
+fn between(alloc: Global, before: &str, text: &str, after: &str) -> Result<String, AllocError> {
+    format!(in alloc; "{before}{text}{after}")
+}
+
+/// The tree of a source with these items.
 fn check(rt: &impl Abort, alloc: Global, source: &str, items: &str) -> Result<(), AllocError> {
     let found = short(alloc, source)?;
-    let wanted = format!(in alloc; "Module {{ items: [{items}] }}")?;
+    let wanted = between(alloc, "Module { items: [", items, "] }")?;
     check_text(rt, found.as_str(), wanted.as_str(), source);
     Ok(())
 }
@@ -65,53 +71,36 @@ fn check_value(
     source: &str,
     value: &str,
 ) -> Result<(), AllocError> {
-    let decl = format!(in alloc; "Decl {{ @4, name: \"a\", initializer: Value({value}) }}")?;
-    let items = format!(in alloc;
-        "Vars(Vars {{ of: Type {{ @0, Primitive(Int) }}, decls: [{decl}] }})"
-    )?;
+    let before = "Vars(Vars { of: Type { @0, Primitive(Int) }, \
+        decls: [Decl { @4, name: \"a\", initializer: Value(";
+    let items = between(alloc, before, value, ") }] })")?;
     check(rt, alloc, source, items.as_str())
 }
 
 /// The tree of a function `void f()` with this body.
 fn check_body(rt: &impl Abort, alloc: Global, source: &str, body: &str) -> Result<(), AllocError> {
-    let items = format!(in alloc;
-        "Function(Function {{ @5, result: None, name: \"f\", parameters: [], body: [{body}] }})"
-    )?;
+    let before = "Function(Function { @5, result: None, name: \"f\", parameters: [], body: [";
+    let items = between(alloc, before, body, "] })")?;
     check(rt, alloc, source, items.as_str())
 }
 
 /// Each row has a source, and the value of its variable.
-pub(crate) fn check_values(
-    rt: &impl Abort,
-    alloc: Global,
-    rows: &[(&str, &str)],
-) -> Result<(), AllocError> {
+pub(crate) fn check_values(rt: &impl Abort, alloc: Global, rows: &[(&str, &str)]) {
     for (source, value) in rows {
-        check_value(rt, alloc, source, value)?;
+        expect_memory(rt, check_value(rt, alloc, source, value));
     }
-    Ok(())
 }
 
 /// Each row has a source, and the body of its function.
-pub(crate) fn check_bodies(
-    rt: &impl Abort,
-    alloc: Global,
-    rows: &[(&str, &str)],
-) -> Result<(), AllocError> {
+pub(crate) fn check_bodies(rt: &impl Abort, alloc: Global, rows: &[(&str, &str)]) {
     for (source, body) in rows {
-        check_body(rt, alloc, source, body)?;
+        expect_memory(rt, check_body(rt, alloc, source, body));
     }
-    Ok(())
 }
 
 /// Each row has a source, and its items.
-pub(crate) fn check_items(
-    rt: &impl Abort,
-    alloc: Global,
-    rows: &[(&str, &str)],
-) -> Result<(), AllocError> {
+pub(crate) fn check_items(rt: &impl Abort, alloc: Global, rows: &[(&str, &str)]) {
     for (source, items) in rows {
-        check(rt, alloc, source, items)?;
+        expect_memory(rt, check(rt, alloc, source, items));
     }
-    Ok(())
 }

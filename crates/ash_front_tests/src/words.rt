@@ -1,25 +1,25 @@
 //! Words of the language, and words of parts of it that the profile does not have.
 
+use crate::compare::expect_memory;
 use crate::tokens::check_shown;
 use std::alloc::{AllocError, Global};
 use std::process::Abort;
 
+/// Looks for a word as a token of this kind.
+fn check_word(rt: &impl Abort, alloc: Global, kind: &str, word: &str) -> Result<(), AllocError> {
+    let wanted = format!(in alloc; "1:0-{} {kind} {word}; ", word.len())?;
+    check_shown(rt, alloc, word, wanted.as_str())
+}
+
 /// Looks for each word as a token of this kind.
-fn check_words(
-    rt: &impl Abort,
-    alloc: Global,
-    kind: &str,
-    words: &[&str],
-) -> Result<(), AllocError> {
+fn check_words(rt: &impl Abort, alloc: Global, kind: &str, words: &[&str]) {
     for word in words {
-        let wanted = format!(in alloc; "1:0-{} {kind} {word}; ", word.len())?;
-        check_shown(rt, alloc, word, wanted.as_str())?;
+        expect_memory(rt, check_word(rt, alloc, kind, word));
     }
-    Ok(())
 }
 
 #[test]
-fn reserved_words(rt: HostRuntime) -> Result<(), AllocError> {
+fn reserved_words(rt: HostRuntime) {
     let words = &[
         "and",
         "or",
@@ -58,7 +58,7 @@ fn reserved_words(rt: HostRuntime) -> Result<(), AllocError> {
 }
 
 #[test]
-fn unsupported_words(rt: HostRuntime) -> Result<(), AllocError> {
+fn unsupported_words(rt: HostRuntime) {
     let words = &[
         "auto",
         "catch",

@@ -1,10 +1,9 @@
 //! Rules of typing that sources break, and which fault comes first.
 
-use crate::sources::checks::{bracketed, check_rows, check_source_of, check_sources, with_blanks};
-use std::test::Fail;
+use crate::sources::checks::{bracketed, check_made, check_rows, check_sources, with_blanks};
 
 #[test]
-fn rules_of_typing(rt: HostRuntime) -> Result<(), Fail> {
+fn rules_of_typing(rt: HostRuntime) {
     // The last row has a broken rule after a cycle, which comes before it.
     let rows = "
         UnknownName { at: 8 } | int n = m;
@@ -22,7 +21,7 @@ fn rules_of_typing(rt: HostRuntime) -> Result<(), Fail> {
 }
 
 #[test]
-fn earlier_faults_first(rt: HostRuntime) -> Result<(), Fail> {
+fn earlier_faults_first(rt: HostRuntime) {
     let rows: &[(&[u8], &str)] = &[
         (b"X y; \xff", "BadCharacter { at: 5 }"),
         (b"X y; \"", "BadCharacter { at: 5 }"),
@@ -35,20 +34,20 @@ fn earlier_faults_first(rt: HostRuntime) -> Result<(), Fail> {
 }
 
 #[test]
-fn depth_and_length_before_types(rt: HostRuntime) -> Result<(), Fail> {
+fn depth_and_length_before_types(rt: HostRuntime) {
     let alloc = rt.alloc();
-    let deep = bracketed(alloc, b"X y; int n = ", 65, b";")?;
-    check_source_of(&rt, alloc, &deep, "TooDeep { at: 78 }")?;
-    let shallow = bracketed(alloc, b"X y; int n = ", 64, b";")?;
-    check_source_of(&rt, alloc, &shallow, "UnknownType { at: 0 }")?;
-    let longer = with_blanks(alloc, b"X y;", 65_533)?;
-    check_source_of(&rt, alloc, &longer, "SourceTooLong")?;
-    let longest = with_blanks(alloc, b"X y;", 65_532)?;
-    check_source_of(&rt, alloc, &longest, "UnknownType { at: 0 }")
+    let deep = bracketed(alloc, b"X y; int n = ", 65, b";");
+    check_made(&rt, alloc, deep, "TooDeep { at: 78 }");
+    let shallow = bracketed(alloc, b"X y; int n = ", 64, b";");
+    check_made(&rt, alloc, shallow, "UnknownType { at: 0 }");
+    let longer = with_blanks(alloc, b"X y;", 65_533);
+    check_made(&rt, alloc, longer, "SourceTooLong");
+    let longest = with_blanks(alloc, b"X y;", 65_532);
+    check_made(&rt, alloc, longest, "UnknownType { at: 0 }");
 }
 
 #[test]
-fn sound_scripts(rt: HostRuntime) -> Result<(), Fail> {
+fn sound_scripts(rt: HostRuntime) {
     let rows: &[(&[u8], &str)] = &[
         (b"", "ok"),
         (b"\xef\xbb\xbf", "ok"),
@@ -69,7 +68,7 @@ fn sound_scripts(rt: HostRuntime) -> Result<(), Fail> {
 }
 
 #[test]
-fn interfaces_arrays_casts_and_indexes(rt: HostRuntime) -> Result<(), Fail> {
+fn interfaces_arrays_casts_and_indexes(rt: HostRuntime) {
     // The last rows have a fault of the grammar or of the tokens too, which comes first.
     let rows = "
         UnknownName { at: 8 } | int n = a[0];

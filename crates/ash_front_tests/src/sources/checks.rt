@@ -1,25 +1,37 @@
 //! Sources as bytes, and how checking and reading them end: `ok`, or the fault as `Debug` prints it, with offsets
 //! counted by hand.
 
-use crate::compare::check_text;
+use crate::compare::{check_text, expect_memory};
 use ash_check::ScriptFault;
 use ash_registry::Registry;
 use ash_sources::checking::check_source;
 use ash_sources::fault::{SourceError, SourceFault};
 use ash_sources::sources::{AdmittedScripts, Sources};
 use std::alloc::{AllocError, Global};
+use std::fmt::Debug;
 use std::process::Abort;
-use std::test::Fail;
+
+/// A value as `Debug` prints it.
+fn debugged<T: Debug>(alloc: Global, value: &T) -> Result<String, AllocError> {
+    format!(in alloc; "{value:?}")
+}
+
+/// A fault of the check as `Debug` prints it, without the layer that finds it.
+fn printed_script_fault(alloc: Global, fault: &ScriptFault) -> Result<String, AllocError> {
+    match fault {
+        ScriptFault::Broken(fault) => {
+            format!(in alloc; "{:?} {{ at: {} }}", fault.rule, fault.at)
+        }
+        ScriptFault::Cyclic(names) => debugged(alloc, names),
+    }
+}
 
 /// A fault as `Debug` prints it, without the layer that finds it.
 fn printed_fault(alloc: Global, fault: &SourceFault) -> Result<String, AllocError> {
     match fault {
-        SourceFault::Lexical(fault) => format!(in alloc; "{fault:?}"),
-        SourceFault::Syntactic(fault) => format!(in alloc; "{fault:?}"),
-        SourceFault::Checked(ScriptFault::Broken(fault)) => {
-            format!(in alloc; "{:?} {{ at: {} }}", fault.rule, fault.at)
-        }
-        SourceFault::Checked(ScriptFault::Cyclic(names)) => format!(in alloc; "{names:?}"),
+        SourceFault::Lexical(fault) => debugged(alloc, fault),
+        SourceFault::Syntactic(fault) => debugged(alloc, fault),
+        SourceFault::Checked(fault) => printed_script_fault(alloc, fault),
         SourceFault::NotYet => String::from_str(alloc, "NotYet"),
     }
 }
@@ -52,26 +64,58 @@ pub(crate) fn read(
     printed(alloc, sources.read_tree(alloc, source))
 }
 
-/// Compares how checking a source ends, and how reading it does, where nothing is registered: the same, whichever
-/// scripts are admitted.
-pub(crate) fn check_source_of(
+/// How a source ends, where nothing is registered: checked, or read where these scripts are admitted.
+fn ended(
+    alloc: Global,
+    admitted: Option<AdmittedScripts>,
+    source: &[u8],
+) -> Result<String, AllocError> {
+    let registry = Registry::new(alloc);
+    match admitted {
+        None => checked(alloc, &registry, source),
+        Some(admitted) => read(alloc, &registry, admitted, source),
+    }
+}
+
+/// What a source is done to: it is checked, or read where these scripts are admitted.
+const DONE: [Option<AdmittedScripts>; 3] = [
+    None,
+    Some(AdmittedScripts::All),
+    Some(AdmittedScripts::UsingNothingRegistered),
+];
+
+/// Compares how a source ends where nothing is registered with what is wanted.
+fn check_ended(
     rt: &impl Abort,
     alloc: Global,
     source: &[u8],
     wanted: &str,
-) -> Result<(), Fail> {
-    let registry = Registry::new(alloc);
+) -> Result<(), AllocError> {
     let text = String::from_utf8_lossy(alloc, source)?;
-    let found = checked(alloc, &registry, source)?;
-    check_text(rt, found.as_str(), wanted, text.as_str());
-    for admitted in [
-        AdmittedScripts::All,
-        AdmittedScripts::UsingNothingRegistered,
-    ] {
-        let found = read(alloc, &registry, admitted, source)?;
+    for admitted in &DONE {
+        let found = ended(alloc, *admitted, source)?;
         check_text(rt, found.as_str(), wanted, text.as_str());
     }
     Ok(())
+}
+
+/// Compares how checking a source ends, and how reading it does, where nothing is registered: the same, whichever
+/// scripts are admitted.
+pub(crate) fn check_source_of(rt: &impl Abort, alloc: Global, source: &[u8], wanted: &str) {
+    expect_memory(rt, check_ended(rt, alloc, source, wanted));
+}
+
+/// Compares how a source that is made ends with what is wanted.
+pub(crate) fn check_made(
+    rt: &impl Abort,
+    alloc: Global,
+    made: Result<Vec<u8>, AllocError>,
+    wanted: &str,
+) {
+    match made {
+        Ok(source) => check_source_of(rt, alloc, source.as_slice(), wanted),
+        Err(error) => expect_memory(rt, Err(error)),
+    }
 }
 
 /// The parts of a row: how its source ends, and the source.
@@ -82,22 +126,24 @@ pub(crate) fn parts_of(row: &str) -> (&str, &str) {
 }
 
 /// Each row has how checking and reading end, a bar, and the source.
-pub(crate) fn check_rows(rt: &impl Abort, alloc: Global, rows: &str) -> Result<(), Fail> {
+pub(crate) fn check_rows(rt: &impl Abort, alloc: Global, rows: &str) {
     for row in rows.trim().lines() {
         let (wanted, source) = parts_of(row);
-        check_source_of(rt, alloc, source.as_bytes(), wanted)?;
+        check_source_of(rt, alloc, source.as_bytes(), wanted);
     }
-    Ok(())
 }
 
 /// Each row has a source, and how checking and reading it end.
-pub(crate) fn check_sources(
-    rt: &impl Abort,
-    alloc: Global,
-    rows: &[(&[u8], &str)],
-) -> Result<(), Fail> {
+pub(crate) fn check_sources(rt: &impl Abort, alloc: Global, rows: &[(&[u8], &str)]) {
     for (source, wanted) in rows {
-        check_source_of(rt, alloc, source, wanted)?;
+        check_source_of(rt, alloc, source, wanted);
+    }
+}
+
+/// So many times this byte.
+fn push_times(source: &mut Vec<u8>, byte: u8, times: usize) -> Result<(), AllocError> {
+    for _ in 0..times {
+        source.push(byte)?;
     }
     Ok(())
 }
@@ -105,7 +151,7 @@ pub(crate) fn check_sources(
 /// `text`, and so many blanks after it.
 pub(crate) fn with_blanks(alloc: Global, text: &[u8], count: usize) -> Result<Vec<u8>, AllocError> {
     let mut source = Vec::from_slice(alloc, text)?;
-    source.extend_from_slice(&vec![in alloc; b' '; count]?)?;
+    push_times(&mut source, b' ', count)?;
     Ok(source)
 }
 
@@ -117,9 +163,9 @@ pub(crate) fn bracketed(
     suffix: &[u8],
 ) -> Result<Vec<u8>, AllocError> {
     let mut source = Vec::from_slice(alloc, prefix)?;
-    source.extend_from_slice(&vec![in alloc; b'('; count]?)?;
-    source.extend_from_slice(b"1")?;
-    source.extend_from_slice(&vec![in alloc; b')'; count]?)?;
+    push_times(&mut source, b'(', count)?;
+    source.push(b'1')?;
+    push_times(&mut source, b')', count)?;
     source.extend_from_slice(suffix)?;
     Ok(source)
 }

@@ -1,13 +1,14 @@
 //! Sources that are refused for a name or for a type where a small script is nearly right.
 
+use crate::compare::expect_memory;
 use crate::sources::checks::{check_rows, check_source_of};
 use std::alloc::{AllocError, Global};
 use std::fmt::Write;
-use std::test::Fail;
+use std::process::Abort;
 
 /// A function's name is no variable, and an initializer has no parameters.
 #[test]
-fn refused_for_names(rt: HostRuntime) -> Result<(), Fail> {
+fn refused_for_names(rt: HostRuntime) {
     check_rows(
         &rt,
         rt.alloc(),
@@ -24,7 +25,7 @@ fn refused_for_names(rt: HostRuntime) -> Result<(), Fail> {
 }
 
 #[test]
-fn declarations(rt: HostRuntime) -> Result<(), Fail> {
+fn declarations(rt: HostRuntime) {
     check_rows(
         &rt,
         rt.alloc(),
@@ -37,7 +38,7 @@ fn declarations(rt: HostRuntime) -> Result<(), Fail> {
 }
 
 #[test]
-fn statements(rt: HostRuntime) -> Result<(), Fail> {
+fn statements(rt: HostRuntime) {
     check_rows(
         &rt,
         rt.alloc(),
@@ -61,11 +62,22 @@ fn globals(alloc: Global, count: u32) -> Result<String, AllocError> {
     Ok(source)
 }
 
+/// Looks at a source with so many globals.
+fn check_globals(
+    rt: &impl Abort,
+    alloc: Global,
+    count: u32,
+    wanted: &str,
+) -> Result<(), AllocError> {
+    let source = globals(alloc, count)?;
+    check_source_of(rt, alloc, source.as_bytes(), wanted);
+    Ok(())
+}
+
 #[test]
-fn globals_at_their_limit(rt: HostRuntime) -> Result<(), Fail> {
-    let most = globals(rt.alloc(), 256)?;
-    check_source_of(&rt, rt.alloc(), most.as_bytes(), "ok")?;
+fn globals_at_their_limit(rt: HostRuntime) {
+    let alloc = rt.alloc();
+    expect_memory(&rt, check_globals(&rt, alloc, 256, "ok"));
     // The name of the last comes after 10 globals of 7 bytes, 90 of 8, 156 of 9, and 4 bytes.
-    let more = globals(rt.alloc(), 257)?;
-    check_source_of(&rt, rt.alloc(), more.as_bytes(), "TooMany { at: 2198 }")
+    expect_memory(&rt, check_globals(&rt, alloc, 257, "TooMany { at: 2198 }"));
 }

@@ -1,30 +1,21 @@
 //! Sources, and what reading refuses them for before their types are looked at.
 
-use crate::sources::checks::{bracketed, check_rows, check_source_of, check_sources, with_blanks};
+use crate::sources::checks::{bracketed, check_made, check_rows, check_sources, with_blanks};
 use std::alloc::Global;
 use std::process::Abort;
-use std::test::Fail;
 
 #[test]
-fn refused_for_length(rt: HostRuntime) -> Result<(), Fail> {
+fn refused_for_length(rt: HostRuntime) {
     let alloc = rt.alloc();
-    check_source_of(&rt, alloc, &with_blanks(alloc, b"", 65_536)?, "ok")?;
-    check_source_of(
-        &rt,
-        alloc,
-        &with_blanks(alloc, b"", 65_537)?,
-        "SourceTooLong",
-    )?;
-    check_source_of(
-        &rt,
-        alloc,
-        &with_blanks(alloc, b"\xff", 65_536)?,
-        "SourceTooLong",
-    )
+    check_made(&rt, alloc, with_blanks(alloc, b"", 65_536), "ok");
+    let longer = with_blanks(alloc, b"", 65_537);
+    check_made(&rt, alloc, longer, "SourceTooLong");
+    let no_text = with_blanks(alloc, b"\xff", 65_536);
+    check_made(&rt, alloc, no_text, "SourceTooLong");
 }
 
 #[test]
-fn refused_for_bytes(rt: HostRuntime) -> Result<(), Fail> {
+fn refused_for_bytes(rt: HostRuntime) {
     // A lexical fault comes before bytes after it that are no text.
     let rows: &[(&[u8], &str)] = &[
         (b"int \"", "BadCharacter { at: 4 }"),
@@ -39,7 +30,7 @@ fn refused_for_bytes(rt: HostRuntime) -> Result<(), Fail> {
 }
 
 #[test]
-fn refused_for_comments_and_numbers(rt: HostRuntime) -> Result<(), Fail> {
+fn refused_for_comments_and_numbers(rt: HostRuntime) {
     check_rows(
         &rt,
         rt.alloc(),
@@ -52,7 +43,7 @@ fn refused_for_comments_and_numbers(rt: HostRuntime) -> Result<(), Fail> {
 }
 
 #[test]
-fn refused_for_the_first_token_that_fits_nowhere(rt: HostRuntime) -> Result<(), Fail> {
+fn refused_for_the_first_token_that_fits_nowhere(rt: HostRuntime) {
     check_rows(
         &rt,
         rt.alloc(),
@@ -73,7 +64,7 @@ fn refused_for_the_first_token_that_fits_nowhere(rt: HostRuntime) -> Result<(), 
 }
 
 #[test]
-fn refused_for_what_the_profile_does_not_have(rt: HostRuntime) -> Result<(), Fail> {
+fn refused_for_what_the_profile_does_not_have(rt: HostRuntime) {
     check_rows(
         &rt,
         rt.alloc(),
@@ -87,16 +78,15 @@ fn refused_for_what_the_profile_does_not_have(rt: HostRuntime) -> Result<(), Fai
 }
 
 /// Each row has how many brackets a source has, and how reading it ends.
-fn check_brackets(rt: &impl Abort, alloc: Global, rows: &[(usize, &str)]) -> Result<(), Fail> {
+fn check_brackets(rt: &impl Abort, alloc: Global, rows: &[(usize, &str)]) {
     for (count, wanted) in rows {
-        let source = bracketed(alloc, b"int f() { return ", *count, b"; }")?;
-        check_source_of(rt, alloc, &source, wanted)?;
+        let source = bracketed(alloc, b"int f() { return ", *count, b"; }");
+        check_made(rt, alloc, source, wanted);
     }
-    Ok(())
 }
 
 #[test]
-fn refused_for_depth(rt: HostRuntime) -> Result<(), Fail> {
+fn refused_for_depth(rt: HostRuntime) {
     let rows = &[
         (16, "ok"),
         (17, "ok"),
@@ -107,7 +97,7 @@ fn refused_for_depth(rt: HostRuntime) -> Result<(), Fail> {
 }
 
 #[test]
-fn sources_that_are_read(rt: HostRuntime) -> Result<(), Fail> {
+fn sources_that_are_read(rt: HostRuntime) {
     let rows: &[(&[u8], &str)] = &[
         (b" \t\r\n", "ok"),
         (b"int n = 2147483647;", "ok"),

@@ -3,43 +3,64 @@
 
 use crate::compare::check_text;
 use crate::sources::checks::{checked, parts_of, read};
-use ash_registry::Registry;
+use ash_registry::{Registry, RegistryFault};
 use ash_sources::sources::{AdmittedScripts, Sources};
 use ash_steps::sources::SourceReader;
 use std::alloc::{AllocError, Global};
+use std::fmt::Write;
 use std::process::Abort;
 use std::test::Fail;
 
-/// A type with a factory, and a function of a service.
-fn registry(alloc: Global) -> Result<Registry, Fail> {
-    let mut registry = Registry::new(alloc);
+/// Registers a type with a factory, and a function of a service.
+fn register(registry: &mut Registry) -> Result<(), RegistryFault> {
     registry.object_type("Counter", 1)?;
     registry.factory("Counter", "Counter@ make(int)")?;
     registry.service(2)?;
-    registry.function(0, "int total()", 1)?;
+    registry.function(0, "int total()", 1)
+}
+
+/// These registrations. They are boxed, so that no function that has them carries their parts.
+fn registry(alloc: Global) -> Result<Box<Registry>, RegistryFault> {
+    let mut registry = Box::new(alloc, Registry::new(alloc))?;
+    register(&mut registry)?;
     Ok(registry)
 }
+
+/// All scripts, and those that use nothing registered.
+const ADMITTED: [AdmittedScripts; 2] = [
+    AdmittedScripts::All,
+    AdmittedScripts::UsingNothingRegistered,
+];
 
 /// How a source ends: checked, read where all scripts are admitted, and read where those are that use nothing
 /// registered.
 fn ends(alloc: Global, registry: &Registry, source: &[u8]) -> Result<String, AllocError> {
-    let checked = checked(alloc, registry, source)?;
-    let all = read(alloc, registry, AdmittedScripts::All, source)?;
-    let alone = read(
-        alloc,
-        registry,
-        AdmittedScripts::UsingNothingRegistered,
-        source,
-    )?;
-    format!(in alloc; "{checked}, {all}, {alone}")
+    let mut ends = checked(alloc, registry, source)?;
+    for admitted in &ADMITTED {
+        let end = read(alloc, registry, *admitted, source)?;
+        write!(ends, ", {end}")?;
+    }
+    Ok(ends)
 }
 
+/// Compares how a row's source ends with what is wanted.
+fn check_row(
+    rt: &impl Abort,
+    alloc: Global,
+    registry: &Registry,
+    row: &str,
+) -> Result<(), AllocError> {
+    let (wanted, source) = parts_of(row);
+    let found = ends(alloc, registry, source.as_bytes())?;
+    check_text(rt, found.as_str(), wanted, source);
+    Ok(())
+}
+
+/// Each row has how its source ends, a bar, and the source.
 fn check_ends(rt: &impl Abort, alloc: Global, rows: &str) -> Result<(), Fail> {
     let registry = registry(alloc)?;
     for row in rows.trim().lines() {
-        let (wanted, source) = parts_of(row);
-        let found = ends(alloc, &registry, source.as_bytes())?;
-        check_text(rt, found.as_str(), wanted, source);
+        check_row(rt, alloc, &registry, row)?;
     }
     Ok(())
 }
@@ -91,12 +112,17 @@ fn read_by_steps(
     format!(in alloc; "{is_read} {name}")
 }
 
+/// Compares how reading a row's source ends, and the name of its kind, with what is wanted.
+fn check_by_steps(rt: &impl Abort, alloc: Global, row: (&str, u16, &str)) -> Result<(), Fail> {
+    let (source, kind, wanted) = row;
+    let registry = registry(alloc)?;
+    let found = read_by_steps(alloc, &registry, source.as_bytes(), kind)?;
+    check_text(rt, found.as_str(), wanted, source);
+    Ok(())
+}
+
 #[test]
 fn sources_of_steps(rt: HostRuntime) -> Result<(), Fail> {
-    let registry = registry(rt.alloc())?;
-    let found = read_by_steps(rt.alloc(), &registry, b"int n = 2;", 1)?;
-    check_text(&rt, found.as_str(), "true Counter", "a script alone");
-    let found = read_by_steps(rt.alloc(), &registry, b"Counter@ g;", 2)?;
-    check_text(&rt, found.as_str(), "false ", "a script with a counter");
-    Ok(())
+    check_by_steps(&rt, rt.alloc(), ("int n = 2;", 1, "true Counter"))?;
+    check_by_steps(&rt, rt.alloc(), ("Counter@ g;", 2, "false "))
 }

@@ -1,6 +1,7 @@
 //! Cycles of classes: the places, among the classes alone, of those on the cycle that is reported, worked out by hand.
 
-use crate::typing::sources::{Question, check_number, check_rows, printed, tree_of};
+use crate::compare::check_number;
+use crate::typing::sources::{Question, check_rows, printed, tree_of};
 use ash_classes::{Cycle, class_ranks};
 use std::alloc::{AllocError, Global};
 use std::fmt::Write;
@@ -103,13 +104,18 @@ fn cycles_by_arrays(rt: HostRuntime) {
     check_rows(&rt, rt.alloc(), Question::Cycle, CYCLES_BY_ARRAYS)
 }
 
-/// 256 classes, each with a handle of the next; the last has a handle of this type.
+/// Writes the class of this number, with a handle of the class of that one.
+pub(crate) fn write_class(out: &mut String, number: usize, of: usize) -> Result<(), AllocError> {
+    write!(out, "class C{number} {{ C{of}@ x; }} ")
+}
+
+/// 255 classes, each with a handle of the next, and this last one.
 fn chain(alloc: Global, last: &str) -> Result<String, AllocError> {
     let mut source = String::new(alloc);
-    for i in 0..255u16 {
-        write!(source, "class C{i} {{ C{}@ x; }} ", i + 1)?;
+    for number in 0..255_usize {
+        write_class(&mut source, number, number.wrapping_add(1))?;
     }
-    write!(source, "class C255 {{ {last}@ x; }}")?;
+    source.push_str(last)?;
     Ok(source)
 }
 
@@ -148,7 +154,7 @@ fn check_ranks(rt: &impl Abort, alloc: Global, source: &str, count: usize) -> Re
 // Below 256, and falling from each class to the next: there is one way only.
 #[test]
 fn the_ranks_of_a_long_chain(rt: HostRuntime) -> Result<(), Fail> {
-    let source = chain(rt.alloc(), "Counter")?;
+    let source = chain(rt.alloc(), "class C255 { Counter@ x; }")?;
     check_ranks(&rt, rt.alloc(), source.as_str(), 256)
 }
 
@@ -159,7 +165,7 @@ fn no_class_at_all(rt: HostRuntime) -> Result<(), Fail> {
 
 #[test]
 fn a_ring_of_256_classes(rt: HostRuntime) -> Result<(), Fail> {
-    let source = chain(rt.alloc(), "C0")?;
+    let source = chain(rt.alloc(), "class C255 { C0@ x; }")?;
     match ranks_of(rt.alloc(), source.as_str()) {
         Ok(Err(cycle)) => {
             check_rising(&rt, &cycle, 255);

@@ -87,28 +87,43 @@ fn interfaces(alloc: Global) -> Result<Vec<InterfaceSignature<'static>>, AllocEr
     Ok(found)
 }
 
-/// The class alone.
-fn classes(alloc: Global) -> Result<Vec<ClassSignature<'static>>, AllocError> {
+/// The class.
+fn class(alloc: Global) -> Result<ClassSignature<'static>, AllocError> {
     let interfaces = Vec::from_slice(alloc, &[0])?;
     let fields = bindings(alloc, FIELDS)?;
     let methods = functions(alloc, METHODS)?;
     let parameters = Vec::from_slice(alloc, &[INT])?;
-    let mut found = Vec::new(alloc);
-    found.push(ClassSignature {
+    Ok(ClassSignature {
         name: "Node",
         interfaces,
         fields,
         methods,
         parameters,
-    })?;
+    })
+}
+
+/// The class alone.
+fn classes(alloc: Global) -> Result<Vec<ClassSignature<'static>>, AllocError> {
+    let class = class(alloc)?;
+    let mut found = Vec::new(alloc);
+    found.push(class)?;
     Ok(found)
+}
+
+/// These interfaces and classes, the function and the globals.
+fn signatures(
+    alloc: Global,
+    interfaces: Vec<InterfaceSignature<'static>>,
+    classes: Vec<ClassSignature<'static>>,
+) -> Result<Signatures<'static>, AllocError> {
+    let functions = functions(alloc, FUNCTIONS)?;
+    let globals = bindings(alloc, GLOBALS)?;
+    Signatures::new(alloc, interfaces, classes, functions, globals)
 }
 
 /// The interface, the class, the function and the globals.
 pub(crate) fn module_signatures(alloc: Global) -> Result<Signatures<'static>, AllocError> {
     let interfaces = interfaces(alloc)?;
     let classes = classes(alloc)?;
-    let functions = functions(alloc, FUNCTIONS)?;
-    let globals = bindings(alloc, GLOBALS)?;
-    Signatures::new(alloc, interfaces, classes, functions, globals)
+    signatures(alloc, interfaces, classes)
 }

@@ -4,7 +4,7 @@
 use crate::typing::declared::module_signatures;
 use crate::typing::sources::{Question, check_rows, coded, printed, tree_of};
 use ash_check::ScriptError;
-use ash_environment::Environment;
+use ash_environment::{Environment, Signatures};
 use ash_expressions::{AssignmentSide, TypedExpr, check_expr};
 use ash_registrations::Registrations;
 use ash_tree as written;
@@ -32,23 +32,36 @@ fn value_in(tree: &Module) -> Option<&written::Expr> {
     }
 }
 
-/// The typed value, where the globals are declared, or its fault.
-fn check_value(alloc: Global, value: &written::Expr) -> Result<TypedExpr, String> {
-    let signatures = match module_signatures(alloc) {
-        Ok(signatures) => signatures,
-        Err(AllocError) => return Err(String::new(alloc)),
-    };
+/// The typed value, in an environment, or its fault.
+fn check_in(env: &Environment, value: &written::Expr) -> Result<TypedExpr, String> {
+    match check_expr(env, AssignmentSide::Value, value) {
+        Ok(typed) => Ok(typed),
+        Err(error) => Err(coded(env.alloc, &ScriptError::from(error))),
+    }
+}
+
+/// The typed value, where these are declared and nothing is registered, or its fault.
+fn check_where(
+    alloc: Global,
+    signatures: &Signatures,
+    value: &written::Expr,
+) -> Result<TypedExpr, String> {
     let registry = Registrations::new(alloc);
     let env = Environment {
         alloc,
-        signatures: &signatures,
+        signatures,
         registry: &registry,
         this: None,
         locals: &[],
     };
-    match check_expr(&env, AssignmentSide::Value, value) {
-        Ok(typed) => Ok(typed),
-        Err(error) => Err(coded(alloc, &ScriptError::from(error))),
+    check_in(&env, value)
+}
+
+/// The typed value, where the globals are declared, or its fault.
+fn check_value(alloc: Global, value: &written::Expr) -> Result<TypedExpr, String> {
+    match module_signatures(alloc) {
+        Ok(signatures) => check_where(alloc, &signatures, value),
+        Err(AllocError) => Err(String::new(alloc)),
     }
 }
 

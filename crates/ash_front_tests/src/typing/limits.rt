@@ -1,6 +1,9 @@
 //! Limits: how many variables, classes and interfaces a module has, and how many members a class or an interface.
 
-use crate::typing::sources::{Expectation, Question, check_answer, check_number, checked};
+use crate::compare::{check_number, expect_memory};
+use crate::typing::cycles::write_class;
+use crate::typing::sources::{Expectation, Question, check_answer, checked};
+use ash_check::CheckedScript;
 use std::alloc::{AllocError, Global};
 use std::fmt::Write;
 use std::process::Abort;
@@ -27,18 +30,23 @@ fn source_of(alloc: Global, row: &Row) -> Result<String, AllocError> {
     Ok(source)
 }
 
-/// Checks each row's source.
-fn check_limits(rt: &impl Abort, alloc: Global, rows: &[Row]) -> Result<(), Fail> {
-    for row in rows {
-        let source = source_of(alloc, row)?;
-        let expectation = Expectation {
-            source: source.as_str(),
-            wanted: row.wanted,
-            name: row.name,
-        };
-        check_answer(rt, alloc, Question::Outcome, expectation);
-    }
+/// Checks a row's source.
+fn check_limit(rt: &impl Abort, alloc: Global, row: &Row) -> Result<(), AllocError> {
+    let source = source_of(alloc, row)?;
+    let expectation = Expectation {
+        source: source.as_str(),
+        wanted: row.wanted,
+        name: row.name,
+    };
+    check_answer(rt, alloc, Question::Outcome, expectation);
     Ok(())
+}
+
+/// Checks each row's source.
+fn check_limits(rt: &impl Abort, alloc: Global, rows: &[Row]) {
+    for row in rows {
+        expect_memory(rt, check_limit(rt, alloc, row));
+    }
 }
 
 static VARIABLES_OF_A_MODULE: [Row; 4] = [
@@ -84,7 +92,7 @@ static VARIABLES_OF_A_MODULE: [Row; 4] = [
 ];
 
 #[test]
-fn variables_of_a_module(rt: HostRuntime) -> Result<(), Fail> {
+fn variables_of_a_module(rt: HostRuntime) {
     check_limits(&rt, rt.alloc(), &VARIABLES_OF_A_MODULE)
 }
 
@@ -111,7 +119,7 @@ static CLASSES_OF_A_MODULE: [Row; 2] = [
 ];
 
 #[test]
-fn classes_of_a_module(rt: HostRuntime) -> Result<(), Fail> {
+fn classes_of_a_module(rt: HostRuntime) {
     check_limits(&rt, rt.alloc(), &CLASSES_OF_A_MODULE)
 }
 
@@ -176,7 +184,7 @@ static INTERFACES_OF_A_MODULE: [Row; 6] = [
 ];
 
 #[test]
-fn interfaces_of_a_module(rt: HostRuntime) -> Result<(), Fail> {
+fn interfaces_of_a_module(rt: HostRuntime) {
     check_limits(&rt, rt.alloc(), &INTERFACES_OF_A_MODULE)
 }
 
@@ -202,7 +210,7 @@ static FUNCTIONS_HAVE_NO_LIMIT: [Row; 2] = [
 ];
 
 #[test]
-fn functions_have_no_limit(rt: HostRuntime) -> Result<(), Fail> {
+fn functions_have_no_limit(rt: HostRuntime) {
     check_limits(&rt, rt.alloc(), &FUNCTIONS_HAVE_NO_LIMIT)
 }
 
@@ -257,7 +265,7 @@ static MEMBERS_OF_A_CLASS: [Row; 5] = [
 ];
 
 #[test]
-fn members_of_a_class(rt: HostRuntime) -> Result<(), Fail> {
+fn members_of_a_class(rt: HostRuntime) {
     check_limits(&rt, rt.alloc(), &MEMBERS_OF_A_CLASS)
 }
 
@@ -293,17 +301,23 @@ static METHODS_OF_AN_INTERFACE: [Row; 3] = [
 ];
 
 #[test]
-fn methods_of_an_interface(rt: HostRuntime) -> Result<(), Fail> {
+fn methods_of_an_interface(rt: HostRuntime) {
     check_limits(&rt, rt.alloc(), &METHODS_OF_AN_INTERFACE)
 }
 
 /// So many classes, of which each but the first has a field with a handle of the one before.
 fn chain(alloc: Global, count: usize) -> Result<String, AllocError> {
-    let mut source = String::from_str(alloc, "class A0 {}")?;
-    for i in 1..count {
-        write!(source, " class A{i} {{ A{}@ b; }}", i - 1)?;
+    let mut source = String::from_str(alloc, "class C0 {} ")?;
+    for number in 1..count {
+        write_class(&mut source, number, number.wrapping_sub(1))?;
     }
     Ok(source)
+}
+
+/// Looks at the typed module of a chain of 256 classes.
+fn check_chain(rt: &impl Abort, done: &CheckedScript) {
+    check_ranks(rt, done.ranks());
+    check_number(rt, done.module().classes.len(), 256, "the classes");
 }
 
 /// Looks at ranks that rise from 0 with the places.
@@ -321,8 +335,7 @@ fn ranks_of_a_chain(rt: HostRuntime) -> Result<(), Fail> {
     let source = chain(rt.alloc(), 256)?;
     match checked(rt.alloc(), source.as_str()) {
         Ok(done) => {
-            check_ranks(&rt, done.ranks());
-            check_number(&rt, done.module().classes.len(), 256, "the classes");
+            check_chain(&rt, &done);
             Ok(())
         }
         Err(_) => Err(Fail::from("a chain that is no module")),

@@ -5,6 +5,8 @@ ghost use Rattle.std.specs.Prelude.{IfOk};
 ghost use Rattle.ash_tree.specs.TreeViews.{module_of};
 ghost use Rattle.ash_typing.specs.Nesting.{ItemsDeclareInBlocks};
 
+use crate::compare::check_text;
+use crate::registrations::program;
 use crate::typing::cycles::cycle_of;
 use crate::typing::expressions::{operands_of, type_of};
 use ash_check::{CheckedScript, ScriptError, ScriptFault, check};
@@ -15,7 +17,6 @@ use ash_tree::Module;
 use std::alloc::{AllocError, Global};
 use std::fmt::{Display, Write};
 use std::process::Abort;
-use std::test::Fail;
 
 /// A value as it is printed, or nothing where memory is refused.
 pub(crate) fn printed<F: Display>(alloc: Global, fault: &F) -> String {
@@ -35,7 +36,7 @@ fn write_names(out: &mut String, names: &[String]) -> Result<(), AllocError> {
 
 /// Writes a fault by its code, with its offset or its classes.
 fn write_fault(out: &mut String, fault: &ScriptFault) -> Result<(), AllocError> {
-    write!(out, "{}", fault.code())?;
+    out.push_str(fault.code())?;
     match fault {
         ScriptFault::Broken(broken) => write!(out, " {}", broken.at),
         ScriptFault::Cyclic(names) => write_names(out, names.0.as_slice()),
@@ -58,51 +59,10 @@ pub(crate) fn coded(alloc: Global, error: &ScriptError) -> String {
     out
 }
 
-/// What is registered.
-enum Registration {
-    Type(&'static str, u16),
-    Factory(&'static str, &'static str),
-    Method(&'static str, &'static str, u16),
-    Property(&'static str, &'static str, u16),
-    Service(u16),
-    Function(u16, &'static str, u16),
-}
-
-/// The type `Counter`, which takes an `int`, a service, and the type `Plain`, which scripts can't construct.
-static REGISTERED: [Registration; 9] = [
-    Registration::Type("Counter", 1),
-    Registration::Factory("Counter", "Counter@ f(int)"),
-    Registration::Method("Counter", "int add(int)", 1),
-    Registration::Method("Counter", "void fail(int)", 2),
-    Registration::Property("Counter", "int value", 1),
-    Registration::Service(2),
-    Registration::Function(0, "int tally(int)", 1),
-    Registration::Function(0, "int total()", 2),
-    Registration::Type("Plain", 3),
-];
-
-fn register(registry: &mut Registry, registration: &Registration) -> Result<(), RegistryFault> {
-    match registration {
-        Registration::Type(name, kind) => registry.object_type(name, *kind),
-        Registration::Factory(of, decl) => registry.factory(of, decl),
-        Registration::Method(of, decl, id) => registry.method(of, decl, *id),
-        Registration::Property(of, decl, id) => registry.property(of, decl, *id),
-        Registration::Service(kind) => match registry.service(*kind) {
-            Ok(_) => Ok(()),
-            Err(fault) => Err(fault),
-        },
-        Registration::Function(service, decl, id) => registry.function(*service, decl, *id),
-    }
-}
-
-fn registered(alloc: Global) -> Result<Registry, String> {
-    let mut registry = Registry::new(alloc);
-    for registration in &REGISTERED {
-        match register(&mut registry, registration) {
-            Ok(()) => {}
-            Err(fault) => return Err(printed(alloc, &fault)),
-        }
-    }
+/// The program's registrations, and the type `Plain`, which scripts can't construct.
+fn registered(alloc: Global) -> Result<Box<Registry>, RegistryFault> {
+    let mut registry = program(alloc)?;
+    registry.object_type("Plain", 3)?;
     Ok(registry)
 }
 
@@ -121,14 +81,24 @@ pub(crate) fn tree_of(alloc: Global, source: &str) -> Result<Module, String>
     }
 }
 
-/// The typed module of a source, with the ranks of its classes, or its fault.
-pub(crate) fn checked(alloc: Global, source: &str) -> Result<CheckedScript, String> {
-    let registry = registered(alloc)?;
-    let script = tree_of(alloc, source)?;
-    match check(alloc, &registry, &script) {
+/// The typed module of a tree, with the ranks of its classes, or its fault.
+fn checked_tree(alloc: Global, script: &Module) -> Result<CheckedScript, String>
+    requires nested { ItemsDeclareInBlocks (module_of script.now) }
+{
+    let registry = match registered(alloc) {
+        Ok(registry) => registry,
+        Err(fault) => return Err(printed(alloc, &fault)),
+    };
+    match check(alloc, &registry, script) {
         Ok(found) => Ok(found),
         Err(error) => Err(coded(alloc, &error)),
     }
+}
+
+/// The typed module of a source, with the ranks of its classes, or its fault.
+pub(crate) fn checked(alloc: Global, source: &str) -> Result<CheckedScript, String> {
+    let script = tree_of(alloc, source)?;
+    checked_tree(alloc, &script)
 }
 
 /// How the check of a source ends.
@@ -162,11 +132,6 @@ fn answer(alloc: Global, question: Question, source: &str) -> String {
     }
 }
 
-/// Compares a number with the one that is wanted of a source.
-pub(crate) fn check_number(rt: &impl Abort, found: usize, wanted: usize, source: &str) {
-    assert_eq!(rt; found, wanted, "{source}");
-}
-
 /// A source, the answer that is wanted of it, and the name by which a test that fails says which it was.
 #[derive(Clone, Copy)]
 pub(crate) struct Expectation<'a> {
@@ -183,8 +148,7 @@ pub(crate) fn check_answer(
     expectation: Expectation,
 ) {
     let found = answer(alloc, question, expectation.source);
-    let name = expectation.name;
-    assert_eq!(rt; found.as_str(), expectation.wanted, "{name}");
+    check_text(rt, found.as_str(), expectation.wanted, expectation.name);
 }
 
 /// Asks a question about each row's source.
