@@ -1,10 +1,11 @@
 //! Arrays.
 
 use crate::checks::check_text;
-use crate::hosts::{new_host, opened_after_crash, replies};
+use crate::hosts::{BoxedHost, new_host, opened_after_crash, replies};
 use crate::rows::{Row, check_rows};
 use ash_registry::Registry;
 use std::alloc::{AllocError, Global};
+use std::process::Abort;
 use std::test::Fail;
 
 static ROWS: [Row; 4] = [
@@ -146,18 +147,33 @@ fn longest_shown(alloc: Global) -> Result<String, AllocError> {
     Ok(line)
 }
 
-#[test]
-fn the_longest_array(rt: HostRuntime) -> Result<(), Fail> {
-    let alloc = rt.alloc();
+/// Compares how a host shows it.
+fn check_shown(
+    rt: &impl Abort,
+    alloc: Global,
+    host: &mut BoxedHost,
+    what: &str,
+) -> Result<(), Fail> {
+    let found = replies(alloc, host, b"object 1\n")?;
+    let shown = longest_shown(alloc)?;
+    check_text(rt, &found, &shown, what);
+    Ok(())
+}
+
+/// A host with the longest array.
+fn longest(rt: &impl Abort, alloc: Global) -> Result<BoxedHost, Fail> {
     let mut host = new_host(alloc, Registry::new(alloc))?;
     let found = replies(alloc, &mut host, LONGEST)?;
     let wanted = "ok seq 1\nok seq 2\nexception ArrayLimit f 1 seq 3\n";
-    check_text(&rt, &found, wanted, "the longest array");
-    let shown = longest_shown(alloc)?;
-    let found = replies(alloc, &mut host, b"object 1\n")?;
-    check_text(&rt, &found, &shown, "the longest array, shown");
+    check_text(rt, &found, wanted, "the longest array");
+    Ok(host)
+}
+
+#[test]
+fn the_longest_array(rt: HostRuntime) -> Result<(), Fail> {
+    let alloc = rt.alloc();
+    let mut host = longest(&rt, alloc)?;
+    check_shown(&rt, alloc, &mut host, "the longest array, shown")?;
     let mut host = opened_after_crash(alloc, host, Registry::new(alloc))?;
-    let found = replies(alloc, &mut host, b"object 1\n")?;
-    check_text(&rt, &found, &shown, "the longest array, opened again");
-    Ok(())
+    check_shown(&rt, alloc, &mut host, "the longest array, opened again")
 }

@@ -2,12 +2,14 @@
 //! crash.
 
 use crate::checks::{check, check_text};
-use crate::hosts::{crashed, new_host, opened_after_crash, replies};
+use crate::hosts::{
+    both_crashed, closed_disks, new_host, opened_after_crash, opened_host, replies,
+};
 use crate::stores::fuses::{Failing, fuses};
 use ash_disk::{FailingDisk, MemoryDisk, Survives};
 use ash_durable::{CreateFault, Host, StoreFault};
 use ash_registry::Registry;
-use ash_store_fixtures::hosts::{closed, created, opened};
+use ash_store_fixtures::hosts::created;
 use std::alloc::Global;
 use std::process::Abort;
 use std::test::Fail;
@@ -26,14 +28,20 @@ fn fused(
     created(alloc, a, b, Registry::new(alloc))
 }
 
+/// Whether a store is made on disks that fail after so many calls. Only a failure of a disk may keep it from that.
+fn is_made(alloc: Global, fuses: (u64, u64)) -> Result<bool, Fail> {
+    match fused(alloc, fuses.0, fuses.1) {
+        Ok(_) => Ok(true),
+        Err(StoreFault::Create(CreateFault::DeviceFailed)) => Ok(false),
+        Err(fault) => Err(Fail::from(fault)),
+    }
+}
+
 /// How many calls of a disk the making of a store takes.
 fn calls_of_create(alloc: Global, failing: Failing) -> Result<u64, Fail> {
     for calls in 0..100 {
-        let (first, second) = fuses(failing, calls, u64::MAX);
-        match fused(alloc, first, second) {
-            Ok(_) => return Ok(calls),
-            Err(StoreFault::Create(CreateFault::DeviceFailed)) => {}
-            Err(fault) => return Err(Fail::from(fault)),
+        if is_made(alloc, fuses(failing, calls, u64::MAX))? {
+            return Ok(calls);
         }
     }
     Err(Fail::new("no fuse is long enough"))
@@ -54,6 +62,12 @@ fn wanted_of(rows: &[Fused], calls: u64) -> &'static str {
     wanted
 }
 
+/// What is replied to requests where the disks fail after so many calls.
+fn replies_on_fuses(alloc: Global, fuses: (u64, u64), requests: &[u8]) -> Result<String, Fail> {
+    let mut host = fused(alloc, fuses.0, fuses.1)?;
+    replies(alloc, &mut host, requests)
+}
+
 /// Compares what is replied to requests where a disk fails after so many calls beyond those that make the store.
 fn check_fused(
     rt: &impl Abort,
@@ -62,8 +76,7 @@ fn check_fused(
     requests: &[u8],
     wanted: &str,
 ) -> Result<(), Fail> {
-    let mut host = fused(alloc, fuses.0, fuses.1)?;
-    let found = replies(alloc, &mut host, requests)?;
+    let found = replies_on_fuses(alloc, fuses, requests)?;
     let what = format!(in alloc; "after {} and {} calls", fuses.0, fuses.1)?;
     check_text(rt, &found, wanted, &what);
     Ok(())
@@ -184,7 +197,7 @@ fn a_second_snapshot_that_is_not_kept(rt: HostRuntime) -> Result<(), Fail> {
 fn first_example(alloc: Global) -> Result<(MemoryDisk, MemoryDisk), Fail> {
     let mut host = new_host(alloc, Registry::new(alloc))?;
     replies(alloc, &mut host, FIRST)?;
-    Ok(closed(host))
+    Ok(closed_disks(host))
 }
 
 /// What is replied after a crash, and after a second one, where the first disk has had so many calls.
@@ -194,9 +207,8 @@ fn replies_after(
     calls: usize,
     survives: Survives,
 ) -> Result<String, Fail> {
-    let a = crashed(alloc, &disks.0, calls, survives)?;
-    let b = crashed(alloc, &disks.1, usize::MAX, survives)?;
-    let mut host = opened(alloc, a, b, Registry::new(alloc))?;
+    let disks = both_crashed(alloc, disks, calls, survives)?;
+    let mut host = opened_host(alloc, disks, Registry::new(alloc))?;
     let mut all = replies(alloc, &mut host, b"get m n\nseq\ncall m f 1\n")?;
     let mut host = opened_after_crash(alloc, host, Registry::new(alloc))?;
     all.push_str(&replies(alloc, &mut host, b"get m n\nseq\n")?)?;
@@ -207,6 +219,34 @@ const BEFORE_THE_CALL: &str = "ok 2\nok 1\nok 3 seq 2\nok 3\nok 2\n";
 
 const AFTER_THE_CALL: &str = "ok 7\nok 2\nok 8 seq 3\nok 8\nok 3\n";
 
+/// Compares what is replied after a crash, and after a second one, where the first disk has had so many calls, which
+/// are too few for the gate.
+fn check_before_the_gate(
+    rt: &impl Abort,
+    alloc: Global,
+    disks: &(MemoryDisk, MemoryDisk),
+    calls: usize,
+    survives: Survives,
+) -> Result<(), Fail> {
+    let found = replies_after(alloc, disks, calls, survives)?;
+    check_text(rt, &found, BEFORE_THE_CALL, "before the gate is written");
+    Ok(())
+}
+
+/// The same after each crash.
+fn check_each_before_the_gate(
+    rt: &impl Abort,
+    alloc: Global,
+    disks: &(MemoryDisk, MemoryDisk),
+    calls: usize,
+) -> Result<(), Fail> {
+    for seed in 0..50 {
+        check_before_the_gate(rt, alloc, disks, calls, Survives::Part(seed))?;
+    }
+    check_before_the_gate(rt, alloc, disks, calls, Survives::Nothing)?;
+    check_before_the_gate(rt, alloc, disks, calls, Survives::Everything)
+}
+
 // To make the store are 6 writes and syncs of the first disk, and the load 4. So the call's record is on the device
 // after 12, its gate is written after 13 and on the device after 14.
 #[test]
@@ -214,14 +254,48 @@ fn a_crash_after_the_record_is_synced(rt: HostRuntime) -> Result<(), Fail> {
     let disks = first_example(rt.alloc())?;
     check(&rt, &disks.0.calls(), &14, "calls of the first disk");
     for calls in 10..13 {
-        for seed in 0..50 {
-            let found = replies_after(rt.alloc(), &disks, calls, Survives::Part(seed))?;
-            check_text(&rt, &found, BEFORE_THE_CALL, "before the gate is written");
-        }
-        for survives in [Survives::Nothing, Survives::Everything] {
-            let found = replies_after(rt.alloc(), &disks, calls, survives)?;
-            check_text(&rt, &found, BEFORE_THE_CALL, "before the gate is written");
-        }
+        check_each_before_the_gate(&rt, rt.alloc(), &disks, calls)?;
+    }
+    Ok(())
+}
+
+/// After how many calls of the first disk a crash comes, what survives it, what is replied then, and what that shows.
+type AroundGate = (usize, Survives, &'static str, &'static str);
+
+static AROUND_GATE: [AroundGate; 3] = [
+    (13, Survives::Nothing, BEFORE_THE_CALL, "nothing survives"),
+    (
+        13,
+        Survives::Everything,
+        AFTER_THE_CALL,
+        "everything survives",
+    ),
+    (14, Survives::Nothing, AFTER_THE_CALL, "the gate is synced"),
+];
+
+/// Compares what is replied after such a crash.
+fn check_around_gate(
+    rt: &impl Abort,
+    alloc: Global,
+    disks: &(MemoryDisk, MemoryDisk),
+    row: &AroundGate,
+) -> Result<(), Fail> {
+    let (calls, survives, wanted, what) = *row;
+    let found = replies_after(alloc, disks, calls, survives)?;
+    check_text(rt, &found, wanted, what);
+    Ok(())
+}
+
+/// Compares what is replied where a part survives of the gate, which is whole then or not there.
+fn check_torn_gate(
+    rt: &impl Abort,
+    alloc: Global,
+    disks: &(MemoryDisk, MemoryDisk),
+    seed: u64,
+) -> Result<(), Fail> {
+    let found = replies_after(alloc, disks, 13, Survives::Part(seed))?;
+    if found.as_str() != BEFORE_THE_CALL {
+        check_text(rt, &found, AFTER_THE_CALL, "the gate is torn");
     }
     Ok(())
 }
@@ -229,17 +303,11 @@ fn a_crash_after_the_record_is_synced(rt: HostRuntime) -> Result<(), Fail> {
 #[test]
 fn a_crash_while_the_gate_is_written(rt: HostRuntime) -> Result<(), Fail> {
     let disks = first_example(rt.alloc())?;
-    let found = replies_after(rt.alloc(), &disks, 13, Survives::Nothing)?;
-    check_text(&rt, &found, BEFORE_THE_CALL, "nothing survives");
-    let found = replies_after(rt.alloc(), &disks, 13, Survives::Everything)?;
-    check_text(&rt, &found, AFTER_THE_CALL, "everything survives");
-    for seed in 0..200 {
-        let found = replies_after(rt.alloc(), &disks, 13, Survives::Part(seed))?;
-        if found.as_str() != BEFORE_THE_CALL {
-            check_text(&rt, &found, AFTER_THE_CALL, "the gate is torn");
-        }
+    for row in &AROUND_GATE {
+        check_around_gate(&rt, rt.alloc(), &disks, row)?;
     }
-    let found = replies_after(rt.alloc(), &disks, 14, Survives::Nothing)?;
-    check_text(&rt, &found, AFTER_THE_CALL, "the gate is synced");
+    for seed in 0..200 {
+        check_torn_gate(&rt, rt.alloc(), &disks, seed)?;
+    }
     Ok(())
 }

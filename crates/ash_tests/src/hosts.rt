@@ -2,23 +2,61 @@
 //! promises nothing: so its contract is seen once, and not in every test.
 
 use ash_disk::{Disk, MemoryDisk, Survives};
-use ash_durable::{Host, StoreFault};
+use ash_durable::{Host, HostRefused};
 use ash_registry::Registry;
 use ash_serve::RunFault;
 use ash_serve::run::run;
-use ash_store_fixtures::hosts::{closed, created, opened};
+use ash_store_fixtures::hosts::{closed, created, opened, reopened};
 use std::alloc::{AllocError, Global};
 use std::io::{Read, Write};
 use std::test::Fail;
 
+/// A host over disks in memory. It is in a box, since it is large, and held by many tests.
+pub type BoxedHost = Box<Host<MemoryDisk>>;
+
+/// A host in a box.
+fn boxed(alloc: Global, host: Host<MemoryDisk>) -> Result<BoxedHost, AllocError> {
+    Ok(Box::new(alloc, host)?)
+}
+
 /// A host over two empty disks in memory, with this registry.
-pub fn new_host(alloc: Global, registry: Registry) -> Result<Host<MemoryDisk>, StoreFault> {
+pub fn new_host(alloc: Global, registry: Registry) -> Result<BoxedHost, Fail> {
     let (a, b) = (MemoryDisk::new(alloc), MemoryDisk::new(alloc));
-    created(alloc, a, b, registry)
+    Ok(boxed(alloc, created(alloc, a, b, registry)?)?)
+}
+
+/// A host that is opened over these disks, with this registry.
+pub fn opened_host(
+    alloc: Global,
+    disks: (MemoryDisk, MemoryDisk),
+    registry: Registry,
+) -> Result<BoxedHost, Fail> {
+    let (a, b) = disks;
+    Ok(boxed(alloc, opened(alloc, a, b, registry)?)?)
+}
+
+/// What is refused of opening these disks with this registry, if it is.
+pub fn refused_opening(
+    alloc: Global,
+    disks: (MemoryDisk, MemoryDisk),
+    registry: Registry,
+) -> Option<HostRefused<MemoryDisk>> {
+    let (a, b) = disks;
+    Host::open(alloc, a, b, registry).err()
+}
+
+/// A host that was closed and opened again with the same registry.
+pub fn reopened_host(alloc: Global, host: BoxedHost) -> Result<BoxedHost, Fail> {
+    Ok(boxed(alloc, reopened(Box::into_inner(host))?)?)
+}
+
+/// The two disks of a host that is closed.
+pub fn closed_disks(host: BoxedHost) -> (MemoryDisk, MemoryDisk) {
+    closed(Box::into_inner(host))
 }
 
 /// What a crash after so many calls leaves of a disk, or after all calls where there are fewer.
-pub fn crashed(
+fn crashed(
     alloc: Global,
     disk: &MemoryDisk,
     calls: usize,
@@ -28,16 +66,33 @@ pub fn crashed(
     MemoryDisk::with_bytes(alloc, &image)
 }
 
+/// What a crash leaves of two disks, where this survives of what was not synced, and the first has had so many calls.
+pub fn both_crashed(
+    alloc: Global,
+    disks: &(MemoryDisk, MemoryDisk),
+    calls: usize,
+    survives: Survives,
+) -> Result<(MemoryDisk, MemoryDisk), AllocError> {
+    let first = crashed(alloc, &disks.0, calls, survives)?;
+    Ok((first, crashed(alloc, &disks.1, usize::MAX, survives)?))
+}
+
+/// The disks of a host after a crash that nothing survives.
+fn disks_after_crash(
+    alloc: Global,
+    host: BoxedHost,
+) -> Result<(MemoryDisk, MemoryDisk), AllocError> {
+    both_crashed(alloc, &closed_disks(host), usize::MAX, Survives::Nothing)
+}
+
 /// A host that is opened, with this registry, over what a crash of another leaves that nothing survives.
 pub fn opened_after_crash(
     alloc: Global,
-    host: Host<MemoryDisk>,
+    host: BoxedHost,
     registry: Registry,
-) -> Result<Host<MemoryDisk>, Fail> {
-    let (a, b) = closed(host);
-    let a = crashed(alloc, &a, usize::MAX, Survives::Nothing)?;
-    let b = crashed(alloc, &b, usize::MAX, Survives::Nothing)?;
-    Ok(opened(alloc, a, b, registry)?)
+) -> Result<BoxedHost, Fail> {
+    let disks = disks_after_crash(alloc, host)?;
+    opened_host(alloc, disks, registry)
 }
 
 /// How a run ends.

@@ -1,12 +1,14 @@
 //! Stores with what the program registers, which are opened again, with another registry too.
 
 use crate::checks::{check, check_text};
-use crate::hosts::{new_host, replies};
+use crate::hosts::{
+    BoxedHost, closed_disks, new_host, opened_host, refused_opening, reopened_host, replies,
+};
 use ash_disk::MemoryDisk;
-use ash_durable::{Host, StoreFault};
+use ash_durable::{HostRefused, StoreFault};
 use ash_registry::{Registry, RegistryFault};
 use ash_serve::program::registrations::registrations;
-use ash_store_fixtures::hosts::{closed, disk, opened, reopened};
+use ash_store_fixtures::hosts::disk;
 use std::alloc::Global;
 use std::process::Abort;
 use std::test::Fail;
@@ -27,20 +29,25 @@ fn one_more(alloc: Global) -> Result<Registry, RegistryFault> {
 }
 
 /// A new store with the program's registrations.
-fn registered_host(alloc: Global) -> Result<Host<MemoryDisk>, Fail> {
-    Ok(new_host(alloc, registrations(alloc)?)?)
+fn registered_host(alloc: Global) -> Result<BoxedHost, Fail> {
+    new_host(alloc, registrations(alloc)?)
+}
+
+/// Why a store of this file isn't opened, whose disks read as before.
+fn fault_of(refused: &HostRefused<MemoryDisk>, file: &[u8]) -> Result<StoreFault, Fail> {
+    if refused.a.bytes() != file || refused.b.bytes() != [0].as_slice() {
+        return Err("a disk was changed".into());
+    }
+    Ok(refused.fault)
 }
 
 /// Why a store of this file isn't opened with a registry, if it isn't. The disks read as before.
 fn refusal(alloc: Global, file: &[u8], registry: Registry) -> Result<Option<StoreFault>, Fail> {
-    let (a, b) = (disk(alloc, file)?, disk(alloc, &[0])?);
-    let Err(refused) = Host::open(alloc, a, b, registry) else {
-        return Ok(None);
-    };
-    if refused.a.bytes() != file || refused.b.bytes() != [0].as_slice() {
-        return Err("a disk was changed".into());
+    let disks = (disk(alloc, file)?, disk(alloc, &[0])?);
+    match refused_opening(alloc, disks, registry) {
+        Some(refused) => Ok(Some(fault_of(&refused, file)?)),
+        None => Ok(None),
     }
-    Ok(Some(refused.fault))
 }
 
 fn refusal_with_none(alloc: Global, file: &[u8]) -> Result<Option<StoreFault>, Fail> {
@@ -51,55 +58,52 @@ fn refusal_with_program(alloc: Global, file: &[u8]) -> Result<Option<StoreFault>
     refusal(alloc, file, registrations(alloc)?)
 }
 
-/// The disks of a store with the program's registrations and a module, which were handed back where it was opened with
-/// one method more.
-fn refused_disks(rt: &impl Abort, alloc: Global) -> Result<(MemoryDisk, MemoryDisk), Fail> {
+/// The disks of a store with the program's registrations and a module.
+fn stored(alloc: Global) -> Result<(MemoryDisk, MemoryDisk), Fail> {
     let mut host = registered_host(alloc)?;
     replies(alloc, &mut host, b"load m 10\nint n = 2;\n")?;
-    let (first, second) = closed(host);
-    match Host::open(alloc, first, second, one_more(alloc)?) {
-        Ok(_) => Err("opened with another registry".into()),
-        Err(refused) => {
+    Ok(closed_disks(host))
+}
+
+/// The same disks, handed back where the store was opened with one method more.
+fn refused_disks(rt: &impl Abort, alloc: Global) -> Result<(MemoryDisk, MemoryDisk), Fail> {
+    let disks = stored(alloc)?;
+    match refused_opening(alloc, disks, one_more(alloc)?) {
+        None => Err("opened with another registry".into()),
+        Some(refused) => {
             check(rt, &refused.fault, &StoreFault::OtherInterface, "one more");
             Ok((refused.a, refused.b))
         }
     }
 }
 
+/// The first of those disks after the store was opened with what is registered with it.
+fn opened_with_its_own(rt: &impl Abort, alloc: Global) -> Result<MemoryDisk, Fail> {
+    let disks = refused_disks(rt, alloc)?;
+    let mut host = opened_host(alloc, disks, registrations(alloc)?)?;
+    let found = replies(alloc, &mut host, b"seq\nget m n\n")?;
+    check_text(rt, &found, "ok 1\nok 2\n", "opened with its own");
+    let (first, _) = closed_disks(host);
+    Ok(first)
+}
+
 #[test]
 fn one_more_method_is_another_interface(rt: HostRuntime) -> Result<(), Fail> {
-    let alloc = rt.alloc();
-    let (first, second) = refused_disks(&rt, alloc)?;
-    let mut host = opened(alloc, first, second, registrations(alloc)?)?;
-    let found = replies(alloc, &mut host, b"seq\nget m n\n")?;
-    check_text(&rt, &found, "ok 1\nok 2\n", "opened with its own");
+    let first = opened_with_its_own(&rt, rt.alloc())?;
     // Nothing registered is another interface too, the other way round as well.
-    let (first, _) = closed(host);
     let other = Some(StoreFault::OtherInterface);
-    check(
-        &rt,
-        &refusal_with_none(alloc, first.bytes())?,
-        &other,
-        "with none",
-    );
-    check(
-        &rt,
-        &refusal_with_program(alloc, &EMPTY)?,
-        &other,
-        "an empty one",
-    );
-    check(
-        &rt,
-        &refusal_with_none(alloc, &EMPTY)?,
-        &None,
-        "an empty one with none",
-    );
+    let found = refusal_with_none(rt.alloc(), first.bytes())?;
+    check(&rt, &found, &other, "with none");
+    let found = refusal_with_program(rt.alloc(), &EMPTY)?;
+    check(&rt, &found, &other, "an empty one");
+    let found = refusal_with_none(rt.alloc(), &EMPTY)?;
+    check(&rt, &found, &None, "an empty one with none");
     Ok(())
 }
 
 #[test]
 fn a_host_that_is_opened_again_has_what_was_registered(rt: HostRuntime) -> Result<(), Fail> {
-    let mut host = reopened(registered_host(rt.alloc())?)?;
+    let mut host = reopened_host(rt.alloc(), registered_host(rt.alloc())?)?;
     let found = replies(rt.alloc(), &mut host, b"load m 14\nint tally = 1;\n")?;
     check_text(
         &rt,

@@ -1,7 +1,7 @@
 //! Requests that are refused, and sources as long as they may be.
 
 use crate::checks::{check, check_text};
-use crate::hosts::{ending, new_host, replies};
+use crate::hosts::{BoxedHost, ending, new_host, replies};
 use crate::rows::{Row, check_rows};
 use ash_registry::Registry;
 use ash_serve::RunFault;
@@ -167,20 +167,28 @@ fn lines_and_sources_as_long_as_they_may_be(rt: HostRuntime) -> Result<(), Fail>
     Ok(())
 }
 
+/// Compares what is written in a run whose last request is cut by the end.
+fn check_cut(
+    rt: &impl Abort,
+    alloc: Global,
+    host: &mut BoxedHost,
+    requests: &[u8],
+    wanted: &str,
+) -> Result<(), Fail> {
+    let mut written = Vec::new(alloc);
+    let end = ending(alloc, requests, &mut written, host, 1000);
+    check(rt, &end, &Err(RunFault::Truncated), "how the run ends");
+    let found = String::from_utf8(written)?;
+    check_text(rt, &found, wanted, "what is written");
+    Ok(())
+}
+
 #[test]
 fn a_source_that_is_cut_by_the_end(rt: HostRuntime) -> Result<(), Fail> {
     let alloc = rt.alloc();
     let mut host = new_host(alloc, Registry::new(alloc))?;
-    let mut written = Vec::new(alloc);
-    let requests = b"load m 10\nint n = 2;\nload k 3\nab".as_slice();
-    let end = ending(alloc, requests, &mut written, &mut host, 1000);
-    check(&rt, &end, &Err(RunFault::Truncated), "how the run ends");
-    check(
-        &rt,
-        &written.as_slice(),
-        &b"ok seq 1\n".as_slice(),
-        "what is written",
-    );
+    let requests = b"load m 10\nint n = 2;\nload k 3\nab";
+    check_cut(&rt, alloc, &mut host, requests, "ok seq 1\n")?;
     let found = replies(alloc, &mut host, b"get m n\nseq\n")?;
     check_text(&rt, &found, "ok 2\nok 1\n", "what is found then");
     Ok(())
@@ -208,12 +216,8 @@ fn refused_in_one_run(alloc: Global) -> Result<Vec<u8>, AllocError> {
 fn each_refusal_in_one_run(rt: HostRuntime) -> Result<(), Fail> {
     let alloc = rt.alloc();
     let mut host = new_host(alloc, registrations(alloc)?)?;
-    let mut written = Vec::new(alloc);
     let requests = refused_in_one_run(alloc)?;
-    let end = ending(alloc, requests.as_slice(), &mut written, &mut host, 1000);
-    check(&rt, &end, &Err(RunFault::Truncated), "how the run ends");
-    let found = String::from_utf8(written)?;
-    check_text(&rt, &found, REPLIES_OF_ONE_RUN, "what is written");
+    check_cut(&rt, alloc, &mut host, &requests, REPLIES_OF_ONE_RUN)?;
     let found = replies(alloc, &mut host, b"seq\nget m n\n")?;
     check_text(&rt, &found, "ok 1\nok 2\n", "what is found then");
     Ok(())

@@ -1,9 +1,7 @@
 //! Rows: what is asked of a host with what the program registers, and what is replied, byte for byte.
 
 use crate::checks::check_text;
-use crate::hosts::{new_host, opened_after_crash, replies_within};
-use ash_disk::MemoryDisk;
-use ash_durable::Host;
+use crate::hosts::{BoxedHost, new_host, opened_after_crash, replies_within};
 use ash_serve::program::registrations::registrations;
 use std::alloc::{AllocError, Global};
 use std::process::Abort;
@@ -49,7 +47,7 @@ fn check_part(
     rt: &impl Abort,
     alloc: Global,
     row: &Row,
-    host: &mut Host<MemoryDisk>,
+    host: &mut BoxedHost,
     part: &[Exchange],
 ) -> Result<(), Fail> {
     let requests = requests_of(alloc, part)?;

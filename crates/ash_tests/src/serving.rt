@@ -1,14 +1,14 @@
 //! Serving and checking over readers and writers that fail, and a store that is served again from its disks.
 
-use crate::checks::{check, check_text};
-use crate::hosts::{ending, new_host, replies};
+use crate::checks::{check, check_bytes, check_text};
+use crate::hosts::{both_crashed, closed_disks, ending, new_host, opened_host, replies};
 use ash_disk::{MemoryDisk, Survives};
 use ash_registry::Registry;
 use ash_serve::program::check::run_check;
+use ash_serve::program::ending::ProgramEnd;
 use ash_serve::program::fault::ProgramFault;
 use ash_serve::program::service::{Service, ServiceEnd, serve_stored};
 use ash_serve::{ReadFault, RunFault};
-use ash_store_fixtures::hosts::{closed, opened};
 use std::alloc::Global;
 use std::io;
 use std::io::{ErrorKind, Read, Write};
@@ -89,22 +89,25 @@ fn served_stored(
 fn stored(alloc: Global) -> Result<(MemoryDisk, MemoryDisk), Fail> {
     let mut host = new_host(alloc, Registry::new(alloc))?;
     replies(alloc, &mut host, b"load m 10\nint n = 7;\n")?;
-    Ok(closed(host))
+    Ok(closed_disks(host))
+}
+
+/// The same after the store was served, and what was written is added.
+fn stored_and_served(
+    alloc: Global,
+    written: &mut Vec<u8>,
+) -> Result<(MemoryDisk, MemoryDisk), Fail> {
+    let (a, b) = stored(alloc)?;
+    let ServiceEnd { end, a, b } = served_stored(alloc, a, b, b"load k 10\nint n = 8;\n", written);
+    end?;
+    Ok((a, b))
 }
 
 #[test]
 fn serves_again_from_the_disks_that_it_hands_back(rt: HostRuntime) -> Result<(), Fail> {
     let alloc = rt.alloc();
-    let (a, b) = stored(alloc)?;
     let mut written = Vec::new(alloc);
-    let ServiceEnd { end, a, b } = served_stored(
-        alloc,
-        a,
-        b,
-        b"load k 10\nint n = 8;\n",
-        &mut written,
-    );
-    end?;
+    let (a, b) = stored_and_served(alloc, &mut written)?;
     served_stored(alloc, a, b, b"get m n\nget k n\nseq\n", &mut written).end?;
     let wanted = b"ok seq 2\nok 7\nok 8\nok 2\n".as_slice();
     check(&rt, &written.as_slice(), &wanted, "a store that was served");
@@ -167,46 +170,74 @@ fn a_write_that_fails_is_reported(rt: HostRuntime) -> Result<(), Fail> {
 const ANSWERED: &[u8] =
     b"load m 45\nint n = 2; int f(int k) { n += k; return n; }\ncall m f 5\ncall m f 1\ncall m f 1\n";
 
-/// How many requests were answered and are found again after a crash, where a write of the replies fails after so many
-/// writes and flushes, and of how many answers a byte was written.
-fn found_and_written(alloc: Global, left: usize, survives: Survives) -> Result<(u64, u64), Fail> {
+/// Serves those requests where a write of the replies fails after so many writes and flushes: what was written, and the
+/// disks.
+fn answered(alloc: Global, left: usize) -> Result<(Vec<u8>, (MemoryDisk, MemoryDisk)), Fail> {
     let mut host = new_host(alloc, Registry::new(alloc))?;
     let mut writer = Refusing {
         bytes: Vec::new(alloc),
         left,
     };
     let _ = ending(alloc, ANSWERED, &mut writer, &mut host, 1000);
-    let (a, b) = closed(host);
-    let first = a.crash_image(a.calls(), survives)?;
-    let second = b.crash_image(b.calls(), survives)?;
-    let a = MemoryDisk::with_bytes(alloc, &first)?;
-    let b = MemoryDisk::with_bytes(alloc, &second)?;
-    let host = opened(alloc, a, b, Registry::new(alloc))?;
+    Ok((writer.bytes, closed_disks(host)))
+}
+
+/// How many requests were answered of those that are found after a crash.
+fn seq_after_crash(
+    alloc: Global,
+    disks: &(MemoryDisk, MemoryDisk),
+    survives: Survives,
+) -> Result<u64, Fail> {
+    let disks = both_crashed(alloc, disks, usize::MAX, survives)?;
+    let host = opened_host(alloc, disks, Registry::new(alloc))?;
+    Ok(host.seq())
+}
+
+/// Of how many answers a byte was written.
+fn begun_answers(bytes: &[u8]) -> u64 {
     let mut written = 0_u64;
     let mut begins = true;
-    for byte in &writer.bytes {
+    for byte in bytes {
         if begins {
             written = written.wrapping_add(1);
         }
         begins = *byte == b'\n';
     }
-    Ok((host.seq(), written))
+    written
+}
+
+/// How many requests were answered and are found again after a crash, where a write of the replies fails after so many
+/// writes and flushes, and of how many answers a byte was written.
+fn found_and_written(alloc: Global, left: usize, survives: Survives) -> Result<(u64, u64), Fail> {
+    let (written, disks) = answered(alloc, left)?;
+    let found = seq_after_crash(alloc, &disks, survives)?;
+    Ok((found, begun_answers(&written)))
+}
+
+/// Compares the two.
+fn check_found(
+    rt: &impl Abort,
+    alloc: Global,
+    left: usize,
+    survives: Survives,
+) -> Result<(), Fail> {
+    let (found, written) = found_and_written(alloc, left, survives)?;
+    let is_found = found >= written && found <= written.wrapping_add(1);
+    check(
+        rt,
+        &(left, is_found),
+        &(left, true),
+        "the answers that are found",
+    );
+    Ok(())
 }
 
 #[test]
 fn an_answer_of_which_a_byte_was_written_is_found(rt: HostRuntime) -> Result<(), Fail> {
     // Four replies of 9, 11, 11 and 11 bytes, each with its line feed, and a flush each.
     for left in 0..50 {
-        for survives in [Survives::Nothing, Survives::Everything] {
-            let (found, written) = found_and_written(rt.alloc(), left, survives)?;
-            let is_found = found >= written && found <= written.wrapping_add(1);
-            check(
-                &rt,
-                &(left, is_found),
-                &(left, true),
-                "the answers that are found",
-            );
-        }
+        check_found(&rt, rt.alloc(), left, Survives::Nothing)?;
+        check_found(&rt, rt.alloc(), left, Survives::Everything)?;
     }
     Ok(())
 }
@@ -219,37 +250,49 @@ static NUMBERED: [(RunFault, &str); 5] = [
     (RunFault::NoMemory, "509 NoMemory"),
 ];
 
-#[test]
-fn a_check_whose_file_or_line_fails(rt: HostRuntime) -> Result<(), Fail> {
-    let registry = Registry::new(rt.alloc());
-    let unread = Failing {
+/// Compares by which fault of a run a check ends, and that its status is 1.
+fn check_end(rt: &impl Abort, end: &ProgramEnd, wanted: RunFault) {
+    let fault = match &end.fault {
+        Some(ProgramFault::Run(fault)) => Some(*fault),
+        _ => None,
+    };
+    check(
+        rt,
+        &(end.status, fault),
+        &(1, Some(wanted)),
+        "how a check ends",
+    );
+}
+
+/// Compares how a check ends whose reader fails amid a file: nothing is written.
+fn check_unread(rt: &impl Abort, alloc: Global) {
+    let registry = Registry::new(alloc);
+    let reader = Failing {
         bytes: b"int n = 2;",
         left: 4,
     };
-    let mut written = Vec::new(rt.alloc());
-    let end = run_check(rt.alloc(), &registry, unread, &mut written);
-    assert!(rt;
-        matches!(
-            end.fault,
-            Some(ProgramFault::Run(RunFault::Read(ReadFault::Failed)))
-        )
-    );
-    assert_eq!(rt; end.status, 1);
-    assert!(rt; written.is_empty());
-    let mut refusing = Refusing {
-        bytes: Vec::new(rt.alloc()),
+    let mut written = Vec::new(alloc);
+    let end = run_check(alloc, &registry, reader, &mut written);
+    check_end(rt, &end, RunFault::Read(ReadFault::Failed));
+    check_bytes(rt, &written, b"", "what is written of a file");
+}
+
+/// Compares how a check ends whose writer fails amid its line.
+fn check_unwritten(rt: &impl Abort, alloc: Global) {
+    let registry = Registry::new(alloc);
+    let mut writer = Refusing {
+        bytes: Vec::new(alloc),
         left: 2,
     };
-    let end = run_check(
-        rt.alloc(),
-        &registry,
-        b"int n = 2;".as_slice(),
-        &mut refusing,
-    );
-    assert!(rt; matches!(end.fault, Some(ProgramFault::Run(RunFault::Write))));
-    assert_eq!(rt; end.status, 1);
-    assert_eq!(rt; refusing.bytes.as_slice(), b"ok".as_slice());
-    Ok(())
+    let end = run_check(alloc, &registry, b"int n = 2;".as_slice(), &mut writer);
+    check_end(rt, &end, RunFault::Write);
+    check_bytes(rt, &writer.bytes, b"ok", "what is written of a line");
+}
+
+#[test]
+fn a_check_whose_file_or_line_fails(rt: HostRuntime) {
+    check_unread(&rt, rt.alloc());
+    check_unwritten(&rt, rt.alloc());
 }
 
 #[test]

@@ -105,6 +105,40 @@ fn go_on(alloc: Global, host: &mut Host<MemoryDisk>, source: &[u8]) -> Result<()
     need(alloc, reply)
 }
 
+/// The state of a host, and its disks after one request more.
+fn gone_on(
+    alloc: Global,
+    mut host: Host<MemoryDisk>,
+    source: &[u8],
+) -> Result<(State, (MemoryDisk, MemoryDisk)), Fail> {
+    let before = state(&mut host);
+    go_on(alloc, &mut host, source)?;
+    Ok((before, closed(host)))
+}
+
+/// The state that is found after a crash that nothing survives.
+fn state_after_crash(
+    alloc: Global,
+    disks: &(MemoryDisk, MemoryDisk),
+) -> Result<Result<State, StoreFault>, Fail> {
+    let first = image_after(&disks.0, usize::MAX, Survives::Nothing)?;
+    let second = image_after(&disks.1, usize::MAX, Survives::Nothing)?;
+    found_state(alloc, &first, &second)
+}
+
+/// The state of a host, and the one that is found after one request more and a crash.
+fn states_from(
+    alloc: Global,
+    host: Host<MemoryDisk>,
+    source: &[u8],
+) -> Result<Result<(State, State), StoreFault>, Fail> {
+    let (before, disks) = gone_on(alloc, host, source)?;
+    match state_after_crash(alloc, &disks)? {
+        Ok(after) => Ok(Ok((before, after))),
+        Err(fault) => Ok(Err(fault)),
+    }
+}
+
 /// Opens what a crash left, handles one request more, and opens what a second crash leaves: the state that was found
 /// first, and the last.
 fn states_of(
@@ -114,17 +148,8 @@ fn states_of(
     second: &[u8],
 ) -> Result<Result<(State, State), StoreFault>, Fail> {
     let (a, b) = (disk(alloc, first)?, disk(alloc, second)?);
-    let mut host = match opened(alloc, a, b, Registry::new(alloc)) {
-        Ok(host) => host,
-        Err(fault) => return Ok(Err(fault)),
-    };
-    let before = state(&mut host);
-    go_on(alloc, &mut host, source)?;
-    let (a, b) = closed(host);
-    let first = image_after(&a, a.calls(), Survives::Nothing)?;
-    let second = image_after(&b, b.calls(), Survives::Nothing)?;
-    match found_state(alloc, &first, &second)? {
-        Ok(after) => Ok(Ok((before, after))),
+    match opened(alloc, a, b, Registry::new(alloc)) {
+        Ok(host) => states_from(alloc, host, source),
         Err(fault) => Ok(Err(fault)),
     }
 }
@@ -164,23 +189,58 @@ pub(crate) fn crash_of(number: u64) -> Crash {
     }
 }
 
-/// The first of so many crashes at a moment, a pair of calls, whose images don't hold what they are to hold.
+/// A moment: how many parts of a plan are done, and how many calls each disk has had.
+type Moment = (usize, usize, usize);
+
+/// Whether the images of a crash at a moment hold what they are to hold.
+fn is_held_after(
+    alloc: Global,
+    plan: &Plan,
+    stopped: &Stopped,
+    moment: Moment,
+    crash: Crash,
+) -> Result<bool, Fail> {
+    let (done, first, second) = moment;
+    let first = image_after(&stopped.first, first, crash.0)?;
+    let second = image_after(&stopped.second, second, crash.1)?;
+    is_held(alloc, plan, done, &first, &second)
+}
+
+/// How many crashes there are at a moment.
+const CRASHES: u64 = 20;
+
+/// The first crash at a moment whose images don't hold what they are to hold.
 fn loss_at(
     alloc: Global,
     plan: &Plan,
     stopped: &Stopped,
-    moment: (usize, usize),
-    crashes: u64,
+    moment: Moment,
 ) -> Result<Option<Crash>, Fail> {
-    for number in 0..crashes {
+    for number in 0..CRASHES {
         let crash = crash_of(number);
-        let first = image_after(&stopped.first, moment.0, crash.0)?;
-        let second = image_after(&stopped.second, moment.1, crash.1)?;
-        if !is_held(alloc, plan, stopped.done, &first, &second)? {
+        if !is_held_after(alloc, plan, stopped, moment, crash)? {
             return Ok(Some(crash));
         }
     }
     Ok(None)
+}
+
+/// Looks at what crashes leave at a moment.
+fn check_moment(
+    rt: &impl Abort,
+    alloc: Global,
+    plan: &Plan,
+    stopped: &Stopped,
+    moment: Moment,
+) -> Result<(), Fail> {
+    let loss = loss_at(alloc, plan, stopped, moment)?;
+    check(
+        rt,
+        &(moment, loss),
+        &(moment, None),
+        "parts, calls of both disks, and a loss",
+    );
+    Ok(())
 }
 
 /// Looks at what crashes leave at each moment since the last part that was acknowledged.
@@ -189,23 +249,25 @@ fn check_moments(
     alloc: Global,
     plan: &Plan,
     stopped: &Stopped,
-    crashes: u64,
 ) -> Result<(), Fail> {
     let (_, from_first, from_second) = plan.reached_after(stopped.done);
     for first in from_first..=stopped.first.calls() {
         for second in from_second..=stopped.second.calls() {
-            let loss = loss_at(alloc, plan, stopped, (first, second), crashes)?;
-            let found = (stopped.done, first, second, loss);
-            let wanted = (stopped.done, first, second, None);
-            check(
-                rt,
-                &found,
-                &wanted,
-                "parts, calls of both disks, and a loss",
-            );
+            check_moment(rt, alloc, plan, stopped, (stopped.done, first, second))?;
         }
     }
     Ok(())
+}
+
+/// Stops a plan over disks with these files, which fail after so many calls.
+fn stopped_after(
+    alloc: Global,
+    plan: &Plan,
+    files: Files,
+    calls: (u64, u64),
+) -> Result<Stopped, Fail> {
+    let disks = disks_of(alloc, files.0, files.1)?;
+    handle_plan(alloc, plan, disks, calls)
 }
 
 /// Stops a plan over disks with these files at each call of one disk, and looks at what crashes leave. Gives how many
@@ -218,13 +280,8 @@ fn count_stops(
     failing: Failing,
 ) -> Result<u64, Fail> {
     for calls in 0..200 {
-        let stopped = handle_plan(
-            alloc,
-            plan,
-            disks_of(alloc, files.0, files.1)?,
-            fuses(failing, calls, u64::MAX),
-        )?;
-        check_moments(rt, alloc, plan, &stopped, 20)?;
+        let stopped = stopped_after(alloc, plan, files, fuses(failing, calls, u64::MAX))?;
+        check_moments(rt, alloc, plan, &stopped)?;
         if stopped.done == plan.parts() {
             return Ok(calls);
         }
@@ -273,20 +330,6 @@ fn a_disk_fails_with_objects(rt: HostRuntime) -> Result<(), Fail> {
     Ok(())
 }
 
-/// The disks of a plan that ran to its end, and the first parts of it.
-fn after_parts(stopped: Stopped, done: usize) -> Stopped {
-    let Stopped {
-        done: _,
-        first,
-        second,
-    } = stopped;
-    Stopped {
-        done,
-        first,
-        second,
-    }
-}
-
 /// Looks at each moment of the part after so many, on disks that have outlived it: what was written later is in no
 /// image.
 fn check_part(
@@ -294,24 +337,24 @@ fn check_part(
     alloc: Global,
     plan: &Plan,
     ended: &Stopped,
-    crashes: u64,
+    done: usize,
 ) -> Result<(), Fail> {
-    let (_, from_first, from_second) = plan.reached_after(ended.done);
-    let (_, to_first, to_second) = plan.reached_after(ended.done.wrapping_add(1));
+    let (_, from_first, from_second) = plan.reached_after(done);
+    let (_, to_first, to_second) = plan.reached_after(done.wrapping_add(1));
     for first in from_first..=to_first {
         for second in from_second..=to_second {
-            let loss = loss_at(alloc, plan, ended, (first, second), crashes)?;
-            let found = (ended.done, first, second, loss);
-            let wanted = (ended.done, first, second, None);
-            check(
-                rt,
-                &found,
-                &wanted,
-                "parts, calls of both disks, and a loss",
-            );
+            check_moment(rt, alloc, plan, ended, (done, first, second))?;
         }
     }
     Ok(())
+}
+
+/// Compares how many parts are done of a plan that ran to its end, and how many calls the disks have had.
+fn check_ended(rt: &impl Abort, plan: &Plan, ended: &Stopped) {
+    check(rt, &ended.done, &plan.parts(), "parts");
+    let (_, first, second) = plan.reached_after(plan.parts());
+    let calls = (ended.first.calls(), ended.second.calls());
+    check(rt, &calls, &(first, second), "calls of both disks");
 }
 
 /// Looks at each moment of each part of a plan over disks with these files.
@@ -321,15 +364,10 @@ fn check_each_moment(
     plan: &Plan,
     files: Files,
 ) -> Result<(), Fail> {
-    let disks = disks_of(alloc, files.0, files.1)?;
-    let mut ended = handle_plan(alloc, plan, disks, (u64::MAX, u64::MAX))?;
-    check(rt, &ended.done, &plan.parts(), "parts");
-    let (_, first, second) = plan.reached_after(plan.parts());
-    let calls = (ended.first.calls(), ended.second.calls());
-    check(rt, &calls, &(first, second), "calls of both disks");
+    let ended = stopped_after(alloc, plan, files, (u64::MAX, u64::MAX))?;
+    check_ended(rt, plan, &ended);
     for done in 0..plan.parts() {
-        ended = after_parts(ended, done);
-        check_part(rt, alloc, plan, &ended, 20)?;
+        check_part(rt, alloc, plan, &ended, done)?;
     }
     Ok(())
 }

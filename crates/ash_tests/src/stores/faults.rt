@@ -18,22 +18,32 @@ use std::test::Fail;
 
 const ALREADY_THERE: StoreFault = StoreFault::Create(CreateFault::AlreadyThere);
 
-const SENTENCES: &str =
-    "a file is open already, neither file is open: nothing was ever stored in them, the file is damaged at byte 50, \
-    the store was made with another registration, \
-    the store is of version 1, and no generation is left for one of version 2";
+static SENTENCES: [(StoreFault, &str); 5] = [
+    (ALREADY_THERE, "a file is open already"),
+    (
+        StoreFault::Open(OpenFault::NoGeneration),
+        "neither file is open: nothing was ever stored in them",
+    ),
+    (
+        StoreFault::Open(OpenFault::Damaged(50)),
+        "the file is damaged at byte 50",
+    ),
+    (
+        StoreFault::OtherInterface,
+        "the store was made with another registration",
+    ),
+    (
+        StoreFault::GenerationSpent,
+        "the store is of version 1, and no generation is left for one of version 2",
+    ),
+];
 
 #[test]
 fn faults_are_sentences(rt: HostRuntime) -> Result<(), Fail> {
-    let text = format!(in rt.alloc();
-        "{}, {}, {}, {}, {}",
-        ALREADY_THERE,
-        StoreFault::Open(OpenFault::NoGeneration),
-        StoreFault::Open(OpenFault::Damaged(50)),
-        StoreFault::OtherInterface,
-        StoreFault::GenerationSpent
-    )?;
-    check_text(&rt, text.as_str(), SENTENCES, "the faults of a store");
+    for (fault, wanted) in &SENTENCES {
+        let text = format!(in rt.alloc(); "{fault}")?;
+        check_text(&rt, text.as_str(), wanted, "the faults of a store");
+    }
     Ok(())
 }
 
@@ -52,13 +62,19 @@ fn not_made(alloc: Global, a: &[u8], b: &[u8]) -> Result<Option<StoreFault>, Fai
     Ok(created(alloc, a, b, Registry::new(alloc)).err())
 }
 
+/// The first disk of a used store.
+fn used_disk(alloc: Global) -> Result<MemoryDisk, Fail> {
+    let (first, _) = closed(used(alloc)?);
+    Ok(first)
+}
+
 #[test]
 fn a_store_that_is_there(rt: HostRuntime) -> Result<(), Fail> {
-    let (before, _) = closed(used(rt.alloc())?);
     let (fault, first, second) = made_again(rt.alloc())?;
     check(&rt, &fault, &ALREADY_THERE, "over a used store");
-    check_bytes(&rt, first.bytes(), before.bytes(), "the first disk");
     check_bytes(&rt, second.bytes(), &[0], "the second disk");
+    let before = used_disk(rt.alloc())?;
+    check_bytes(&rt, first.bytes(), before.bytes(), "the first disk");
     Ok(())
 }
 
@@ -220,8 +236,35 @@ fn survives_of(number: u64) -> Survives {
     }
 }
 
-/// Compares what is found after each crash with what it is to be after one that nothing survives, one that everything
-/// survives, and any other, where it may be the first or this.
+/// What is to be found after a crash: after one that nothing survives, one that everything survives, and any other,
+/// where it may be the first or this.
+fn wanted_after(
+    survives: Survives,
+    found: Result<State, StoreFault>,
+    everything: Result<State, StoreFault>,
+) -> Result<State, StoreFault> {
+    match survives {
+        Survives::Nothing => BEFORE,
+        Survives::Part(_) if found == BEFORE => BEFORE,
+        _ => everything,
+    }
+}
+
+/// Compares what is found after a crash.
+fn check_crash(
+    rt: &impl Abort,
+    alloc: Global,
+    disks: &(MemoryDisk, MemoryDisk),
+    survives: Survives,
+    everything: Result<State, StoreFault>,
+) -> Result<(), Fail> {
+    let found = after_crash(alloc, disks, survives)?;
+    let wanted = wanted_after(survives, found, everything);
+    check(rt, &(survives, found), &(survives, wanted), "after a crash");
+    Ok(())
+}
+
+/// Compares what is found after each crash, where everything that survives leads to this.
 fn check_crashes(
     rt: &impl Abort,
     alloc: Global,
@@ -229,14 +272,7 @@ fn check_crashes(
     everything: Result<State, StoreFault>,
 ) -> Result<(), Fail> {
     for number in 0..202 {
-        let survives = survives_of(number);
-        let found = after_crash(alloc, disks, survives)?;
-        let wanted = match survives {
-            Survives::Nothing => BEFORE,
-            Survives::Part(_) if found == BEFORE => BEFORE,
-            _ => everything,
-        };
-        check(rt, &(survives, found), &(survives, wanted), "after a crash");
+        check_crash(rt, alloc, disks, survives_of(number), everything)?;
     }
     Ok(())
 }
@@ -279,11 +315,16 @@ const LOST_AT_THE_THIRD: &str =
     "ok seq 1\nok 2\nrefused 507 DeviceFailed\nrefused 508 Reopen\nok 1\n\
     refused 508 Reopen\nrefused 508 Reopen\n";
 
+/// What a host replies to these requests whose first disk fails after so many calls.
+fn seven_replies(alloc: Global, calls: u64) -> Result<String, Fail> {
+    let mut host = fused(alloc, calls, 100)?;
+    lines_for(alloc, &mut host, &seven_requests())
+}
+
 #[test]
 fn requests_after_a_failure(rt: HostRuntime) -> Result<(), Fail> {
     // Nine calls on the first disk make the store, and four store the answer to the load.
-    let mut host = fused(rt.alloc(), 13, 100)?;
-    let lines = lines_for(rt.alloc(), &mut host, &seven_requests())?;
+    let lines = seven_replies(rt.alloc(), 13)?;
     check_text(
         &rt,
         lines.as_str(),
@@ -306,24 +347,41 @@ fn number_again(alloc: Global, host: Host<FailingDisk<MemoryDisk>>) -> Result<u6
     opened(alloc, first, second, Registry::new(alloc)).map(|host| seq(&host))
 }
 
-/// How far a store comes whose disks fail after so many calls: how many requests its host answers, or 3 where it is
-/// opened again after them. Only a failure of a disk may end it.
+/// What a host comes to: how many of two requests it answers, its number then, and what opening its store again gives.
+type Served = ((u64, u64), Result<u64, StoreFault>);
+
+fn served(alloc: Global, mut host: Host<FailingDisk<MemoryDisk>>) -> Served {
+    let answers = answers(&mut host);
+    (answers, number_again(alloc, host))
+}
+
+/// What a host comes to whose disks fail after so many calls, or why there is no host.
+fn served_on_fuses(alloc: Global, calls: (u64, u64)) -> Result<Served, StoreFault> {
+    match fused(alloc, calls.0, calls.1) {
+        Ok(host) => Ok(served(alloc, host)),
+        Err(fault) => Err(fault),
+    }
+}
+
+/// How far a host comes: how many requests it answers, or 3 where it is opened again after them.
+fn reached_by(rt: &impl Abort, calls: (u64, u64), served: Served) -> u64 {
+    let ((answered, number), opened) = served;
+    check(rt, &(calls, number), &(calls, answered), "answers by");
+    if opened == Err(StoreFault::Open(OpenFault::DeviceFailed)) {
+        return answered;
+    }
+    check(rt, &(calls, opened), &(calls, Ok(2)), "opened by");
+    3
+}
+
+/// How far a store comes whose disks fail after so many calls, if it is made. Only a failure of a disk may end it.
 fn reached(rt: &impl Abort, alloc: Global, calls: (u64, u64)) -> Option<u64> {
-    let mut host = match fused(alloc, calls.0, calls.1) {
-        Ok(host) => host,
+    match served_on_fuses(alloc, calls) {
+        Ok(served) => Some(reached_by(rt, calls, served)),
         Err(fault) => {
             let wanted = StoreFault::Create(CreateFault::DeviceFailed);
             check(rt, &(calls, fault), &(calls, wanted), "created by");
-            return None;
-        }
-    };
-    let (answered, number) = answers(&mut host);
-    check(rt, &(calls, number), &(calls, answered), "answers by");
-    match number_again(alloc, host) {
-        Err(StoreFault::Open(OpenFault::DeviceFailed)) => Some(answered),
-        opened => {
-            check(rt, &(calls, opened), &(calls, Ok(2)), "opened by");
-            Some(3)
+            None
         }
     }
 }

@@ -1,13 +1,13 @@
 //! The calls of a host, each once, where memory is ample.
 
 use crate::checks::{check, check_text};
+use crate::hosts::{BoxedHost, new_host};
 use crate::stores::runs::{RunSeries, check_life};
-use ash_disk::MemoryDisk;
-use ash_durable::Host;
 use ash_plain_steps::request::Request;
+use ash_registry::Registry;
 use ash_steps::Argument;
 use ash_store_fixtures::hosts::{
-    SOURCE, call, line_for, line_of, lines_for, load, need, new_host, seq, shown,
+    SOURCE, call, line_for, line_of, lines_for, load, need, seq, shown,
 };
 use ash_store_fixtures::lives::{File, HostStep, Run, Start};
 use std::alloc::Global;
@@ -80,7 +80,7 @@ const REPLIES: &str =
 
 #[test]
 fn each_request(rt: HostRuntime) -> Result<(), Fail> {
-    let mut host = new_host(rt.alloc(), &[], &[])?;
+    let mut host = new_host(rt.alloc(), Registry::new(rt.alloc()))?;
     let found = line_for(rt.alloc(), &mut host, &REQUESTS[0])?;
     check_text(&rt, found.as_str(), "ok seq 1\n", "the first request");
     let found = lines_for(rt.alloc(), &mut host, &REQUESTS)?;
@@ -98,7 +98,7 @@ static MISFITS: [Argument; 3] = [
 fn check_refused(
     rt: &impl Abort,
     alloc: Global,
-    host: &mut Host<MemoryDisk>,
+    host: &mut BoxedHost,
     argument: Argument,
 ) -> Result<(), Fail> {
     let found = line_of(alloc, call(host, &[argument]))?;
@@ -113,8 +113,8 @@ fn check_refused(
 }
 
 /// A host that has loaded a module.
-fn loaded(alloc: Global) -> Result<Host<MemoryDisk>, Fail> {
-    let mut host = new_host(alloc, &[], &[])?;
+fn loaded(alloc: Global) -> Result<BoxedHost, Fail> {
+    let mut host = new_host(alloc, Registry::new(alloc))?;
     need(alloc, load(&mut host, SOURCE))?;
     Ok(host)
 }

@@ -34,8 +34,21 @@ fn found(alloc: Global, a: Fused, b: Fused) -> Result<Host<Fused>, HostRefused<F
     Host::open(alloc, a, b, Registry::new(alloc))
 }
 
-/// An opening on disks that fail after so many calls: whether there is a host, and the disks. Only a failure of a
-/// disk may keep it from that.
+/// The disks of a host that is closed.
+fn disks_of(host: Host<Fused>) -> (MemoryDisk, MemoryDisk) {
+    let (a, b) = closed(host);
+    (inner(a), inner(b))
+}
+
+/// The disks that are handed back where there is no host. Only a failure of a disk may keep it from that.
+fn disks_of_refused(refused: HostRefused<Fused>) -> Result<(MemoryDisk, MemoryDisk), Fail> {
+    match refused.fault {
+        StoreFault::Open(OpenFault::DeviceFailed) => Ok((inner(refused.a), inner(refused.b))),
+        fault => Err(Fail::from(fault)),
+    }
+}
+
+/// An opening on disks that fail after so many calls: whether there is a host, and the disks.
 fn opened_on_fuses(
     alloc: Global,
     calls: (u64, u64),
@@ -43,16 +56,8 @@ fn opened_on_fuses(
     let first = FailingDisk::new(disk(alloc, VERSION_ONE)?, calls.0);
     let second = FailingDisk::new(disk(alloc, &[0])?, calls.1);
     match found(alloc, first, second) {
-        Ok(host) => {
-            let (a, b) = closed(host);
-            Ok((true, (inner(a), inner(b))))
-        }
-        Err(refused) => match refused.fault {
-            StoreFault::Open(OpenFault::DeviceFailed) => {
-                Ok((false, (inner(refused.a), inner(refused.b))))
-            }
-            fault => Err(Fail::from(fault)),
-        },
+        Ok(host) => Ok((true, disks_of(host))),
+        Err(refused) => Ok((false, disks_of_refused(refused)?)),
     }
 }
 
@@ -69,7 +74,21 @@ fn opened_after(
     Ok(closed(opened(alloc, a, b, Registry::new(alloc))?))
 }
 
-/// Compares the files after each of 20 crashes at a moment and the next opening.
+/// Compares the files after a crash at a moment and the next opening.
+fn check_crash(
+    rt: &impl Abort,
+    alloc: Global,
+    disks: &(MemoryDisk, MemoryDisk),
+    moment: (usize, usize),
+    crash: Crash,
+) -> Result<(), Fail> {
+    let (first, second) = opened_after(alloc, disks, moment, crash)?;
+    check_bytes(rt, first.bytes(), VERSION_ONE, "the first file");
+    check_bytes(rt, second.bytes(), VERSION_TWO, "the second file");
+    Ok(())
+}
+
+/// The same of each of 20 crashes.
 fn check_moment(
     rt: &impl Abort,
     alloc: Global,
@@ -77,9 +96,7 @@ fn check_moment(
     moment: (usize, usize),
 ) -> Result<(), Fail> {
     for number in 0..20 {
-        let (first, second) = opened_after(alloc, disks, moment, crash_of(number))?;
-        check_bytes(rt, first.bytes(), VERSION_ONE, "the first file");
-        check_bytes(rt, second.bytes(), VERSION_TWO, "the second file");
+        check_crash(rt, alloc, disks, moment, crash_of(number))?;
     }
     Ok(())
 }

@@ -2,10 +2,10 @@
 //! is asked of a host is data, so that each call is proved once and not in each test.
 
 use crate::checks::check_text;
+use crate::hosts::{both_crashed, closed_disks, opened_host};
 use crate::stores::store::check_survives;
 use ash_disk::{MemoryDisk, Survives};
 use ash_registry::Registry;
-use ash_store_fixtures::hosts::{closed, crashed, opened};
 use ash_store_fixtures::lives::{File, HostStep, answers, disks_of};
 use std::alloc::Global;
 use std::process::Abort;
@@ -174,29 +174,31 @@ fn lived(
     disks: (MemoryDisk, MemoryDisk),
     part: &Part,
 ) -> Result<(String, (MemoryDisk, MemoryDisk)), Fail> {
-    let mut host = opened(alloc, disks.0, disks.1, Registry::new(alloc))?;
+    let mut host = opened_host(alloc, disks, Registry::new(alloc))?;
     let answers = answers(alloc, &mut host, part.steps)?;
-    Ok((answers, closed(host)))
+    Ok((answers, closed_disks(host)))
 }
 
-/// What a crash leaves of two disks that nothing survives which was not synced.
-fn after_crash(
+/// Handles a part of a life, with a crash after it. What is found is the same whatever of it survives.
+fn check_part(
+    rt: &impl Abort,
     alloc: Global,
-    disks: &(MemoryDisk, MemoryDisk),
+    disks: (MemoryDisk, MemoryDisk),
+    part: &Part,
+    what: &str,
 ) -> Result<(MemoryDisk, MemoryDisk), Fail> {
-    let first = crashed(alloc, &disks.0, Survives::Nothing)?;
-    Ok((first, crashed(alloc, &disks.1, Survives::Nothing)?))
+    let (answers, left) = lived(alloc, disks, part)?;
+    check_text(rt, answers.as_str(), part.answers, what);
+    check_survives(rt, alloc, &left, (part.looks, part.found))?;
+    Ok(both_crashed(alloc, &left, usize::MAX, Survives::Nothing)?)
 }
 
-/// Handles the parts of a life, with a crash after each. What is found is the same whatever of it survives.
+/// Handles the parts of a life, with a crash after each.
 fn check_life(rt: &impl Abort, alloc: Global, life: &Life) -> Result<(), Fail> {
     let (what, parts) = *life;
     let mut disks = disks_of(alloc, File::Empty, File::Bytes(&[0]))?;
     for part in parts {
-        let (answers, left) = lived(alloc, disks, part)?;
-        check_text(rt, answers.as_str(), part.answers, what);
-        check_survives(rt, alloc, &left, (part.looks, part.found))?;
-        disks = after_crash(alloc, &left)?;
+        disks = check_part(rt, alloc, disks, part, what)?;
     }
     Ok(())
 }

@@ -92,25 +92,53 @@ fn open_host(alloc: Global, a: Fused, b: Fused) -> Result<Host<Fused>, HostRefus
     Host::open(alloc, a, b, Registry::new(alloc))
 }
 
-/// How many parts are acknowledged of a store that is made or opened and then serves, and its disks. Only a failure of
-/// a disk may keep it from that.
+/// How many parts of a plan are acknowledged, and the disks.
+type Served = (usize, Fused, Fused);
+
+/// What is served of these steps by a host that was made or opened, which is a part too.
+fn served_by(mut host: Host<Fused>, source: &[u8], steps: &[Step]) -> Served {
+    let done = count_acknowledged(&mut host, source, steps);
+    let (first, second) = closed(host);
+    (done.wrapping_add(1), first, second)
+}
+
+/// The same where there is no host. Only a failure of a disk may keep a store from being made or opened.
+fn unserved(refused: HostRefused<Fused>) -> Result<Served, Fail> {
+    match refused.fault {
+        StoreFault::Create(CreateFault::DeviceFailed) | StoreFault::Open(OpenFault::DeviceFailed) =>
+            Ok((0, refused.a, refused.b)),
+        fault => Err(Fail::from(fault)),
+    }
+}
+
+/// What is served of these steps where a store is made or opened.
 fn served(
     begun: Result<Host<Fused>, HostRefused<Fused>>,
     source: &[u8],
     steps: &[Step],
-) -> Result<(usize, Fused, Fused), Fail> {
+) -> Result<Served, Fail> {
     match begun {
-        Ok(mut host) => {
-            let done = count_acknowledged(&mut host, source, steps);
-            let (first, second) = closed(host);
-            Ok((done.wrapping_add(1), first, second))
-        }
-        Err(refused) => match refused.fault {
-            StoreFault::Create(CreateFault::DeviceFailed)
-            | StoreFault::Open(OpenFault::DeviceFailed) => Ok((0, refused.a, refused.b)),
-            fault => Err(Fail::from(fault)),
-        },
+        Ok(host) => Ok(served_by(host, source, steps)),
+        Err(refused) => unserved(refused),
     }
+}
+
+/// What is served of a plan before its store is opened again.
+fn served_first(alloc: Global, plan: &Plan, first: Fused, second: Fused) -> Result<Served, Fail> {
+    let begun = if plan.is_new {
+        new_host(alloc, first, second)
+    } else {
+        open_host(alloc, first, second)
+    };
+    served(begun, plan.source, plan.steps)
+}
+
+/// What is served once it is opened again, beside what was before.
+fn served_again(alloc: Global, plan: &Plan, before: Served) -> Result<Served, Fail> {
+    let (done, first, second) = before;
+    let begun = open_host(alloc, first, second);
+    let (more, first, second) = served(begun, plan.source, plan.steps_again)?;
+    Ok((done.wrapping_add(more), first, second))
 }
 
 /// Handles a plan over two disks, each of which fails after so many calls.
@@ -122,19 +150,12 @@ pub(crate) fn handle_plan(
 ) -> Result<Stopped, Fail> {
     let first = FailingDisk::new(disks.0, calls.0);
     let second = FailingDisk::new(disks.1, calls.1);
-    let begun = if plan.is_new {
-        new_host(alloc, first, second)
+    let before = served_first(alloc, plan, first, second)?;
+    let (done, first, second) = if before.0 > plan.steps.len() {
+        served_again(alloc, plan, before)?
     } else {
-        open_host(alloc, first, second)
+        before
     };
-    let (mut done, mut first, mut second) = served(begun, plan.source, plan.steps)?;
-    if done > plan.steps.len() {
-        let begun = open_host(alloc, first, second);
-        let (more, a, b) = served(begun, plan.source, plan.steps_again)?;
-        done = done.wrapping_add(more);
-        first = a;
-        second = b;
-    }
     Ok(Stopped {
         done,
         first: inner(first),

@@ -1,12 +1,11 @@
 //! Stores with what is registered: damage to their bytes, and opening them with another registry.
 
 use crate::checks::{check, check_bytes};
+use crate::hosts::{BoxedHost, closed_disks, new_host, opened_host, refused_opening};
 use ash_disk::MemoryDisk;
-use ash_durable::{Host, OpenFault, StoreFault};
+use ash_durable::{HostRefused, OpenFault, StoreFault};
 use ash_registry::{Registry, RegistryFault};
-use ash_store_fixtures::hosts::{
-    closed, created, discard, disk, load, need, opened, second_generation, snapshot,
-};
+use ash_store_fixtures::hosts::{discard, disk, load, need, second_generation, snapshot};
 use std::alloc::{AllocError, Global};
 use std::process::Abort;
 use std::test::Fail;
@@ -18,28 +17,31 @@ fn one_type(alloc: Global, name: &str) -> Result<Registry, RegistryFault> {
     Ok(registry)
 }
 
-/// Why a store of this file isn't opened with that type registered, if it isn't. The disks read as before, and have had
-/// a sync each.
-fn refusal(alloc: Global, file: &[u8], name: &str) -> Result<Option<StoreFault>, Fail> {
-    let (a, b) = (disk(alloc, file)?, disk(alloc, &[7])?);
-    let Err(refused) = Host::open(alloc, a, b, one_type(alloc, name)?) else {
-        return Ok(None);
-    };
+/// Why a store of this file isn't opened, whose disks read as before, and have had a sync each.
+fn fault_of(refused: &HostRefused<MemoryDisk>, file: &[u8]) -> Result<StoreFault, Fail> {
     if refused.a.bytes() != file || refused.b.bytes() != [7].as_slice() {
         return Err("a disk was changed".into());
     }
     if refused.a.calls() != 1 || refused.b.calls() != 1 {
         return Err("a disk was written to".into());
     }
-    Ok(Some(refused.fault))
+    Ok(refused.fault)
+}
+
+/// Why a store of this file isn't opened with that type registered, if it isn't.
+fn refusal(alloc: Global, file: &[u8], name: &str) -> Result<Option<StoreFault>, Fail> {
+    let disks = (disk(alloc, file)?, disk(alloc, &[7])?);
+    match refused_opening(alloc, disks, one_type(alloc, name)?) {
+        Some(refused) => Ok(Some(fault_of(&refused, file)?)),
+        None => Ok(None),
+    }
 }
 
 const SOURCE: &[u8] = b"int Tale = 2;";
 
 /// A host with the type `Tall` and a module.
-fn loaded(alloc: Global) -> Result<Host<MemoryDisk>, Fail> {
-    let (a, b) = (MemoryDisk::new(alloc), MemoryDisk::new(alloc));
-    let mut host = created(alloc, a, b, one_type(alloc, "Tall")?)?;
+fn loaded(alloc: Global) -> Result<BoxedHost, Fail> {
+    let mut host = new_host(alloc, one_type(alloc, "Tall")?)?;
     need(alloc, load(&mut host, SOURCE))?;
     Ok(host)
 }
@@ -53,20 +55,26 @@ enum Place {
     ImageBeforeRecord,
 }
 
+/// The first disk of a host.
+fn first_disk(host: BoxedHost) -> MemoryDisk {
+    let (first, _) = closed_disks(host);
+    first
+}
+
+/// The second disk of a host that takes its module away after a snapshot.
+fn snapshot_and_discard(alloc: Global, mut host: BoxedHost) -> Result<MemoryDisk, Fail> {
+    need(alloc, snapshot(&mut host))?;
+    need(alloc, discard(&mut host))?;
+    let (_, second) = closed_disks(host);
+    Ok(second)
+}
+
 fn stored(alloc: Global, place: Place) -> Result<MemoryDisk, Fail> {
-    let mut host = loaded(alloc)?;
+    let host = loaded(alloc)?;
     match place {
-        Place::Image => second_generation(alloc, host),
-        Place::Record => {
-            let (first, _) = closed(host);
-            Ok(first)
-        }
-        Place::ImageBeforeRecord => {
-            need(alloc, snapshot(&mut host))?;
-            need(alloc, discard(&mut host))?;
-            let (_, second) = closed(host);
-            Ok(second)
-        }
+        Place::Image => second_generation(alloc, Box::into_inner(host)),
+        Place::Record => Ok(first_disk(host)),
+        Place::ImageBeforeRecord => snapshot_and_discard(alloc, host),
     }
 }
 
@@ -301,12 +309,22 @@ static ROWS_OF_BOTH: [Row; 8] = [
     ),
 ];
 
+/// Why such a file isn't opened with this type registered, if it isn't.
+fn refusal_of(
+    alloc: Global,
+    place: Place,
+    damage: Damage,
+    name: &str,
+) -> Result<Option<StoreFault>, Fail> {
+    let first = stored(alloc, place)?;
+    let file = damaged(alloc, first.bytes(), damage)?;
+    refusal(alloc, &file, name)
+}
+
 /// Compares why a damaged file isn't opened.
 fn check_row(rt: &impl Abort, alloc: Global, row: &Row) -> Result<(), Fail> {
     let (place, damage, name, _) = *row;
-    let first = stored(alloc, place)?;
-    let file = damaged(alloc, first.bytes(), damage)?;
-    let found = (place, damage, name, refusal(alloc, &file, name)?);
+    let found = (place, damage, name, refusal_of(alloc, place, damage, name)?);
     check(rt, &found, row, "damage, and the registered type");
     Ok(())
 }
@@ -355,11 +373,10 @@ fn shapes_come_first(rt: HostRuntime) -> Result<(), Fail> {
 
 /// The first disk of a store that is opened and then takes its module away.
 fn after_a_discard(alloc: Global, first: &[u8]) -> Result<MemoryDisk, Fail> {
-    let (a, b) = (disk(alloc, first)?, disk(alloc, &[0])?);
-    let mut host = opened(alloc, a, b, one_type(alloc, "Tall")?)?;
+    let disks = (disk(alloc, first)?, disk(alloc, &[0])?);
+    let mut host = opened_host(alloc, disks, one_type(alloc, "Tall")?)?;
     need(alloc, discard(&mut host))?;
-    let (first, _) = closed(host);
-    Ok(first)
+    Ok(first_disk(host))
 }
 
 /// Compares the text at a place of a disk with that of what is registered.

@@ -2,15 +2,14 @@
 //! data, so that each call is proved once and not in each test.
 
 use crate::checks::{check, check_bytes, check_text};
+use crate::hosts::{BoxedHost, closed_disks, new_host, opened_host};
 use crate::stores::runs::{RunSeries, check_calls, check_lives};
 use ash_disk::{MemoryDisk, Survives};
-use ash_durable::{FULL_RECORD_BYTES, Host};
+use ash_durable::FULL_RECORD_BYTES;
 use ash_registry::Registry;
 use ash_store_fixtures::files::{ImageModule, add_record, generation, image};
 use ash_store_fixtures::full::{AT_THE_LIMIT, full_file, spaces};
-use ash_store_fixtures::hosts::{
-    EMPTY, closed, discard, disk, found_state, image_after, load, need, new_host, opened,
-};
+use ash_store_fixtures::hosts::{EMPTY, discard, disk, found_state, image_after, load, need};
 use ash_store_fixtures::lives::{File, HostStep, Run, Start, answers, bytes_of, lived_on_fuses};
 use std::alloc::{AllocError, Global};
 use std::process::Abort;
@@ -171,11 +170,22 @@ static FAILED: [HostStep; 6] = [
 const REFUSED: &str = "ok seq 1\nrefused 507 DeviceFailed\nrefused 508 Reopen\nrefused 508 Reopen\n\
     refused 508 Reopen\n1\n";
 
+/// The disks of a host whose second disk fails after so many calls. Compares what it answers.
+fn failed(
+    rt: &impl Abort,
+    alloc: Global,
+    calls: u64,
+    what: &str,
+) -> Result<(MemoryDisk, MemoryDisk), Fail> {
+    let (found, disks) = lived_on_fuses(alloc, (u64::MAX, calls), &FAILED)?;
+    check_text(rt, found.as_str(), REFUSED, what);
+    Ok(disks)
+}
+
 /// Compares what is left of a snapshot where the second disk fails after so many calls, of which five make the store.
 fn check_failed(rt: &impl Abort, alloc: Global, calls: u64) -> Result<(), Fail> {
     let what = format!(in alloc; "a snapshot that fails after {calls} calls")?;
-    let (found, disks) = lived_on_fuses(alloc, (u64::MAX, calls), &FAILED)?;
-    check_text(rt, found.as_str(), REFUSED, what.as_str());
+    let disks = failed(rt, alloc, calls, &what)?;
     let found = found_state(alloc, disks.0.bytes(), disks.1.bytes())?;
     check(rt, &found, &Ok((1, Some(2))), what.as_str());
     Ok(())
@@ -189,30 +199,24 @@ fn a_snapshot_that_fails(rt: HostRuntime) -> Result<(), Fail> {
     Ok(())
 }
 
-/// Loads a source as the module `m`, and removes it by the next request, so many requests in all.
-fn take_turns(
-    alloc: Global,
-    host: &mut Host<MemoryDisk>,
-    source: &[u8],
-    requests: u64,
-) -> Result<(), Fail> {
-    for request in 0..requests {
-        let reply = if request % 2 == 0 {
-            load(host, source)
-        } else {
-            discard(host)
-        };
-        need(alloc, reply)?;
-    }
-    Ok(())
+/// Loads a source as the module `m`, or removes it, by turns.
+fn take_turn(alloc: Global, host: &mut BoxedHost, source: &[u8], request: u64) -> Result<(), Fail> {
+    let reply = if request % 2 == 0 {
+        load(host, source)
+    } else {
+        discard(host)
+    };
+    need(alloc, reply)
 }
 
 /// The disks after so many such requests with a source of as many spaces as there may be.
 fn disks_after(alloc: Global, requests: u64) -> Result<(MemoryDisk, MemoryDisk), Fail> {
     let source = spaces(alloc, 65_536)?;
-    let mut host = new_host(alloc, &[], &[])?;
-    take_turns(alloc, &mut host, &source, requests)?;
-    Ok(closed(host))
+    let mut host = new_host(alloc, Registry::new(alloc))?;
+    for request in 0..requests {
+        take_turn(alloc, &mut host, &source, request)?;
+    }
+    Ok(closed_disks(host))
 }
 
 // A load has a record of 5 + 1 + 29 + 8 + 65,536 bytes, with the name of one byte, and a discard one of 5 + 1 + 29.
@@ -233,22 +237,32 @@ fn second_file(alloc: Global) -> Result<Vec<u8>, AllocError> {
     Ok(file)
 }
 
-/// Looks at the disks after a load and a discard have filled a generation.
-fn check_installed(rt: &impl Abort, alloc: Global) -> Result<(), Fail> {
+/// Looks at the first disk after a load and a discard have filled a generation.
+fn check_filled(rt: &impl Abort, first: &[u8]) {
     // After 510 requests there are 255 * (65,579 + 35) = 16,731,570 bytes of records, and so the load after them is
     // added to these. With it there are 16,797,149, which is past 16,777,216, and so the discard after it installs
     // first.
-    let disks = disks_after(alloc, 512)?;
     let length = 51 + 255 * (LOAD + DISCARD) + LOAD;
     check(rt, &length, &16_797_200, "by hand");
-    check(rt, &disks.0.bytes().len(), &length, "the first disk");
+    check(rt, &first.len(), &length, "the first disk");
+}
+
+/// Looks at the second disk, where the discard has installed.
+fn check_second(rt: &impl Abort, alloc: Global, second: &MemoryDisk) -> Result<(), Fail> {
     let file = second_file(alloc)?;
-    check_bytes(rt, disks.1.bytes(), file.as_slice(), "the second disk");
-    check_calls(rt, &disks, (6 + 511 * 4, 2 + 4 + 4), "512 requests");
-    // Before that the second disk held one byte.
-    let before = image_after(&disks.1, 2, Survives::Everything)?;
+    check_bytes(rt, second.bytes(), file.as_slice(), "the second disk");
+    // Before that it held one byte.
+    let before = image_after(second, 2, Survives::Everything)?;
     check_bytes(rt, before.as_slice(), &[0], "the second disk before");
     Ok(())
+}
+
+/// Looks at the disks after a load and a discard have filled a generation.
+fn check_installed(rt: &impl Abort, alloc: Global) -> Result<(), Fail> {
+    let disks = disks_after(alloc, 512)?;
+    check_filled(rt, disks.0.bytes());
+    check_calls(rt, &disks, (6 + 511 * 4, 2 + 4 + 4), "512 requests");
+    check_second(rt, alloc, &disks.1)
 }
 
 #[test]
@@ -275,10 +289,19 @@ fn lived_in(
     file: &[u8],
     steps: &[HostStep],
 ) -> Result<(String, (MemoryDisk, MemoryDisk)), Fail> {
-    let (a, b) = (disk(alloc, file)?, disk(alloc, &[0])?);
-    let mut host = opened(alloc, a, b, Registry::new(alloc))?;
+    let disks = (disk(alloc, file)?, disk(alloc, &[0])?);
+    let mut host = opened_host(alloc, disks, Registry::new(alloc))?;
     let answers = answers(alloc, &mut host, steps)?;
-    Ok((answers, closed(host)))
+    Ok((answers, closed_disks(host)))
+}
+
+/// Compares the bytes of the first disk with the file before them.
+fn check_added(rt: &impl Abort, row: &Full, found: &[u8], file: &[u8]) {
+    let length = file.len().wrapping_add(row.added);
+    check(rt, &found.len(), &length, row.what);
+    // Where nothing is added, nothing is changed.
+    let is_same = found == file;
+    check(rt, &is_same, &(row.added == 0), row.what);
 }
 
 /// Compares what such a store answers, and what it leaves.
@@ -286,11 +309,7 @@ fn check_full(rt: &impl Abort, alloc: Global, row: &Full) -> Result<(), Fail> {
     let file = full_file(alloc, row.number, row.last)?;
     let (answers, disks) = lived_in(alloc, file.as_slice(), row.steps)?;
     check_text(rt, answers.as_str(), row.answers, row.what);
-    let length = file.len().wrapping_add(row.added);
-    check(rt, &disks.0.bytes().len(), &length, row.what);
-    // Where nothing is added, nothing is changed.
-    let is_same = disks.0.bytes() == file.as_slice();
-    check(rt, &is_same, &(row.added == 0), row.what);
+    check_added(rt, row, disks.0.bytes(), &file);
     let second = bytes_of(alloc, row.second)?;
     check_bytes(rt, disks.1.bytes(), second.as_slice(), row.what);
     Ok(())
