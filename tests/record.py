@@ -124,7 +124,7 @@ def write(record):
 # All edits are off record at once under a new toolchain, and would take longer than a run has on a slow machine.
 # So a run tries as many as fit in these minutes, after the processor minutes that all proofs and tests take, where an
 # edit takes so much of a processor minute.
-MINUTES_OF_A_RUN, MINUTES_OF_PROOFS, MINUTES_OF_AN_EDIT = 120, 150, 0.3
+MINUTES_OF_A_RUN, MINUTES_OF_PROOFS, MINUTES_OF_AN_EDIT = 120, 150, 0.35
 
 
 def max_edits():
