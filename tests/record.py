@@ -20,7 +20,7 @@ PARTS = ("src", "specs", "proofs", "must-fail")
 HEAD = (
     "# For each crate with must-fail edits, and each toolchain: how many edits it has, the day when all of them were last\n"
     "# refused, the hash of the crate's text and the toolchain's identity on that day, and that identity. Written by\n"
-    "# tests/edits, or by hand from the lines with which .ci/run ends; read by .ci/run.\n"
+    "# tests/edits, or by hand from the lines that .ci/run prints before its table; read by .ci/run.\n"
 )
 # What rt writes of an edit that is refused.
 REFUSED = re.compile(r"(?:rt: )?must-fail (\w+)/(\S+\.edit): refused, as it must be")
