@@ -2,16 +2,16 @@
 """`rt ci`, with the processors shared out so that the longest chain of crates gets most of them.
 
 The crates build on each other in one long chain, and `rt ci` shares the processors evenly among the proofs that are ready,
-those of tests among them. So the crate that all others wait for would be proved at one job. And a check with several jobs
-takes a quarter more of the processors than one with a single job, since each copy of rattle loads what it needs anew.
-Here the task at the head of the longest chain that is left begins with half of the processors, or with all of them where
-nothing else can run; any other task gets one job. The heads of long chains begin even where others still have all
-processors, since many wait for them. A check leaves some of its jobs idle for part of its time, so one job more is given
-out than there are processors, and the operating system gives the long chains what they can use: all other tasks are nice
-to them, and edits to these. So they fill what the chains leave free.
-Only the order of the work is another one: what is proved, tried and run, and the verdict, are those of `rt ci`. Where rt
-tries a crate's edits one after the other, several are tried in one check (tests/together.py). Under a toolchain that was
-not tried with this, plain `rt ci` runs.
+those of tests among them. So the crate that all others wait for would be proved beside what can wait. And a check with
+several jobs takes a fifth more of the processors than one with a single job, or more, since each copy of rattle loads what
+it needs anew. Here a task gets one job. The one at the head of the longest chain gets half of the processors where that
+chain, at one job for each of its tasks, would take much longer than all work that is left, shared out among the processors,
+and all of them where nothing else can run. The heads of long chains begin even where others still have all processors,
+since many wait for them, and all other tasks are nice to them, and edits to these. So they fill what the chains leave free.
+How much work a crate is, is known from an earlier run (tests/work.record).
+What is proved and run, and the verdict, are those of `rt ci`. Where rt tries a crate's edits one after the other, several
+are tried in one check (tests/together.py). Contracts that no call can meet are looked for where edits are tried: in a crate
+whose text is on record none was found under that text. Under a toolchain that was not tried with this, plain `rt ci` runs.
 """
 
 import contextlib
@@ -26,6 +26,7 @@ import threading
 from concurrent.futures import FIRST_COMPLETED, Future, wait
 
 sys.dont_write_bytecode = True
+import record
 import together
 
 TRIED_WITH = ("rattle-kit-13b logic dac8208d650f15bf", "rattle-kit-13f logic dac8208d650f15bf")
@@ -34,13 +35,17 @@ TRIED_WITH = ("rattle-kit-13b logic dac8208d650f15bf", "rattle-kit-13f logic dac
 MEMORY_TAKEN = 0.3
 MEMORY_OF_A_JOB = 0.6
 MEMORY_GIVEN_OUT = 0.85
-# A chain is long where it has at least this share of the lines of every other. Of a chain whose head is under way, what
+# A chain is long where it has at least this share of the work of every other. Of a chain whose head is under way, what
 # comes after the head counts.
-LONG = 0.6
-# How many lines of a library cost as much as a line of a program.
-LINE_OF_A_PROGRAM = 3
+LONG = 0.8
+# The head of the longest chain gets several jobs where its chain has more than so many times an even share of the work left.
+OVER_SHARE = 1.5
+# Which share of the work of a crate of tests is not its tests.
+HARDLY = 0.03
+# Where it is known how much work each crate is.
+WORK_FILE = os.path.join(record.TOP, "tests", "work.record")
 # How nice the head of another long chain is to that of the longest, any other task to both, and an edit to all proofs.
-NICE_OF_LONG, NICE, NICE_OF_EDITS = 3, 10, 15
+NICE_OF_LONG, NICE, NICE_OF_EDITS = 3, 5, 15
 
 
 def load_rt():
@@ -57,38 +62,57 @@ def fills(key):
 
 
 def code_lines(name):
-    """How many lines of code a crate has, by what they cost. Its definitions and proofs cost far less, line by line; a line
-    of a program more, since all that it reaches is linked into it, and the code that lets go of its values proved once more."""
-    source, count = os.path.join("crates", name, "src"), 0
-    for folder, _, files in os.walk(source):
+    """How many lines of code a crate has. Its definitions and proofs cost far less, line by line."""
+    count = 0
+    for folder, _, files in os.walk(os.path.join(record.TOP, "crates", name, "src")):
         for file in files:
             with open(os.path.join(folder, file), "rb") as it:
                 count += it.read().count(b"\n")
-    return count * LINE_OF_A_PROGRAM if os.path.exists(os.path.join(source, "main.rt")) else count
+    return count
 
 
-def work(key, lines):
-    """The work of a task of which rt says that it is so many lines."""
-    return lines if fills(key) else code_lines(key[0])
+def measured():
+    """What tests/work.record has: the processor minutes that a crate took, and how many lines of code it had then."""
+    found = {}
+    with open(WORK_FILE, encoding="utf-8") as lines:
+        for line in lines:
+            words = line.partition("#")[0].split()
+            if words:
+                found[words[0]] = float(words[1]), int(words[2])
+    return found
 
 
-def lines_ahead(tasks):
-    """For each task the lines of code of the longest chain of tasks that begins with it. A line of tests takes about as long
-    as any other. A task comes after those it waits for."""
-    lines = dict.fromkeys(tasks, 0)
+def minutes_of(name, known):
+    """How many processor minutes a crate's check takes: as many as measured, if its code has as many lines as then; and
+    what the others take in the mean where it was not measured."""
+    mean = sum(it for it, _ in known.values()) / sum(it for _, it in known.values())
+    minutes, lines = known.get(name, (mean, 1))
+    return minutes * code_lines(name) / lines
+
+
+def work(key, known, has_tests):
+    """The processor minutes of a task. A crate that has tests has hardly anything else."""
+    if fills(key):
+        return len(record.edits(key[0])) * record.MINUTES_OF_AN_EDIT
+    return minutes_of(key[0], known) * (1 if has_tests == (key[1] == "tests") else HARDLY)
+
+
+def work_ahead(tasks):
+    """For each task the work of the longest chain of tasks that begins with it. A task comes after those it waits for."""
+    ahead = dict.fromkeys(tasks, 0)
     for key in reversed([*tasks]):
         waits_for, own = tasks[key][:2]
-        lines[key] += own
+        ahead[key] += own
         for it in waits_for:
-            lines[it] = max(lines[it], lines[key])
-    return lines
+            ahead[it] = max(ahead[it], ahead[key])
+    return ahead
 
 
-def jobs_for(others, processors, needs, room):
-    """How many jobs the head of a longest chain gets beside so many other tasks, as far as memory goes."""
-    by_processors = processors - others if others < 2 else processors // 2
-    by_memory = 1 + int((room / needs - 1) / MEMORY_OF_A_JOB)
-    return max(1, min(by_processors, by_memory))
+def jobs_for(ahead, left, others, processors, memory):
+    """How many jobs the head of the longest chain gets, where so much work is ahead in its chain and so much is left in all,
+    and so many other tasks can run beside it, as far as memory for so many goes."""
+    free = processors - others if others < 2 else processors // 2
+    return max(1, min(free, memory)) if others < 2 or ahead * processors > OVER_SHARE * left else 1
 
 
 def begin(call, given, jobs, niceness):
@@ -110,9 +134,9 @@ def begin(call, given, jobs, niceness):
 
 
 def in_lanes(tasks, processors, memory):
-    """Runs tasks side by side and returns what each gave. A task is what it waits for, its work in lines, its memory, and
-    a call that takes what was given so far and how many jobs it may use."""
-    order = lines_ahead(tasks)
+    """Runs tasks side by side and returns what each gave. A task is what it waits for, its work, its memory, and a call that
+    takes what was given so far and how many jobs it may use."""
+    order = work_ahead(tasks)
     left, running, given = sorted(tasks, key=lambda it: (fills(it), -order[it])), {}, {}
     while left or running:
         ready = [it for it in left if all(below in given for below in tasks[it][0])]
@@ -137,7 +161,10 @@ def in_lanes(tasks, processors, memory):
             is_longest = is_long and all(it <= order[key] for it in rivals)
             if spare > (-processors if is_long else 0) and (needs <= room or not running):
                 others = len(running) + sum(not fills(it) for it in ready[number:])
-                jobs = jobs_for(others, processors, needs, room) if is_longest else 1
+                # of what is under way, half is taken to be done
+                work_left = sum(tasks[it][1] for it in left) + sum(tasks[it][1] for it, _, _ in running.values()) / 2
+                by_memory = 1 + int((room / needs - 1) / MEMORY_OF_A_JOB)
+                jobs = jobs_for(order[key], work_left, others, processors, by_memory) if is_longest else 1
                 taken = needs * (1 + MEMORY_OF_A_JOB * (jobs - 1))
                 niceness = NICE_OF_EDITS if fills(key) else 0 if is_longest else NICE_OF_LONG if is_long else NICE
                 left.remove(key)
@@ -149,15 +176,34 @@ def in_lanes(tasks, processors, memory):
     return given
 
 
+def leave_out_searches(rt, crates):
+    """Has rt prove these crates without its search for contracts that no call can meet."""
+    if not together.search(rt):
+        return
+    help_of, prove, here = rt.rtlib.help_of, rt.Crate.prove, threading.local()
+
+    def help_as_seen(command):
+        text = help_of(command)
+        return text.replace(together.SEARCH, "") if getattr(here, "leaves_out", False) else text
+
+    def prove_crate(crate, *commands):
+        here.leaves_out = crate.name in crates
+        return prove(crate, *commands)
+
+    rt.rtlib.help_of, rt.Crate.prove = help_as_seen, prove_crate
+
+
 def main(words):
     identity = subprocess.run(["rt", "version"], capture_output=True, text=True, check=True).stdout.strip()
     if identity not in TRIED_WITH:
         print(f"chain_first: not tried with {identity}, so plain rt ci runs", flush=True)
         os.execvp("rt", ["rt", "ci", *words])
     rt = load_rt()
+    leave_out_searches(rt, record.on_record(identity))
 
     def share_out(tasks):
-        known = {it: (waits, lines and work(it, lines), *more) for it, (waits, lines, *more) in tasks.items()}
+        minutes, tested = measured(), {it for it, of in tasks if of == "tests" and tasks[it, of][1]}
+        known = {it: (waits, lines and work(it, minutes, it[0] in tested), *more) for it, (waits, lines, *more) in tasks.items()}
         with rt.ending() if hasattr(rt, "ending") else contextlib.nullcontext():
             return in_lanes(known, rt.processors(), MEMORY_GIVEN_OUT * rt.free())
 

@@ -19,6 +19,9 @@ VERDICT = re.compile(r"^fn (\S+): (.*)$", re.MULTILINE)
 OWN = re.compile(r"not proved|no proof: expected (?:(?!; it |; antt |, which ).)*")
 WAITS = re.compile(r", which (?:is|are) not proved|; it waits for the proof of ")
 NOT_ADMITTED = "was not admitted"
+# The flag with which rattle looks for contracts that no call can meet, and what it writes of one, or where it did not end.
+SEARCH = "--empty-contracts"
+EMPTY = re.compile(r"^(?:warning: no call of `(?![^`]*::fn::)|note: the search for empty contracts did not end)", re.MULTILINE)
 
 
 class Body(NamedTuple):
@@ -161,6 +164,20 @@ def is_proved(rt, crate, flags, kept):
     return not rt.checked(crate, {}, flags, kept).returncode
 
 
+def search(rt):
+    """The flag with which rattle also looks for contracts that no call can meet, if it has one."""
+    help_of = getattr(rt.rtlib, "help_of", None)
+    return [SEARCH] if help_of and SEARCH in help_of("check") else []
+
+
+def why_untried(rt, crate, flags, kept):
+    """Why no edit of the crate can be tried: it is not proved, or has a contract that no call can meet. Empty where they can."""
+    ran = rt.checked(crate, {}, [*flags, *search(rt)], kept)
+    if ran.returncode:
+        return "the crate is not proved without it"
+    return "the crate has a contract that no call can meet" if EMPTY.search(ran.stdout) else ""
+
+
 def settled(rt):
     """What rt says of an edit that need not be tried again, that it is refused first of all. One rt only says whether it
     is; a later one also says of those that are not what they come to."""
@@ -170,14 +187,16 @@ def settled(rt):
 def must_fail_all(rt, crate, edits, flags):
     """Tries a crate's edits, and returns of each what it comes to, as rt says it, and the line to write of it. As rt does, it
     tries edits anew from nothing where they are not refused over what earlier checks kept, or where that is not sound at the
-    end. It tries none of a crate that is not proved without them, and checks nothing where there are no edits."""
+    end. It tries none of a crate that is not proved without them or has a contract that no call can meet, and checks nothing
+    where there are no edits."""
     if not edits:
         return []
     with tempfile.TemporaryDirectory(prefix="rt-edits-") as kept:
         # once more, where memory ran out
-        if not is_proved(rt, crate, flags, kept) and not is_proved(rt, crate, flags, kept):
+        why = why_untried(rt, crate, flags, kept) and why_untried(rt, crate, flags, kept)
+        if why:
             label, unsure = f"must-fail {crate.name}", getattr(rt, "UNSURE", False)
-            return [(unsure, f"{label}/{os.path.basename(it)}: NOT TRIED: the crate is not proved without it") for it in edits]
+            return [(unsure, f"{label}/{os.path.basename(it)}: NOT TRIED: {why}") for it in edits]
         found = try_groups(rt, crate, edits, flags, kept)
         tried = [(settled(rt)[0], found[it]) if it in found else rt.must_fail(crate, it, flags, kept) for it in edits]
         is_sound = is_proved(rt, crate, flags, kept)

@@ -111,15 +111,16 @@ def read_edit(edit, folder):
         return {path: file.read().replace(old, new)}, None
 
 
-def rt_with(ends, **others):
+def rt_with(ends, found="logic=proved", **others):
     def checked(crate, texts, flags, kept):
-        return types.SimpleNamespace(returncode=bool(texts), stdout=verdict if texts else "logic=proved")
+        text = verdict if texts else found if together.SEARCH in flags else "logic=proved"
+        return types.SimpleNamespace(returncode=bool(texts), stdout=text)
 
     def must_fail(crate, edit, flags, kept=None):
         name = edit.rpartition("/")[2]
         return ends[name == "two.edit" and not kept], f"{name} {'over what was kept' if kept else 'from nothing'}"
 
-    stale = types.SimpleNamespace(STALE=types.SimpleNamespace(search=lambda it: None))
+    stale = types.SimpleNamespace(STALE=types.SimpleNamespace(search=lambda it: None), help_of=lambda command: "--empty-contracts")
     return types.SimpleNamespace(
         read_edit=read_edit, checked=checked, must_fail=must_fail, unread=lambda line, texts: None, rtlib=stale, need=lambda it: 1, **others
     )
@@ -137,6 +138,10 @@ results, known = together.add_edits(later, tasks, crate, edits, [], [("low", "pr
 print(key, waits, lines, memory, known())
 show(results({key: call({}, 1)}))
 show(together.must_fail_all(rt_with((False, True)), crate, edits, []))
+# what rattle says of a contract that no call can meet, and of a closure, which may have one
+never = rt_with((True, True), "warning: no call of `low::one` can meet its contract")
+print(together.must_fail_all(never, crate, edits[:1], []))
+print(together.why_untried(rt_with((), "warning: no call of `low::fn::one::map` can meet its contract"), crate, [], None) == "")
 PROGRAM
 cmp -s - "$scratch/output" <<'WANTED'
 ('low', 'edits') [('low', 'proof')] 27 1 {}
@@ -146,5 +151,7 @@ missed circle1.edit from nothing
 True must-fail low/one.edit
 True two.edit from nothing
 False circle1.edit from nothing
+[(False, 'must-fail low/one.edit: NOT TRIED: the crate has a contract that no call can meet')]
+True
 WANTED
 verdict $? "what edits come to: $(cat "$scratch/output" "$scratch/error")"
