@@ -60,28 +60,33 @@ impl<'a> ProgramTask<'a> {
 
 /// The words that the program takes.
 fn command<'a>(alloc: Global) -> Result<Command<'a>, AllocError> {
-    let in_memory = with_limits(alloc, Command::new(alloc, "try"))?;
-    let create = Command::new(alloc, "create").arg(folder_word(alloc))?;
-    let serve = Command::new(alloc, "serve").arg(folder_word(alloc))?;
-    let check = Command::new(alloc, "check").arg(file_word(alloc))?;
     Command::new(alloc, "ashd")
         .subcommand_required(true)
-        .subcommand(in_memory)?
-        .subcommand(create)?
-        .subcommand(with_limits(alloc, serve)?)?
-        .subcommand(check)
+        .subcommand(with_limits(alloc, Command::new(alloc, "try"))?)?
+        .subcommand(with_folder(alloc, "create")?)?
+        .subcommand(with_limits(alloc, with_folder(alloc, "serve")?)?)?
+        .subcommand(with_file(alloc, "check")?)
 }
 
 fn with_limits<'a>(alloc: Global, command: Command<'a>) -> Result<Command<'a>, AllocError> {
-    let budget = Arg::new(alloc, "budget")
-        .long("budget")
+    command
+        .arg(limit(alloc, "budget"))?
+        .arg(limit(alloc, "counters"))
+}
+
+fn limit<'a>(alloc: Global, name: &'a str) -> Arg<'a> {
+    Arg::new(alloc, name)
+        .long(name)
         .required(true)
-        .action(ArgAction::Set);
-    let counters = Arg::new(alloc, "counters")
-        .long("counters")
-        .required(true)
-        .action(ArgAction::Set);
-    command.arg(budget)?.arg(counters)
+        .action(ArgAction::Set)
+}
+
+fn with_folder<'a>(alloc: Global, name: &'a str) -> Result<Command<'a>, AllocError> {
+    Command::new(alloc, name).arg(folder_word(alloc))
+}
+
+fn with_file<'a>(alloc: Global, name: &'a str) -> Result<Command<'a>, AllocError> {
+    Command::new(alloc, name).arg(file_word(alloc))
 }
 
 fn folder_word<'a>(alloc: Global) -> Arg<'a> {
