@@ -8,11 +8,11 @@ use Rattle.ash_tree.specs.Tree.{Named, Prim, Declaration, ASignature, AProperty}
 use Rattle.ash_tree.specs.GrammarTokens.{Tokens}
 use Rattle.ash_tree.specs.Types.{IsType}
 use Rattle.ash_tree.specs.Grammar.{IsResultType, typed, IsUnnamed, unnamed, with_name, AreMoreUnnamed, no_more_unnamed, more_unnamed, AreUnnamed, no_unnamed, some_unnamed, Declares, signature, property}
-use Rattle.ash_parse.specs.Readers.{Unexpected, next_is_sign}
+use Rattle.ash_parse.specs.Readers.{Halt, Unexpected, next_is_sign}
 use Rattle.ash_parse.specs.StatementReader.{is_name, next_is_name, type_at}
 use Rattle.ash_parse.specs.ItemReader.{without_first, is_left, result_type_at, unnamed_at, next_unnamed_at, more_unnamed_at, unnamed_list_at, unnamed_parameters_at, property_by, declaration_after, declaration_at}
 use Rattle.ash_parse.specs.ParseFaults.{whole_declaration_at}
-use Rattle.ash_parse.proofs.BeginLaws.{Stopped, Law, Then, After, Grows, then, law_as, done, fill_here, stops_here, after, fill_after, either, sign_then, name_then, put_law, all_of, nowhere}
+use Rattle.ash_parse.proofs.BeginLaws.{left_at, Stopped, Law, Then, After, Grows, then, law_as, done, fill_here, stops_here, after, fill_after, either, sign_then, name_then, put_law, all_of, nowhere}
 use Rattle.ash_parse.proofs.BeginTypes.{begin_type}
 use Rattle.ash_parse.proofs.BeginItems.{begin_result_type, stops_with}
 
@@ -105,6 +105,12 @@ begin_whole_declaration ts =
     (λ d r. either (is_left r) _ _ r _
     (stops_here (Then Whole Whole d) r (fill_here _ d (λ free left before w. w)))
     (done _ d r (λ free left before w. w)))
+
+-- where reading a declaration stops, the tokens from the fault on are the last ones
+pub declaration_within : (all : Tokens) (h : Halt) → whole_declaration_at all ≡ Err h → (prefix : Tokens) × (all ≡ prefix ++ left_at h)
+declaration_within all h e =
+    let s : Stopped all h Whole = stops_with (whole_declaration_at all) h all Whole e (begin_whole_declaration all).explained in
+    (s.prefix, s.all)
 
 -- what is before the place where reading stops begins a declaration
 pub begun_declaration : (all rest : Tokens) → whole_declaration_at all ≡ Err (Unexpected rest) → (prefix : Tokens) × (all ≡ prefix ++ rest) × ((tail : Tokens) × (declared : Declaration) × Declares (prefix ++ tail) declared)

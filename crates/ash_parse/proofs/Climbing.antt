@@ -6,8 +6,8 @@ use Rattle.ash_tree.specs.Tree.{Expr, OperatorLink, chained}
 use Rattle.ash_tree.specs.GrammarTokens.{Tokens}
 use Rattle.ash_tree.specs.Operators.{binary_operator, level}
 use Rattle.ash_parse.specs.declared.error.ParseError.{ParseError}
-use Rattle.ash_parse.specs.declared.error.ParseError.TheVariants as errors
 use Rattle.ash_parse.specs.Readers.{ParseResult, ◌>>=◌, Fails}
+use Rattle.ash_parse.proofs.Stops.{fails_bind}
 use Rattle.ash_parse.specs.ExpressionReader.{Below, operator_by, operator_at, is_link, level_by, next_level, link_by, links_by, chain_by, binary_with, unary_with, below_at}
 use Rattle.ash_parse.proofs.Loop.{loop_done}
 use Rattle.ash_parse.proofs.ExpressionLoops.{no_link_left, link_shrinks}
@@ -35,11 +35,6 @@ Skips from to ts = (n : ℕ) → from ≤ n → n < to → is_link n ts ≡ fals
 
 skips : (from to : ℕ) (ts : Tokens) → ((n : ℕ) → from ≤ n → n < to → (next_level ts ≡ suc n) → ⊥) → Skips from to ts
 skips from to ts h n l u = link_level n ts ∙ grind (arith, nat_tests, h n l u)
-
-fails_bind : {A B : Type 0} (e : ParseError) (read : ParseResult A) (f : A × Tokens → ParseResult B) → Fails e read → Fails e (read >>= f)
-fails_bind errors.NoMemory read f h = tt
-fails_bind (errors.Unexpected rest) read f h = rw h refl
-fails_bind (errors.TooDeep rest) read f h = rw h refl
 
 bind_ok : {A : Type 0} (read : ParseResult A) → (read >>= λ x. Ok x) ≡ read
 bind_ok (Ok x) = refl

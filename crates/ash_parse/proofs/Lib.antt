@@ -2,6 +2,7 @@ pub mod Signs
 pub mod Readings
 pub mod Types
 pub mod Elements
+pub mod Stops
 pub mod ExpressionShorter
 pub mod ExpressionSound
 pub mod Loop

@@ -1,10 +1,10 @@
 -- Reading again and again, as a loop does.
-use Rattle.std.proofs.Common.{◌≡◌, ℕ, zero, suc, ◌≤◌, ◌<◌, List, [], ◌∷◌, ◌++◌, length, Bool, true, false, cond, Ok, Err, refl, sym, ap, ◌∙◌, append_assoc, arith, map}
+use Rattle.std.proofs.Common.{◌≡◌, ℕ, zero, suc, ◌≤◌, ◌<◌, List, [], ◌∷◌, ◌++◌, length, Bool, true, false, cond, Ok, Err, refl, sym, ap, subst, ◌∙◌, append_assoc, arith, map}
 use Rattle.std.proofs.lemmas.List.{append-nil, map-append}
-use Rattle.ash_tree.specs.GrammarTokens.{Tokens, tokens_of}
+use Rattle.ash_tree.specs.GrammarTokens.{Tokens}
 use Rattle.ash_parse.specs.declared.error.ParseError.{ParseError}
-use Rattle.ash_parse.specs.declared.error.ParseError.TheVariants as errors
-use Rattle.ash_parse.specs.Readers.{Halt, ParseResult, ◌>>=◌, Fails, put, repeat, loop, Unexpected, TooDeep}
+use Rattle.ash_parse.specs.Readers.{Halt, ParseResult, ◌>>=◌, Fails, put, repeat, loop}
+use Rattle.ash_parse.proofs.Stops.{goes_on_stops, stops_alike}
 
 -- what is read takes a token at least
 abbrev pub Shrinks : {A : Type 0} → (Tokens → ParseResult A) → Type 0
@@ -72,10 +72,14 @@ module _ {A : Type 0} (more : Tokens → Bool) (read : Tokens → ParseResult A)
       let one : loop more read s ≡ put (view x) (loop more read rest) = loop_more s (view x) rest b e in
       ap (λ prefix. with_prefix prefix (loop more read rest)) (map-append view xs (x ∷ [])) ∙ sym (regroup (map view xs) (view x) (loop more read rest)) ∙ sym (ap (with_prefix (map view xs)) one) ∙ so_far
 
+  ends_by : (e : ParseError) (o : ParseResult A) (prefix : List A) (s : Tokens) (total : ParseResult (List A)) → read s ≡ o → more s ≡ true → Fails e o → with_prefix prefix (loop more read s) ≡ total → Fails e total
+  ends_by e (Ok x) prefix s total is b h so_far = goes_on_stops e.stop e.left x total h
+  ends_by e (Err halt) prefix s total is b h so_far =
+      let stopped : Err halt ≡ total = sym (ap (with_prefix prefix) (loop_fails s halt b is)) ∙ so_far in
+      subst (λ (r : ParseResult (List A)). Fails e r) stopped (stops_alike A (List A) e.stop e.left halt h)
+
   pub ends : (e : ParseError) (prefix : List A) (s : Tokens) (total : ParseResult (List A)) → more s ≡ true → Fails e (read s) → with_prefix prefix (loop more read s) ≡ total → Fails e total
-  ends errors.NoMemory prefix s total b e so_far = tt
-  ends (errors.Unexpected rest) prefix s total b e so_far = sym so_far ∙ ap (with_prefix prefix) (loop_fails s (Unexpected (tokens_of rest.now)) b e)
-  ends (errors.TooDeep rest) prefix s total b e so_far = sym so_far ∙ ap (with_prefix prefix) (loop_fails s (TooDeep (tokens_of rest.now)) b e)
+  ends e prefix s total b h so_far = ends_by e (read s) prefix s total refl b h so_far
 
   pub is_done : (prefix : List A) (s : Tokens) (total : ParseResult (List A)) → more s ≡ false → with_prefix prefix (loop more read s) ≡ total → total ≡ Ok (prefix, s)
   is_done prefix s total b so_far = sym so_far ∙ ap (with_prefix prefix) (loop_done s b) ∙ ap (λ (xs : List A). Ok (xs, s)) (append-nil prefix)

@@ -1,5 +1,5 @@
 -- The fault that is returned where reading stops, and the code by which it is reported.
-use Rattle.std.specs.Prelude.{◌≡◌, ℕ, List, [], ◌∷◌, Option, Some, None, Ok, Err, ◌-◌, length, codes, if◌then◌else◌}
+use Rattle.std.specs.Prelude.{◌≡◌, ℕ, List, [], ◌∷◌, Option, Some, None, Ok, Err, ◌-◌, length, drop, codes, if◌then◌else◌}
 use Rattle.std.specs.List.{slice_get}
 use Rattle.ash_lex.specs.Tokens.{Meaning, sign, unsupported}
 use Rattle.ash_lex.specs.ReservedWords.{unsupported_text}
@@ -8,7 +8,8 @@ use Rattle.ash_lex.specs.declared.tokens.Token.{Token}
 use Rattle.ash_tree.specs.Tree.{Declaration}
 use Rattle.ash_tree.specs.GrammarTokens.{Tokens, tokens_of}
 use Rattle.ash_parse.specs.declared.error.ParseError.{ParseError}
-use Rattle.ash_parse.specs.declared.error.ParseError.TheVariants as errors
+use Rattle.ash_parse.specs.declared.error.Stop.{Stop}
+use Rattle.ash_parse.specs.declared.error.Stop.TheVariants as stops
 use Rattle.ash_parse.specs.declared.faults.UnsupportedPart.{UnsupportedPart}
 use Rattle.ash_parse.specs.declared.faults.UnsupportedPart.TheVariants as parts
 use Rattle.ash_parse.specs.declared.faults.ParseFault.{ParseFault}
@@ -68,10 +69,13 @@ fault_of end (TooDeep rest) = faults.TooDeep (start end rest)
 abbrev pub IsHaltFault : List Token → ParseFault → Halt → Type 0
 IsHaltFault all fault halt = fault ≡ fault_of (end_of all) halt
 
+abbrev pub IsReportedAt : List Token → ParseFault → Stop → Tokens → Type 0
+IsReportedAt all fault stops.Unexpected rest = IsHaltFault all fault (Unexpected rest)
+IsReportedAt all fault stops.TooDeep rest = IsHaltFault all fault (TooDeep rest)
+IsReportedAt all fault stops.NoMemory rest = fault ≡ faults.NoMemory
+
 abbrev pub IsReported : List Token → ParseFault → ParseError → Type 0
-IsReported all fault (errors.Unexpected rest) = IsHaltFault all fault (Unexpected (tokens_of rest.now))
-IsReported all fault (errors.TooDeep rest) = IsHaltFault all fault (TooDeep (tokens_of rest.now))
-IsReported all fault errors.NoMemory = fault ≡ faults.NoMemory
+IsReported all fault e = IsReportedAt all fault e.stop (tokens_of (drop (length all - e.left) all))
 
 -- the fault is what reading stops at, or memory ran out
 abbrev pub IsFault : {A : Type 0} → List Token → ParseFault → ParseResult A → Type 0

@@ -8,7 +8,8 @@ use Rattle.ash_lex.specs.declared.tokens.Token.{Token}
 use Rattle.ash_tree.specs.declared.tree.places.Position.{Position}
 use Rattle.ash_tree.specs.GrammarTokens.{Tokens, tokens_of}
 use Rattle.ash_parse.specs.declared.error.ParseError.{ParseError}
-use Rattle.ash_parse.specs.declared.error.ParseError.TheVariants as errors
+use Rattle.ash_parse.specs.declared.error.Stop.{Stop}
+use Rattle.ash_parse.specs.declared.error.Stop.TheVariants as stops
 use Rattle.ash_parse.specs.SignTokens.{is_sign}
 
 -- why reading stops, and the tokens from there on: the first of them fits nowhere, or is too deep
@@ -24,11 +25,17 @@ abbrev pub ◌>>=◌ : {A B : Type 0} → ParseResult A → (A × Tokens → Par
 (Ok x) >>= f = f x
 (Err e) >>= f = Err e
 
+-- `read` stops for this reason where so many tokens are left, or memory ran out
+abbrev pub StopsAt : {Y : Type 0} → Stop → ℕ → ParseResult Y → Type 0
+StopsAt stops.NoMemory left read = Unit {0}
+StopsAt stop left (Ok x) = ⊥
+StopsAt stops.Unexpected left (Err (Unexpected rest)) = left ≡ length rest
+StopsAt stops.TooDeep left (Err (TooDeep rest)) = left ≡ length rest
+StopsAt stop left (Err halt) = ⊥
+
 -- the error is why `read` stops, or memory ran out
 abbrev pub Fails : {Y : Type 0} → ParseError → ParseResult Y → Type 0
-Fails (errors.Unexpected rest) read = read ≡ Err (Unexpected (tokens_of rest.now))
-Fails (errors.TooDeep rest) read = read ≡ Err (TooDeep (tokens_of rest.now))
-Fails errors.NoMemory read = Unit {0}
+Fails e read = StopsAt e.stop e.left read
 
 -- what a function returned, seen by `view`, is what `read` gives, with the same tokens left; or memory ran out
 abbrev pub ParsesAs : {X Y : Type 0} → (X → Y) → Result (X × Bor (List Token)) ParseError → ParseResult Y → Type 0

@@ -63,12 +63,12 @@ pub fn expect(sign: Sign, tokens: &[Token]) -> ParseResult<'_, Position>
         (reading.expect_at sign (tokens_of tokens.now)) }
 {
     let Some((next, rest)) = tokens.split_first() else {
-        return Err(ParseError::Unexpected(tokens));
+        return Err(ParseError::unexpected(tokens));
     };
     if is_sign(sign, next) {
         Ok((place(next), rest))
     } else {
-        Err(ParseError::Unexpected(tokens))
+        Err(ParseError::unexpected(tokens))
     }
 }
 
@@ -79,14 +79,14 @@ pub fn name(alloc: Global, tokens: &[Token]) -> ParseResult<'_, (String, Positio
         (reading.name_at (tokens_of tokens.now)) }
 {
     let Some((next, rest)) = tokens.split_first() else {
-        return Err(ParseError::Unexpected(tokens));
+        return Err(ParseError::unexpected(tokens));
     };
     match &next.kind {
         TokenKind::Name(text) => {
             let text = String::from_str(alloc, text.as_str())?;
             Ok(((text, place(next)), rest))
         }
-        _ => Err(ParseError::Unexpected(tokens)),
+        _ => Err(ParseError::unexpected(tokens)),
     }
 }
 

@@ -32,7 +32,7 @@ fn elem(alloc: Global, tokens: &[Token]) -> ParseResult<'_, Element>
     ensures parsed { ParsesAs element_of result (types.elem_at (tokens_of tokens.now)) }
 {
     let Some((next, rest)) = tokens.split_first() else {
-        return Err(ParseError::Unexpected(tokens));
+        return Err(ParseError::unexpected(tokens));
     };
     let place = place(next);
     if let Some(primitive) = primitive(&next.kind) {
@@ -40,7 +40,7 @@ fn elem(alloc: Global, tokens: &[Token]) -> ParseResult<'_, Element>
         return Ok((Element { place, kind }, rest));
     }
     let TokenKind::Name(text) = &next.kind else {
-        return Err(ParseError::Unexpected(tokens));
+        return Err(ParseError::unexpected(tokens));
     };
     let text = String::from_str(alloc, text.as_str())?;
     let (_, rest) = expect(Sign::Handle, rest)?;
@@ -181,7 +181,7 @@ pub fn type_name(alloc: Global, tokens: &[Token]) -> ParseResult<'_, Type>
     ensures parsed { ParsesAs type_of result (reader.type_at (tokens_of tokens.now)) }
 {
     let Some((next, rest)) = tokens.split_first() else {
-        return Err(ParseError::Unexpected(tokens));
+        return Err(ParseError::unexpected(tokens));
     };
     let place = place(next);
     if let Some(primitive) = primitive(&next.kind) {
@@ -194,7 +194,7 @@ pub fn type_name(alloc: Global, tokens: &[Token]) -> ParseResult<'_, Type>
             let (element, rest) = element(alloc, rest)?;
             array_type(place, element, rest)
         }
-        _ => Err(ParseError::Unexpected(tokens)),
+        _ => Err(ParseError::unexpected(tokens)),
     }
 }
 

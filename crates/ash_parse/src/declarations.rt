@@ -102,7 +102,7 @@ fn declaration_after<'a>(
         return Ok((Declaration::Function(signature), rest));
     }
     let Some(of) = of else {
-        return Err(ParseError::Unexpected(tokens));
+        return Err(ParseError::unexpected(tokens));
     };
     let property = Property { place, of, name };
     Ok((Declaration::Property(property), tokens))

@@ -1,41 +1,82 @@
 //! Why reading stops.
 
-ghost use Rattle.std.specs.Prelude.{◌≡◌};
-ghost use Rattle.ash_parse.specs.declared.error.ParseError.TheVariants.{NoMemory};
+ghost use Rattle.std.specs.Prelude.{◌≡◌, length};
+ghost use Rattle.ash_tree.specs.GrammarTokens.{tokens_of};
+ghost use Rattle.ash_parse.specs.declared.error.Stop.TheVariants as stops;
 
 use ash_lex::Token;
 use std::alloc::{AllocError, AllocFailed};
 use thiserror::Error;
 
-/// Why reading stops. A fault holds the tokens from it on.
+/// Why reading stops, without the tokens that are left.
 #[derive(Clone, Copy, Debug, Error)]
-pub(crate) enum ParseError<'a> {
-    /// No phrase goes on with the first of these tokens, or with the end where there is none.
+pub(crate) enum Stop {
+    /// No phrase goes on with the next token, or with the end where there is none.
     #[error("no phrase goes on with the next token, or with the end")]
-    Unexpected(&'a [Token]),
-    /// The first of these tokens is too deep.
+    Unexpected,
+    /// The next token is too deep.
     #[error("the next token is nested too deep")]
-    TooDeep(&'a [Token]),
+    TooDeep,
     /// Memory ran out.
     #[error("memory was refused")]
     NoMemory,
 }
 
-/// What was read, and the tokens after it.
-pub(crate) type ParseResult<'a, T> = Result<(T, &'a [Token]), ParseError<'a>>;
+/// Why reading stops, with how many tokens there are from the fault on: none where memory ran out.
+#[derive(Clone, Copy, Debug, Error)]
+#[error("{stop}")]
+pub(crate) struct ParseError {
+    pub stop: Stop,
+    pub left: usize,
+}
 
-impl<'a> From<AllocError> for ParseError<'a> {
-    ghost from_gives = { λ _ error. error ≡ NoMemory };
+impl ParseError {
+    /// No phrase goes on with the first of these tokens, or with the end where there is none.
+    #[tactic(auto, using(crate::proofs::Stops::as_many))]
+    pub fn unexpected(rest: &[Token]) -> ParseError
+        ensures stop { result.stop ≡ stops.Unexpected }
+        ensures left { result.left ≡ length (tokens_of rest.now) }
+    {
+        ParseError {
+            stop: Stop::Unexpected,
+            left: rest.len(),
+        }
+    }
 
-    fn from(_error: AllocError) -> ParseError<'a> {
-        ParseError::NoMemory
+    /// The first of these tokens is too deep.
+    #[tactic(auto, using(crate::proofs::Stops::as_many))]
+    pub fn too_deep(rest: &[Token]) -> ParseError
+        ensures stop { result.stop ≡ stops.TooDeep }
+        ensures left { result.left ≡ length (tokens_of rest.now) }
+    {
+        ParseError {
+            stop: Stop::TooDeep,
+            left: rest.len(),
+        }
     }
 }
 
-impl<'a, T: Drop> From<AllocFailed<T>> for ParseError<'a> {
-    ghost from_gives = { λ _ error. error ≡ NoMemory };
+/// What was read, and the tokens after it.
+pub(crate) type ParseResult<'a, T> = Result<(T, &'a [Token]), ParseError>;
 
-    fn from(_error: AllocFailed<T>) -> ParseError<'a> {
-        ParseError::NoMemory
+impl From<AllocError> for ParseError {
+    ghost from_gives = { λ _ error. error.stop ≡ stops.NoMemory };
+
+    fn from(_error: AllocError) -> ParseError {
+        ParseError {
+            stop: Stop::NoMemory,
+            left: 0,
+        }
+    }
+}
+
+impl<T: Drop> From<AllocFailed<T>> for ParseError {
+    ghost from_gives = { λ _ error. error.stop ≡ stops.NoMemory };
+
+    fn from(_error: AllocFailed<T>) -> ParseError {
+        ParseError {
+            stop: Stop::NoMemory,
+            left: 0,
+        }
     }
 }

@@ -29,16 +29,16 @@ pub const MAX_DEPTH: u32 = 64;
 
 /// Why a phrase can't begin where no deeper one may.
 #[tactic(auto, unfolding(crate::specs::ExpressionReader::limit_at))]
-fn limit(tokens: &[Token]) -> ParseError<'_>
+fn limit(tokens: &[Token]) -> ParseError
     ensures fails { Fails result (reader.limit_at (tokens_of tokens.now)) }
 {
     let Some((next, _)) = tokens.split_first() else {
-        return ParseError::Unexpected(tokens);
+        return ParseError::unexpected(tokens);
     };
     if begins_expression(&next.kind) {
-        ParseError::TooDeep(tokens)
+        ParseError::too_deep(tokens)
     } else {
-        ParseError::Unexpected(tokens)
+        ParseError::unexpected(tokens)
     }
 }
 
@@ -138,7 +138,7 @@ fn link(alloc: Global, level: u32, room: u32, tokens: &[Token]) -> ParseResult<'
         (tokens_of tokens.now)) }
 {
     let Some((operator, rest)) = operator(level, tokens) else {
-        return Err(ParseError::Unexpected(tokens));
+        return Err(ParseError::unexpected(tokens));
     };
     let (operand, rest) = binary(alloc, level, room, rest)?;
     Ok((Link { operator, operand }, rest))
@@ -153,7 +153,7 @@ fn unary(alloc: Global, room: u32, tokens: &[Token]) -> ParseResult<'_, Expr>
         (reader.unary_with (reader.below_at room) (tokens_of tokens.now)) }
 {
     let Some((next, rest)) = tokens.split_first() else {
-        return Err(ParseError::Unexpected(tokens));
+        return Err(ParseError::unexpected(tokens));
     };
     let Some(operator) = unary_operator(&next.kind) else {
         return postfix(alloc, room, tokens);
@@ -205,14 +205,14 @@ fn suffix(alloc: Global, room: u32, tokens: &[Token]) -> ParseResult<'_, Suffix>
         (reader.suffix_with (reader.below_at room) (tokens_of tokens.now)) }
 {
     let Some((next, rest)) = tokens.split_first() else {
-        return Err(ParseError::Unexpected(tokens));
+        return Err(ParseError::unexpected(tokens));
     };
     match &next.kind {
         TokenKind::Sign(Sign::Dot) => member(alloc, room, rest),
         TokenKind::Sign(Sign::OpenBracket) => index(alloc, room, rest),
         TokenKind::Sign(Sign::Increment) => Ok((Suffix::Increment, rest)),
         TokenKind::Sign(Sign::Decrement) => Ok((Suffix::Decrement, rest)),
-        _ => Err(ParseError::Unexpected(tokens)),
+        _ => Err(ParseError::unexpected(tokens)),
     }
 }
 

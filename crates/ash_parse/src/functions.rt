@@ -32,7 +32,7 @@ pub fn result_type(alloc: Global, tokens: &[Token]) -> ParseResult<'_, Option<Ty
         (reader.result_type_at (tokens_of tokens.now)) }
 {
     let Some((next, rest)) = tokens.split_first() else {
-        return Err(ParseError::Unexpected(tokens));
+        return Err(ParseError::unexpected(tokens));
     };
     if is_void(&next.kind) {
         return Ok((None, rest));

@@ -39,7 +39,7 @@ fn item(alloc: Global, tokens: &[Token]) -> ParseResult<'_, Item>
     ensures parsed { ParsesAs item_of result (reader.item_at (tokens_of tokens.now)) }
 {
     let Some((next, rest)) = tokens.split_first() else {
-        return Err(ParseError::Unexpected(tokens));
+        return Err(ParseError::unexpected(tokens));
     };
     if is_class(&next.kind) {
         let (class, rest) = class(alloc, rest)?;

@@ -18,11 +18,11 @@ fn number(tokens: &[Token]) -> ParseResult<'_, (u64, Position)>
     ensures parsed { ParsesAs (λ x. (x.0, x.1)) result (reader.number_at (tokens_of tokens.now)) }
 {
     let Some((next, rest)) = tokens.split_first() else {
-        return Err(ParseError::Unexpected(tokens));
+        return Err(ParseError::unexpected(tokens));
     };
     match &next.kind {
         TokenKind::Number(value) => Ok(((*value, place(next)), rest)),
-        _ => Err(ParseError::Unexpected(tokens)),
+        _ => Err(ParseError::unexpected(tokens)),
     }
 }
 
@@ -49,7 +49,7 @@ pub fn label(tokens: &[Token]) -> ParseResult<'_, (Label, Position)>
     ensures parsed { ParsesAs (λ x. (x.0, x.1)) result (reader.label_at (tokens_of tokens.now)) }
 {
     let Some((next, rest)) = tokens.split_first() else {
-        return Err(ParseError::Unexpected(tokens));
+        return Err(ParseError::unexpected(tokens));
     };
     match stmt_token(&next.kind) {
         StmtToken::Case => case_value(rest),
@@ -58,6 +58,6 @@ pub fn label(tokens: &[Token]) -> ParseResult<'_, (Label, Position)>
             let (_, rest) = expect(Sign::Colon, rest)?;
             Ok(((Label::Default, place), rest))
         }
-        _ => Err(ParseError::Unexpected(tokens)),
+        _ => Err(ParseError::unexpected(tokens)),
     }
 }

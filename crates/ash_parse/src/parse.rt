@@ -1,6 +1,6 @@
 //! The calls of the crate.
 
-ghost use Rattle.std.specs.Prelude.{◌≡◌, List, [], IfOk, IfErr, MatchResult};
+ghost use Rattle.std.specs.Prelude.{◌≡◌, ◌-◌, List, [], length, drop, IfOk, IfErr, MatchResult};
 ghost use Rattle.ash_lex.specs.Tokens.{meaning_of};
 ghost use Rattle.ash_tree.specs.GrammarTokens.{tokens_of};
 ghost use Rattle.ash_tree.specs.Tree.{Item, Declaration as DeclarationTree};
@@ -16,7 +16,7 @@ ghost use Rattle.ash_parse.specs.ParseFaults.{IsHaltFault, part_of, end_of, star
 ghost use Rattle.ash_parse.specs.ParseFaults.{whole_declaration_at};
 
 use crate::declarations::declaration;
-use crate::error::{ParseError, ParseResult};
+use crate::error::{ParseError, ParseResult, Stop};
 use crate::faults::{ParseFault, UnsupportedPart};
 use crate::items::{is_left, items};
 use ash_lex::{Sign, Token, TokenKind};
@@ -56,16 +56,25 @@ fn end(tokens: &[Token]) -> usize
     }
 }
 
+/// The last tokens, as many as this, or all where there are fewer.
+fn last(count: usize, tokens: &[Token]) -> &[Token]
+    ensures value { result.now ≡ drop (length tokens.now - count) tokens.now }
+{
+    let (_, last) = tokens.split_at(tokens.len().saturating_sub(count));
+    last
+}
+
 /// What is reported of why reading stopped.
 fn fault(tokens: &[Token], error: ParseError) -> ParseFault
-    ensures reported { IsReported tokens.now result error.entry }
+    ensures reported { IsReported tokens.now result error }
 {
-    match error {
-        ParseError::Unexpected(rest) => unexpected(tokens, rest),
-        ParseError::TooDeep(rest) => ParseFault::TooDeep {
+    let rest = last(error.left, tokens);
+    match error.stop {
+        Stop::Unexpected => unexpected(tokens, rest),
+        Stop::TooDeep => ParseFault::TooDeep {
             at: offset(tokens, rest),
         },
-        ParseError::NoMemory => ParseFault::NoMemory,
+        Stop::NoMemory => ParseFault::NoMemory,
     }
 }
 
@@ -92,7 +101,7 @@ fn unexpected(tokens: &[Token], rest: &[Token]) -> ParseFault
 /// Tokens that have no tree within depth 64 are refused with a fault: [`ParseFault::Unexpected`] or
 /// [`ParseFault::Unsupported`] at the first token that fits nowhere, [`ParseFault::TooDeep`] at the first that is too
 /// deep, whichever comes first. Where memory runs out the answer is [`ParseFault::NoMemory`].
-#[tactic(auto, using(crate::proofs::ItemSound::module_sound, crate::proofs::Reported::reported_is_fault, crate::proofs::ItemComplete::items_are_one, crate::proofs::ItemComplete::module_memory, crate::proofs::FirstFaults::module_reported_first))]
+#[tactic(auto, using(crate::proofs::ItemSound::module_sound, crate::proofs::Reported::module_is_fault, crate::proofs::ItemComplete::items_are_one, crate::proofs::ItemComplete::module_memory, crate::proofs::FirstFaults::module_reported_first))]
 pub fn parse_module(alloc: Global, tokens: &[Token]) -> Result<Module, ParseFault>
     // What is answered is a tree that the tokens derive, all of them, within depth 64.
     ensures derived { IfOk result (λ tree. Derives 0 (tokens_of tokens.now) (module_of tree)) }
@@ -114,7 +123,7 @@ pub fn parse_module(alloc: Global, tokens: &[Token]) -> Result<Module, ParseFaul
 /// # Errors
 ///
 /// As for [`parse_module`].
-#[tactic(auto, using(crate::proofs::ItemShorter::declaration_sound, crate::proofs::Reported::reported_is_fault, crate::proofs::ItemComplete::declarations_are_one, crate::proofs::ItemComplete::declaration_memory, crate::proofs::FirstFaults::declaration_reported_first), unfolding(crate::specs::ParseFaults::whole_declaration_at))]
+#[tactic(auto, using(crate::proofs::ItemShorter::declaration_sound, crate::proofs::Reported::declaration_is_fault, crate::proofs::ItemComplete::declarations_are_one, crate::proofs::ItemComplete::declaration_memory, crate::proofs::FirstFaults::declaration_reported_first), unfolding(crate::specs::ParseFaults::whole_declaration_at))]
 pub fn parse_declaration(alloc: Global, tokens: &[Token]) -> Result<Declaration, ParseFault>
     // What is answered is a tree that the tokens derive, all of them.
     ensures derived { IfOk result (λ tree. Declares (tokens_of tokens.now) (declaration_of tree)) }
@@ -139,7 +148,7 @@ fn whole_declaration(alloc: Global, tokens: &[Token]) -> ParseResult<'_, Declara
 {
     let (declaration, rest) = declaration(alloc, tokens)?;
     if is_left(rest) {
-        return Err(ParseError::Unexpected(rest));
+        return Err(ParseError::unexpected(rest));
     }
     Ok((declaration, rest))
 }

@@ -73,7 +73,7 @@ fn statement(alloc: Global, room: u32, tokens: &[Token]) -> ParseResult<'_, Stmt
         (reader.stmt_with (exprs.below_at room) (reader.nested_at room) (tokens_of tokens.now)) }
 {
     let Some((next, rest)) = tokens.split_first() else {
-        return Err(ParseError::Unexpected(tokens));
+        return Err(ParseError::unexpected(tokens));
     };
     let place = place(next);
     match stmt_token(&next.kind) {
@@ -102,7 +102,7 @@ fn statement(alloc: Global, room: u32, tokens: &[Token]) -> ParseResult<'_, Stmt
         }
         StmtToken::Other => evaluate(alloc, room, tokens),
         StmtToken::End | StmtToken::Else | StmtToken::Case | StmtToken::Default => {
-            Err(ParseError::Unexpected(tokens))
+            Err(ParseError::unexpected(tokens))
         }
     }
 }

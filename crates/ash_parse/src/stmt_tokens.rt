@@ -99,16 +99,16 @@ pub fn case_goes_on(tokens: &[Token]) -> bool
 
 /// Why a statement can't begin where no deeper one may.
 #[tactic(auto, unfolding(crate::specs::StatementReader::stmt_limit_at))]
-pub fn limit(tokens: &[Token]) -> ParseError<'_>
+pub fn limit(tokens: &[Token]) -> ParseError
     ensures fails { Fails result (reader.stmt_limit_at (tokens_of tokens.now)) }
 {
     let Some((next, _)) = tokens.split_first() else {
-        return ParseError::Unexpected(tokens);
+        return ParseError::unexpected(tokens);
     };
     if begins_statement(&next.kind) {
-        ParseError::TooDeep(tokens)
+        ParseError::too_deep(tokens)
     } else {
-        ParseError::Unexpected(tokens)
+        ParseError::unexpected(tokens)
     }
 }
 
@@ -118,11 +118,11 @@ pub fn expect_while(tokens: &[Token]) -> ParseResult<'_, Position>
     ensures parsed { ParsesAs (λ x. x) result (reader.while_at (tokens_of tokens.now)) }
 {
     let Some((next, rest)) = tokens.split_first() else {
-        return Err(ParseError::Unexpected(tokens));
+        return Err(ParseError::unexpected(tokens));
     };
     if matches!(stmt_token(&next.kind), StmtToken::While) {
         Ok((place(next), rest))
     } else {
-        Err(ParseError::Unexpected(tokens))
+        Err(ParseError::unexpected(tokens))
     }
 }

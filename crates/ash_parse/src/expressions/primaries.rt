@@ -25,7 +25,7 @@ pub(super) fn primary(alloc: Global, room: u32, tokens: &[Token]) -> ParseResult
         (reader.primary_with (reader.below_at room) (tokens_of tokens.now)) }
 {
     let Some((next, rest)) = tokens.split_first() else {
-        return Err(ParseError::Unexpected(tokens));
+        return Err(ParseError::unexpected(tokens));
     };
     let place = place(next);
     if let Some(to) = primitive(&next.kind) {
@@ -45,7 +45,7 @@ pub(super) fn primary(alloc: Global, room: u32, tokens: &[Token]) -> ParseResult
         TokenKind::Reserved(ReservedWord::False) => ExprKind::Bool(false),
         TokenKind::Reserved(ReservedWord::Null) => ExprKind::Null,
         TokenKind::Reserved(ReservedWord::This) => ExprKind::This,
-        _ => return Err(ParseError::Unexpected(tokens)),
+        _ => return Err(ParseError::unexpected(tokens)),
     };
     Ok((nodes::expression(alloc, place, kind)?, rest))
 }
