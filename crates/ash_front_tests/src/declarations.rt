@@ -1,6 +1,6 @@
 //! Registered declarations: `ok`, or the first fault by the grammar. The offsets are counted by hand.
 
-use crate::compare::{check_text, expect_memory};
+use crate::compare::{check_text, expect_text};
 use crate::tokens::{code_at, coded_fault};
 use ash_lex::{Token, lex};
 use ash_parse::{
@@ -49,21 +49,15 @@ fn declaration_outcome_of(alloc: Global, source: &str) -> Result<String, AllocEr
 }
 
 /// Compares how a registered declaration is parsed with what is wanted.
-fn check_declaration(
-    rt: &impl Abort,
-    alloc: Global,
-    source: &str,
-    wanted: &str,
-) -> Result<(), AllocError> {
-    let found = declaration_outcome_of(alloc, source)?;
+fn check_declaration(rt: &impl Abort, alloc: Global, source: &str, wanted: &str) {
+    let found = expect_text(rt, declaration_outcome_of(alloc, source));
     check_text(rt, found.as_str(), wanted, source);
-    Ok(())
 }
 
 /// Each row has a registered declaration, and how it is parsed.
 fn check_declarations(rt: &impl Abort, alloc: Global, rows: &[(&str, &str)]) {
     for (source, wanted) in rows {
-        expect_memory(rt, check_declaration(rt, alloc, source, wanted));
+        check_declaration(rt, alloc, source, wanted);
     }
 }
 

@@ -1,10 +1,10 @@
 //! Sources of 65,536 bytes: their trees are shallow, so that comparing and dropping one takes little stack.
 
-use crate::compare::{check_number, check_text, expect_memory};
+use crate::compare::{check_number, check_text, expect_memory, expect_text};
 use crate::declarations::{coded, parsed};
 use crate::tokens::{coded_fault, push_times};
 use crate::trees::printed_tree;
-use ash_lex::{MAX_SOURCE_BYTES, Token, lex};
+use ash_lex::{LexFault, MAX_SOURCE_BYTES, Token, lex};
 use std::alloc::{AllocError, Global};
 use std::process::Abort;
 
@@ -18,12 +18,12 @@ fn fill(source: &mut String, phrase: &str, left: usize) -> Result<(), AllocError
 }
 
 /// A source of the greatest length: a phrase again and again, and blanks after it.
-fn largest(alloc: Global, prefix: &str, phrase: &str, suffix: &str) -> Result<String, AllocError> {
-    let mut source = String::from_str(alloc, prefix)?;
-    fill(&mut source, phrase, suffix.len())?;
-    source.push_str(suffix)?;
-    fill(&mut source, " ", 0)?;
-    Ok(source)
+fn largest(rt: &impl Abort, alloc: Global, prefix: &str, phrase: &str, suffix: &str) -> String {
+    let mut source = expect_text(rt, String::from_str(alloc, prefix));
+    expect_memory(rt, fill(&mut source, phrase, suffix.len()));
+    expect_memory(rt, source.push_str(suffix));
+    expect_memory(rt, fill(&mut source, " ", 0));
+    source
 }
 
 /// How these tokens are parsed: `ok`, or their fault.
@@ -35,28 +35,26 @@ fn outcome(alloc: Global, tokens: &[Token]) -> Result<String, AllocError> {
 }
 
 /// Compares two trees of these tokens.
-fn check_trees(
-    rt: &impl Abort,
-    alloc: Global,
-    tokens: &[Token],
-    row: &str,
-) -> Result<(), AllocError> {
-    check_text(rt, outcome(alloc, tokens)?.as_str(), "ok", row);
-    let first = printed_tree(alloc, tokens)?;
-    let second = printed_tree(alloc, tokens)?;
+fn check_trees(rt: &impl Abort, alloc: Global, tokens: &[Token], row: &str) {
+    let outcome = expect_text(rt, outcome(alloc, tokens));
+    check_text(rt, outcome.as_str(), "ok", row);
+    let first = expect_text(rt, printed_tree(alloc, tokens));
+    let second = expect_text(rt, printed_tree(alloc, tokens));
     check_text(rt, first.as_str(), second.as_str(), row);
-    Ok(())
+}
+
+/// Fails where a source has no tokens.
+fn fail_for(rt: &impl Abort, alloc: Global, fault: &LexFault, row: &str) {
+    let fault = expect_text(rt, coded_fault(alloc, fault));
+    check_text(rt, fault.as_str(), "tokens", row);
 }
 
 /// Compares two trees of a source.
-fn check(rt: &impl Abort, alloc: Global, source: &str, row: &str) -> Result<(), AllocError> {
+fn check(rt: &impl Abort, alloc: Global, source: &str, row: &str) {
     check_number(rt, source.len(), 65_536, row);
     match lex(alloc, source) {
         Ok(tokens) => check_trees(rt, alloc, tokens.as_slice(), row),
-        Err(fault) => {
-            check_text(rt, coded_fault(alloc, &fault)?.as_str(), "tokens", row);
-            Ok(())
-        }
+        Err(fault) => fail_for(rt, alloc, &fault, row),
     }
 }
 
@@ -64,10 +62,10 @@ fn check(rt: &impl Abort, alloc: Global, source: &str, row: &str) -> Result<(), 
 type Row<'a> = (&'a str, &'a str, &'a str);
 
 /// Compares two trees of a row's source.
-fn check_row(rt: &impl Abort, alloc: Global, row: Row) -> Result<(), AllocError> {
+fn check_row(rt: &impl Abort, alloc: Global, row: Row) {
     let (prefix, phrase, suffix) = row;
-    let source = largest(alloc, prefix, phrase, suffix)?;
-    let row = format!(in alloc; "{prefix} {phrase} {suffix}")?;
+    let source = largest(rt, alloc, prefix, phrase, suffix);
+    let row = expect_text(rt, format!(in alloc; "{prefix} {phrase} {suffix}"));
     check(rt, alloc, source.as_str(), row.as_str())
 }
 
@@ -96,7 +94,7 @@ fn largest_sources(rt: HostRuntime) {
         ("void f(int a", ", int a", ") {}"),
     ];
     for row in rows {
-        expect_memory(&rt, check_row(&rt, rt.alloc(), *row));
+        check_row(&rt, rt.alloc(), *row);
     }
 }
 
@@ -109,13 +107,13 @@ fn deep_index(alloc: Global) -> Result<String, AllocError> {
 }
 
 /// Compares two trees of the source with such indexes.
-fn check_arrays_in_indexes(rt: &impl Abort, alloc: Global) -> Result<(), AllocError> {
-    let phrase = deep_index(alloc)?;
-    let source = largest(alloc, "int a = b", phrase.as_str(), ";")?;
+fn check_arrays_in_indexes(rt: &impl Abort, alloc: Global) {
+    let phrase = expect_text(rt, deep_index(alloc));
+    let source = largest(rt, alloc, "int a = b", phrase.as_str(), ";");
     check(rt, alloc, source.as_str(), "arrays in indexes")
 }
 
 #[test]
 fn largest_source_of_arrays_in_indexes(rt: HostRuntime) {
-    expect_memory(&rt, check_arrays_in_indexes(&rt, rt.alloc()));
+    check_arrays_in_indexes(&rt, rt.alloc());
 }

@@ -1,13 +1,14 @@
 //! Registrations that are refused, each of which changes nothing.
 
 use crate::compare::expect_all;
-use crate::registrations::{Registration, is_unchanged, program, register};
+use crate::registrations::{Registration, expect_program, is_unchanged, register};
 use Registration::{Factory, Function, Method, Property, Service, Type};
 use RegistryFault::{
     BadDeclaration, FactoryTaken, NameTaken, NoService, NotPrimitive, ReservedName, UnknownType,
 };
 use ash_registry::{Registry, RegistryFault};
 use std::alloc::Global;
+use std::process::Abort;
 
 /// A registration, and why it is refused.
 type Row = (Registration, RegistryFault);
@@ -19,14 +20,19 @@ fn is_refused(registry: &mut Registry, row: Row) -> Result<bool, RegistryFault> 
 }
 
 /// Makes each registration in turn up to the first that is not refused as it must be.
-fn first_unmet(alloc: Global, rows: &[Row]) -> Result<Option<usize>, RegistryFault> {
-    let mut registry = program(alloc)?;
+fn first_unmet(registry: &mut Registry, rows: &[Row]) -> Result<Option<usize>, RegistryFault> {
     for place in 0..rows.len() {
-        if !is_refused(&mut registry, rows[place])? {
+        if !is_refused(registry, rows[place])? {
             return Ok(Some(place));
         }
     }
     Ok(None)
+}
+
+/// Makes each registration in turn, where the program's are made. Each is refused for its cause, and changes nothing.
+fn check_refused(rt: &impl Abort, alloc: Global, rows: &[Row]) {
+    let mut registry = expect_program(rt, alloc);
+    expect_all(rt, first_unmet(&mut registry, rows));
 }
 
 static TYPES_AND_SERVICES: [Row; 19] = [
@@ -53,7 +59,7 @@ static TYPES_AND_SERVICES: [Row; 19] = [
 
 #[test]
 fn refused_types_and_services_change_nothing(rt: HostRuntime) {
-    expect_all(&rt, first_unmet(rt.alloc(), &TYPES_AND_SERVICES));
+    check_refused(&rt, rt.alloc(), &TYPES_AND_SERVICES);
 }
 
 static METHODS: [Row; 21] = [
@@ -82,7 +88,7 @@ static METHODS: [Row; 21] = [
 
 #[test]
 fn refused_methods_change_nothing(rt: HostRuntime) {
-    expect_all(&rt, first_unmet(rt.alloc(), &METHODS));
+    check_refused(&rt, rt.alloc(), &METHODS);
 }
 
 static PROPERTIES_AND_FACTORIES: [Row; 21] = [
@@ -111,7 +117,7 @@ static PROPERTIES_AND_FACTORIES: [Row; 21] = [
 
 #[test]
 fn refused_properties_and_factories_change_nothing(rt: HostRuntime) {
-    expect_all(&rt, first_unmet(rt.alloc(), &PROPERTIES_AND_FACTORIES));
+    check_refused(&rt, rt.alloc(), &PROPERTIES_AND_FACTORIES);
 }
 
 static ARRAYS: [Row; 30] = [
@@ -167,7 +173,7 @@ static ARRAYS: [Row; 30] = [
 
 #[test]
 fn refused_arrays_change_nothing(rt: HostRuntime) {
-    expect_all(&rt, first_unmet(rt.alloc(), &ARRAYS));
+    check_refused(&rt, rt.alloc(), &ARRAYS);
 }
 
 /// Interfaces belong to scripts: where a registration names one, no such type is registered, and it declares none.
@@ -198,7 +204,7 @@ static INTERFACES: [Row; 19] = [
 
 #[test]
 fn refused_interfaces_change_nothing(rt: HostRuntime) {
-    expect_all(&rt, first_unmet(rt.alloc(), &INTERFACES));
+    check_refused(&rt, rt.alloc(), &INTERFACES);
 }
 
 static FUNCTIONS: [Row; 9] = [
@@ -215,5 +221,5 @@ static FUNCTIONS: [Row; 9] = [
 
 #[test]
 fn refused_functions_change_nothing(rt: HostRuntime) {
-    expect_all(&rt, first_unmet(rt.alloc(), &FUNCTIONS));
+    check_refused(&rt, rt.alloc(), &FUNCTIONS);
 }

@@ -4,6 +4,8 @@ use crate::compare::expect;
 use Registration::{Factory, Function, Method, Property, Service, Type};
 use ash_registry::{Registry, RegistryFault};
 use std::alloc::{AllocError, Global};
+use std::panic::Expect;
+use std::process::Abort;
 
 /// A registration.
 #[derive(Clone, Copy)]
@@ -61,11 +63,21 @@ fn register_each(
     Ok(())
 }
 
-/// These registrations. They are boxed, so that no function that has them carries their parts.
+/// A registry where nothing is registered. It is boxed, so that no function that has it carries its parts.
+pub(crate) fn empty(alloc: Global) -> Result<Box<Registry>, AllocError> {
+    Ok(Box::new(alloc, Registry::new(alloc))?)
+}
+
+/// These registrations.
 pub(crate) fn program(alloc: Global) -> Result<Box<Registry>, RegistryFault> {
-    let mut registry = Box::new(alloc, Registry::new(alloc))?;
+    let mut registry = empty(alloc)?;
     register_each(&mut registry, &REGISTRATIONS)?;
     Ok(registry)
+}
+
+/// These registrations. A test fails where one is refused.
+pub(crate) fn expect_program(rt: &impl Abort, alloc: Global) -> Box<Registry> {
+    program(alloc).expect(rt, "a registration is refused")
 }
 
 /// The text of these registrations.
@@ -104,28 +116,32 @@ fn has_factory(registry: &Registry, of: &str) -> bool {
     registry.factory_of(of).is_some()
 }
 
-/// Whether the text and the look-ups are those of the program's registrations.
-pub(crate) fn is_unchanged(registry: &Registry) -> Result<bool, AllocError> {
-    let is_text = registry.text() == PROGRAM;
+/// Whether the names are those of the program's registrations.
+fn has_names(registry: &Registry) -> bool {
     let found = count_named(registry, &["Counter", "tally", "total"]);
     let others = count_named(registry, &["X", "g", "int", "add", "value", "Other"]);
     let members = count_members(registry, &["add", "fail", "value"]);
     let no_members = count_members(registry, &["g", "if", "other", "tally", "f", "c"]);
+    found == 3 && others == 0 && members == 3 && no_members == 0
+}
+
+/// Whether the text and the look-ups are those of the program's registrations.
+pub(crate) fn is_unchanged(registry: &Registry) -> Result<bool, AllocError> {
+    let is_text = registry.text() == PROGRAM;
     let is_made = has_factory(registry, "Counter") && !has_factory(registry, "X");
-    let has_names = found == 3 && others == 0 && members == 3 && no_members == 0;
-    Ok(is_text && has_names && is_made && has_kinds(registry, &[2])?)
+    Ok(is_text && has_names(registry) && is_made && has_kinds(registry, &[2])?)
 }
 
 /// Whether the program's registrations have their text, and are found.
-fn are_found(alloc: Global) -> Result<bool, RegistryFault> {
-    let registry = program(alloc)?;
+fn are_found(registry: &Registry) -> Result<bool, RegistryFault> {
     let has_kinds = registry.of_kind(2).is_some() && registry.of_kind(77).is_none();
-    Ok(is_unchanged(&registry)? && has_kinds)
+    Ok(is_unchanged(registry)? && has_kinds)
 }
 
 #[test]
 fn the_program_registers(rt: HostRuntime) {
-    expect(&rt, are_found(rt.alloc()));
+    let registry = expect_program(&rt, rt.alloc());
+    expect(&rt, are_found(&registry));
 }
 
 /// A method and a property.
@@ -135,14 +151,14 @@ static ADDED: [Registration; 2] = [
 ];
 
 /// Whether what was added to the program's registrations has this text.
-fn adds_text(alloc: Global, wanted: &str) -> Result<bool, RegistryFault> {
-    let mut registry = program(alloc)?;
-    register_each(&mut registry, &ADDED)?;
+fn adds_text(registry: &mut Registry, wanted: &str) -> Result<bool, RegistryFault> {
+    register_each(registry, &ADDED)?;
     Ok(registry.text().strip_prefix(PROGRAM) == Some(wanted))
 }
 
 #[test]
 fn names_of_parameters_are_left_out(rt: HostRuntime) {
     let added = "method Counter 3 uint sum(int,bool,uint64)\nproperty Counter 3 int64 total\n";
-    expect(&rt, adds_text(rt.alloc(), added));
+    let mut registry = expect_program(&rt, rt.alloc());
+    expect(&rt, adds_text(&mut registry, added));
 }

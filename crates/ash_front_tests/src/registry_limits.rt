@@ -1,10 +1,12 @@
 //! The limits of a registry: how many services, types, members and functions, and the length of its text.
 
-use crate::compare::expect;
-use crate::registrations::program;
+use crate::compare::{NO_MEMORY, expect, expect_text};
+use crate::registrations::{empty, expect_program};
 use crate::tokens::push_times;
 use ash_registry::{Registry, RegistryFault};
 use std::alloc::{AllocError, Global};
+use std::panic::Expect;
+use std::process::Abort;
 
 /// A limit, by what it counts.
 #[derive(Clone, Copy)]
@@ -40,8 +42,14 @@ fn text_of_item(alloc: Global, limit: Limit, id: u16) -> Result<String, AllocErr
 }
 
 /// Registers the item of this number of those that a limit counts.
-fn add(alloc: Global, registry: &mut Registry, limit: Limit, id: u16) -> Result<(), RegistryFault> {
-    let text = text_of_item(alloc, limit, id)?;
+fn add(
+    rt: &impl Abort,
+    alloc: Global,
+    registry: &mut Registry,
+    limit: Limit,
+    id: u16,
+) -> Result<(), RegistryFault> {
+    let text = expect_text(rt, text_of_item(alloc, limit, id));
     match limit {
         Limit::Services => add_service(registry, id),
         Limit::Types => registry.object_type(text.as_str(), id),
@@ -51,42 +59,37 @@ fn add(alloc: Global, registry: &mut Registry, limit: Limit, id: u16) -> Result<
 }
 
 /// Registers those that a limit counts, with the numbers from 3 to the one before this.
-fn fill(
-    alloc: Global,
-    registry: &mut Registry,
-    limit: Limit,
-    end: u16,
-) -> Result<(), RegistryFault> {
+fn fill(rt: &impl Abort, alloc: Global, registry: &mut Registry, limit: Limit, end: u16) {
     for id in 3..end {
-        add(alloc, registry, limit, id)?;
+        add(rt, alloc, registry, limit, id).expect(rt, "an item is refused below the limit");
     }
-    Ok(())
 }
 
-/// Whether there may be those that a limit counts with the numbers below this one, and the next is one too many and
-/// changes nothing.
-fn is_limit(
-    alloc: Global,
-    registry: &mut Registry,
-    limit: Limit,
-    end: u16,
-) -> Result<bool, RegistryFault> {
-    fill(alloc, registry, limit, end)?;
-    let before = registry.text().to_string(alloc)?;
-    let answer = add(alloc, registry, limit, end);
-    Ok(answer == Err(RegistryFault::TooMany) && registry.text() == before.as_str())
+/// Whether the item of this number of those that a limit counts is one too many, and changes nothing.
+fn refuses(rt: &impl Abort, alloc: Global, registry: &mut Registry, limit: Limit, id: u16) -> bool {
+    let before = expect_text(rt, registry.text().to_string(alloc));
+    let answer = add(rt, alloc, registry, limit, id);
+    answer == Err(RegistryFault::TooMany) && registry.text() == before.as_str()
 }
 
-fn is_limit_of_services(alloc: Global) -> Result<bool, RegistryFault> {
-    let mut registry = program(alloc)?;
-    let is_limit = is_limit(alloc, &mut registry, Limit::Services, 18)?;
-    let kinds = registry.service_kinds()?.len();
-    Ok(is_limit && kinds == 16)
+/// Looks for a limit: there may be those that it counts with the numbers below this one, and the next is one too many
+/// and changes nothing.
+fn check_limit(rt: &impl Abort, alloc: Global, registry: &mut Registry, limit: Limit, end: u16) {
+    fill(rt, alloc, registry, limit, end);
+    let is_refused = refuses(rt, alloc, registry, limit, end);
+    expect(rt, Ok(is_refused));
+}
+
+/// Whether so many services are registered.
+fn has_services(registry: &Registry, count: usize) -> Result<bool, RegistryFault> {
+    Ok(registry.service_kinds()?.len() == count)
 }
 
 #[test]
 fn one_service_too_many(rt: HostRuntime) {
-    expect(&rt, is_limit_of_services(rt.alloc()));
+    let mut registry = expect_program(&rt, rt.alloc());
+    check_limit(&rt, rt.alloc(), &mut registry, Limit::Services, 18);
+    expect(&rt, has_services(&registry, 16));
 }
 
 /// Whether one name is registered, and the other is not.
@@ -94,46 +97,39 @@ fn has_names(registry: &Registry, last: &str, none: &str) -> bool {
     registry.named(last).is_some() && registry.named(none).is_none()
 }
 
-fn is_limit_of_types(alloc: Global) -> Result<bool, RegistryFault> {
-    let mut registry = program(alloc)?;
-    let is_limit = is_limit(alloc, &mut registry, Limit::Types, 258)?;
-    Ok(is_limit && has_names(&registry, "T257", "T258"))
-}
-
 #[test]
 fn one_type_too_many(rt: HostRuntime) {
-    expect(&rt, is_limit_of_types(rt.alloc()));
+    let mut registry = expect_program(&rt, rt.alloc());
+    check_limit(&rt, rt.alloc(), &mut registry, Limit::Types, 258);
+    expect(&rt, Ok(has_names(&registry, "T257", "T258")));
 }
 
 /// Whether a property is one member too many, and changes nothing.
-fn refuses_property(alloc: Global, registry: &mut Registry) -> Result<bool, RegistryFault> {
-    let before = registry.text().to_string(alloc)?;
+fn refuses_property(rt: &impl Abort, alloc: Global, registry: &mut Registry) -> bool {
+    let before = expect_text(rt, registry.text().to_string(alloc));
     let answer = registry.property("Counter", "int p", 2);
-    Ok(answer == Err(RegistryFault::TooMany) && registry.text() == before.as_str())
+    answer == Err(RegistryFault::TooMany) && registry.text() == before.as_str()
 }
 
-fn is_limit_of_members(alloc: Global) -> Result<bool, RegistryFault> {
-    let mut registry = program(alloc)?;
-    let is_limit = is_limit(alloc, &mut registry, Limit::Members, 32)?;
-    let is_full = refuses_property(alloc, &mut registry)?;
-    let is_last = registry.member("Counter", "m31").is_some();
-    Ok(is_limit && is_full && is_last && registry.member("Counter", "m32").is_none())
+/// Whether one name is of a member of `Counter`, and the other is not.
+fn has_members(registry: &Registry, last: &str, none: &str) -> bool {
+    registry.member("Counter", last).is_some() && registry.member("Counter", none).is_none()
 }
 
 #[test]
 fn one_member_too_many(rt: HostRuntime) {
-    expect(&rt, is_limit_of_members(rt.alloc()));
-}
-
-fn is_limit_of_functions(alloc: Global) -> Result<bool, RegistryFault> {
-    let mut registry = program(alloc)?;
-    let is_limit = is_limit(alloc, &mut registry, Limit::Functions, 257)?;
-    Ok(is_limit && has_names(&registry, "f256", "f257"))
+    let mut registry = expect_program(&rt, rt.alloc());
+    check_limit(&rt, rt.alloc(), &mut registry, Limit::Members, 32);
+    let is_refused = refuses_property(&rt, rt.alloc(), &mut registry);
+    expect(&rt, Ok(is_refused));
+    expect(&rt, Ok(has_members(&registry, "m31", "m32")));
 }
 
 #[test]
 fn one_function_too_many(rt: HostRuntime) {
-    expect(&rt, is_limit_of_functions(rt.alloc()));
+    let mut registry = expect_program(&rt, rt.alloc());
+    check_limit(&rt, rt.alloc(), &mut registry, Limit::Functions, 257);
+    expect(&rt, Ok(has_names(&registry, "f256", "f257")));
 }
 
 /// A name that ends in many `x`, of this length or as long as a name may be.
@@ -185,16 +181,17 @@ fn refuses_service(registry: &mut Registry) -> Result<bool, RegistryFault> {
     Ok(fault == Some(RegistryFault::TooMany) && is_same)
 }
 
-fn has_longest_text(alloc: Global) -> Result<bool, RegistryFault> {
-    let mut registry = Box::new(alloc, Registry::new(alloc))?;
-    fill_text(alloc, &mut registry)?;
-    let is_longest = takes_the_rest(alloc, &mut registry)?;
-    Ok(is_longest && refuses_service(&mut registry)?)
+/// Whether a text may be as long as the longest, and not longer, where nothing is registered before.
+fn has_longest_text(alloc: Global, registry: &mut Registry) -> Result<bool, RegistryFault> {
+    fill_text(alloc, registry)?;
+    let is_longest = takes_the_rest(alloc, registry)?;
+    Ok(is_longest && refuses_service(registry)?)
 }
 
 #[test]
 fn a_text_of_1_048_576_bytes_is_the_longest(rt: HostRuntime) {
-    expect(&rt, has_longest_text(rt.alloc()));
+    let mut registry = empty(rt.alloc()).expect(&rt, NO_MEMORY);
+    expect(&rt, has_longest_text(rt.alloc(), &mut registry));
 }
 
 /// A declaration, and blanks after it up to this length.
@@ -215,14 +212,15 @@ fn long_method(
     registry.method("Counter", decl.as_str(), id)
 }
 
-fn is_longest_declaration(alloc: Global) -> Result<bool, RegistryFault> {
-    let mut registry = program(alloc)?;
-    long_method(alloc, &mut registry, 3, 65_536)?;
-    let answer = long_method(alloc, &mut registry, 4, 65_537);
+/// Whether a declaration may have 65,536 bytes, and not one more.
+fn is_longest_declaration(alloc: Global, registry: &mut Registry) -> Result<bool, RegistryFault> {
+    long_method(alloc, registry, 3, 65_536)?;
+    let answer = long_method(alloc, registry, 4, 65_537);
     Ok(answer == Err(RegistryFault::BadDeclaration))
 }
 
 #[test]
 fn a_text_that_is_too_long_to_cut_is_no_declaration(rt: HostRuntime) {
-    expect(&rt, is_longest_declaration(rt.alloc()));
+    let mut registry = expect_program(&rt, rt.alloc());
+    expect(&rt, is_longest_declaration(rt.alloc(), &mut registry));
 }

@@ -1,11 +1,10 @@
 //! Faults as a person reads them.
 
-use crate::compare::{check_text, expect_memory};
+use crate::compare::{check_text, expect_text};
 use ash_lex::LexFault;
 use ash_parse::{ParseFault, UnsupportedPart};
 use ash_registry::RegistryFault;
 use std::alloc::{AllocError, Global};
-use std::process::Abort;
 
 const SENTENCES: &str =
     "no token begins with the character at byte 4; the text is longer than 65,536 bytes; \
@@ -28,14 +27,8 @@ fn sentences(alloc: Global) -> Result<String, AllocError> {
     )
 }
 
-/// Compares the sentences with those that are wanted.
-fn check_sentences(rt: &impl Abort, alloc: Global) -> Result<(), AllocError> {
-    let found = sentences(alloc)?;
-    check_text(rt, found.as_str(), SENTENCES, "faults");
-    Ok(())
-}
-
 #[test]
 fn faults_are_sentences(rt: HostRuntime) {
-    expect_memory(&rt, check_sentences(&rt, rt.alloc()));
+    let found = expect_text(&rt, sentences(rt.alloc()));
+    check_text(&rt, found.as_str(), SENTENCES, "faults");
 }

@@ -1,6 +1,6 @@
 //! Signs, alone and two side by side.
 
-use crate::compare::{check_text, expect_memory};
+use crate::compare::{check_text, expect_memory, expect_text};
 use crate::tokens::{check_shown, code_at, coded_fault};
 use ash_lex::{Sign, Token, TokenKind, lex};
 use std::alloc::{AllocError, Global};
@@ -101,17 +101,16 @@ fn printed_sign(alloc: Global, sign: Sign, len: usize) -> Result<String, AllocEr
 }
 
 /// Looks at a sign alone.
-fn check_alone(rt: &impl Abort, alloc: Global, text: &str, sign: Sign) -> Result<(), AllocError> {
-    let found = printed_tokens(alloc, text)?;
-    let wanted = printed_sign(alloc, sign, text.len())?;
+fn check_alone(rt: &impl Abort, alloc: Global, text: &str, sign: Sign) {
+    let found = expect_text(rt, printed_tokens(alloc, text));
+    let wanted = expect_text(rt, printed_sign(alloc, sign, text.len()));
     check_text(rt, found.as_str(), wanted.as_str(), text);
-    Ok(())
 }
 
 #[test]
 fn signs_alone(rt: HostRuntime) {
     for (text, sign) in signs() {
-        expect_memory(&rt, check_alone(&rt, rt.alloc(), text, *sign));
+        check_alone(&rt, rt.alloc(), text, *sign);
     }
 }
 
@@ -125,45 +124,40 @@ fn sign_of(text: &str) -> Option<&'static str> {
 }
 
 /// Writes the sign at a place, and gives the place after it.
-fn write_sign(out: &mut String, sign: &str, at: usize) -> Result<usize, AllocError> {
+fn write_sign(rt: &impl Abort, out: &mut String, sign: &str, at: usize) -> usize {
     let to = sign.len().wrapping_add(at);
-    write!(out, "1:{at}-{to} sign {sign}; ")?;
-    Ok(to)
+    expect_memory(rt, write!(out, "1:{at}-{to} sign {sign}; "));
+    to
 }
 
 /// What two signs side by side are, by hand: the longest sign at each place, unless a comment begins.
-fn signs_by_hand(alloc: Global, text: &str) -> Result<String, AllocError> {
+fn signs_by_hand(rt: &impl Abort, alloc: Global, text: &str) -> String {
     let mut out = String::new(alloc);
     let mut at = 0;
     for _ in 0..text.len() {
         let rest = text.get(at..).unwrap_or("");
         if rest.starts_with("/*") {
-            return code_at(alloc, "102 UnclosedComment", at);
+            return expect_text(rt, code_at(alloc, "102 UnclosedComment", at));
         }
         match sign_of(rest) {
-            Some(sign) => at = write_sign(&mut out, sign, at)?,
+            Some(sign) => at = write_sign(rt, &mut out, sign, at),
             None => break,
         }
     }
-    Ok(out)
+    out
 }
 
 /// Looks at two signs side by side.
-fn check_beside(
-    rt: &impl Abort,
-    alloc: Global,
-    first: &str,
-    second: &str,
-) -> Result<(), AllocError> {
-    let text = format!(in alloc; "{first}{second}")?;
-    let wanted = signs_by_hand(alloc, text.as_str())?;
+fn check_beside(rt: &impl Abort, alloc: Global, first: &str, second: &str) {
+    let text = expect_text(rt, format!(in alloc; "{first}{second}"));
+    let wanted = signs_by_hand(rt, alloc, text.as_str());
     check_shown(rt, alloc, text.as_str(), wanted.as_str())
 }
 
 /// Looks at this sign with each sign after it.
 fn check_beside_each(rt: &impl Abort, alloc: Global, first: &str) {
     for (second, _) in signs() {
-        expect_memory(rt, check_beside(rt, alloc, first, second));
+        check_beside(rt, alloc, first, second);
     }
 }
 

@@ -3,7 +3,7 @@
 //! In reading order: `checks`, with the helpers; `reading`, `names`, `checking` and `registered`.
 
 mod checking;
-mod checks;
+pub(crate) mod checks;
 mod names;
 mod reading;
 mod registered;

@@ -1,6 +1,6 @@
 //! Tokens of texts, and the first faults of texts that have none. Lines and bytes are counted by hand.
 
-use crate::compare::{check_text, expect_memory};
+use crate::compare::{check_text, expect_memory, expect_text};
 use ash_lex::{LexFault, MAX_SOURCE_BYTES, Token, TokenKind, lex};
 use std::alloc::{AllocError, Global};
 use std::fmt::{Display, Write};
@@ -44,36 +44,33 @@ pub(crate) fn coded_fault(alloc: Global, fault: &LexFault) -> Result<String, All
     }
 }
 
+/// These tokens.
+fn shown_tokens(rt: &impl Abort, alloc: Global, tokens: &[Token]) -> String {
+    let mut out = String::new(alloc);
+    for token in tokens {
+        expect_memory(rt, show_token(&mut out, token));
+    }
+    out
+}
+
 /// The tokens of a text, or its fault.
-pub(crate) fn shown(alloc: Global, text: &str) -> Result<String, AllocError> {
+fn shown(rt: &impl Abort, alloc: Global, text: &str) -> String {
     match lex(alloc, text) {
-        Ok(tokens) => {
-            let mut out = String::new(alloc);
-            for token in &tokens {
-                show_token(&mut out, token)?;
-            }
-            Ok(out)
-        }
-        Err(fault) => coded_fault(alloc, &fault),
+        Ok(tokens) => shown_tokens(rt, alloc, tokens.as_slice()),
+        Err(fault) => expect_text(rt, coded_fault(alloc, &fault)),
     }
 }
 
 /// Compares the tokens of a text, or its fault, with those that are wanted.
-pub(crate) fn check_shown(
-    rt: &impl Abort,
-    alloc: Global,
-    text: &str,
-    wanted: &str,
-) -> Result<(), AllocError> {
-    let found = shown(alloc, text)?;
+pub(crate) fn check_shown(rt: &impl Abort, alloc: Global, text: &str, wanted: &str) {
+    let found = shown(rt, alloc, text);
     check_text(rt, found.as_str(), wanted, text);
-    Ok(())
 }
 
 /// Each row has a text, and its tokens or its fault.
 fn check_rows(rt: &impl Abort, alloc: Global, rows: &[(&str, &str)]) {
     for (text, wanted) in rows {
-        expect_memory(rt, check_shown(rt, alloc, text, wanted));
+        check_shown(rt, alloc, text, wanted);
     }
 }
 
@@ -185,26 +182,24 @@ pub(crate) fn push_times(text: &mut String, part: &str, times: usize) -> Result<
 type Repeated<'a> = (&'a str, usize, &'a str);
 
 /// The tokens of a row's text, or its fault.
-fn shown_repeated(alloc: Global, part: &str, count: usize) -> Result<String, AllocError> {
+fn shown_repeated(rt: &impl Abort, alloc: Global, part: &str, count: usize) -> String {
     let mut text = String::new(alloc);
-    push_times(&mut text, part, count)?;
-    shown(alloc, text.as_str())
+    expect_memory(rt, push_times(&mut text, part, count));
+    shown(rt, alloc, text.as_str())
 }
 
 /// Compares the fault of a row's text with the one that is wanted.
-fn check_repeated(rt: &impl Abort, alloc: Global, row: Repeated) -> Result<(), AllocError> {
+fn check_repeated(rt: &impl Abort, alloc: Global, row: Repeated) {
     let (part, count, wanted) = row;
-    let found = shown_repeated(alloc, part, count)?;
-    let row = format!(in alloc; "{count} of {part:?}")?;
+    let found = shown_repeated(rt, alloc, part, count);
+    let row = expect_text(rt, format!(in alloc; "{count} of {part:?}"));
     check_text(rt, found.as_str(), wanted, row.as_str());
-    Ok(())
 }
 
 /// Compares the code of the fault that memory was refused.
-fn check_refused_memory(rt: &impl Abort, alloc: Global) -> Result<(), AllocError> {
-    let found = coded_fault(alloc, &LexFault::NoMemory)?;
+fn check_refused_memory(rt: &impl Abort, alloc: Global) {
+    let found = expect_text(rt, coded_fault(alloc, &LexFault::NoMemory));
     check_text(rt, found.as_str(), "509 NoMemory", "no memory");
-    Ok(())
 }
 
 #[test]
@@ -215,7 +210,7 @@ fn longest_source(rt: HostRuntime) {
         ("\"", 65_537, "107 SourceTooLong"),
     ];
     for row in rows {
-        expect_memory(&rt, check_repeated(&rt, rt.alloc(), *row));
+        check_repeated(&rt, rt.alloc(), *row);
     }
-    expect_memory(&rt, check_refused_memory(&rt, rt.alloc()));
+    check_refused_memory(&rt, rt.alloc());
 }

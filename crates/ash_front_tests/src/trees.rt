@@ -1,7 +1,7 @@
 //! What the trees are compared with. They are written out by hand: `@8` is the place of offset 8 in the first line,
 //! `@8/2` of offset 8 in the second.
 
-use crate::compare::{check_text, expect_memory};
+use crate::compare::{check_text, expect_text};
 use crate::declarations::{coded, parsed};
 use crate::tokens::coded_fault;
 use ash_lex::{Token, lex};
@@ -28,17 +28,17 @@ fn printed(alloc: Global, source: &str) -> Result<String, AllocError> {
 }
 
 /// A text with each of these parts by what is to be in its place.
-fn replaced(alloc: Global, text: String, parts: &[(&str, &str)]) -> Result<String, AllocError> {
+fn replaced(rt: &impl Abort, alloc: Global, text: String, parts: &[(&str, &str)]) -> String {
     let mut text = text;
     for (long, short) in parts {
-        text = text.replace(alloc, long, short)?;
+        text = expect_text(rt, text.replace(alloc, long, short));
     }
-    Ok(text)
+    text
 }
 
 /// What `{:?}` prints of a tree, with places as `@offset` or `@offset/line`, and without the names of the fields
 /// `place` and `kind`.
-fn short(alloc: Global, source: &str) -> Result<String, AllocError> {
+fn short(rt: &impl Abort, alloc: Global, source: &str) -> String {
     let parts = &[
         ("Position { at: ", "@"),
         (", line: 1 }", ""),
@@ -48,7 +48,8 @@ fn short(alloc: Global, source: &str) -> Result<String, AllocError> {
         ("place: ", ""),
         ("kind: ", ""),
     ];
-    replaced(alloc, printed(alloc, source)?, parts)
+    let text = expect_text(rt, printed(alloc, source));
+    replaced(rt, alloc, text, parts)
 }
 
 /// A text between two others.
@@ -57,50 +58,44 @@ fn between(alloc: Global, before: &str, text: &str, after: &str) -> Result<Strin
 }
 
 /// The tree of a source with these items.
-fn check(rt: &impl Abort, alloc: Global, source: &str, items: &str) -> Result<(), AllocError> {
-    let found = short(alloc, source)?;
-    let wanted = between(alloc, "Module { items: [", items, "] }")?;
+fn check(rt: &impl Abort, alloc: Global, source: &str, items: &str) {
+    let found = short(rt, alloc, source);
+    let wanted = expect_text(rt, between(alloc, "Module { items: [", items, "] }"));
     check_text(rt, found.as_str(), wanted.as_str(), source);
-    Ok(())
 }
 
 /// The tree of a variable `int a` with this value.
-fn check_value(
-    rt: &impl Abort,
-    alloc: Global,
-    source: &str,
-    value: &str,
-) -> Result<(), AllocError> {
+fn check_value(rt: &impl Abort, alloc: Global, source: &str, value: &str) {
     let before = "Vars(Vars { of: Type { @0, Primitive(Int) }, \
         decls: [Decl { @4, name: \"a\", initializer: Value(";
-    let items = between(alloc, before, value, ") }] })")?;
+    let items = expect_text(rt, between(alloc, before, value, ") }] })"));
     check(rt, alloc, source, items.as_str())
 }
 
 /// The tree of a function `void f()` with this body.
-fn check_body(rt: &impl Abort, alloc: Global, source: &str, body: &str) -> Result<(), AllocError> {
+fn check_body(rt: &impl Abort, alloc: Global, source: &str, body: &str) {
     let before = "Function(Function { @5, result: None, name: \"f\", parameters: [], body: [";
-    let items = between(alloc, before, body, "] })")?;
+    let items = expect_text(rt, between(alloc, before, body, "] })"));
     check(rt, alloc, source, items.as_str())
 }
 
 /// Each row has a source, and the value of its variable.
 pub(crate) fn check_values(rt: &impl Abort, alloc: Global, rows: &[(&str, &str)]) {
     for (source, value) in rows {
-        expect_memory(rt, check_value(rt, alloc, source, value));
+        check_value(rt, alloc, source, value);
     }
 }
 
 /// Each row has a source, and the body of its function.
 pub(crate) fn check_bodies(rt: &impl Abort, alloc: Global, rows: &[(&str, &str)]) {
     for (source, body) in rows {
-        expect_memory(rt, check_body(rt, alloc, source, body));
+        check_body(rt, alloc, source, body);
     }
 }
 
 /// Each row has a source, and its items.
 pub(crate) fn check_items(rt: &impl Abort, alloc: Global, rows: &[(&str, &str)]) {
     for (source, items) in rows {
-        expect_memory(rt, check(rt, alloc, source, items));
+        check(rt, alloc, source, items);
     }
 }

@@ -1,20 +1,20 @@
 //! Words of the language, and words of parts of it that the profile does not have.
 
-use crate::compare::expect_memory;
+use crate::compare::expect_text;
 use crate::tokens::check_shown;
-use std::alloc::{AllocError, Global};
+use std::alloc::Global;
 use std::process::Abort;
 
 /// Looks for a word as a token of this kind.
-fn check_word(rt: &impl Abort, alloc: Global, kind: &str, word: &str) -> Result<(), AllocError> {
-    let wanted = format!(in alloc; "1:0-{} {kind} {word}; ", word.len())?;
+fn check_word(rt: &impl Abort, alloc: Global, kind: &str, word: &str) {
+    let wanted = expect_text(rt, format!(in alloc; "1:0-{} {kind} {word}; ", word.len()));
     check_shown(rt, alloc, word, wanted.as_str())
 }
 
 /// Looks for each word as a token of this kind.
 fn check_words(rt: &impl Abort, alloc: Global, kind: &str, words: &[&str]) {
     for word in words {
-        expect_memory(rt, check_word(rt, alloc, kind, word));
+        check_word(rt, alloc, kind, word);
     }
 }
 

@@ -1,6 +1,10 @@
 //! Rules of typing that sources break, and which fault comes first.
 
-use crate::sources::checks::{bracketed, check_made, check_rows, check_sources, with_blanks};
+use crate::sources::checks::{
+    bracketed, check_rows, check_source_of, check_sources, check_with_blanks,
+};
+use std::alloc::Global;
+use std::process::Abort;
 
 #[test]
 fn rules_of_typing(rt: HostRuntime) {
@@ -33,17 +37,19 @@ fn earlier_faults_first(rt: HostRuntime) {
     check_sources(&rt, rt.alloc(), rows)
 }
 
+/// Looks at a variable of an unknown type, and after it a 1 in so many brackets.
+fn check_brackets(rt: &impl Abort, alloc: Global, count: usize, wanted: &str) {
+    let source = bracketed(rt, alloc, b"X y; int n = ", count, b";");
+    check_source_of(rt, alloc, source.as_slice(), wanted);
+}
+
 #[test]
 fn depth_and_length_before_types(rt: HostRuntime) {
     let alloc = rt.alloc();
-    let deep = bracketed(alloc, b"X y; int n = ", 65, b";");
-    check_made(&rt, alloc, deep, "TooDeep { at: 78 }");
-    let shallow = bracketed(alloc, b"X y; int n = ", 64, b";");
-    check_made(&rt, alloc, shallow, "UnknownType { at: 0 }");
-    let longer = with_blanks(alloc, b"X y;", 65_533);
-    check_made(&rt, alloc, longer, "SourceTooLong");
-    let longest = with_blanks(alloc, b"X y;", 65_532);
-    check_made(&rt, alloc, longest, "UnknownType { at: 0 }");
+    check_brackets(&rt, alloc, 65, "TooDeep { at: 78 }");
+    check_brackets(&rt, alloc, 64, "UnknownType { at: 0 }");
+    check_with_blanks(&rt, alloc, b"X y;", 65_533, "SourceTooLong");
+    check_with_blanks(&rt, alloc, b"X y;", 65_532, "UnknownType { at: 0 }");
 }
 
 #[test]

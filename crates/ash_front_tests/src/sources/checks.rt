@@ -1,7 +1,8 @@
 //! Sources as bytes, and how checking and reading them end: `ok`, or the fault as `Debug` prints it, with offsets
 //! counted by hand.
 
-use crate::compare::{check_text, expect_memory};
+use crate::compare::{NO_MEMORY, check_text, expect_memory, expect_text};
+use crate::registrations::empty;
 use ash_check::ScriptFault;
 use ash_registry::Registry;
 use ash_sources::checking::check_source;
@@ -9,6 +10,7 @@ use ash_sources::fault::{SourceError, SourceFault};
 use ash_sources::sources::{AdmittedScripts, Sources};
 use std::alloc::{AllocError, Global};
 use std::fmt::Debug;
+use std::panic::Expect;
 use std::process::Abort;
 
 /// A value as `Debug` prints it.
@@ -70,7 +72,7 @@ fn ended(
     admitted: Option<AdmittedScripts>,
     source: &[u8],
 ) -> Result<String, AllocError> {
-    let registry = Registry::new(alloc);
+    let registry = empty(alloc)?;
     match admitted {
         None => checked(alloc, &registry, source),
         Some(admitted) => read(alloc, &registry, admitted, source),
@@ -84,37 +86,13 @@ const DONE: [Option<AdmittedScripts>; 3] = [
     Some(AdmittedScripts::UsingNothingRegistered),
 ];
 
-/// Compares how a source ends where nothing is registered with what is wanted.
-fn check_ended(
-    rt: &impl Abort,
-    alloc: Global,
-    source: &[u8],
-    wanted: &str,
-) -> Result<(), AllocError> {
-    let text = String::from_utf8_lossy(alloc, source)?;
-    for admitted in &DONE {
-        let found = ended(alloc, *admitted, source)?;
-        check_text(rt, found.as_str(), wanted, text.as_str());
-    }
-    Ok(())
-}
-
 /// Compares how checking a source ends, and how reading it does, where nothing is registered: the same, whichever
 /// scripts are admitted.
 pub(crate) fn check_source_of(rt: &impl Abort, alloc: Global, source: &[u8], wanted: &str) {
-    expect_memory(rt, check_ended(rt, alloc, source, wanted));
-}
-
-/// Compares how a source that is made ends with what is wanted.
-pub(crate) fn check_made(
-    rt: &impl Abort,
-    alloc: Global,
-    made: Result<Vec<u8>, AllocError>,
-    wanted: &str,
-) {
-    match made {
-        Ok(source) => check_source_of(rt, alloc, source.as_slice(), wanted),
-        Err(error) => expect_memory(rt, Err(error)),
+    let text = expect_text(rt, String::from_utf8_lossy(alloc, source));
+    for admitted in &DONE {
+        let found = expect_text(rt, ended(alloc, *admitted, source));
+        check_text(rt, found.as_str(), wanted, text.as_str());
     }
 }
 
@@ -149,23 +127,36 @@ fn push_times(source: &mut Vec<u8>, byte: u8, times: usize) -> Result<(), AllocE
 }
 
 /// `text`, and so many blanks after it.
-pub(crate) fn with_blanks(alloc: Global, text: &[u8], count: usize) -> Result<Vec<u8>, AllocError> {
-    let mut source = Vec::from_slice(alloc, text)?;
-    push_times(&mut source, b' ', count)?;
-    Ok(source)
+fn with_blanks(rt: &impl Abort, alloc: Global, text: &[u8], count: usize) -> Vec<u8> {
+    let mut source = Vec::from_slice(alloc, text).expect(rt, NO_MEMORY);
+    expect_memory(rt, push_times(&mut source, b' ', count));
+    source
+}
+
+/// Compares how `text`, with so many blanks after it, ends with what is wanted.
+pub(crate) fn check_with_blanks(
+    rt: &impl Abort,
+    alloc: Global,
+    text: &[u8],
+    count: usize,
+    wanted: &str,
+) {
+    let source = with_blanks(rt, alloc, text, count);
+    check_source_of(rt, alloc, source.as_slice(), wanted);
 }
 
 /// `prefix`, a 1 in so many brackets, and `suffix`.
 pub(crate) fn bracketed(
+    rt: &impl Abort,
     alloc: Global,
     prefix: &[u8],
     count: usize,
     suffix: &[u8],
-) -> Result<Vec<u8>, AllocError> {
-    let mut source = Vec::from_slice(alloc, prefix)?;
-    push_times(&mut source, b'(', count)?;
-    source.push(b'1')?;
-    push_times(&mut source, b')', count)?;
-    source.extend_from_slice(suffix)?;
-    Ok(source)
+) -> Vec<u8> {
+    let mut source = Vec::from_slice(alloc, prefix).expect(rt, NO_MEMORY);
+    expect_memory(rt, push_times(&mut source, b'(', count));
+    expect_memory(rt, push_times(&mut source, b'1', 1));
+    expect_memory(rt, push_times(&mut source, b')', count));
+    expect_memory(rt, source.extend_from_slice(suffix));
+    source
 }

@@ -2,7 +2,7 @@
 
 use crate::compare::expect_memory;
 use crate::sources::checks::{check_rows, check_source_of};
-use std::alloc::{AllocError, Global};
+use std::alloc::Global;
 use std::fmt::Write;
 use std::process::Abort;
 
@@ -54,30 +54,24 @@ fn statements(rt: HostRuntime) {
 }
 
 /// A source with so many globals.
-fn globals(alloc: Global, count: u32) -> Result<String, AllocError> {
+fn globals(rt: &impl Abort, alloc: Global, count: u32) -> String {
     let mut source = String::new(alloc);
     for i in 0..count {
-        write!(source, "int v{i};")?;
+        expect_memory(rt, write!(source, "int v{i};"));
     }
-    Ok(source)
+    source
 }
 
 /// Looks at a source with so many globals.
-fn check_globals(
-    rt: &impl Abort,
-    alloc: Global,
-    count: u32,
-    wanted: &str,
-) -> Result<(), AllocError> {
-    let source = globals(alloc, count)?;
+fn check_globals(rt: &impl Abort, alloc: Global, count: u32, wanted: &str) {
+    let source = globals(rt, alloc, count);
     check_source_of(rt, alloc, source.as_bytes(), wanted);
-    Ok(())
 }
 
 #[test]
 fn globals_at_their_limit(rt: HostRuntime) {
     let alloc = rt.alloc();
-    expect_memory(&rt, check_globals(&rt, alloc, 256, "ok"));
+    check_globals(&rt, alloc, 256, "ok");
     // The name of the last comes after 10 globals of 7 bytes, 90 of 8, 156 of 9, and 4 bytes.
-    expect_memory(&rt, check_globals(&rt, alloc, 257, "TooMany { at: 2198 }"));
+    check_globals(&rt, alloc, 257, "TooMany { at: 2198 }");
 }

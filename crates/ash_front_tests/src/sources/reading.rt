@@ -1,17 +1,17 @@
 //! Sources, and what reading refuses them for before their types are looked at.
 
-use crate::sources::checks::{bracketed, check_made, check_rows, check_sources, with_blanks};
+use crate::sources::checks::{
+    bracketed, check_rows, check_source_of, check_sources, check_with_blanks,
+};
 use std::alloc::Global;
 use std::process::Abort;
 
 #[test]
 fn refused_for_length(rt: HostRuntime) {
     let alloc = rt.alloc();
-    check_made(&rt, alloc, with_blanks(alloc, b"", 65_536), "ok");
-    let longer = with_blanks(alloc, b"", 65_537);
-    check_made(&rt, alloc, longer, "SourceTooLong");
-    let no_text = with_blanks(alloc, b"\xff", 65_536);
-    check_made(&rt, alloc, no_text, "SourceTooLong");
+    check_with_blanks(&rt, alloc, b"", 65_536, "ok");
+    check_with_blanks(&rt, alloc, b"", 65_537, "SourceTooLong");
+    check_with_blanks(&rt, alloc, b"\xff", 65_536, "SourceTooLong");
 }
 
 #[test]
@@ -80,8 +80,8 @@ fn refused_for_what_the_profile_does_not_have(rt: HostRuntime) {
 /// Each row has how many brackets a source has, and how reading it ends.
 fn check_brackets(rt: &impl Abort, alloc: Global, rows: &[(usize, &str)]) {
     for (count, wanted) in rows {
-        let source = bracketed(alloc, b"int f() { return ", *count, b"; }");
-        check_made(rt, alloc, source, wanted);
+        let source = bracketed(rt, alloc, b"int f() { return ", *count, b"; }");
+        check_source_of(rt, alloc, source.as_slice(), wanted);
     }
 }
 

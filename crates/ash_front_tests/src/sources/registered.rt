@@ -1,15 +1,16 @@
 //! Scripts that use what is registered: they are checked like all others, and not admitted where only those are that
 //! use nothing registered.
 
-use crate::compare::check_text;
+use crate::compare::{NO_MEMORY, check_text, expect_memory, expect_text};
+use crate::registrations::empty;
 use crate::sources::checks::{checked, parts_of, read};
 use ash_registry::{Registry, RegistryFault};
 use ash_sources::sources::{AdmittedScripts, Sources};
 use ash_steps::sources::SourceReader;
-use std::alloc::{AllocError, Global};
+use std::alloc::Global;
 use std::fmt::Write;
+use std::panic::Expect;
 use std::process::Abort;
-use std::test::Fail;
 
 /// Registers a type with a factory, and a function of a service.
 fn register(registry: &mut Registry) -> Result<(), RegistryFault> {
@@ -19,11 +20,11 @@ fn register(registry: &mut Registry) -> Result<(), RegistryFault> {
     registry.function(0, "int total()", 1)
 }
 
-/// These registrations. They are boxed, so that no function that has them carries their parts.
-fn registry(alloc: Global) -> Result<Box<Registry>, RegistryFault> {
-    let mut registry = Box::new(alloc, Registry::new(alloc))?;
-    register(&mut registry)?;
-    Ok(registry)
+/// A registry with these registrations.
+fn registered(rt: &impl Abort, alloc: Global) -> Box<Registry> {
+    let mut registry = empty(alloc).expect(rt, NO_MEMORY);
+    register(&mut registry).expect(rt, "a registration is refused");
+    registry
 }
 
 /// All scripts, and those that use nothing registered.
@@ -34,39 +35,32 @@ const ADMITTED: [AdmittedScripts; 2] = [
 
 /// How a source ends: checked, read where all scripts are admitted, and read where those are that use nothing
 /// registered.
-fn ends(alloc: Global, registry: &Registry, source: &[u8]) -> Result<String, AllocError> {
-    let mut ends = checked(alloc, registry, source)?;
+fn ends(rt: &impl Abort, alloc: Global, registry: &Registry, source: &[u8]) -> String {
+    let mut ends = expect_text(rt, checked(alloc, registry, source));
     for admitted in &ADMITTED {
-        let end = read(alloc, registry, *admitted, source)?;
-        write!(ends, ", {end}")?;
+        let end = expect_text(rt, read(alloc, registry, *admitted, source));
+        expect_memory(rt, write!(ends, ", {end}"));
     }
-    Ok(ends)
+    ends
 }
 
 /// Compares how a row's source ends with what is wanted.
-fn check_row(
-    rt: &impl Abort,
-    alloc: Global,
-    registry: &Registry,
-    row: &str,
-) -> Result<(), AllocError> {
+fn check_row(rt: &impl Abort, alloc: Global, registry: &Registry, row: &str) {
     let (wanted, source) = parts_of(row);
-    let found = ends(alloc, registry, source.as_bytes())?;
+    let found = ends(rt, alloc, registry, source.as_bytes());
     check_text(rt, found.as_str(), wanted, source);
-    Ok(())
 }
 
 /// Each row has how its source ends, a bar, and the source.
-fn check_ends(rt: &impl Abort, alloc: Global, rows: &str) -> Result<(), Fail> {
-    let registry = registry(alloc)?;
+fn check_ends(rt: &impl Abort, alloc: Global, rows: &str) {
+    let registry = registered(rt, alloc);
     for row in rows.trim().lines() {
-        check_row(rt, alloc, &registry, row)?;
+        check_row(rt, alloc, &registry, row);
     }
-    Ok(())
 }
 
 #[test]
-fn scripts_that_use_what_is_registered(rt: HostRuntime) -> Result<(), Fail> {
+fn scripts_that_use_what_is_registered(rt: HostRuntime) {
     check_ends(
         &rt,
         rt.alloc(),
@@ -83,7 +77,7 @@ fn scripts_that_use_what_is_registered(rt: HostRuntime) -> Result<(), Fail> {
 }
 
 #[test]
-fn faults_come_before_what_is_registered(rt: HostRuntime) -> Result<(), Fail> {
+fn faults_come_before_what_is_registered(rt: HostRuntime) {
     check_ends(
         &rt,
         rt.alloc(),
@@ -98,31 +92,31 @@ fn faults_come_before_what_is_registered(rt: HostRuntime) -> Result<(), Fail> {
 
 /// How reading a source ends by the trait that the steps of requests use, and the name of a kind.
 fn read_by_steps(
+    rt: &impl Abort,
     alloc: Global,
     registry: &Registry,
     source: &[u8],
     kind: u16,
-) -> Result<String, AllocError> {
+) -> String {
     let sources = Sources {
         registry,
         admitted: AdmittedScripts::UsingNothingRegistered,
     };
-    let name = SourceReader::name_of_kind(&sources, alloc, kind)?;
-    let is_read = SourceReader::read(&sources, alloc, source)?.is_ok();
-    format!(in alloc; "{is_read} {name}")
+    let name = expect_text(rt, SourceReader::name_of_kind(&sources, alloc, kind));
+    let tree = SourceReader::read(&sources, alloc, source).expect(rt, NO_MEMORY);
+    expect_text(rt, format!(in alloc; "{} {name}", tree.is_ok()))
 }
 
 /// Compares how reading a row's source ends, and the name of its kind, with what is wanted.
-fn check_by_steps(rt: &impl Abort, alloc: Global, row: (&str, u16, &str)) -> Result<(), Fail> {
+fn check_by_steps(rt: &impl Abort, alloc: Global, row: (&str, u16, &str)) {
     let (source, kind, wanted) = row;
-    let registry = registry(alloc)?;
-    let found = read_by_steps(alloc, &registry, source.as_bytes(), kind)?;
+    let registry = registered(rt, alloc);
+    let found = read_by_steps(rt, alloc, &registry, source.as_bytes(), kind);
     check_text(rt, found.as_str(), wanted, source);
-    Ok(())
 }
 
 #[test]
-fn sources_of_steps(rt: HostRuntime) -> Result<(), Fail> {
-    check_by_steps(&rt, rt.alloc(), ("int n = 2;", 1, "true Counter"))?;
-    check_by_steps(&rt, rt.alloc(), ("Counter@ g;", 2, "false "))
+fn sources_of_steps(rt: HostRuntime) {
+    check_by_steps(&rt, rt.alloc(), ("int n = 2;", 1, "true Counter"));
+    check_by_steps(&rt, rt.alloc(), ("Counter@ g;", 2, "false "));
 }

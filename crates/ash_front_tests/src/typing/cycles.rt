@@ -1,12 +1,11 @@
 //! Cycles of classes: the places, among the classes alone, of those on the cycle that is reported, worked out by hand.
 
-use crate::compare::check_number;
+use crate::compare::{check_number, expect_memory, expect_text};
 use crate::typing::sources::{Question, check_rows, printed, tree_of};
 use ash_classes::{Cycle, class_ranks};
 use std::alloc::{AllocError, Global};
 use std::fmt::Write;
 use std::process::Abort;
-use std::test::Fail;
 
 /// The ranks of a source's classes, or the cycle that is reported of it, or why there is neither.
 fn ranks_of(alloc: Global, source: &str) -> Result<Result<Vec<usize>, Cycle>, String> {
@@ -18,22 +17,19 @@ fn ranks_of(alloc: Global, source: &str) -> Result<Result<Vec<usize>, Cycle>, St
 }
 
 /// The places of a cycle's classes.
-fn places_of(alloc: Global, cycle: &Cycle) -> Result<String, AllocError> {
-    let mut places = format!(in alloc; "{}", cycle.first)?;
+fn places_of(rt: &impl Abort, alloc: Global, cycle: &Cycle) -> String {
+    let mut places = expect_text(rt, format!(in alloc; "{}", cycle.first));
     for place in &cycle.others {
-        write!(places, " {place}")?;
+        expect_memory(rt, write!(places, " {place}"));
     }
-    Ok(places)
+    places
 }
 
 /// The cycle that is reported of a source, or `none`; or why the source has no tree.
-pub(crate) fn cycle_of(alloc: Global, source: &str) -> String {
+pub(crate) fn cycle_of(rt: &impl Abort, alloc: Global, source: &str) -> String {
     match ranks_of(alloc, source) {
         Ok(Ok(_)) => printed(alloc, &"none"),
-        Ok(Err(cycle)) => match places_of(alloc, &cycle) {
-            Ok(places) => places,
-            Err(AllocError) => String::new(alloc),
-        },
+        Ok(Err(cycle)) => places_of(rt, alloc, &cycle),
         Err(fault) => fault,
     }
 }
@@ -110,13 +106,13 @@ pub(crate) fn write_class(out: &mut String, number: usize, of: usize) -> Result<
 }
 
 /// 255 classes, each with a handle of the next, and this last one.
-fn chain(alloc: Global, last: &str) -> Result<String, AllocError> {
+fn chain(rt: &impl Abort, alloc: Global, last: &str) -> String {
     let mut source = String::new(alloc);
     for number in 0..255_usize {
-        write_class(&mut source, number, number.wrapping_add(1))?;
+        expect_memory(rt, write_class(&mut source, number, number.wrapping_add(1)));
     }
-    source.push_str(last)?;
-    Ok(source)
+    expect_memory(rt, source.push_str(last));
+    source
 }
 
 /// Looks at ranks that fall from each class to the next, to 0.
@@ -141,36 +137,35 @@ fn check_rising(rt: &impl Abort, cycle: &Cycle, count: usize) {
 }
 
 /// Looks at the ranks of the classes of a source that has no cycle, which are so many.
-fn check_ranks(rt: &impl Abort, alloc: Global, source: &str, count: usize) -> Result<(), Fail> {
+fn check_ranks(rt: &impl Abort, alloc: Global, source: &str, count: usize) {
     match ranks_of(alloc, source) {
-        Ok(Ok(ranks)) => {
-            check_falling(rt, ranks.as_slice(), count);
-            Ok(())
-        }
-        _ => Err(Fail::from("no ranks")),
+        Ok(Ok(ranks)) => check_falling(rt, ranks.as_slice(), count),
+        _ => panic!(rt; "no ranks"),
+    }
+}
+
+/// Looks at the cycle that is reported of a source, which has so many other classes.
+fn check_ring(rt: &impl Abort, alloc: Global, source: &str, count: usize) {
+    match ranks_of(alloc, source) {
+        Ok(Err(cycle)) => check_rising(rt, &cycle, count),
+        _ => panic!(rt; "no cycle"),
     }
 }
 
 // Below 256, and falling from each class to the next: there is one way only.
 #[test]
-fn the_ranks_of_a_long_chain(rt: HostRuntime) -> Result<(), Fail> {
-    let source = chain(rt.alloc(), "class C255 { Counter@ x; }")?;
-    check_ranks(&rt, rt.alloc(), source.as_str(), 256)
+fn the_ranks_of_a_long_chain(rt: HostRuntime) {
+    let source = chain(&rt, rt.alloc(), "class C255 { Counter@ x; }");
+    check_ranks(&rt, rt.alloc(), source.as_str(), 256);
 }
 
 #[test]
-fn no_class_at_all(rt: HostRuntime) -> Result<(), Fail> {
-    check_ranks(&rt, rt.alloc(), "", 0)
+fn no_class_at_all(rt: HostRuntime) {
+    check_ranks(&rt, rt.alloc(), "", 0);
 }
 
 #[test]
-fn a_ring_of_256_classes(rt: HostRuntime) -> Result<(), Fail> {
-    let source = chain(rt.alloc(), "class C255 { C0@ x; }")?;
-    match ranks_of(rt.alloc(), source.as_str()) {
-        Ok(Err(cycle)) => {
-            check_rising(&rt, &cycle, 255);
-            Ok(())
-        }
-        _ => Err(Fail::from("no cycle")),
-    }
+fn a_ring_of_256_classes(rt: HostRuntime) {
+    let source = chain(&rt, rt.alloc(), "class C255 { C0@ x; }");
+    check_ring(&rt, rt.alloc(), source.as_str(), 255);
 }

@@ -1,84 +1,48 @@
 //! Expressions by themselves, each as the value of `int z`: their types, their faults, and what operators take their
 //! operands for.
 
+use crate::compare::NO_MEMORY;
 use crate::typing::declared::module_signatures;
-use crate::typing::sources::{Question, check_rows, coded, printed, tree_of};
+use crate::typing::sources::{Question, check_rows, coded, or_empty, printed, tree_of};
 use ash_check::ScriptError;
 use ash_environment::{Environment, Signatures};
 use ash_expressions::{AssignmentSide, TypedExpr, check_expr};
 use ash_registrations::Registrations;
 use ash_tree as written;
-use ash_tree::{Initializer, Item, Module};
+use ash_tree::{Initializer, Item, Module, Vars};
 use ash_typed::{Expr, ExprKind, Operands, Operation};
-use std::alloc::{AllocError, Global};
+use std::alloc::Global;
 use std::fmt::Debug;
+use std::panic::Expect;
+use std::process::Abort;
+
+/// What is asked of a value.
+#[derive(Clone, Copy)]
+pub(crate) enum ValueQuestion {
+    /// Its type.
+    Type,
+    /// What its last operator takes its operands for.
+    Operands,
+}
 
 /// A value as it is printed for programmers, or nothing where memory is refused.
 fn debugged<T: Debug>(alloc: Global, value: &T) -> String {
-    match format!(in alloc; "{value:?}") {
-        Ok(text) => text,
-        Err(_) => String::new(alloc),
+    or_empty(alloc, format!(in alloc; "{value:?}"))
+}
+
+/// The variables that a tree begins with.
+fn variables_in(tree: &Module) -> Option<&Vars> {
+    match tree.items.first()? {
+        Item::Vars(vars) => Some(vars),
+        _ => None,
     }
 }
 
 /// The value of the first variable in a tree.
 fn value_in(tree: &Module) -> Option<&written::Expr> {
-    let Item::Vars(vars) = tree.items.first()? else {
-        return None;
-    };
-    match &vars.decls.first()?.initializer {
+    match &variables_in(tree)?.decls.first()?.initializer {
         Initializer::Value(value) => Some(value),
         _ => None,
-    }
-}
-
-/// The typed value, in an environment, or its fault.
-fn check_in(env: &Environment, value: &written::Expr) -> Result<TypedExpr, String> {
-    match check_expr(env, AssignmentSide::Value, value) {
-        Ok(typed) => Ok(typed),
-        Err(error) => Err(coded(env.alloc, &ScriptError::from(error))),
-    }
-}
-
-/// The typed value, where these are declared and nothing is registered, or its fault.
-fn check_where(
-    alloc: Global,
-    signatures: &Signatures,
-    value: &written::Expr,
-) -> Result<TypedExpr, String> {
-    let registry = Registrations::new(alloc);
-    let env = Environment {
-        alloc,
-        signatures,
-        registry: &registry,
-        this: None,
-        locals: &[],
-    };
-    check_in(&env, value)
-}
-
-/// The typed value, where the globals are declared, or its fault.
-fn check_value(alloc: Global, value: &written::Expr) -> Result<TypedExpr, String> {
-    match module_signatures(alloc) {
-        Ok(signatures) => check_where(alloc, &signatures, value),
-        Err(AllocError) => Err(String::new(alloc)),
-    }
-}
-
-/// The value of a source's variable, typed, or why there is none.
-fn value_of(alloc: Global, source: &str) -> Result<TypedExpr, String> {
-    let tree = tree_of(alloc, source)?;
-    match value_in(&tree) {
-        Some(value) => check_value(alloc, value),
-        None => Err(printed(alloc, &"no value")),
-    }
-}
-
-/// The type of a source's value, or its fault.
-pub(crate) fn type_of(alloc: Global, source: &str) -> String {
-    match value_of(alloc, source) {
-        Ok(typed) => debugged(alloc, &typed.ty),
-        Err(fault) => fault,
     }
 }
 
@@ -99,13 +63,83 @@ fn operands_in(tree: &Expr) -> Option<Operands> {
     }
 }
 
-/// What the last operator of a source's value takes its operands for, or its fault.
-pub(crate) fn operands_of(alloc: Global, source: &str) -> String {
-    match value_of(alloc, source) {
-        Ok(typed) => match operands_in(&typed.tree) {
-            Some(operands) => debugged(alloc, &operands),
-            None => printed(alloc, &"no operator"),
-        },
+/// What the last operator of a typed value takes its operands for, as it is printed.
+fn shown_operands(alloc: Global, tree: &Expr) -> String {
+    match operands_in(tree) {
+        Some(operands) => debugged(alloc, &operands),
+        None => printed(alloc, &"no operator"),
+    }
+}
+
+/// The answer to a question about a typed value.
+fn answer_of(alloc: Global, question: ValueQuestion, typed: &TypedExpr) -> String {
+    match question {
+        ValueQuestion::Type => debugged(alloc, &typed.ty),
+        ValueQuestion::Operands => shown_operands(alloc, &typed.tree),
+    }
+}
+
+/// The answer to a question about a value in an environment, or the fault of the value.
+fn answer_in(env: &Environment, question: ValueQuestion, value: &written::Expr) -> String {
+    match check_expr(env, AssignmentSide::Value, value) {
+        Ok(typed) => answer_of(env.alloc, question, &typed),
+        Err(error) => coded(env.alloc, &ScriptError::from(error)),
+    }
+}
+
+/// The answer to a question about a value, where these are declared and registered, or the fault of the value.
+fn answer_where(
+    alloc: Global,
+    signatures: &Signatures,
+    registry: &Registrations,
+    question: ValueQuestion,
+    value: &written::Expr,
+) -> String {
+    let env = Environment {
+        alloc,
+        signatures,
+        registry,
+        this: None,
+        locals: &[],
+    };
+    answer_in(&env, question, value)
+}
+
+/// The answer to a question about a value, where the globals are declared and nothing is registered, or the fault of
+/// the value.
+fn answer_declared(
+    rt: &impl Abort,
+    alloc: Global,
+    question: ValueQuestion,
+    value: &written::Expr,
+) -> String {
+    let signatures = module_signatures(rt, alloc);
+    let registry = Box::new(alloc, Registrations::new(alloc)).expect(rt, NO_MEMORY);
+    answer_where(alloc, &signatures, &registry, question, value)
+}
+
+/// The answer to a question about the value of a tree's first variable, or why there is none.
+fn answer_in_tree(
+    rt: &impl Abort,
+    alloc: Global,
+    question: ValueQuestion,
+    tree: &Module,
+) -> String {
+    match value_in(tree) {
+        Some(value) => answer_declared(rt, alloc, question, value),
+        None => printed(alloc, &"no value"),
+    }
+}
+
+/// The answer to a question about the value of a source's variable, or why there is none.
+pub(crate) fn answer_of_value(
+    rt: &impl Abort,
+    alloc: Global,
+    question: ValueQuestion,
+    source: &str,
+) -> String {
+    match tree_of(alloc, source) {
+        Ok(tree) => answer_in_tree(rt, alloc, question, &tree),
         Err(fault) => fault,
     }
 }

@@ -1,13 +1,13 @@
 //! Limits: how many variables, classes and interfaces a module has, and how many members a class or an interface.
 
-use crate::compare::{check_number, expect_memory};
+use crate::compare::{check_number, expect_memory, expect_text};
 use crate::typing::cycles::write_class;
 use crate::typing::sources::{Expectation, Question, check_answer, checked};
 use ash_check::CheckedScript;
-use std::alloc::{AllocError, Global};
+use std::alloc::Global;
 use std::fmt::Write;
+use std::panic::Expect;
 use std::process::Abort;
-use std::test::Fail;
 
 /// A source with so many repetitions, and how its check ends. It has a name, since it is too long to be printed.
 struct Row {
@@ -21,31 +21,30 @@ struct Row {
 }
 
 /// The source of a row: `first`, so many times `prefix`, a number of three digits from 0 and `suffix`, and `last`.
-fn source_of(alloc: Global, row: &Row) -> Result<String, AllocError> {
-    let mut source = String::from_str(alloc, row.first)?;
+fn source_of(rt: &impl Abort, alloc: Global, row: &Row) -> String {
+    let mut source = expect_text(rt, String::from_str(alloc, row.first));
     for i in 0..row.count {
-        write!(source, "{}{i:03}{}", row.prefix, row.suffix)?;
+        expect_memory(rt, write!(source, "{}{i:03}{}", row.prefix, row.suffix));
     }
-    source.push_str(row.last)?;
-    Ok(source)
+    expect_memory(rt, source.push_str(row.last));
+    source
 }
 
 /// Checks a row's source.
-fn check_limit(rt: &impl Abort, alloc: Global, row: &Row) -> Result<(), AllocError> {
-    let source = source_of(alloc, row)?;
+fn check_limit(rt: &impl Abort, alloc: Global, row: &Row) {
+    let source = source_of(rt, alloc, row);
     let expectation = Expectation {
         source: source.as_str(),
         wanted: row.wanted,
         name: row.name,
     };
     check_answer(rt, alloc, Question::Outcome, expectation);
-    Ok(())
 }
 
 /// Checks each row's source.
 fn check_limits(rt: &impl Abort, alloc: Global, rows: &[Row]) {
     for row in rows {
-        expect_memory(rt, check_limit(rt, alloc, row));
+        check_limit(rt, alloc, row);
     }
 }
 
@@ -306,12 +305,12 @@ fn methods_of_an_interface(rt: HostRuntime) {
 }
 
 /// So many classes, of which each but the first has a field with a handle of the one before.
-fn chain(alloc: Global, count: usize) -> Result<String, AllocError> {
-    let mut source = String::from_str(alloc, "class C0 {} ")?;
+fn chain(rt: &impl Abort, alloc: Global, count: usize) -> String {
+    let mut source = expect_text(rt, String::from_str(alloc, "class C0 {} "));
     for number in 1..count {
-        write_class(&mut source, number, number.wrapping_sub(1))?;
+        expect_memory(rt, write_class(&mut source, number, number.wrapping_sub(1)));
     }
-    Ok(source)
+    source
 }
 
 /// Looks at the typed module of a chain of 256 classes.
@@ -331,13 +330,8 @@ fn check_ranks(rt: &impl Abort, ranks: &[usize]) {
 }
 
 #[test]
-fn ranks_of_a_chain(rt: HostRuntime) -> Result<(), Fail> {
-    let source = chain(rt.alloc(), 256)?;
-    match checked(rt.alloc(), source.as_str()) {
-        Ok(done) => {
-            check_chain(&rt, &done);
-            Ok(())
-        }
-        Err(_) => Err(Fail::from("a chain that is no module")),
-    }
+fn ranks_of_a_chain(rt: HostRuntime) {
+    let source = chain(&rt, rt.alloc(), 256);
+    let done = checked(rt.alloc(), source.as_str()).expect(&rt, "a chain is no module");
+    check_chain(&rt, &done);
 }

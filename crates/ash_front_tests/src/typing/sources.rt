@@ -7,8 +7,9 @@ ghost use Rattle.ash_typing.specs.Nesting.{ItemsDeclareInBlocks};
 
 use crate::compare::check_text;
 use crate::registrations::program;
+use crate::sources::checks::parts_of;
 use crate::typing::cycles::cycle_of;
-use crate::typing::expressions::{operands_of, type_of};
+use crate::typing::expressions::{ValueQuestion, answer_of_value};
 use ash_check::{CheckedScript, ScriptError, ScriptFault, check};
 use ash_lex::lex;
 use ash_parse::parse_module;
@@ -18,12 +19,17 @@ use std::alloc::{AllocError, Global};
 use std::fmt::{Display, Write};
 use std::process::Abort;
 
+/// A text, or nothing where memory is refused.
+pub(crate) fn or_empty(alloc: Global, text: Result<String, AllocError>) -> String {
+    match text {
+        Ok(text) => text,
+        Err(AllocError) => String::new(alloc),
+    }
+}
+
 /// A value as it is printed, or nothing where memory is refused.
 pub(crate) fn printed<F: Display>(alloc: Global, fault: &F) -> String {
-    match format!(in alloc; "{fault}") {
-        Ok(text) => text,
-        Err(_) => String::new(alloc),
-    }
+    or_empty(alloc, format!(in alloc; "{fault}"))
 }
 
 /// Writes names, each after a blank.
@@ -123,12 +129,12 @@ pub(crate) enum Question {
 }
 
 /// The answer to a question, or the fault of the source.
-fn answer(alloc: Global, question: Question, source: &str) -> String {
+fn answer(rt: &impl Abort, alloc: Global, question: Question, source: &str) -> String {
     match question {
         Question::Outcome => outcome_of(alloc, source),
-        Question::Type => type_of(alloc, source),
-        Question::Operands => operands_of(alloc, source),
-        Question::Cycle => cycle_of(alloc, source),
+        Question::Type => answer_of_value(rt, alloc, ValueQuestion::Type, source),
+        Question::Operands => answer_of_value(rt, alloc, ValueQuestion::Operands, source),
+        Question::Cycle => cycle_of(rt, alloc, source),
     }
 }
 
@@ -147,17 +153,14 @@ pub(crate) fn check_answer(
     question: Question,
     expectation: Expectation,
 ) {
-    let found = answer(alloc, question, expectation.source);
+    let found = answer(rt, alloc, question, expectation.source);
     check_text(rt, found.as_str(), expectation.wanted, expectation.name);
 }
 
 /// Asks a question about each row's source.
 pub(crate) fn check_rows(rt: &impl Abort, alloc: Global, question: Question, rows: &str) {
     for row in rows.trim().lines() {
-        let (wanted, source) = row
-            .trim()
-            .split_once(" | ")
-            .unwrap_or((row, "no bar in this row"));
+        let (wanted, source) = parts_of(row);
         let expectation = Expectation {
             source,
             wanted,
