@@ -3,13 +3,12 @@
 
 use crate::checks::{check, check_text};
 use crate::hosts::{
-    both_crashed, closed_disks, new_host, opened_after_crash, opened_host, replies,
+    BoxedHost, Disks, both_crashed, disks_after, opened_unregistered, replies, replies_of,
+    replies_once, unregistered_after_crash, unregistered_host,
 };
-use crate::stores::fuses::{Failing, fuses};
-use ash_disk::{FailingDisk, MemoryDisk, Survives};
-use ash_durable::{CreateFault, Host, StoreFault};
-use ash_registry::Registry;
-use ash_store_fixtures::hosts::created;
+use crate::stores::fuses::{Failing, fused_host, fuses};
+use ash_disk::Survives;
+use ash_durable::{CreateFault, StoreFault};
 use std::alloc::Global;
 use std::process::Abort;
 use std::test::Fail;
@@ -17,20 +16,9 @@ use std::test::Fail;
 const FIRST: &[u8] =
     b"load m 45\nint n = 2; int f(int k) { n += k; return n; }\ncall m f 5\nget m n\nseq\n";
 
-/// A host over disks in memory, each of which fails after so many calls.
-fn fused(
-    alloc: Global,
-    first: u64,
-    second: u64,
-) -> Result<Host<FailingDisk<MemoryDisk>>, StoreFault> {
-    let a = FailingDisk::new(MemoryDisk::new(alloc), first);
-    let b = FailingDisk::new(MemoryDisk::new(alloc), second);
-    created(alloc, a, b, Registry::new(alloc))
-}
-
 /// Whether a store is made on disks that fail after so many calls. Only a failure of a disk may keep it from that.
 fn is_made(alloc: Global, fuses: (u64, u64)) -> Result<bool, Fail> {
-    match fused(alloc, fuses.0, fuses.1) {
+    match fused_host(alloc, fuses)? {
         Ok(_) => Ok(true),
         Err(StoreFault::Create(CreateFault::DeviceFailed)) => Ok(false),
         Err(fault) => Err(Fail::from(fault)),
@@ -64,8 +52,8 @@ fn wanted_of(rows: &[Fused], calls: u64) -> &'static str {
 
 /// What is replied to requests where the disks fail after so many calls.
 fn replies_on_fuses(alloc: Global, fuses: (u64, u64), requests: &[u8]) -> Result<String, Fail> {
-    let mut host = fused(alloc, fuses.0, fuses.1)?;
-    replies(alloc, &mut host, requests)
+    let mut host = fused_host(alloc, fuses)??;
+    replies_of(alloc, &mut host, 1000, requests)
 }
 
 /// Compares what is replied to requests where a disk fails after so many calls beyond those that make the store.
@@ -194,24 +182,37 @@ fn a_second_snapshot_that_is_not_kept(rt: HostRuntime) -> Result<(), Fail> {
 }
 
 /// The disks after the first example.
-fn first_example(alloc: Global) -> Result<(MemoryDisk, MemoryDisk), Fail> {
-    let mut host = new_host(alloc, Registry::new(alloc))?;
-    replies(alloc, &mut host, FIRST)?;
-    Ok(closed_disks(host))
+fn first_example(alloc: Global) -> Result<Disks, Fail> {
+    disks_after(alloc, unregistered_host(alloc)?, FIRST)
+}
+
+/// A host that is opened after a crash where the first disk has had so many calls.
+fn host_after(
+    alloc: Global,
+    disks: &Disks,
+    calls: usize,
+    survives: Survives,
+) -> Result<BoxedHost, Fail> {
+    let disks = both_crashed(alloc, disks, calls, survives)?;
+    opened_unregistered(alloc, disks)
+}
+
+/// What a host replies after a crash that nothing survives.
+fn replies_again(alloc: Global, host: BoxedHost) -> Result<String, Fail> {
+    let host = unregistered_after_crash(alloc, host)?;
+    replies_once(alloc, host, b"get m n\nseq\n")
 }
 
 /// What is replied after a crash, and after a second one, where the first disk has had so many calls.
 fn replies_after(
     alloc: Global,
-    disks: &(MemoryDisk, MemoryDisk),
+    disks: &Disks,
     calls: usize,
     survives: Survives,
 ) -> Result<String, Fail> {
-    let disks = both_crashed(alloc, disks, calls, survives)?;
-    let mut host = opened_host(alloc, disks, Registry::new(alloc))?;
+    let mut host = host_after(alloc, disks, calls, survives)?;
     let mut all = replies(alloc, &mut host, b"get m n\nseq\ncall m f 1\n")?;
-    let mut host = opened_after_crash(alloc, host, Registry::new(alloc))?;
-    all.push_str(&replies(alloc, &mut host, b"get m n\nseq\n")?)?;
+    all.push_str(&replies_again(alloc, host)?)?;
     Ok(all)
 }
 
@@ -224,7 +225,7 @@ const AFTER_THE_CALL: &str = "ok 7\nok 2\nok 8 seq 3\nok 8\nok 3\n";
 fn check_before_the_gate(
     rt: &impl Abort,
     alloc: Global,
-    disks: &(MemoryDisk, MemoryDisk),
+    disks: &Disks,
     calls: usize,
     survives: Survives,
 ) -> Result<(), Fail> {
@@ -237,7 +238,7 @@ fn check_before_the_gate(
 fn check_each_before_the_gate(
     rt: &impl Abort,
     alloc: Global,
-    disks: &(MemoryDisk, MemoryDisk),
+    disks: &Disks,
     calls: usize,
 ) -> Result<(), Fail> {
     for seed in 0..50 {
@@ -252,7 +253,7 @@ fn check_each_before_the_gate(
 #[test]
 fn a_crash_after_the_record_is_synced(rt: HostRuntime) -> Result<(), Fail> {
     let disks = first_example(rt.alloc())?;
-    check(&rt, &disks.0.calls(), &14, "calls of the first disk");
+    check(&rt, &disks.first.calls(), &14, "calls of the first disk");
     for calls in 10..13 {
         check_each_before_the_gate(&rt, rt.alloc(), &disks, calls)?;
     }
@@ -277,7 +278,7 @@ static AROUND_GATE: [AroundGate; 3] = [
 fn check_around_gate(
     rt: &impl Abort,
     alloc: Global,
-    disks: &(MemoryDisk, MemoryDisk),
+    disks: &Disks,
     row: &AroundGate,
 ) -> Result<(), Fail> {
     let (calls, survives, wanted, what) = *row;
@@ -287,12 +288,7 @@ fn check_around_gate(
 }
 
 /// Compares what is replied where a part survives of the gate, which is whole then or not there.
-fn check_torn_gate(
-    rt: &impl Abort,
-    alloc: Global,
-    disks: &(MemoryDisk, MemoryDisk),
-    seed: u64,
-) -> Result<(), Fail> {
+fn check_torn_gate(rt: &impl Abort, alloc: Global, disks: &Disks, seed: u64) -> Result<(), Fail> {
     let found = replies_after(alloc, disks, 13, Survives::Part(seed))?;
     if found.as_str() != BEFORE_THE_CALL {
         check_text(rt, &found, AFTER_THE_CALL, "the gate is torn");

@@ -1,22 +1,78 @@
 //! Hosts over disks in memory, and what they reply. Each call of a host or a run is in a function of its own, which
 //! promises nothing: so its contract is seen once, and not in every test.
 
+use crate::checks::check_text;
 use ash_disk::{Disk, MemoryDisk, Survives};
-use ash_durable::{Host, HostRefused};
+use ash_durable::{Host, HostRefused, StoreFault};
 use ash_registry::Registry;
 use ash_serve::RunFault;
+use ash_serve::program::registrations::registrations;
 use ash_serve::run::run;
-use ash_store_fixtures::hosts::{closed, created, opened, reopened};
+use ash_states::state::HostReply;
+use ash_store_fixtures::hosts::{
+    State, closed, created, found_state, image_after, load, need, opened, reopened,
+};
 use std::alloc::{AllocError, Global};
 use std::io::{Read, Write};
+use std::process::Abort;
 use std::test::Fail;
 
 /// A host over disks in memory. It is in a box, since it is large, and held by many tests.
 pub type BoxedHost = Box<Host<MemoryDisk>>;
 
+/// The two disks of a store in memory, in boxes too.
+#[derive(Drop)]
+pub struct Disks {
+    pub first: Box<MemoryDisk>,
+    pub second: Box<MemoryDisk>,
+}
+
 /// A host in a box.
 fn boxed(alloc: Global, host: Host<MemoryDisk>) -> Result<BoxedHost, AllocError> {
     Ok(Box::new(alloc, host)?)
+}
+
+/// A disk in a box.
+pub fn boxed_disk(alloc: Global, disk: MemoryDisk) -> Result<Box<MemoryDisk>, AllocError> {
+    Ok(Box::new(alloc, disk)?)
+}
+
+/// Two disks in boxes.
+pub fn boxed_disks(alloc: Global, disks: (MemoryDisk, MemoryDisk)) -> Result<Disks, AllocError> {
+    let (first, second) = disks;
+    let first = boxed_disk(alloc, first)?;
+    let second = boxed_disk(alloc, second)?;
+    Ok(Disks { first, second })
+}
+
+/// A disk in memory with these bytes.
+fn disk_with(alloc: Global, bytes: &[u8]) -> Result<Box<MemoryDisk>, AllocError> {
+    boxed_disk(alloc, MemoryDisk::with_bytes(alloc, bytes)?)
+}
+
+/// Why a store is not made or not opened, and its disks, which are handed back.
+pub type Refused = (StoreFault, Disks);
+
+/// What is refused, with the disks in boxes.
+pub fn refused_with_disks(
+    alloc: Global,
+    refused: HostRefused<MemoryDisk>,
+) -> Result<Refused, AllocError> {
+    let HostRefused { fault, a, b } = refused;
+    Ok((fault, boxed_disks(alloc, (a, b))?))
+}
+
+/// Disks in memory with these bytes.
+pub fn disks_with(alloc: Global, first: &[u8], second: &[u8]) -> Result<Disks, AllocError> {
+    let first = disk_with(alloc, first)?;
+    let second = disk_with(alloc, second)?;
+    Ok(Disks { first, second })
+}
+
+/// Two disks out of their boxes.
+pub fn unboxed(disks: Disks) -> (MemoryDisk, MemoryDisk) {
+    let Disks { first, second } = disks;
+    (Box::into_inner(first), Box::into_inner(second))
 }
 
 /// A host over two empty disks in memory, with this registry.
@@ -25,24 +81,56 @@ pub fn new_host(alloc: Global, registry: Registry) -> Result<BoxedHost, Fail> {
     Ok(boxed(alloc, created(alloc, a, b, registry)?)?)
 }
 
+/// The same with nothing registered.
+pub fn unregistered_host(alloc: Global) -> Result<BoxedHost, Fail> {
+    new_host(alloc, Registry::new(alloc))
+}
+
+/// The same with what the program registers.
+pub fn registered_host(alloc: Global) -> Result<BoxedHost, Fail> {
+    new_host(alloc, registrations(alloc)?)
+}
+
 /// A host that is opened over these disks, with this registry.
-pub fn opened_host(
-    alloc: Global,
-    disks: (MemoryDisk, MemoryDisk),
-    registry: Registry,
-) -> Result<BoxedHost, Fail> {
-    let (a, b) = disks;
+pub fn opened_host(alloc: Global, disks: Disks, registry: Registry) -> Result<BoxedHost, Fail> {
+    let (a, b) = unboxed(disks);
     Ok(boxed(alloc, opened(alloc, a, b, registry)?)?)
+}
+
+/// The same with nothing registered.
+pub fn opened_unregistered(alloc: Global, disks: Disks) -> Result<BoxedHost, Fail> {
+    opened_host(alloc, disks, Registry::new(alloc))
+}
+
+/// The same with what the program registers.
+pub fn opened_registered(alloc: Global, disks: Disks) -> Result<BoxedHost, Fail> {
+    opened_host(alloc, disks, registrations(alloc)?)
+}
+
+/// A host with nothing registered that is opened over disks with these bytes, or why there is none.
+pub fn found_host(
+    alloc: Global,
+    first: &[u8],
+    second: &[u8],
+) -> Result<Result<BoxedHost, StoreFault>, AllocError> {
+    let (a, b) = unboxed(disks_with(alloc, first, second)?);
+    match opened(alloc, a, b, Registry::new(alloc)) {
+        Ok(host) => Ok(Ok(boxed(alloc, host)?)),
+        Err(fault) => Ok(Err(fault)),
+    }
 }
 
 /// What is refused of opening these disks with this registry, if it is.
 pub fn refused_opening(
     alloc: Global,
-    disks: (MemoryDisk, MemoryDisk),
+    disks: Disks,
     registry: Registry,
-) -> Option<HostRefused<MemoryDisk>> {
-    let (a, b) = disks;
-    Host::open(alloc, a, b, registry).err()
+) -> Result<Option<Refused>, AllocError> {
+    let (a, b) = unboxed(disks);
+    match Host::open(alloc, a, b, registry) {
+        Ok(_) => Ok(None),
+        Err(refused) => Ok(Some(refused_with_disks(alloc, refused)?)),
+    }
 }
 
 /// A host that was closed and opened again with the same registry.
@@ -51,8 +139,8 @@ pub fn reopened_host(alloc: Global, host: BoxedHost) -> Result<BoxedHost, Fail> 
 }
 
 /// The two disks of a host that is closed.
-pub fn closed_disks(host: BoxedHost) -> (MemoryDisk, MemoryDisk) {
-    closed(Box::into_inner(host))
+pub fn closed_disks(alloc: Global, host: BoxedHost) -> Result<Disks, AllocError> {
+    boxed_disks(alloc, closed(Box::into_inner(host)))
 }
 
 /// What a crash after so many calls leaves of a disk, or after all calls where there are fewer.
@@ -61,42 +149,41 @@ fn crashed(
     disk: &MemoryDisk,
     calls: usize,
     survives: Survives,
-) -> Result<MemoryDisk, AllocError> {
+) -> Result<Box<MemoryDisk>, AllocError> {
     let image = disk.crash_image(calls.min(disk.calls()), survives)?;
-    MemoryDisk::with_bytes(alloc, &image)
+    disk_with(alloc, &image)
 }
 
 /// What a crash leaves of two disks, where this survives of what was not synced, and the first has had so many calls.
 pub fn both_crashed(
     alloc: Global,
-    disks: &(MemoryDisk, MemoryDisk),
+    disks: &Disks,
     calls: usize,
     survives: Survives,
-) -> Result<(MemoryDisk, MemoryDisk), AllocError> {
-    let first = crashed(alloc, &disks.0, calls, survives)?;
-    Ok((first, crashed(alloc, &disks.1, usize::MAX, survives)?))
+) -> Result<Disks, AllocError> {
+    let first = crashed(alloc, &disks.first, calls, survives)?;
+    let second = crashed(alloc, &disks.second, usize::MAX, survives)?;
+    Ok(Disks { first, second })
 }
 
 /// The disks of a host after a crash that nothing survives.
-fn disks_after_crash(
-    alloc: Global,
-    host: BoxedHost,
-) -> Result<(MemoryDisk, MemoryDisk), AllocError> {
-    both_crashed(alloc, &closed_disks(host), usize::MAX, Survives::Nothing)
+fn disks_after_crash(alloc: Global, host: BoxedHost) -> Result<Disks, AllocError> {
+    let disks = closed_disks(alloc, host)?;
+    both_crashed(alloc, &disks, usize::MAX, Survives::Nothing)
 }
 
-/// A host that is opened, with this registry, over what a crash of another leaves that nothing survives.
-pub fn opened_after_crash(
-    alloc: Global,
-    host: BoxedHost,
-    registry: Registry,
-) -> Result<BoxedHost, Fail> {
-    let disks = disks_after_crash(alloc, host)?;
-    opened_host(alloc, disks, registry)
+/// A host that is opened, with nothing registered, over what a crash of another leaves that nothing survives.
+pub fn unregistered_after_crash(alloc: Global, host: BoxedHost) -> Result<BoxedHost, Fail> {
+    opened_unregistered(alloc, disks_after_crash(alloc, host)?)
+}
+
+/// The same with what the program registers.
+pub fn registered_after_crash(alloc: Global, host: BoxedHost) -> Result<BoxedHost, Fail> {
+    opened_registered(alloc, disks_after_crash(alloc, host)?)
 }
 
 /// How a run ends.
-pub fn ending<D: Disk, R: Read + Drop, W: Write>(
+fn ending_within<D: Disk, R: Read + Drop, W: Write>(
     alloc: Global,
     reader: R,
     writer: &mut W,
@@ -106,23 +193,103 @@ pub fn ending<D: Disk, R: Read + Drop, W: Write>(
     run(alloc, reader, writer, host, budget)
 }
 
-/// What a host replies in a run that ends well, with so many ticks for each request.
-pub fn replies_within<D: Disk>(
+/// The same of a host in a box, with 1,000 ticks for each request.
+pub fn ending<R: Read + Drop, W: Write>(
+    alloc: Global,
+    reader: R,
+    writer: &mut W,
+    host: &mut BoxedHost,
+) -> Result<(), RunFault> {
+    ending_within(alloc, reader, writer, host, 1000)
+}
+
+/// What a host over any disks replies in a run that ends well, with so many ticks for each request.
+pub fn replies_of<D: Disk>(
     alloc: Global,
     host: &mut Host<D>,
     budget: u64,
     requests: &[u8],
 ) -> Result<String, Fail> {
     let mut replies = Vec::new(alloc);
-    ending(alloc, requests, &mut replies, host, budget)?;
+    ending_within(alloc, requests, &mut replies, host, budget)?;
     Ok(String::from_utf8(replies)?)
 }
 
-/// The same with 1,000 ticks.
-pub fn replies<D: Disk>(
+/// The same of a host in a box.
+pub fn replies_within(
     alloc: Global,
-    host: &mut Host<D>,
+    host: &mut BoxedHost,
+    budget: u64,
     requests: &[u8],
 ) -> Result<String, Fail> {
+    replies_of(alloc, host, budget, requests)
+}
+
+/// The same with 1,000 ticks.
+pub fn replies(alloc: Global, host: &mut BoxedHost, requests: &[u8]) -> Result<String, Fail> {
     replies_within(alloc, host, 1000, requests)
+}
+
+/// The same of a host that goes then.
+pub fn replies_once(alloc: Global, mut host: BoxedHost, requests: &[u8]) -> Result<String, Fail> {
+    replies(alloc, &mut host, requests)
+}
+
+/// The two disks of a host that is closed after requests.
+pub fn disks_after(alloc: Global, mut host: BoxedHost, requests: &[u8]) -> Result<Disks, Fail> {
+    replies(alloc, &mut host, requests)?;
+    Ok(closed_disks(alloc, host)?)
+}
+
+/// A host, where it has replied this and did what it was asked for.
+pub fn when_done(alloc: Global, host: BoxedHost, reply: HostReply) -> Result<BoxedHost, Fail> {
+    need(alloc, reply)?;
+    Ok(host)
+}
+
+/// A host that has loaded this source as the module `m`.
+pub fn with_module(alloc: Global, mut host: BoxedHost, source: &[u8]) -> Result<BoxedHost, Fail> {
+    let reply = load(&mut host, source);
+    when_done(alloc, host, reply)
+}
+
+/// The state that is found after a crash, where nothing is registered, and this survives of what was not synced.
+pub fn state_after_crash(
+    alloc: Global,
+    disks: &Disks,
+    survives: Survives,
+) -> Result<Result<State, StoreFault>, Fail> {
+    let first = image_after(&disks.first, usize::MAX, survives)?;
+    let second = image_after(&disks.second, usize::MAX, survives)?;
+    found_state(alloc, &first, &second)
+}
+
+/// The disks with these bytes after the store on them was opened, where nothing is registered.
+pub fn disks_after_opening(alloc: Global, first: &[u8], second: &[u8]) -> Result<Disks, Fail> {
+    let host = found_host(alloc, first, second)??;
+    Ok(closed_disks(alloc, host)?)
+}
+
+/// How a run with a new host ends, where nothing is registered.
+pub fn ending_of_new<R: Read + Drop, W: Write>(
+    alloc: Global,
+    reader: R,
+    writer: &mut W,
+) -> Result<Result<(), RunFault>, Fail> {
+    let mut host = unregistered_host(alloc)?;
+    Ok(ending(alloc, reader, writer, &mut host))
+}
+
+/// Compares what a host replies to requests, which is the second of the pair, and gives the host.
+pub fn check_exchange(
+    rt: &impl Abort,
+    alloc: Global,
+    mut host: BoxedHost,
+    exchange: (&[u8], &str),
+    what: &str,
+) -> Result<BoxedHost, Fail> {
+    let (requests, wanted) = exchange;
+    let found = replies(alloc, &mut host, requests)?;
+    check_text(rt, &found, wanted, what);
+    Ok(host)
 }

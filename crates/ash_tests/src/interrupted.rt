@@ -1,7 +1,7 @@
 //! Reads and writes that are interrupted are made again.
 
-use crate::hosts::{ending, new_host};
-use ash_registry::Registry;
+use crate::checks::check_bytes;
+use crate::hosts::ending_of_new;
 use std::io;
 use std::io::{ErrorKind, Read, Write};
 use std::test::Fail;
@@ -54,7 +54,6 @@ impl Write for InterruptedWriter {
 #[test]
 fn an_interrupted_read_or_write_is_made_again(rt: HostRuntime) -> Result<(), Fail> {
     let alloc = rt.alloc();
-    let mut host = new_host(alloc, Registry::new(alloc))?;
     let reader = InterruptedReader {
         bytes: b"load m 10\nint n = 7;\nget m n\nquit\n",
         interrupts: true,
@@ -63,7 +62,8 @@ fn an_interrupted_read_or_write_is_made_again(rt: HostRuntime) -> Result<(), Fai
         bytes: Vec::new(alloc),
         interrupts: true,
     };
-    ending(alloc, reader, &mut writer, &mut host, 1000)?;
-    assert_eq!(rt; writer.bytes.as_slice(), b"ok seq 1\nok 7\nok\n".as_slice());
+    ending_of_new(alloc, reader, &mut writer)??;
+    let wanted = b"ok seq 1\nok 7\nok\n";
+    check_bytes(&rt, &writer.bytes, wanted, "what is written");
     Ok(())
 }

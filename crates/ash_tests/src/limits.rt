@@ -8,46 +8,57 @@ static FIRST: [Row; 4] = [
         what: "the first example",
         budget: 1000,
         parts: &[
-            &[
-                (
-                    "load m 45\nint n = 2; int f(int k) { n += k; return n; }",
-                    "ok seq 1",
-                ),
-                ("call m f 5", "ok 7 seq 2"),
-                ("get m n", "ok 7"),
-                ("quit", "ok"),
-            ],
-            &[("get m n", "ok 7"), ("seq", "ok 2")],
+            "load m 45\n\
+             int n = 2; int f(int k) { n += k; return n; }\n\
+             -> ok seq 1\n\
+             call m f 5\n\
+             -> ok 7 seq 2\n\
+             get m n\n\
+             -> ok 7\n\
+             quit\n\
+             -> ok\n",
+            "get m n\n\
+             -> ok 7\n\
+             seq\n\
+             -> ok 2\n",
         ],
     },
     Row {
         what: "as many ticks as are taken",
         budget: 2,
-        parts: &[&[
-            ("load m 21\nint f() { return 1; }", "ok seq 1"),
-            ("call m f", "ok 1 seq 2"),
-        ]],
+        parts: &[
+            "load m 21\n\
+             int f() { return 1; }\n\
+             -> ok seq 1\n\
+             call m f\n\
+             -> ok 1 seq 2\n",
+        ],
     },
     Row {
         what: "one tick fewer than are taken",
         budget: 1,
-        parts: &[&[
-            ("load m 21\nint f() { return 1; }", "ok seq 1"),
-            ("call m f", "aborted f 1 seq 2"),
-        ]],
+        parts: &[
+            "load m 21\n\
+             int f() { return 1; }\n\
+             -> ok seq 1\n\
+             call m f\n\
+             -> aborted f 1 seq 2\n",
+        ],
     },
     Row {
         what: "a load without ticks",
         budget: 0,
-        parts: &[&[
-            (
-                "load m 45\nint n = 2; int f(int k) { n += k; return n; }",
-                "aborted (init) 1 seq 1",
-            ),
-            ("call m f 5", "refused 401 NoModule"),
-            ("get m n", "refused 401 NoModule"),
-            ("quit", "ok"),
-        ]],
+        parts: &[
+            "load m 45\n\
+             int n = 2; int f(int k) { n += k; return n; }\n\
+             -> aborted (init) 1 seq 1\n\
+             call m f 5\n\
+             -> refused 401 NoModule\n\
+             get m n\n\
+             -> refused 401 NoModule\n\
+             quit\n\
+             -> ok\n",
+        ],
     },
 ];
 
@@ -60,30 +71,37 @@ static FRAMES: [Row; 3] = [
     Row {
         what: "as many frames as there may be, with as many ticks as they take",
         budget: 512,
-        parts: &[&[
-            (
-                "load m 48\nint f() { return f(); } void g() { for (;;) {} }",
-                "ok seq 1",
-            ),
-            ("call m f", "exception StackOverflow f 1 seq 2"),
-            ("call m g", "aborted g 1 seq 3"),
-        ]],
+        parts: &[
+            "load m 48\n\
+             int f() { return f(); } void g() { for (;;) {} }\n\
+             -> ok seq 1\n\
+             call m f\n\
+             -> exception StackOverflow f 1 seq 2\n\
+             call m g\n\
+             -> aborted g 1 seq 3\n",
+        ],
     },
     Row {
         what: "one tick fewer",
         budget: 511,
-        parts: &[&[
-            ("load m 23\nint f() { return f(); }", "ok seq 1"),
-            ("call m f", "aborted f 1 seq 2"),
-        ]],
+        parts: &[
+            "load m 23\n\
+             int f() { return f(); }\n\
+             -> ok seq 1\n\
+             call m f\n\
+             -> aborted f 1 seq 2\n",
+        ],
     },
     Row {
         what: "a loop without end",
         budget: 1000,
-        parts: &[&[
-            ("load m 24\nvoid g() { for (;;) {} }", "ok seq 1"),
-            ("call m g", "aborted g 1 seq 2"),
-        ]],
+        parts: &[
+            "load m 24\n\
+             void g() { for (;;) {} }\n\
+             -> ok seq 1\n\
+             call m g\n\
+             -> aborted g 1 seq 2\n",
+        ],
     },
 ];
 

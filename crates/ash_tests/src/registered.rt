@@ -2,13 +2,13 @@
 
 use crate::checks::{check, check_text};
 use crate::hosts::{
-    BoxedHost, closed_disks, new_host, opened_host, refused_opening, reopened_host, replies,
+    Disks, Refused, check_exchange, closed_disks, disks_after, disks_with, opened_registered,
+    refused_opening, registered_host, reopened_host, replies_once,
 };
 use ash_disk::MemoryDisk;
-use ash_durable::{HostRefused, StoreFault};
+use ash_durable::StoreFault;
 use ash_registry::{Registry, RegistryFault};
 use ash_serve::program::registrations::registrations;
-use ash_store_fixtures::hosts::disk;
 use std::alloc::Global;
 use std::process::Abort;
 use std::test::Fail;
@@ -28,62 +28,56 @@ fn one_more(alloc: Global) -> Result<Registry, RegistryFault> {
     Ok(registry)
 }
 
-/// A new store with the program's registrations.
-fn registered_host(alloc: Global) -> Result<BoxedHost, Fail> {
-    new_host(alloc, registrations(alloc)?)
-}
-
 /// Why a store of this file isn't opened, whose disks read as before.
-fn fault_of(refused: &HostRefused<MemoryDisk>, file: &[u8]) -> Result<StoreFault, Fail> {
-    if refused.a.bytes() != file || refused.b.bytes() != [0].as_slice() {
+fn fault_of(refused: Refused, file: &[u8]) -> Result<StoreFault, Fail> {
+    let (fault, disks) = refused;
+    if disks.first.bytes() != file || disks.second.bytes() != [0].as_slice() {
         return Err("a disk was changed".into());
     }
-    Ok(refused.fault)
+    Ok(fault)
 }
 
-/// Why a store of this file isn't opened with a registry, if it isn't. The disks read as before.
-fn refusal(alloc: Global, file: &[u8], registry: Registry) -> Result<Option<StoreFault>, Fail> {
-    let disks = (disk(alloc, file)?, disk(alloc, &[0])?);
-    match refused_opening(alloc, disks, registry) {
-        Some(refused) => Ok(Some(fault_of(&refused, file)?)),
+/// Why a store of this file isn't opened, if it isn't. The disks read as before.
+fn refusal(refused: Option<Refused>, file: &[u8]) -> Result<Option<StoreFault>, Fail> {
+    match refused {
+        Some(refused) => Ok(Some(fault_of(refused, file)?)),
         None => Ok(None),
     }
 }
 
 fn refusal_with_none(alloc: Global, file: &[u8]) -> Result<Option<StoreFault>, Fail> {
-    refusal(alloc, file, Registry::new(alloc))
+    let disks = disks_with(alloc, file, &[0])?;
+    refusal(refused_opening(alloc, disks, Registry::new(alloc))?, file)
 }
 
 fn refusal_with_program(alloc: Global, file: &[u8]) -> Result<Option<StoreFault>, Fail> {
-    refusal(alloc, file, registrations(alloc)?)
+    let disks = disks_with(alloc, file, &[0])?;
+    refusal(refused_opening(alloc, disks, registrations(alloc)?)?, file)
 }
 
-/// The disks of a store with the program's registrations and a module.
-fn stored(alloc: Global) -> Result<(MemoryDisk, MemoryDisk), Fail> {
-    let mut host = registered_host(alloc)?;
-    replies(alloc, &mut host, b"load m 10\nint n = 2;\n")?;
-    Ok(closed_disks(host))
+/// What is refused of opening these disks with one method more, if it is.
+fn refused_with_one_more(alloc: Global, disks: Disks) -> Result<Option<Refused>, Fail> {
+    Ok(refused_opening(alloc, disks, one_more(alloc)?)?)
 }
 
-/// The same disks, handed back where the store was opened with one method more.
-fn refused_disks(rt: &impl Abort, alloc: Global) -> Result<(MemoryDisk, MemoryDisk), Fail> {
-    let disks = stored(alloc)?;
-    match refused_opening(alloc, disks, one_more(alloc)?) {
-        None => Err("opened with another registry".into()),
-        Some(refused) => {
-            check(rt, &refused.fault, &StoreFault::OtherInterface, "one more");
-            Ok((refused.a, refused.b))
-        }
-    }
+/// The disks of a store with the program's registrations and a module, handed back where it was opened with one method
+/// more.
+fn refused_disks(rt: &impl Abort, alloc: Global) -> Result<Disks, Fail> {
+    let host = registered_host(alloc)?;
+    let disks = disks_after(alloc, host, b"load m 10\nint n = 2;\n")?;
+    let Some((fault, disks)) = refused_with_one_more(alloc, disks)? else {
+        return Err("opened with another registry".into());
+    };
+    check(rt, &fault, &StoreFault::OtherInterface, "one more");
+    Ok(disks)
 }
 
 /// The first of those disks after the store was opened with what is registered with it.
-fn opened_with_its_own(rt: &impl Abort, alloc: Global) -> Result<MemoryDisk, Fail> {
-    let disks = refused_disks(rt, alloc)?;
-    let mut host = opened_host(alloc, disks, registrations(alloc)?)?;
-    let found = replies(alloc, &mut host, b"seq\nget m n\n")?;
-    check_text(rt, &found, "ok 1\nok 2\n", "opened with its own");
-    let (first, _) = closed_disks(host);
+fn opened_with_its_own(rt: &impl Abort, alloc: Global) -> Result<Box<MemoryDisk>, Fail> {
+    let host = opened_registered(alloc, refused_disks(rt, alloc)?)?;
+    let exchange = (b"seq\nget m n\n".as_slice(), "ok 1\nok 2\n");
+    let host = check_exchange(rt, alloc, host, exchange, "opened with its own")?;
+    let Disks { first, second: _ } = closed_disks(alloc, host)?;
     Ok(first)
 }
 
@@ -103,8 +97,8 @@ fn one_more_method_is_another_interface(rt: HostRuntime) -> Result<(), Fail> {
 
 #[test]
 fn a_host_that_is_opened_again_has_what_was_registered(rt: HostRuntime) -> Result<(), Fail> {
-    let mut host = reopened_host(rt.alloc(), registered_host(rt.alloc())?)?;
-    let found = replies(rt.alloc(), &mut host, b"load m 14\nint tally = 1;\n")?;
+    let host = reopened_host(rt.alloc(), registered_host(rt.alloc())?)?;
+    let found = replies_once(rt.alloc(), host, b"load m 14\nint tally = 1;\n")?;
     check_text(
         &rt,
         &found,

@@ -1,11 +1,9 @@
 //! Requests that are refused, and sources as long as they may be.
 
 use crate::checks::{check, check_text};
-use crate::hosts::{BoxedHost, ending, new_host, replies};
+use crate::hosts::{BoxedHost, ending, registered_host, replies_once, unregistered_host};
 use crate::rows::{Row, check_rows};
-use ash_registry::Registry;
 use ash_serve::RunFault;
-use ash_serve::program::registrations::registrations;
 use std::alloc::{AllocError, Global};
 use std::process::Abort;
 use std::test::Fail;
@@ -14,27 +12,37 @@ static REGISTERED: [Row; 1] = [Row {
     what: "scripts that use what is registered can't be run so far, and all that is wrong with them comes \
                   first",
     budget: 1000,
-    parts: &[&[
-        ("load m 24\nCounter@ g = Counter(7);", "refused 199 NotYet"),
-        ("load m 22\nvoid f(Counter@ c) { }", "refused 199 NotYet"),
-        ("load m 25\nclass Box { Counter@ c; }", "refused 199 NotYet"),
-        ("load m 18\narray<Counter@> l;", "refused 199 NotYet"),
-        (
-            "load m 27\nint t() { return total(); }",
-            "refused 199 NotYet",
-        ),
-        ("load m 17\nint a = tally(3);", "refused 199 NotYet"),
-        (
-            "load m 38\nCounter@ g; class Node { Node@ next; }",
-            "refused 309 CyclicType Node",
-        ),
-        (
-            "load m 20\nCounter@ g; int f( {",
-            "refused 104 Unexpected 19",
-        ),
-        ("load m 16\nint Counter = 1;", "refused 303 NameTaken 4"),
-        ("seq", "ok 0"),
-    ]],
+    parts: &[
+        "load m 24\n\
+             Counter@ g = Counter(7);\n\
+             -> refused 199 NotYet\n\
+             load m 22\n\
+             void f(Counter@ c) { }\n\
+             -> refused 199 NotYet\n\
+             load m 25\n\
+             class Box { Counter@ c; }\n\
+             -> refused 199 NotYet\n\
+             load m 18\n\
+             array<Counter@> l;\n\
+             -> refused 199 NotYet\n\
+             load m 27\n\
+             int t() { return total(); }\n\
+             -> refused 199 NotYet\n\
+             load m 17\n\
+             int a = tally(3);\n\
+             -> refused 199 NotYet\n\
+             load m 38\n\
+             Counter@ g; class Node { Node@ next; }\n\
+             -> refused 309 CyclicType Node\n\
+             load m 20\n\
+             Counter@ g; int f( {\n\
+             -> refused 104 Unexpected 19\n\
+             load m 16\n\
+             int Counter = 1;\n\
+             -> refused 303 NameTaken 4\n\
+             seq\n\
+             -> ok 0\n",
+    ],
 }];
 
 #[test]
@@ -46,40 +54,61 @@ static REFUSED: [Row; 2] = [
     Row {
         what: "requests that are refused change nothing",
         budget: 1000,
-        parts: &[&[
-            (
-                "load m 45\nint n = 2; int f(int k) { n += k; return n; }",
-                "ok seq 1",
-            ),
-            ("frob", "refused 601 BadRequest"),
-            ("call m f x", "refused 601 BadRequest"),
-            ("call m nope", "refused 403 NoFunction"),
-            ("call m f 1 2", "refused 405 BadArguments"),
-            ("call m f 2147483648", "refused 405 BadArguments"),
-            ("call z f", "refused 401 NoModule"),
-            ("discard z", "refused 401 NoModule"),
-            ("get m q", "refused 406 NoGlobal"),
-            ("object 9", "refused 407 NoObject"),
-            ("load m 0\n", "refused 402 ModuleTaken"),
-            ("load 9x 0\n", "refused 409 BadName"),
-            ("seq", "ok 1"),
-            ("get m n", "ok 2"),
-        ]],
+        parts: &[
+            "load m 45\n\
+             int n = 2; int f(int k) { n += k; return n; }\n\
+             -> ok seq 1\n\
+             frob\n\
+             -> refused 601 BadRequest\n\
+             call m f x\n\
+             -> refused 601 BadRequest\n\
+             call m nope\n\
+             -> refused 403 NoFunction\n\
+             call m f 1 2\n\
+             -> refused 405 BadArguments\n\
+             call m f 2147483648\n\
+             -> refused 405 BadArguments\n\
+             call z f\n\
+             -> refused 401 NoModule\n\
+             discard z\n\
+             -> refused 401 NoModule\n\
+             get m q\n\
+             -> refused 406 NoGlobal\n\
+             object 9\n\
+             -> refused 407 NoObject\n\
+             load m 0\n\n\
+             -> refused 402 ModuleTaken\n\
+             load 9x 0\n\n\
+             -> refused 409 BadName\n\
+             seq\n\
+             -> ok 1\n\
+             get m n\n\
+             -> ok 2\n",
+        ],
     },
     Row {
         what: "a look at an object has one number",
         budget: 1000,
-        parts: &[&[
-            ("object", "refused 601 BadRequest"),
-            ("object x", "refused 601 BadRequest"),
-            ("object -1", "refused 601 BadRequest"),
-            ("object 1 2", "refused 601 BadRequest"),
-            ("object 18446744073709551616", "refused 601 BadRequest"),
-            ("object 18446744073709551615", "refused 407 NoObject"),
-            ("object 000000000000000000001", "refused 601 BadRequest"),
-            ("object 00000000000000000001", "refused 407 NoObject"),
-            ("seq", "ok 0"),
-        ]],
+        parts: &[
+            "object\n\
+             -> refused 601 BadRequest\n\
+             object x\n\
+             -> refused 601 BadRequest\n\
+             object -1\n\
+             -> refused 601 BadRequest\n\
+             object 1 2\n\
+             -> refused 601 BadRequest\n\
+             object 18446744073709551616\n\
+             -> refused 601 BadRequest\n\
+             object 18446744073709551615\n\
+             -> refused 407 NoObject\n\
+             object 000000000000000000001\n\
+             -> refused 601 BadRequest\n\
+             object 00000000000000000001\n\
+             -> refused 407 NoObject\n\
+             seq\n\
+             -> ok 0\n",
+        ],
     },
 ];
 
@@ -153,8 +182,7 @@ fn with_filling(alloc: Global, row: &Filled) -> Result<Vec<u8>, AllocError> {
 
 fn check_filled(rt: &impl Abort, alloc: Global, row: &Filled) -> Result<(), Fail> {
     let requests = with_filling(alloc, row)?;
-    let mut host = new_host(alloc, Registry::new(alloc))?;
-    let found = replies(alloc, &mut host, &requests)?;
+    let found = replies_once(alloc, unregistered_host(alloc)?, &requests)?;
     check_text(rt, &found, row.replies, row.what);
     Ok(())
 }
@@ -167,29 +195,34 @@ fn lines_and_sources_as_long_as_they_may_be(rt: HostRuntime) -> Result<(), Fail>
     Ok(())
 }
 
-/// Compares what is written in a run whose last request is cut by the end.
+/// Compares what is written in a run whose last request is cut by the end, and gives the host.
 fn check_cut(
     rt: &impl Abort,
     alloc: Global,
-    host: &mut BoxedHost,
+    mut host: BoxedHost,
     requests: &[u8],
     wanted: &str,
-) -> Result<(), Fail> {
+) -> Result<BoxedHost, Fail> {
     let mut written = Vec::new(alloc);
-    let end = ending(alloc, requests, &mut written, host, 1000);
+    let end = ending(alloc, requests, &mut written, &mut host);
     check(rt, &end, &Err(RunFault::Truncated), "how the run ends");
     let found = String::from_utf8(written)?;
     check_text(rt, &found, wanted, "what is written");
-    Ok(())
+    Ok(host)
 }
 
 #[test]
 fn a_source_that_is_cut_by_the_end(rt: HostRuntime) -> Result<(), Fail> {
     let alloc = rt.alloc();
-    let mut host = new_host(alloc, Registry::new(alloc))?;
     let requests = b"load m 10\nint n = 2;\nload k 3\nab";
-    check_cut(&rt, alloc, &mut host, requests, "ok seq 1\n")?;
-    let found = replies(alloc, &mut host, b"get m n\nseq\n")?;
+    let host = check_cut(
+        &rt,
+        alloc,
+        unregistered_host(alloc)?,
+        requests,
+        "ok seq 1\n",
+    )?;
+    let found = replies_once(alloc, host, b"get m n\nseq\n")?;
     check_text(&rt, &found, "ok 2\nok 1\n", "what is found then");
     Ok(())
 }
@@ -215,10 +248,10 @@ fn refused_in_one_run(alloc: Global) -> Result<Vec<u8>, AllocError> {
 #[test]
 fn each_refusal_in_one_run(rt: HostRuntime) -> Result<(), Fail> {
     let alloc = rt.alloc();
-    let mut host = new_host(alloc, registrations(alloc)?)?;
     let requests = refused_in_one_run(alloc)?;
-    check_cut(&rt, alloc, &mut host, &requests, REPLIES_OF_ONE_RUN)?;
-    let found = replies(alloc, &mut host, b"seq\nget m n\n")?;
+    let host = registered_host(alloc)?;
+    let host = check_cut(&rt, alloc, host, &requests, REPLIES_OF_ONE_RUN)?;
+    let found = replies_once(alloc, host, b"seq\nget m n\n")?;
     check_text(&rt, &found, "ok 1\nok 2\n", "what is found then");
     Ok(())
 }

@@ -1,7 +1,10 @@
 //! Serving and checking over readers and writers that fail, and a store that is served again from its disks.
 
 use crate::checks::{check, check_bytes, check_text};
-use crate::hosts::{both_crashed, closed_disks, ending, new_host, opened_host, replies};
+use crate::hosts::{
+    Disks, boxed_disks, closed_disks, disks_after, ending, ending_of_new, unboxed,
+    unregistered_host,
+};
 use ash_disk::{MemoryDisk, Survives};
 use ash_registry::Registry;
 use ash_serve::program::check::run_check;
@@ -9,6 +12,7 @@ use ash_serve::program::ending::ProgramEnd;
 use ash_serve::program::fault::ProgramFault;
 use ash_serve::program::service::{Service, ServiceEnd, serve_stored};
 use ash_serve::{ReadFault, RunFault};
+use ash_store_fixtures::hosts::{found, image_after};
 use std::alloc::Global;
 use std::io;
 use std::io::{ErrorKind, Read, Write};
@@ -71,11 +75,11 @@ const OUTPUT: &str =
 /// What is written where the store on two disks is served, and how that ends.
 fn served_stored(
     alloc: Global,
-    a: MemoryDisk,
-    b: MemoryDisk,
+    disks: Disks,
     requests: &[u8],
     written: &mut Vec<u8>,
 ) -> ServiceEnd<MemoryDisk> {
+    let (a, b) = unboxed(disks);
     let service = Service {
         a,
         b,
@@ -85,30 +89,32 @@ fn served_stored(
     serve_stored(alloc, service, requests, written)
 }
 
-/// The disks of a store with a module.
-fn stored(alloc: Global) -> Result<(MemoryDisk, MemoryDisk), Fail> {
-    let mut host = new_host(alloc, Registry::new(alloc))?;
-    replies(alloc, &mut host, b"load m 10\nint n = 7;\n")?;
-    Ok(closed_disks(host))
+/// The disks after such a service, which ends well.
+fn disks_after_service(
+    alloc: Global,
+    disks: Disks,
+    requests: &[u8],
+    written: &mut Vec<u8>,
+) -> Result<Disks, Fail> {
+    let ServiceEnd { end, a, b } = served_stored(alloc, disks, requests, written);
+    let disks = boxed_disks(alloc, (a, b))?;
+    end?;
+    Ok(disks)
 }
 
-/// The same after the store was served, and what was written is added.
-fn stored_and_served(
-    alloc: Global,
-    written: &mut Vec<u8>,
-) -> Result<(MemoryDisk, MemoryDisk), Fail> {
-    let (a, b) = stored(alloc)?;
-    let ServiceEnd { end, a, b } = served_stored(alloc, a, b, b"load k 10\nint n = 8;\n", written);
-    end?;
-    Ok((a, b))
+/// The disks of a store with a module after it was served, and what was written is added.
+fn stored_and_served(alloc: Global, written: &mut Vec<u8>) -> Result<Disks, Fail> {
+    let host = unregistered_host(alloc)?;
+    let disks = disks_after(alloc, host, b"load m 10\nint n = 7;\n")?;
+    disks_after_service(alloc, disks, b"load k 10\nint n = 8;\n", written)
 }
 
 #[test]
 fn serves_again_from_the_disks_that_it_hands_back(rt: HostRuntime) -> Result<(), Fail> {
     let alloc = rt.alloc();
     let mut written = Vec::new(alloc);
-    let (a, b) = stored_and_served(alloc, &mut written)?;
-    served_stored(alloc, a, b, b"get m n\nget k n\nseq\n", &mut written).end?;
+    let disks = stored_and_served(alloc, &mut written)?;
+    disks_after_service(alloc, disks, b"get m n\nget k n\nseq\n", &mut written)?;
     let wanted = b"ok seq 2\nok 7\nok 8\nok 2\n".as_slice();
     check(&rt, &written.as_slice(), &wanted, "a store that was served");
     Ok(())
@@ -130,10 +136,9 @@ fn check_prefix(
 
 /// Compares how a run ends whose reader fails after so many reads.
 fn check_reads(rt: &impl Abort, alloc: Global, left: usize) -> Result<(), Fail> {
-    let mut host = new_host(alloc, Registry::new(alloc))?;
     let mut written = Vec::new(alloc);
     let reader = Failing { bytes: INPUT, left };
-    let found = ending(alloc, reader, &mut written, &mut host, 1000);
+    let found = ending_of_new(alloc, reader, &mut written)?;
     check_prefix(rt, left, found, RunFault::Read(ReadFault::Failed), &written);
     Ok(())
 }
@@ -148,12 +153,11 @@ fn a_read_that_fails_is_reported(rt: HostRuntime) -> Result<(), Fail> {
 
 /// Compares how a run ends whose writer fails after so many writes and flushes.
 fn check_writes(rt: &impl Abort, alloc: Global, left: usize) -> Result<(), Fail> {
-    let mut host = new_host(alloc, Registry::new(alloc))?;
     let mut writer = Refusing {
         bytes: Vec::new(alloc),
         left,
     };
-    let found = ending(alloc, INPUT, &mut writer, &mut host, 1000);
+    let found = ending_of_new(alloc, INPUT, &mut writer)?;
     check_prefix(rt, left, found, RunFault::Write, &writer.bytes);
     Ok(())
 }
@@ -172,25 +176,21 @@ const ANSWERED: &[u8] =
 
 /// Serves those requests where a write of the replies fails after so many writes and flushes: what was written, and the
 /// disks.
-fn answered(alloc: Global, left: usize) -> Result<(Vec<u8>, (MemoryDisk, MemoryDisk)), Fail> {
-    let mut host = new_host(alloc, Registry::new(alloc))?;
+fn answered(alloc: Global, left: usize) -> Result<(Vec<u8>, Disks), Fail> {
+    let mut host = unregistered_host(alloc)?;
     let mut writer = Refusing {
         bytes: Vec::new(alloc),
         left,
     };
-    let _ = ending(alloc, ANSWERED, &mut writer, &mut host, 1000);
-    Ok((writer.bytes, closed_disks(host)))
+    let _ = ending(alloc, ANSWERED, &mut writer, &mut host);
+    Ok((writer.bytes, closed_disks(alloc, host)?))
 }
 
 /// How many requests were answered of those that are found after a crash.
-fn seq_after_crash(
-    alloc: Global,
-    disks: &(MemoryDisk, MemoryDisk),
-    survives: Survives,
-) -> Result<u64, Fail> {
-    let disks = both_crashed(alloc, disks, usize::MAX, survives)?;
-    let host = opened_host(alloc, disks, Registry::new(alloc))?;
-    Ok(host.seq())
+fn seq_after_crash(alloc: Global, disks: &Disks, survives: Survives) -> Result<u64, Fail> {
+    let first = image_after(&disks.first, usize::MAX, survives)?;
+    let second = image_after(&disks.second, usize::MAX, survives)?;
+    Ok(found(alloc, &first, &second)??)
 }
 
 /// Of how many answers a byte was written.
@@ -264,27 +264,31 @@ fn check_end(rt: &impl Abort, end: &ProgramEnd, wanted: RunFault) {
     );
 }
 
+/// How a check ends, with nothing registered.
+fn end_of_check<R: Read + Drop, W: Write>(alloc: Global, reader: R, writer: &mut W) -> ProgramEnd {
+    let registry = Registry::new(alloc);
+    run_check(alloc, &registry, reader, writer)
+}
+
 /// Compares how a check ends whose reader fails amid a file: nothing is written.
 fn check_unread(rt: &impl Abort, alloc: Global) {
-    let registry = Registry::new(alloc);
     let reader = Failing {
         bytes: b"int n = 2;",
         left: 4,
     };
     let mut written = Vec::new(alloc);
-    let end = run_check(alloc, &registry, reader, &mut written);
+    let end = end_of_check(alloc, reader, &mut written);
     check_end(rt, &end, RunFault::Read(ReadFault::Failed));
     check_bytes(rt, &written, b"", "what is written of a file");
 }
 
 /// Compares how a check ends whose writer fails amid its line.
 fn check_unwritten(rt: &impl Abort, alloc: Global) {
-    let registry = Registry::new(alloc);
     let mut writer = Refusing {
         bytes: Vec::new(alloc),
         left: 2,
     };
-    let end = run_check(alloc, &registry, b"int n = 2;".as_slice(), &mut writer);
+    let end = end_of_check(alloc, b"int n = 2;".as_slice(), &mut writer);
     check_end(rt, &end, RunFault::Write);
     check_bytes(rt, &writer.bytes, b"ok", "what is written of a line");
 }

@@ -1,14 +1,13 @@
 //! Stops at every call of either disk, and what crashes leave of both, at each moment of the request in progress.
 
 use crate::checks::check;
-use crate::stores::fuses::{Failing, fuses};
+use crate::hosts::{BoxedHost, Disks, closed_disks, found_host, state_after_crash, when_done};
+use crate::stores::fuses::{Failing, fused_disks, fuses};
 use crate::stores::plans::{Plan, Reached, Step, Stopped, handle_plan};
-use ash_disk::{MemoryDisk, Survives};
-use ash_durable::{Host, OpenFault, StoreFault};
-use ash_registry::Registry;
-use ash_store_fixtures::hosts::{
-    SOURCE, State, add, closed, disk, found_state, image_after, load, need, opened, state,
-};
+use ash_disk::Survives;
+use ash_durable::{OpenFault, StoreFault};
+use ash_states::state::HostReply;
+use ash_store_fixtures::hosts::{SOURCE, State, add, image_after, load, state};
 use ash_store_fixtures::lives::{File, disks_of};
 use std::alloc::Global;
 use std::process::Abort;
@@ -97,43 +96,29 @@ fn state_after(found: State) -> State {
 }
 
 /// Handles that request.
-fn go_on(alloc: Global, host: &mut Host<MemoryDisk>, source: &[u8]) -> Result<(), Fail> {
-    let reply = match state(host) {
+fn go_on(host: &mut BoxedHost, source: &[u8]) -> HostReply {
+    match state(host) {
         (_, Some(_)) => add(host, 1),
         (_, None) => load(host, source),
-    };
-    need(alloc, reply)
+    }
 }
 
 /// The state of a host, and its disks after one request more.
-fn gone_on(
-    alloc: Global,
-    mut host: Host<MemoryDisk>,
-    source: &[u8],
-) -> Result<(State, (MemoryDisk, MemoryDisk)), Fail> {
+fn gone_on(alloc: Global, mut host: BoxedHost, source: &[u8]) -> Result<(State, Disks), Fail> {
     let before = state(&mut host);
-    go_on(alloc, &mut host, source)?;
-    Ok((before, closed(host)))
-}
-
-/// The state that is found after a crash that nothing survives.
-fn state_after_crash(
-    alloc: Global,
-    disks: &(MemoryDisk, MemoryDisk),
-) -> Result<Result<State, StoreFault>, Fail> {
-    let first = image_after(&disks.0, usize::MAX, Survives::Nothing)?;
-    let second = image_after(&disks.1, usize::MAX, Survives::Nothing)?;
-    found_state(alloc, &first, &second)
+    let reply = go_on(&mut host, source);
+    let host = when_done(alloc, host, reply)?;
+    Ok((before, closed_disks(alloc, host)?))
 }
 
 /// The state of a host, and the one that is found after one request more and a crash.
 fn states_from(
     alloc: Global,
-    host: Host<MemoryDisk>,
+    host: BoxedHost,
     source: &[u8],
 ) -> Result<Result<(State, State), StoreFault>, Fail> {
     let (before, disks) = gone_on(alloc, host, source)?;
-    match state_after_crash(alloc, &disks)? {
+    match state_after_crash(alloc, &disks, Survives::Nothing)? {
         Ok(after) => Ok(Ok((before, after))),
         Err(fault) => Ok(Err(fault)),
     }
@@ -147,8 +132,7 @@ fn states_of(
     first: &[u8],
     second: &[u8],
 ) -> Result<Result<(State, State), StoreFault>, Fail> {
-    let (a, b) = (disk(alloc, first)?, disk(alloc, second)?);
-    match opened(alloc, a, b, Registry::new(alloc)) {
+    match found_host(alloc, first, second)? {
         Ok(host) => states_from(alloc, host, source),
         Err(fault) => Ok(Err(fault)),
     }
@@ -267,7 +251,7 @@ fn stopped_after(
     calls: (u64, u64),
 ) -> Result<Stopped, Fail> {
     let disks = disks_of(alloc, files.0, files.1)?;
-    handle_plan(alloc, plan, disks, calls)
+    handle_plan(alloc, plan, fused_disks(alloc, disks, calls)?)
 }
 
 /// Stops a plan over disks with these files at each call of one disk, and looks at what crashes leave. Gives how many
@@ -311,23 +295,25 @@ fn the_second_disk_fails(rt: HostRuntime) -> Result<(), Fail> {
     Ok(())
 }
 
+/// Compares how many stops there are of the plan with objects.
+fn check_stops_with_objects(
+    rt: &impl Abort,
+    alloc: Global,
+    failing: Failing,
+    wanted: u64,
+    what: &str,
+) -> Result<(), Fail> {
+    let stops = count_stops(rt, alloc, &WITH_OBJECTS, NO_FILES, failing)?;
+    check(rt, &stops, &wanted, what);
+    Ok(())
+}
+
 #[test]
 fn a_disk_fails_with_objects(rt: HostRuntime) -> Result<(), Fail> {
-    let stops = count_stops(&rt, rt.alloc(), &WITH_OBJECTS, NO_FILES, Failing::First)?;
-    check(
-        &rt,
-        &stops,
-        &STOPS_OF_FIRST,
-        "stops of the first disk, with objects",
-    );
-    let stops = count_stops(&rt, rt.alloc(), &WITH_OBJECTS, NO_FILES, Failing::Second)?;
-    check(
-        &rt,
-        &stops,
-        &STOPS_OF_SECOND,
-        "stops of the second disk, with objects",
-    );
-    Ok(())
+    let (alloc, what) = (rt.alloc(), "stops of the first disk, with objects");
+    check_stops_with_objects(&rt, alloc, Failing::First, STOPS_OF_FIRST, what)?;
+    let what = "stops of the second disk, with objects";
+    check_stops_with_objects(&rt, alloc, Failing::Second, STOPS_OF_SECOND, what)
 }
 
 /// Looks at each moment of the part after so many, on disks that have outlived it: what was written later is in no
@@ -387,25 +373,29 @@ fn each_moment_of_a_store_of_version_one(rt: HostRuntime) -> Result<(), Fail> {
     check_each_moment(&rt, rt.alloc(), &FROM_VERSION_ONE, VERSION_ONE)
 }
 
+/// Compares how many stops there are of the plan from version 1.
+fn check_stops_of_version_one(
+    rt: &impl Abort,
+    alloc: Global,
+    failing: Failing,
+    wanted: u64,
+    what: &str,
+) -> Result<(), Fail> {
+    let stops = count_stops(rt, alloc, &FROM_VERSION_ONE, VERSION_ONE, failing)?;
+    check(rt, &stops, &wanted, what);
+    Ok(())
+}
+
 #[test]
 fn a_disk_of_a_store_of_version_one_fails(rt: HostRuntime) -> Result<(), Fail> {
-    let (plan, files) = (&FROM_VERSION_ONE, VERSION_ONE);
     // An opening syncs, looks twice, and reads the lengths and the bytes of the image and two records. Opened again the
     // first file is the older generation, and only looked at.
-    let stops = count_stops(&rt, rt.alloc(), plan, files, Failing::First)?;
-    check(
-        &rt,
-        &stops,
-        &(1 + 2 + 3 * 2 + 1 + 2),
-        "stops of the first disk",
-    );
+    let (stops, what) = (1 + 2 + 3 * 2 + 1 + 2, "stops of the first disk");
+    check_stops_of_version_one(&rt, rt.alloc(), Failing::First, stops, what)?;
     // An opening looks at it, and installs; a record is added; then it is current, and read; and a record more.
-    let stops = count_stops(&rt, rt.alloc(), plan, files, Failing::Second)?;
-    check(
-        &rt,
-        &stops,
-        &(1 + 2 + 4 + 4 + (1 + 2 + 2 * 2) + 4),
+    let (stops, what) = (
+        1 + 2 + 4 + 4 + (1 + 2 + 2 * 2) + 4,
         "stops of the second disk",
     );
-    Ok(())
+    check_stops_of_version_one(&rt, rt.alloc(), Failing::Second, stops, what)
 }

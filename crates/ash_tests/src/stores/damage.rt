@@ -1,11 +1,10 @@
 //! Damaged stores: files that are cut, and files with another byte at a place.
 
 use crate::checks::{check, check_bytes};
+use crate::hosts::{Disks, disks_after_opening};
 use crate::stores::store::{file_with, loaded};
-use ash_disk::MemoryDisk;
 use ash_durable::{OpenFault, StoreFault};
-use ash_registry::Registry;
-use ash_store_fixtures::hosts::{closed, disk, found, opened};
+use ash_store_fixtures::hosts::found;
 use ash_store_fixtures::lives::{File, bytes_of};
 use std::alloc::{AllocError, Global};
 use std::process::Abort;
@@ -281,10 +280,9 @@ fn modules_out_of_order(rt: HostRuntime) -> Result<(), Fail> {
 }
 
 /// Opens a store with one record, whose next gate is this byte, beside another file, and gives its disks.
-fn repaired(alloc: Global, gate: u8, other: &[u8]) -> Result<(MemoryDisk, MemoryDisk), Fail> {
+fn repaired(alloc: Global, gate: u8, other: &[u8]) -> Result<Disks, Fail> {
     let file = changed(alloc, loaded(), 93, gate)?;
-    let (a, b) = (disk(alloc, &file)?, disk(alloc, other)?);
-    Ok(closed(opened(alloc, a, b, Registry::new(alloc))?))
+    disks_after_opening(alloc, &file, other)
 }
 
 /// The next gate after a record, the other file, what that is after an opening, and the calls of the first disk and of
@@ -313,7 +311,7 @@ static GATES: [Gates; 8] = [
 /// Compares what an opening leaves of gates.
 fn check_gates(rt: &impl Abort, alloc: Global, row: &Gates) -> Result<(), Fail> {
     let (gate, other, after, first_calls, second_calls) = *row;
-    let (first, second) = repaired(alloc, gate, other)?;
+    let Disks { first, second } = repaired(alloc, gate, other)?;
     check_bytes(rt, first.bytes(), loaded(), "the file with the record");
     check_bytes(rt, second.bytes(), after, "the other file");
     let calls = (gate, other, first.calls(), second.calls());

@@ -1,18 +1,19 @@
 //! Stores that are there already or damaged, and disks that fail.
 
 use crate::checks::{check, check_bytes, check_text};
-use crate::stores::fuses::{Failing, fuses};
-use ash_disk::{FailingDisk, MemoryDisk, Survives};
+use crate::hosts::{Disks, Refused, boxed_disks, refused_with_disks, state_after_crash, unboxed};
+use crate::stores::fuses::{Failing, FusedHost, answers_on_fuses, fused_host, fuses};
+use ash_disk::Survives;
 use ash_durable::{CreateFault, Host, OpenFault, StoreFault};
 use ash_plain_steps::request::Request;
 use ash_registry::Registry;
 use ash_steps::Argument;
 use ash_store_fixtures::hosts::{
-    EMPTY, SOURCE, State, add, closed, created, disk, found, found_state, fuse, image_after,
-    is_done, lines_for, load, opened, seq, used,
+    EMPTY, SOURCE, State, add, closed, created, disk, found, is_done, lines_for, load, opened, seq,
+    used,
 };
-use ash_store_fixtures::lives::{File, HostStep, bytes_of, lived_on_fuses};
-use std::alloc::Global;
+use ash_store_fixtures::lives::{File, HostStep, bytes_of};
+use std::alloc::{AllocError, Global};
 use std::process::Abort;
 use std::test::Fail;
 
@@ -47,12 +48,17 @@ fn faults_are_sentences(rt: HostRuntime) -> Result<(), Fail> {
     Ok(())
 }
 
-/// Why no store is made over the disks of a used one, and these disks.
-fn made_again(alloc: Global) -> Result<(StoreFault, MemoryDisk, MemoryDisk), Fail> {
-    let (first, second) = closed(used(alloc)?);
+/// The disks of a used store.
+fn used_disks(alloc: Global) -> Result<Disks, Fail> {
+    Ok(boxed_disks(alloc, closed(used(alloc)?))?)
+}
+
+/// What is refused of making a store over the disks of a used one.
+fn made_again(alloc: Global) -> Result<Refused, Fail> {
+    let (first, second) = unboxed(used_disks(alloc)?);
     match Host::create(alloc, first, second, Registry::new(alloc)) {
         Ok(_) => Err("made over a store".into()),
-        Err(refused) => Ok((refused.fault, refused.a, refused.b)),
+        Err(refused) => Ok(refused_with_disks(alloc, refused)?),
     }
 }
 
@@ -62,20 +68,20 @@ fn not_made(alloc: Global, a: &[u8], b: &[u8]) -> Result<Option<StoreFault>, Fai
     Ok(created(alloc, a, b, Registry::new(alloc)).err())
 }
 
-/// The first disk of a used store.
-fn used_disk(alloc: Global) -> Result<MemoryDisk, Fail> {
-    let (first, _) = closed(used(alloc)?);
-    Ok(first)
+/// Compares disks with those of a used store.
+fn check_used(rt: &impl Abort, alloc: Global, disks: &Disks) -> Result<(), Fail> {
+    check_bytes(rt, disks.second.bytes(), &[0], "the second disk");
+    let before = used_disks(alloc)?;
+    let before = before.first.bytes();
+    check_bytes(rt, disks.first.bytes(), before, "the first disk");
+    Ok(())
 }
 
 #[test]
 fn a_store_that_is_there(rt: HostRuntime) -> Result<(), Fail> {
-    let (fault, first, second) = made_again(rt.alloc())?;
+    let (fault, disks) = made_again(rt.alloc())?;
     check(&rt, &fault, &ALREADY_THERE, "over a used store");
-    check_bytes(&rt, second.bytes(), &[0], "the second disk");
-    let before = used_disk(rt.alloc())?;
-    check_bytes(&rt, first.bytes(), before.bytes(), "the first disk");
-    Ok(())
+    check_used(&rt, rt.alloc(), &disks)
 }
 
 /// Two files, and why no store is made over them.
@@ -135,16 +141,6 @@ fn files_that_are_open(rt: HostRuntime) -> Result<(), Fail> {
     Ok(())
 }
 
-/// A host with a new store on disks that fail after so many calls.
-fn fused(
-    alloc: Global,
-    first: u64,
-    second: u64,
-) -> Result<Host<FailingDisk<MemoryDisk>>, StoreFault> {
-    let (first, second) = (fuse(alloc, first), fuse(alloc, second));
-    created(alloc, first, second, Registry::new(alloc))
-}
-
 // What is asked of a host whose first write fails, and what is answered.
 static REFUSED: [HostStep; 7] = [
     HostStep::Load,
@@ -185,10 +181,10 @@ fn check_first(rt: &impl Abort, bytes: &[u8], gate: Option<u8>, what: &str) {
 /// Compares what is refused where the first disk fails after so many calls, and looks at the disks.
 fn check_first_write(rt: &impl Abort, alloc: Global, row: &FirstWrite) -> Result<(), Fail> {
     let (what, calls, gate) = *row;
-    let (found, disks) = lived_on_fuses(alloc, (calls, 100), &REFUSED)?;
+    let (found, disks) = answers_on_fuses(alloc, (calls, 100), &REFUSED)?;
     check_text(rt, found.as_str(), REFUSALS, what);
-    check_first(rt, disks.0.bytes(), gate, what);
-    check_bytes(rt, disks.1.bytes(), &[0], what);
+    check_first(rt, disks.first.bytes(), gate, what);
+    check_bytes(rt, disks.second.bytes(), &[0], what);
     Ok(())
 }
 
@@ -206,21 +202,10 @@ static LOST: [HostStep; 3] = [HostStep::Load, HostStep::Call(5), HostStep::Call(
 const LOST_CALL: &str = "ok seq 1\nrefused 507 DeviceFailed\nrefused 508 Reopen\n";
 
 /// The disks of that host, whose first disk fails after so many calls.
-fn lost_call(rt: &impl Abort, alloc: Global, calls: u64) -> Result<(MemoryDisk, MemoryDisk), Fail> {
-    let (found, disks) = lived_on_fuses(alloc, (calls, 100), &LOST)?;
+fn lost_call(rt: &impl Abort, alloc: Global, calls: u64) -> Result<Disks, Fail> {
+    let (found, disks) = answers_on_fuses(alloc, (calls, 100), &LOST)?;
     check_text(rt, found.as_str(), LOST_CALL, "a lost call");
     Ok(disks)
-}
-
-/// What opening gives after a crash that leaves such a part of what was not synced.
-fn after_crash(
-    alloc: Global,
-    disks: &(MemoryDisk, MemoryDisk),
-    survives: Survives,
-) -> Result<Result<State, StoreFault>, Fail> {
-    let first = image_after(&disks.0, usize::MAX, survives)?;
-    let second = image_after(&disks.1, usize::MAX, survives)?;
-    found_state(alloc, first.as_slice(), second.as_slice())
 }
 
 const BEFORE: Result<State, StoreFault> = Ok((1, Some(2)));
@@ -254,11 +239,11 @@ fn wanted_after(
 fn check_crash(
     rt: &impl Abort,
     alloc: Global,
-    disks: &(MemoryDisk, MemoryDisk),
+    disks: &Disks,
     survives: Survives,
     everything: Result<State, StoreFault>,
 ) -> Result<(), Fail> {
-    let found = after_crash(alloc, disks, survives)?;
+    let found = state_after_crash(alloc, disks, survives)?;
     let wanted = wanted_after(survives, found, everything);
     check(rt, &(survives, found), &(survives, wanted), "after a crash");
     Ok(())
@@ -268,7 +253,7 @@ fn check_crash(
 fn check_crashes(
     rt: &impl Abort,
     alloc: Global,
-    disks: &(MemoryDisk, MemoryDisk),
+    disks: &Disks,
     everything: Result<State, StoreFault>,
 ) -> Result<(), Fail> {
     for number in 0..202 {
@@ -317,7 +302,7 @@ const LOST_AT_THE_THIRD: &str =
 
 /// What a host replies to these requests whose first disk fails after so many calls.
 fn seven_replies(alloc: Global, calls: u64) -> Result<String, Fail> {
-    let mut host = fused(alloc, calls, 100)?;
+    let mut host = fused_host(alloc, (calls, 100))??;
     lines_for(alloc, &mut host, &seven_requests())
 }
 
@@ -335,31 +320,34 @@ fn requests_after_a_failure(rt: HostRuntime) -> Result<(), Fail> {
 }
 
 /// How many of two requests a host answers, and its number after them.
-fn answers(host: &mut Host<FailingDisk<MemoryDisk>>) -> (u64, u64) {
+fn answers(host: &mut FusedHost) -> (u64, u64) {
     let loaded = is_done(&load(host, SOURCE));
     let called = is_done(&add(host, 5));
     (u64::from(loaded) + u64::from(called), seq(host))
 }
 
 /// What opening the store of a host again gives: its number, or why there is no host.
-fn number_again(alloc: Global, host: Host<FailingDisk<MemoryDisk>>) -> Result<u64, StoreFault> {
-    let (first, second) = closed(host);
+fn number_again(alloc: Global, host: FusedHost) -> Result<u64, StoreFault> {
+    let (first, second) = closed(Box::into_inner(host));
     opened(alloc, first, second, Registry::new(alloc)).map(|host| seq(&host))
 }
 
 /// What a host comes to: how many of two requests it answers, its number then, and what opening its store again gives.
 type Served = ((u64, u64), Result<u64, StoreFault>);
 
-fn served(alloc: Global, mut host: Host<FailingDisk<MemoryDisk>>) -> Served {
+fn served(alloc: Global, mut host: FusedHost) -> Served {
     let answers = answers(&mut host);
     (answers, number_again(alloc, host))
 }
 
 /// What a host comes to whose disks fail after so many calls, or why there is no host.
-fn served_on_fuses(alloc: Global, calls: (u64, u64)) -> Result<Served, StoreFault> {
-    match fused(alloc, calls.0, calls.1) {
-        Ok(host) => Ok(served(alloc, host)),
-        Err(fault) => Err(fault),
+fn served_on_fuses(
+    alloc: Global,
+    calls: (u64, u64),
+) -> Result<Result<Served, StoreFault>, AllocError> {
+    match fused_host(alloc, calls)? {
+        Ok(host) => Ok(Ok(served(alloc, host))),
+        Err(fault) => Ok(Err(fault)),
     }
 }
 
@@ -375,13 +363,13 @@ fn reached_by(rt: &impl Abort, calls: (u64, u64), served: Served) -> u64 {
 }
 
 /// How far a store comes whose disks fail after so many calls, if it is made. Only a failure of a disk may end it.
-fn reached(rt: &impl Abort, alloc: Global, calls: (u64, u64)) -> Option<u64> {
-    match served_on_fuses(alloc, calls) {
-        Ok(served) => Some(reached_by(rt, calls, served)),
+fn reached(rt: &impl Abort, alloc: Global, calls: (u64, u64)) -> Result<Option<u64>, AllocError> {
+    match served_on_fuses(alloc, calls)? {
+        Ok(served) => Ok(Some(reached_by(rt, calls, served))),
         Err(fault) => {
             let wanted = StoreFault::Create(CreateFault::DeviceFailed);
             check(rt, &(calls, fault), &(calls, wanted), "created by");
-            None
+            Ok(None)
         }
     }
 }
@@ -401,13 +389,19 @@ fn wanted_of(rows: &[Reached], calls: u64) -> Option<u64> {
 }
 
 /// Compares how far each store comes where one disk fails after so many calls, from none on.
-fn check_reached(rt: &impl Abort, alloc: Global, failing: Failing, rows: &[Reached]) {
+fn check_reached(
+    rt: &impl Abort,
+    alloc: Global,
+    failing: Failing,
+    rows: &[Reached],
+) -> Result<(), Fail> {
     for calls in 0..30 {
         let fuses = fuses(failing, calls, 100);
-        let found = (fuses, reached(rt, alloc, fuses));
+        let found = (fuses, reached(rt, alloc, fuses)?);
         let wanted = (fuses, wanted_of(rows, calls));
         check(rt, &found, &wanted, "calls of the disks, and how far");
     }
+    Ok(())
 }
 
 // To make a store: its length; its length and its first bytes; write and sync the first gate; write and sync the
@@ -422,7 +416,7 @@ static FIRST: [Reached; 5] = [
 ];
 
 #[test]
-fn a_fuse_at_each_call_of_the_first_disk(rt: HostRuntime) {
+fn a_fuse_at_each_call_of_the_first_disk(rt: HostRuntime) -> Result<(), Fail> {
     check_reached(&rt, rt.alloc(), Failing::First, &FIRST)
 }
 
@@ -431,6 +425,6 @@ fn a_fuse_at_each_call_of_the_first_disk(rt: HostRuntime) {
 static SECOND: [Reached; 3] = [(0, None), (1 + 2 + 2, Some(2)), (5 + 1 + 2, Some(3))];
 
 #[test]
-fn a_fuse_at_each_call_of_the_second_disk(rt: HostRuntime) {
+fn a_fuse_at_each_call_of_the_second_disk(rt: HostRuntime) -> Result<(), Fail> {
     check_reached(&rt, rt.alloc(), Failing::Second, &SECOND)
 }

@@ -2,9 +2,9 @@
 
 use crate::checks::check;
 use crate::stores::crashes::is_held;
-use crate::stores::fuses::{Failing, fuses};
+use crate::stores::fuses::{Failing, FusedDisks, fused_disks, fuses};
 use crate::stores::plans::{Plan, Step, Stopped, handle_plan};
-use ash_disk::{MemoryDisk, Survives};
+use ash_disk::Survives;
 use ash_store_fixtures::full::{AT_THE_LIMIT, full_file};
 use ash_store_fixtures::hosts::{SOURCE, disk, image_after};
 use std::alloc::{AllocError, Global};
@@ -27,9 +27,10 @@ static FROM_A_FULL_FILE: Plan = Plan {
     ],
 };
 
-/// A disk with the records that fill a generation, and one that is shut.
-fn full_disks(alloc: Global, file: &[u8]) -> Result<(MemoryDisk, MemoryDisk), AllocError> {
-    Ok((disk(alloc, file)?, disk(alloc, &[0])?))
+/// A disk with the records that fill a generation, and one that is shut, which fail after so many calls.
+fn full_disks(alloc: Global, file: &[u8], calls: (u64, u64)) -> Result<FusedDisks, AllocError> {
+    let disks = (disk(alloc, file)?, disk(alloc, &[0])?);
+    fused_disks(alloc, disks, calls)
 }
 
 /// What survives of the second disk.
@@ -83,8 +84,8 @@ fn count_full_stops(rt: &impl Abort, alloc: Global, failing: Failing) -> Result<
     let file = full_file(alloc, 1, AT_THE_LIMIT)?;
     let plan = &FROM_A_FULL_FILE;
     for calls in 0..200 {
-        let disks = full_disks(alloc, &file)?;
-        let stopped = handle_plan(alloc, plan, disks, fuses(failing, calls, u64::MAX))?;
+        let disks = full_disks(alloc, &file, fuses(failing, calls, u64::MAX))?;
+        let stopped = handle_plan(alloc, plan, disks)?;
         check_full_stop(rt, alloc, &file, &stopped)?;
         if stopped.done == plan.parts() {
             return Ok(calls);

@@ -1,14 +1,11 @@
 //! The calls of a host, each once, where memory is ample.
 
 use crate::checks::{check, check_text};
-use crate::hosts::{BoxedHost, new_host};
+use crate::hosts::{BoxedHost, unregistered_host, with_module};
 use crate::stores::runs::{RunSeries, check_life};
 use ash_plain_steps::request::Request;
-use ash_registry::Registry;
 use ash_steps::Argument;
-use ash_store_fixtures::hosts::{
-    SOURCE, call, line_for, line_of, lines_for, load, need, seq, shown,
-};
+use ash_store_fixtures::hosts::{SOURCE, call, line_for, line_of, lines_for, seq, shown};
 use ash_store_fixtures::lives::{File, HostStep, Run, Start};
 use std::alloc::Global;
 use std::process::Abort;
@@ -80,7 +77,7 @@ const REPLIES: &str =
 
 #[test]
 fn each_request(rt: HostRuntime) -> Result<(), Fail> {
-    let mut host = new_host(rt.alloc(), Registry::new(rt.alloc()))?;
+    let mut host = unregistered_host(rt.alloc())?;
     let found = line_for(rt.alloc(), &mut host, &REQUESTS[0])?;
     check_text(&rt, found.as_str(), "ok seq 1\n", "the first request");
     let found = lines_for(rt.alloc(), &mut host, &REQUESTS)?;
@@ -112,16 +109,9 @@ fn check_refused(
     Ok(())
 }
 
-/// A host that has loaded a module.
-fn loaded(alloc: Global) -> Result<BoxedHost, Fail> {
-    let mut host = new_host(alloc, Registry::new(alloc))?;
-    need(alloc, load(&mut host, SOURCE))?;
-    Ok(host)
-}
-
 #[test]
 fn an_argument_that_does_not_fit(rt: HostRuntime) -> Result<(), Fail> {
-    let mut host = loaded(rt.alloc())?;
+    let mut host = with_module(rt.alloc(), unregistered_host(rt.alloc())?, SOURCE)?;
     for argument in &MISFITS {
         check_refused(&rt, rt.alloc(), &mut host, *argument)?;
     }

@@ -2,13 +2,14 @@
 //! crash leaves then, the next opening leaves the first file as it was, and the state in version 2 in the second.
 
 use crate::checks::{check, check_bytes};
+use crate::hosts::{Disks, disks_after_opening};
 use crate::stores::crashes::{Crash, crash_of};
-use crate::stores::fuses::{Failing, fuses};
-use ash_disk::{FailingDisk, MemoryDisk};
-use ash_durable::{Host, HostRefused, OpenFault, StoreFault};
-use ash_registry::Registry;
-use ash_store_fixtures::hosts::{closed, disk, image_after, inner, opened};
-use std::alloc::Global;
+use crate::stores::fuses::{
+    Failing, FusedDisks, FusedRefused, close_host, fused_disks, fuses, inner_disks, open_host,
+};
+use ash_durable::{OpenFault, StoreFault};
+use ash_store_fixtures::hosts::{disk, image_after};
+use std::alloc::{AllocError, Global};
 use std::process::Abort;
 use std::test::Fail;
 
@@ -28,63 +29,53 @@ const VERSION_TWO: &[u8] = &[
     0x00, 0x00, 0x00,
 ];
 
-type Fused = FailingDisk<MemoryDisk>;
-
-fn found(alloc: Global, a: Fused, b: Fused) -> Result<Host<Fused>, HostRefused<Fused>> {
-    Host::open(alloc, a, b, Registry::new(alloc))
-}
-
-/// The disks of a host that is closed.
-fn disks_of(host: Host<Fused>) -> (MemoryDisk, MemoryDisk) {
-    let (a, b) = closed(host);
-    (inner(a), inner(b))
-}
-
 /// The disks that are handed back where there is no host. Only a failure of a disk may keep it from that.
-fn disks_of_refused(refused: HostRefused<Fused>) -> Result<(MemoryDisk, MemoryDisk), Fail> {
-    match refused.fault {
-        StoreFault::Open(OpenFault::DeviceFailed) => Ok((inner(refused.a), inner(refused.b))),
-        fault => Err(Fail::from(fault)),
+fn disks_of_refused(alloc: Global, refused: FusedRefused) -> Result<Disks, Fail> {
+    let (fault, disks) = refused;
+    match fault {
+        StoreFault::Open(OpenFault::DeviceFailed) => Ok(inner_disks(alloc, disks)?),
+        _ => Err(Fail::from(fault)),
     }
 }
 
+/// The disks of the store, which fail after so many calls.
+fn disks_on_fuses(alloc: Global, calls: (u64, u64)) -> Result<FusedDisks, AllocError> {
+    let disks = (disk(alloc, VERSION_ONE)?, disk(alloc, &[0])?);
+    fused_disks(alloc, disks, calls)
+}
+
 /// An opening on disks that fail after so many calls: whether there is a host, and the disks.
-fn opened_on_fuses(
-    alloc: Global,
-    calls: (u64, u64),
-) -> Result<(bool, (MemoryDisk, MemoryDisk)), Fail> {
-    let first = FailingDisk::new(disk(alloc, VERSION_ONE)?, calls.0);
-    let second = FailingDisk::new(disk(alloc, &[0])?, calls.1);
-    match found(alloc, first, second) {
-        Ok(host) => Ok((true, disks_of(host))),
-        Err(refused) => Ok((false, disks_of_refused(refused)?)),
+fn opened_on_fuses(alloc: Global, calls: (u64, u64)) -> Result<(bool, Disks), Fail> {
+    let disks = disks_on_fuses(alloc, calls)?;
+    match open_host(alloc, disks)? {
+        Ok(host) => Ok((true, inner_disks(alloc, close_host(alloc, host)?)?)),
+        Err(refused) => Ok((false, disks_of_refused(alloc, refused)?)),
     }
 }
 
 /// The disks after an opening of what a crash left after so many calls of each.
 fn opened_after(
     alloc: Global,
-    disks: &(MemoryDisk, MemoryDisk),
+    disks: &Disks,
     moment: (usize, usize),
     crash: Crash,
-) -> Result<(MemoryDisk, MemoryDisk), Fail> {
-    let first = image_after(&disks.0, moment.0, crash.0)?;
-    let second = image_after(&disks.1, moment.1, crash.1)?;
-    let (a, b) = (disk(alloc, &first)?, disk(alloc, &second)?);
-    Ok(closed(opened(alloc, a, b, Registry::new(alloc))?))
+) -> Result<Disks, Fail> {
+    let first = image_after(&disks.first, moment.0, crash.0)?;
+    let second = image_after(&disks.second, moment.1, crash.1)?;
+    disks_after_opening(alloc, &first, &second)
 }
 
 /// Compares the files after a crash at a moment and the next opening.
 fn check_crash(
     rt: &impl Abort,
     alloc: Global,
-    disks: &(MemoryDisk, MemoryDisk),
+    disks: &Disks,
     moment: (usize, usize),
     crash: Crash,
 ) -> Result<(), Fail> {
-    let (first, second) = opened_after(alloc, disks, moment, crash)?;
-    check_bytes(rt, first.bytes(), VERSION_ONE, "the first file");
-    check_bytes(rt, second.bytes(), VERSION_TWO, "the second file");
+    let disks = opened_after(alloc, disks, moment, crash)?;
+    check_bytes(rt, disks.first.bytes(), VERSION_ONE, "the first file");
+    check_bytes(rt, disks.second.bytes(), VERSION_TWO, "the second file");
     Ok(())
 }
 
@@ -92,7 +83,7 @@ fn check_crash(
 fn check_moment(
     rt: &impl Abort,
     alloc: Global,
-    disks: &(MemoryDisk, MemoryDisk),
+    disks: &Disks,
     moment: (usize, usize),
 ) -> Result<(), Fail> {
     for number in 0..20 {
@@ -102,25 +93,16 @@ fn check_moment(
 }
 
 /// The same of each moment of the second disk beside one of the first.
-fn check_beside(
-    rt: &impl Abort,
-    alloc: Global,
-    disks: &(MemoryDisk, MemoryDisk),
-    first: usize,
-) -> Result<(), Fail> {
-    for second in 0..=disks.1.calls() {
+fn check_beside(rt: &impl Abort, alloc: Global, disks: &Disks, first: usize) -> Result<(), Fail> {
+    for second in 0..=disks.second.calls() {
         check_moment(rt, alloc, disks, (first, second))?;
     }
     Ok(())
 }
 
 /// The same of all moments of both.
-fn check_moments(
-    rt: &impl Abort,
-    alloc: Global,
-    disks: &(MemoryDisk, MemoryDisk),
-) -> Result<(), Fail> {
-    for first in 0..=disks.0.calls() {
+fn check_moments(rt: &impl Abort, alloc: Global, disks: &Disks) -> Result<(), Fail> {
+    for first in 0..=disks.first.calls() {
         check_beside(rt, alloc, disks, first)?;
     }
     Ok(())

@@ -2,11 +2,11 @@
 //! is asked of a host is data, so that each call is proved once and not in each test.
 
 use crate::checks::check_text;
-use crate::hosts::{both_crashed, closed_disks, opened_host};
+use crate::hosts::{Disks, both_crashed};
+use crate::stores::runs::{answers_in, boxed_disks_of};
 use crate::stores::store::check_survives;
-use ash_disk::{MemoryDisk, Survives};
-use ash_registry::Registry;
-use ash_store_fixtures::lives::{File, HostStep, answers, disks_of};
+use ash_disk::Survives;
+use ash_store_fixtures::lives::{File, HostStep};
 use std::alloc::Global;
 use std::process::Abort;
 use std::test::Fail;
@@ -168,26 +168,15 @@ static NAMED: Life = (
     }],
 );
 
-/// Handles a part of a life: what is answered, and the disks.
-fn lived(
-    alloc: Global,
-    disks: (MemoryDisk, MemoryDisk),
-    part: &Part,
-) -> Result<(String, (MemoryDisk, MemoryDisk)), Fail> {
-    let mut host = opened_host(alloc, disks, Registry::new(alloc))?;
-    let answers = answers(alloc, &mut host, part.steps)?;
-    Ok((answers, closed_disks(host)))
-}
-
 /// Handles a part of a life, with a crash after it. What is found is the same whatever of it survives.
 fn check_part(
     rt: &impl Abort,
     alloc: Global,
-    disks: (MemoryDisk, MemoryDisk),
+    disks: Disks,
     part: &Part,
     what: &str,
-) -> Result<(MemoryDisk, MemoryDisk), Fail> {
-    let (answers, left) = lived(alloc, disks, part)?;
+) -> Result<Disks, Fail> {
+    let (answers, left) = answers_in(alloc, disks, part.steps)?;
     check_text(rt, answers.as_str(), part.answers, what);
     check_survives(rt, alloc, &left, (part.looks, part.found))?;
     Ok(both_crashed(alloc, &left, usize::MAX, Survives::Nothing)?)
@@ -196,7 +185,7 @@ fn check_part(
 /// Handles the parts of a life, with a crash after each.
 fn check_life(rt: &impl Abort, alloc: Global, life: &Life) -> Result<(), Fail> {
     let (what, parts) = *life;
-    let mut disks = disks_of(alloc, File::Empty, File::Bytes(&[0]))?;
+    let mut disks = boxed_disks_of(alloc, File::Empty, File::Bytes(&[0]))?;
     for part in parts {
         disks = check_part(rt, alloc, disks, part, what)?;
     }

@@ -1,10 +1,13 @@
 //! What is done to a store, up to the call at which a disk fails.
 
-use ash_disk::{FailingDisk, MemoryDisk};
-use ash_durable::{CreateFault, Host, HostRefused, OpenFault, StoreFault};
-use ash_registry::Registry;
-use ash_store_fixtures::hosts::{State, add, closed, inner, is_done, load, snapshot};
-use std::alloc::Global;
+use crate::hosts::Disks;
+use crate::stores::fuses::{
+    Begun, FusedDisks, FusedHost, FusedRefused, close_host, create_host, inner_disks, open_host,
+};
+use ash_disk::MemoryDisk;
+use ash_durable::{CreateFault, OpenFault, StoreFault};
+use ash_store_fixtures::hosts::{State, add, is_done, load, snapshot};
+use std::alloc::{AllocError, Global};
 use std::test::Fail;
 
 /// What a host is asked for.
@@ -53,27 +56,26 @@ impl Plan {
     }
 }
 
-type Fused = FailingDisk<MemoryDisk>;
-
 /// Where a plan was stopped: how many parts of it were acknowledged, and the disks.
 #[derive(Drop)]
 pub(crate) struct Stopped {
     pub(crate) done: usize,
-    pub(crate) first: MemoryDisk,
-    pub(crate) second: MemoryDisk,
+    pub(crate) first: Box<MemoryDisk>,
+    pub(crate) second: Box<MemoryDisk>,
 }
 
 /// Takes a step, where this is loaded. Whether it is acknowledged.
-fn is_acknowledged(host: &mut Host<Fused>, source: &[u8], step: Step) -> bool {
-    match step {
-        Step::Load => is_done(&load(host, source)),
-        Step::Call(number) => is_done(&add(host, number)),
-        Step::Snapshot => is_done(&snapshot(host)),
-    }
+fn is_acknowledged(host: &mut FusedHost, source: &[u8], step: Step) -> bool {
+    let reply = match step {
+        Step::Load => load(host, source),
+        Step::Call(number) => add(host, number),
+        Step::Snapshot => snapshot(host),
+    };
+    is_done(&reply)
 }
 
 /// How many steps are acknowledged, up to the first that is not.
-fn count_acknowledged(host: &mut Host<Fused>, source: &[u8], steps: &[Step]) -> usize {
+fn count_acknowledged(host: &mut FusedHost, source: &[u8], steps: &[Step]) -> usize {
     let mut done = 0_usize;
     for step in steps {
         if !is_acknowledged(host, source, *step) {
@@ -84,81 +86,72 @@ fn count_acknowledged(host: &mut Host<Fused>, source: &[u8], steps: &[Step]) -> 
     done
 }
 
-fn new_host(alloc: Global, a: Fused, b: Fused) -> Result<Host<Fused>, HostRefused<Fused>> {
-    Host::create(alloc, a, b, Registry::new(alloc))
-}
-
-fn open_host(alloc: Global, a: Fused, b: Fused) -> Result<Host<Fused>, HostRefused<Fused>> {
-    Host::open(alloc, a, b, Registry::new(alloc))
-}
-
 /// How many parts of a plan are acknowledged, and the disks.
-type Served = (usize, Fused, Fused);
+type Served = (usize, FusedDisks);
 
 /// What is served of these steps by a host that was made or opened, which is a part too.
-fn served_by(mut host: Host<Fused>, source: &[u8], steps: &[Step]) -> Served {
+fn served_by(
+    alloc: Global,
+    mut host: FusedHost,
+    source: &[u8],
+    steps: &[Step],
+) -> Result<Served, AllocError> {
     let done = count_acknowledged(&mut host, source, steps);
-    let (first, second) = closed(host);
-    (done.wrapping_add(1), first, second)
+    Ok((done.wrapping_add(1), close_host(alloc, host)?))
 }
 
 /// The same where there is no host. Only a failure of a disk may keep a store from being made or opened.
-fn unserved(refused: HostRefused<Fused>) -> Result<Served, Fail> {
-    match refused.fault {
+fn unserved(refused: FusedRefused) -> Result<Served, Fail> {
+    let (fault, disks) = refused;
+    match fault {
         StoreFault::Create(CreateFault::DeviceFailed) | StoreFault::Open(OpenFault::DeviceFailed) =>
-            Ok((0, refused.a, refused.b)),
-        fault => Err(Fail::from(fault)),
+            Ok((0, disks)),
+        _ => Err(Fail::from(fault)),
     }
 }
 
 /// What is served of these steps where a store is made or opened.
-fn served(
-    begun: Result<Host<Fused>, HostRefused<Fused>>,
-    source: &[u8],
-    steps: &[Step],
-) -> Result<Served, Fail> {
+fn served(alloc: Global, begun: Begun, source: &[u8], steps: &[Step]) -> Result<Served, Fail> {
     match begun {
-        Ok(host) => Ok(served_by(host, source, steps)),
+        Ok(host) => Ok(served_by(alloc, host, source, steps)?),
         Err(refused) => unserved(refused),
     }
 }
 
 /// What is served of a plan before its store is opened again.
-fn served_first(alloc: Global, plan: &Plan, first: Fused, second: Fused) -> Result<Served, Fail> {
+fn served_first(alloc: Global, plan: &Plan, disks: FusedDisks) -> Result<Served, Fail> {
     let begun = if plan.is_new {
-        new_host(alloc, first, second)
+        create_host(alloc, disks)?
     } else {
-        open_host(alloc, first, second)
+        open_host(alloc, disks)?
     };
-    served(begun, plan.source, plan.steps)
+    served(alloc, begun, plan.source, plan.steps)
 }
 
 /// What is served once it is opened again, beside what was before.
 fn served_again(alloc: Global, plan: &Plan, before: Served) -> Result<Served, Fail> {
-    let (done, first, second) = before;
-    let begun = open_host(alloc, first, second);
-    let (more, first, second) = served(begun, plan.source, plan.steps_again)?;
-    Ok((done.wrapping_add(more), first, second))
+    let (done, disks) = before;
+    let begun = open_host(alloc, disks)?;
+    let (more, disks) = served(alloc, begun, plan.source, plan.steps_again)?;
+    Ok((done.wrapping_add(more), disks))
 }
 
-/// Handles a plan over two disks, each of which fails after so many calls.
-pub(crate) fn handle_plan(
-    alloc: Global,
-    plan: &Plan,
-    disks: (MemoryDisk, MemoryDisk),
-    calls: (u64, u64),
-) -> Result<Stopped, Fail> {
-    let first = FailingDisk::new(disks.0, calls.0);
-    let second = FailingDisk::new(disks.1, calls.1);
-    let before = served_first(alloc, plan, first, second)?;
-    let (done, first, second) = if before.0 > plan.steps.len() {
-        served_again(alloc, plan, before)?
-    } else {
-        before
-    };
+/// What is served of a plan.
+fn served_whole(alloc: Global, plan: &Plan, disks: FusedDisks) -> Result<Served, Fail> {
+    let before = served_first(alloc, plan, disks)?;
+    if before.0 > plan.steps.len() {
+        return served_again(alloc, plan, before);
+    }
+    Ok(before)
+}
+
+/// Handles a plan over two disks, which fail after some calls.
+pub(crate) fn handle_plan(alloc: Global, plan: &Plan, disks: FusedDisks) -> Result<Stopped, Fail> {
+    let (done, disks) = served_whole(alloc, plan, disks)?;
+    let Disks { first, second } = inner_disks(alloc, disks)?;
     Ok(Stopped {
         done,
-        first: inner(first),
-        second: inner(second),
+        first,
+        second,
     })
 }

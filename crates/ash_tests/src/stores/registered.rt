@@ -1,11 +1,14 @@
 //! Stores with what is registered: damage to their bytes, and opening them with another registry.
 
 use crate::checks::{check, check_bytes};
-use crate::hosts::{BoxedHost, closed_disks, new_host, opened_host, refused_opening};
+use crate::hosts::{
+    BoxedHost, Disks, Refused, boxed_disk, closed_disks, disks_with, new_host, opened_host,
+    refused_opening, when_done, with_module,
+};
 use ash_disk::MemoryDisk;
-use ash_durable::{HostRefused, OpenFault, StoreFault};
+use ash_durable::{OpenFault, StoreFault};
 use ash_registry::{Registry, RegistryFault};
-use ash_store_fixtures::hosts::{discard, disk, load, need, second_generation, snapshot};
+use ash_store_fixtures::hosts::{discard, second_generation, snapshot};
 use std::alloc::{AllocError, Global};
 use std::process::Abort;
 use std::test::Fail;
@@ -18,32 +21,41 @@ fn one_type(alloc: Global, name: &str) -> Result<Registry, RegistryFault> {
 }
 
 /// Why a store of this file isn't opened, whose disks read as before, and have had a sync each.
-fn fault_of(refused: &HostRefused<MemoryDisk>, file: &[u8]) -> Result<StoreFault, Fail> {
-    if refused.a.bytes() != file || refused.b.bytes() != [7].as_slice() {
+fn fault_of(refused: Refused, file: &[u8]) -> Result<StoreFault, Fail> {
+    let (fault, disks) = refused;
+    if disks.first.bytes() != file || disks.second.bytes() != [7].as_slice() {
         return Err("a disk was changed".into());
     }
-    if refused.a.calls() != 1 || refused.b.calls() != 1 {
+    if disks.first.calls() != 1 || disks.second.calls() != 1 {
         return Err("a disk was written to".into());
     }
-    Ok(refused.fault)
+    Ok(fault)
+}
+
+/// What is refused of opening these disks with that type registered, if it is.
+fn refused_with(alloc: Global, disks: Disks, name: &str) -> Result<Option<Refused>, Fail> {
+    Ok(refused_opening(alloc, disks, one_type(alloc, name)?)?)
 }
 
 /// Why a store of this file isn't opened with that type registered, if it isn't.
 fn refusal(alloc: Global, file: &[u8], name: &str) -> Result<Option<StoreFault>, Fail> {
-    let disks = (disk(alloc, file)?, disk(alloc, &[7])?);
-    match refused_opening(alloc, disks, one_type(alloc, name)?) {
-        Some(refused) => Ok(Some(fault_of(&refused, file)?)),
+    let disks = disks_with(alloc, file, &[7])?;
+    match refused_with(alloc, disks, name)? {
+        Some(refused) => Ok(Some(fault_of(refused, file)?)),
         None => Ok(None),
     }
 }
 
 const SOURCE: &[u8] = b"int Tale = 2;";
 
-/// A host with the type `Tall` and a module.
+/// A new host with the type `Tall`.
+fn tall_host(alloc: Global) -> Result<BoxedHost, Fail> {
+    new_host(alloc, one_type(alloc, "Tall")?)
+}
+
+/// The same with a module.
 fn loaded(alloc: Global) -> Result<BoxedHost, Fail> {
-    let mut host = new_host(alloc, one_type(alloc, "Tall")?)?;
-    need(alloc, load(&mut host, SOURCE))?;
-    Ok(host)
+    with_module(alloc, tall_host(alloc)?, SOURCE)
 }
 
 /// The files of such a store: with the module in the image, with it in a record after an empty image, and with it in an
@@ -56,24 +68,32 @@ enum Place {
 }
 
 /// The first disk of a host.
-fn first_disk(host: BoxedHost) -> MemoryDisk {
-    let (first, _) = closed_disks(host);
-    first
+fn first_disk(alloc: Global, host: BoxedHost) -> Result<Box<MemoryDisk>, AllocError> {
+    let Disks { first, second: _ } = closed_disks(alloc, host)?;
+    Ok(first)
 }
 
 /// The second disk of a host that takes its module away after a snapshot.
-fn snapshot_and_discard(alloc: Global, mut host: BoxedHost) -> Result<MemoryDisk, Fail> {
-    need(alloc, snapshot(&mut host))?;
-    need(alloc, discard(&mut host))?;
-    let (_, second) = closed_disks(host);
+fn snapshot_and_discard(alloc: Global, mut host: BoxedHost) -> Result<Box<MemoryDisk>, Fail> {
+    let reply = snapshot(&mut host);
+    let mut host = when_done(alloc, host, reply)?;
+    let reply = discard(&mut host);
+    let host = when_done(alloc, host, reply)?;
+    let Disks { first: _, second } = closed_disks(alloc, host)?;
     Ok(second)
 }
 
-fn stored(alloc: Global, place: Place) -> Result<MemoryDisk, Fail> {
+/// The second disk of a host after a snapshot.
+fn after_a_snapshot(alloc: Global, host: BoxedHost) -> Result<Box<MemoryDisk>, Fail> {
+    let second = second_generation(alloc, Box::into_inner(host))?;
+    Ok(boxed_disk(alloc, second)?)
+}
+
+fn stored(alloc: Global, place: Place) -> Result<Box<MemoryDisk>, Fail> {
     let host = loaded(alloc)?;
     match place {
-        Place::Image => second_generation(alloc, Box::into_inner(host)),
-        Place::Record => Ok(first_disk(host)),
+        Place::Image => after_a_snapshot(alloc, host),
+        Place::Record => Ok(first_disk(alloc, host)?),
         Place::ImageBeforeRecord => snapshot_and_discard(alloc, host),
     }
 }
@@ -371,12 +391,17 @@ fn shapes_come_first(rt: HostRuntime) -> Result<(), Fail> {
     Ok(())
 }
 
+/// A host with the type `Tall` that is opened over disks of which the first holds these bytes.
+fn tall_host_over(alloc: Global, first: &[u8]) -> Result<BoxedHost, Fail> {
+    let disks = disks_with(alloc, first, &[0])?;
+    opened_host(alloc, disks, one_type(alloc, "Tall")?)
+}
+
 /// The first disk of a store that is opened and then takes its module away.
-fn after_a_discard(alloc: Global, first: &[u8]) -> Result<MemoryDisk, Fail> {
-    let disks = (disk(alloc, first)?, disk(alloc, &[0])?);
-    let mut host = opened_host(alloc, disks, one_type(alloc, "Tall")?)?;
-    need(alloc, discard(&mut host))?;
-    Ok(first_disk(host))
+fn after_a_discard(alloc: Global, first: &[u8]) -> Result<Box<MemoryDisk>, Fail> {
+    let mut host = tall_host_over(alloc, first)?;
+    let reply = discard(&mut host);
+    Ok(first_disk(alloc, when_done(alloc, host, reply)?)?)
 }
 
 /// Compares the text at a place of a disk with that of what is registered.

@@ -2,15 +2,15 @@
 //! data, so that each call is proved once and not in each test.
 
 use crate::checks::{check, check_bytes, check_text};
-use crate::hosts::{BoxedHost, closed_disks, new_host, opened_host};
-use crate::stores::runs::{RunSeries, check_calls, check_lives};
+use crate::hosts::{BoxedHost, Disks, closed_disks, disks_with, unregistered_host, when_done};
+use crate::stores::fuses::answers_on_fuses;
+use crate::stores::runs::{RunSeries, answers_in, check_calls, check_lives};
 use ash_disk::{MemoryDisk, Survives};
 use ash_durable::FULL_RECORD_BYTES;
-use ash_registry::Registry;
 use ash_store_fixtures::files::{ImageModule, add_record, generation, image};
 use ash_store_fixtures::full::{AT_THE_LIMIT, full_file, spaces};
-use ash_store_fixtures::hosts::{EMPTY, discard, disk, found_state, image_after, load, need};
-use ash_store_fixtures::lives::{File, HostStep, Run, Start, answers, bytes_of, lived_on_fuses};
+use ash_store_fixtures::hosts::{EMPTY, discard, found_state, image_after, load};
+use ash_store_fixtures::lives::{File, HostStep, Run, Start, bytes_of};
 use std::alloc::{AllocError, Global};
 use std::process::Abort;
 use std::test::Fail;
@@ -171,13 +171,8 @@ const REFUSED: &str = "ok seq 1\nrefused 507 DeviceFailed\nrefused 508 Reopen\nr
     refused 508 Reopen\n1\n";
 
 /// The disks of a host whose second disk fails after so many calls. Compares what it answers.
-fn failed(
-    rt: &impl Abort,
-    alloc: Global,
-    calls: u64,
-    what: &str,
-) -> Result<(MemoryDisk, MemoryDisk), Fail> {
-    let (found, disks) = lived_on_fuses(alloc, (u64::MAX, calls), &FAILED)?;
+fn failed(rt: &impl Abort, alloc: Global, calls: u64, what: &str) -> Result<Disks, Fail> {
+    let (found, disks) = answers_on_fuses(alloc, (u64::MAX, calls), &FAILED)?;
     check_text(rt, found.as_str(), REFUSED, what);
     Ok(disks)
 }
@@ -186,7 +181,7 @@ fn failed(
 fn check_failed(rt: &impl Abort, alloc: Global, calls: u64) -> Result<(), Fail> {
     let what = format!(in alloc; "a snapshot that fails after {calls} calls")?;
     let disks = failed(rt, alloc, calls, &what)?;
-    let found = found_state(alloc, disks.0.bytes(), disks.1.bytes())?;
+    let found = found_state(alloc, disks.first.bytes(), disks.second.bytes())?;
     check(rt, &found, &Ok((1, Some(2))), what.as_str());
     Ok(())
 }
@@ -200,23 +195,28 @@ fn a_snapshot_that_fails(rt: HostRuntime) -> Result<(), Fail> {
 }
 
 /// Loads a source as the module `m`, or removes it, by turns.
-fn take_turn(alloc: Global, host: &mut BoxedHost, source: &[u8], request: u64) -> Result<(), Fail> {
+fn take_turn(
+    alloc: Global,
+    mut host: BoxedHost,
+    source: &[u8],
+    request: u64,
+) -> Result<BoxedHost, Fail> {
     let reply = if request % 2 == 0 {
-        load(host, source)
+        load(&mut host, source)
     } else {
-        discard(host)
+        discard(&mut host)
     };
-    need(alloc, reply)
+    when_done(alloc, host, reply)
 }
 
 /// The disks after so many such requests with a source of as many spaces as there may be.
-fn disks_after(alloc: Global, requests: u64) -> Result<(MemoryDisk, MemoryDisk), Fail> {
+fn disks_after(alloc: Global, requests: u64) -> Result<Disks, Fail> {
     let source = spaces(alloc, 65_536)?;
-    let mut host = new_host(alloc, Registry::new(alloc))?;
+    let mut host = unregistered_host(alloc)?;
     for request in 0..requests {
-        take_turn(alloc, &mut host, &source, request)?;
+        host = take_turn(alloc, host, &source, request)?;
     }
-    Ok(closed_disks(host))
+    Ok(closed_disks(alloc, host)?)
 }
 
 // A load has a record of 5 + 1 + 29 + 8 + 65,536 bytes, with the name of one byte, and a discard one of 5 + 1 + 29.
@@ -260,9 +260,9 @@ fn check_second(rt: &impl Abort, alloc: Global, second: &MemoryDisk) -> Result<(
 /// Looks at the disks after a load and a discard have filled a generation.
 fn check_installed(rt: &impl Abort, alloc: Global) -> Result<(), Fail> {
     let disks = disks_after(alloc, 512)?;
-    check_filled(rt, disks.0.bytes());
+    check_filled(rt, disks.first.bytes());
     check_calls(rt, &disks, (6 + 511 * 4, 2 + 4 + 4), "512 requests");
-    check_second(rt, alloc, &disks.1)
+    check_second(rt, alloc, &disks.second)
 }
 
 #[test]
@@ -283,18 +283,6 @@ struct Full {
     second: File,
 }
 
-/// What a store of a file answers to steps, and its disks.
-fn lived_in(
-    alloc: Global,
-    file: &[u8],
-    steps: &[HostStep],
-) -> Result<(String, (MemoryDisk, MemoryDisk)), Fail> {
-    let disks = (disk(alloc, file)?, disk(alloc, &[0])?);
-    let mut host = opened_host(alloc, disks, Registry::new(alloc))?;
-    let answers = answers(alloc, &mut host, steps)?;
-    Ok((answers, closed_disks(host)))
-}
-
 /// Compares the bytes of the first disk with the file before them.
 fn check_added(rt: &impl Abort, row: &Full, found: &[u8], file: &[u8]) {
     let length = file.len().wrapping_add(row.added);
@@ -304,14 +292,27 @@ fn check_added(rt: &impl Abort, row: &Full, found: &[u8], file: &[u8]) {
     check(rt, &is_same, &(row.added == 0), row.what);
 }
 
+/// Compares what such a store leaves, which began with this file.
+fn check_full_files(
+    rt: &impl Abort,
+    alloc: Global,
+    row: &Full,
+    disks: &Disks,
+    file: &[u8],
+) -> Result<(), AllocError> {
+    check_added(rt, row, disks.first.bytes(), file);
+    let second = bytes_of(alloc, row.second)?;
+    check_bytes(rt, disks.second.bytes(), second.as_slice(), row.what);
+    Ok(())
+}
+
 /// Compares what such a store answers, and what it leaves.
 fn check_full(rt: &impl Abort, alloc: Global, row: &Full) -> Result<(), Fail> {
     let file = full_file(alloc, row.number, row.last)?;
-    let (answers, disks) = lived_in(alloc, file.as_slice(), row.steps)?;
+    let disks = disks_with(alloc, file.as_slice(), &[0])?;
+    let (answers, disks) = answers_in(alloc, disks, row.steps)?;
     check_text(rt, answers.as_str(), row.answers, row.what);
-    check_added(rt, row, disks.0.bytes(), &file);
-    let second = bytes_of(alloc, row.second)?;
-    check_bytes(rt, disks.1.bytes(), second.as_slice(), row.what);
+    check_full_files(rt, alloc, row, &disks, &file)?;
     Ok(())
 }
 

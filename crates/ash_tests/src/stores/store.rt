@@ -2,11 +2,12 @@
 //! is proved once and not in each test.
 
 use crate::checks::{check, check_bytes, check_text};
-use crate::stores::runs::{RunSeries, check_lives, check_run};
-use ash_disk::{MemoryDisk, Survives};
+use crate::hosts::Disks;
+use crate::stores::runs::{RunSeries, boxed_disks_of, check_lives, check_run};
+use ash_disk::Survives;
 use ash_durable::{OpenFault, StoreFault};
 use ash_store_fixtures::hosts::{closed, crashed, found, second_generation, with_modules};
-use ash_store_fixtures::lives::{File, HostStep, Run, Start, disks_of, found_answers};
+use ash_store_fixtures::lives::{File, HostStep, Run, Start, found_answers};
 use std::alloc::Global;
 use std::process::Abort;
 use std::test::Fail;
@@ -202,12 +203,12 @@ pub type Look = (&'static [HostStep], &'static str);
 /// What a store answers that is opened where a crash leaves such parts of two disks.
 fn found_after_crash(
     alloc: Global,
-    disks: &(MemoryDisk, MemoryDisk),
+    disks: &Disks,
     survives: Survives,
     looks: &[HostStep],
 ) -> Result<String, Fail> {
-    let a = crashed(alloc, &disks.0, survives)?;
-    let b = crashed(alloc, &disks.1, survives)?;
+    let a = crashed(alloc, &disks.first, survives)?;
+    let b = crashed(alloc, &disks.second, survives)?;
     found_answers(alloc, a, b, looks)
 }
 
@@ -215,7 +216,7 @@ fn found_after_crash(
 pub fn check_survives(
     rt: &impl Abort,
     alloc: Global,
-    disks: &(MemoryDisk, MemoryDisk),
+    disks: &Disks,
     look: Look,
 ) -> Result<(), Fail> {
     let (looks, wanted) = look;
@@ -287,7 +288,7 @@ const LOOKS: &[HostStep] = &[HostStep::Seq, HostStep::Global("n")];
 
 #[test]
 fn crashes_between_requests(rt: HostRuntime) -> Result<(), Fail> {
-    let mut disks = disks_of(rt.alloc(), File::Bytes(&[]), File::Bytes(&[1]))?;
+    let mut disks = boxed_disks_of(rt.alloc(), File::Bytes(&[]), File::Bytes(&[1]))?;
     for (run, wanted) in &CRASHES {
         disks = check_run(&rt, rt.alloc(), disks, run)?;
         check_survives(&rt, rt.alloc(), &disks, (LOOKS, *wanted))?;
@@ -301,12 +302,14 @@ pub fn file_with(alloc: Global, names: &[&str]) -> Result<Vec<u8>, Fail> {
     Ok(Vec::from_slice(alloc, second.bytes())?)
 }
 
+static OTHER_ORDERS: [[&str; 3]; 3] = [["b", "a", "c"], ["c", "b", "a"], ["c", "a", "b"]];
+
 #[test]
 fn one_file_for_modules_in_any_order(rt: HostRuntime) -> Result<(), Fail> {
     let file = file_with(rt.alloc(), &["a", "b", "c"])?;
     check(&rt, &file.len(), &(51 + 3 * 8), "the length");
-    for names in [["b", "a", "c"], ["c", "b", "a"], ["c", "a", "b"]] {
-        let found = file_with(rt.alloc(), &names)?;
+    for names in &OTHER_ORDERS {
+        let found = file_with(rt.alloc(), names)?;
         check_bytes(&rt, &found, &file, "modules in another order");
     }
     Ok(())

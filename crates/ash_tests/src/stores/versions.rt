@@ -2,14 +2,15 @@
 //! version 2.
 
 use crate::checks::check;
-use crate::hosts::{closed_disks, opened_host, refused_opening};
+use crate::hosts::{
+    Disks, Refused, closed_disks, disks_with, opened_unregistered, refused_opening, when_done,
+};
 use crate::stores::damage::changed;
-use crate::stores::runs::{RunSeries, check_lives};
-use ash_disk::MemoryDisk;
-use ash_durable::{HostRefused, OpenFault, StoreFault};
+use crate::stores::runs::{RunSeries, boxed_disks_of, check_lives};
+use ash_durable::{OpenFault, StoreFault};
 use ash_registry::Registry;
-use ash_store_fixtures::hosts::{EMPTY, State, add, disk, found, found_state, need};
-use ash_store_fixtures::lives::{File, HostStep, Run, Start, bytes_of, disks_of};
+use ash_store_fixtures::hosts::{EMPTY, State, add, found, found_state};
+use ash_store_fixtures::lives::{File, HostStep, Run, Start, bytes_of};
 use std::alloc::Global;
 use std::process::Abort;
 use std::test::Fail;
@@ -63,17 +64,17 @@ fn what_is_found_of_version_one(rt: HostRuntime) -> Result<(), Fail> {
 }
 
 /// The disks of a store of version 1 after a call.
-fn disks_after_a_call(alloc: Global, file: File) -> Result<(MemoryDisk, MemoryDisk), Fail> {
-    let disks = disks_of(alloc, file, File::Bytes(&[0]))?;
-    let mut host = opened_host(alloc, disks, Registry::new(alloc))?;
-    need(alloc, add(&mut host, 1))?;
-    Ok(closed_disks(host))
+fn disks_after_a_call(alloc: Global, file: File) -> Result<Disks, Fail> {
+    let disks = boxed_disks_of(alloc, file, File::Bytes(&[0]))?;
+    let mut host = opened_unregistered(alloc, disks)?;
+    let reply = add(&mut host, 1);
+    Ok(closed_disks(alloc, when_done(alloc, host, reply)?)?)
 }
 
 /// The state of a store of version 1 after a call, where its process has ended since.
 fn state_after_a_call(alloc: Global, file: File) -> Result<Result<State, StoreFault>, Fail> {
     let disks = disks_after_a_call(alloc, file)?;
-    found_state(alloc, disks.0.bytes(), disks.1.bytes())
+    found_state(alloc, disks.first.bytes(), disks.second.bytes())
 }
 
 #[test]
@@ -112,17 +113,18 @@ fn records_of_another_version(rt: HostRuntime) -> Result<(), Fail> {
 }
 
 /// Why a store of this file isn't opened, and whether its disks read as before.
-fn seen(refused: &HostRefused<MemoryDisk>, file: &[u8]) -> (StoreFault, bool) {
-    let is_same = refused.a.bytes() == file && refused.b.bytes() == [0].as_slice();
-    (refused.fault, is_same)
+fn seen(refused: Refused, file: &[u8]) -> (StoreFault, bool) {
+    let (fault, disks) = refused;
+    let is_same = disks.first.bytes() == file && disks.second.bytes() == [0].as_slice();
+    (fault, is_same)
 }
 
 /// Why a store of version 1 isn't opened whose generation has this number, and whether its disks read as before.
 fn refused(alloc: Global, number: u64) -> Result<Option<(StoreFault, bool)>, Fail> {
     let file = bytes_of(alloc, File::Older(number, (2, Some(7)), &[]))?;
-    let disks = (disk(alloc, &file)?, disk(alloc, &[0])?);
-    match refused_opening(alloc, disks, Registry::new(alloc)) {
-        Some(refused) => Ok(Some(seen(&refused, &file))),
+    let disks = disks_with(alloc, &file, &[0])?;
+    match refused_opening(alloc, disks, Registry::new(alloc))? {
+        Some(refused) => Ok(Some(seen(refused, &file))),
         None => Ok(None),
     }
 }
