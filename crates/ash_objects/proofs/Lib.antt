@@ -22,3 +22,4 @@ pub mod Recounting
 pub mod Putting
 pub mod Stocking
 pub mod Restored
+pub mod Faults

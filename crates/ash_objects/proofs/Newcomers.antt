@@ -13,9 +13,8 @@ use Rattle.ash_host.proofs.Order.{object_at-with_at, in_order-with_at, same_in_o
 use Rattle.ash_slots.specs.Bodies.{words_of}
 use Rattle.ash_slots.specs.Store.{SlotEntry, IsIn}
 use Rattle.ash_objects.specs.Table.{Living, Table, slot_of}
-use Rattle.ash_objects.specs.Making.{new_object, with_new_object, first_of_kind}
+use Rattle.ash_objects.specs.Making.{new_object, with_new_object}
 use Rattle.std.specs.List.{remove}
-use Rattle.ash_host.specs.declared.host_object.HostObject.{Ghosts}
 use Rattle.ash_slots.specs.declared.body.Body.{Body}
 use Rattle.ash_slots.specs.declared.body.Body.TheVariants.{Host}
 use Rattle.ash_objects.specs.Counting.{holding, fields_in, living_among, living_in, words_at, AllLive, refer_all, AreCounted, AreGiven, IsTable, face, face_at}
@@ -190,9 +189,9 @@ got (y ∷ xs) zero x within is = ap Some (sym is)
 got (y ∷ xs) (suc i) x within is = got xs i x (omega arith) is
 
 -- what a box that is drawn leaves
-pub drawn_is : {B : Type 0} (G : Ghosts B) (kind : ℕ) (t : Table B) (n slot place : ℕ) (box : B) (objects : List (ℕ × Living B)) (pool : List B) → first_of_kind G kind t ≡ Some place → slice_get t.pool place ≡ Some box → n ≡ t.last + 1 → objects ≡ with_at n (new_object slot (Host box)) t.objects → pool ≡ remove t.pool place → IsSomeAnd (first_of_kind G kind t) (λ place. IsSomeAnd (slice_get t.pool place) (λ box. IsSomeAnd (slot_of n (record t { objects = objects; pool = pool; last = n })) (λ slot. record t { objects = objects; pool = pool; last = n } ≡ record (with_new_object slot (Host box) t) { pool = remove t.pool place })))
-drawn_is {B} G kind t n slot place box objects pool first there number put taken =
-    rw (first, there, slot_is) final
+pub drawn_is : {B : Type 0} (t : Table B) (n slot place : ℕ) (box : B) (objects : List (ℕ × Living B)) (pool : List B) → slice_get t.pool place ≡ Some box → n ≡ t.last + 1 → objects ≡ with_at n (new_object slot (Host box)) t.objects → pool ≡ remove t.pool place → IsSomeAnd (slice_get t.pool place) (λ box. IsSomeAnd (slot_of n (record t { objects = objects; pool = pool; last = n })) (λ slot. record t { objects = objects; pool = pool; last = n } ≡ record (with_new_object slot (Host box) t) { pool = remove t.pool place }))
+drawn_is {B} t n slot place box objects pool there number put taken =
+    rw (there, slot_is) final
   where
     slot_is : slot_of n (record t { objects = objects; pool = pool; last = n }) ≡ Some slot
     slot_is =

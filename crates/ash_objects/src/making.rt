@@ -1,6 +1,6 @@
 //! The making of objects.
 ghost use Rattle.std.specs.Prelude.{All, ◌≡◌, ◌≢◌, ◌<◌, ◌≤◌, ◌+◌, ◌↔◌, ◌++◌};
-ghost use Rattle.std.specs.Prelude.{◌∷◌, [], ℕ, length, Some, None, IsSomeAnd, IfOk};
+ghost use Rattle.std.specs.Prelude.{◌∷◌, [], ℕ, length, Some, None, IsSomeAnd, IfSome, IfOk};
 ghost use Rattle.std.specs.Prelude.{OnOk, OnErr, IsErrOf, slice_get, nat_eq, replicate};
 ghost use Rattle.std.specs.List.{remove, position};
 ghost use Rattle.ash_host.specs.declared.event.Event.{Event};
@@ -159,6 +159,57 @@ impl<B: HostObject> Objects<B> {
         }
     }
 
+    // The place of the first free box of a kind.
+    fn place_of(&self, kind: u16) -> Option<usize>
+        ensures place { result ≡ first_of_kind B.HostObject kind self.now }
+        ensures within { IfSome result (λ place. place < length self.now.pool) }
+    {
+        place_of_kind(&self.pool, kind)
+    }
+
+    // Takes the box at a place of the pool and gives it the next number.
+    fn draw_at(
+        &mut self,
+        number: u64,
+        place: usize,
+        events: &mut Vec<Event>,
+    ) -> Result<(), NoMemory>
+        requires next { number ≡ self.old.last + 1 }
+        requires room { length self.old.objects < max_objects }
+        requires within { place < length self.old.pool }
+        ensures unchanged { OnErr result (self.new ≡ self.old) }
+        ensures no_event { OnErr result (events.new.items ≡ events.old.items) }
+        ensures event { OnOk result (events.new.items ≡ events.old.items
+            ++ Event.Drew number ∷ []) }
+        ensures drawn { OnOk result (IsSomeAnd (slice_get self.old.pool place)
+            (λ box. IsSomeAnd (slot_of number self.new)
+            (λ slot. self.new ≡ record (with_new_object slot (Body.Host box) self.old)
+            { pool = remove self.old.pool place }))) }
+    {
+        let vacant = self.store.vacant();
+        if events.reserve(1).is_err() || self.marks.reserve(vacant).is_err() {
+            return Err(NoMemory);
+        }
+        let item = Occupant {
+            count: 0,
+            touched: true,
+            body: Body::Host(self.pool.remove(place)),
+        };
+        if let Err(refused) = self.store.insert(number, item) {
+            let Body::Host(object) = refused.value.body else {
+                unreachable!()
+            };
+            let Ok(()) = self.pool.insert(place, object) else {
+                unreachable!()
+            };
+            return Err(NoMemory);
+        }
+        self.marks.mark(vacant);
+        self.last = number;
+        events.push_reserved(Event::Drew(number));
+        Ok(())
+    }
+
     /// Takes the first free box of a kind from the pool and gives it the next number. Nothing holds it yet.
     pub fn draw(&mut self, kind: u16, events: &mut Vec<Event>) -> Result<u64, MakeFault>
         ensures full { IsErrOf result MakeFault.ObjectLimit ↔ IsFull self.old }
@@ -180,30 +231,12 @@ impl<B: HostObject> Objects<B> {
             { pool = remove self.old.pool place })))) }
     {
         let number = self.next_number()?;
-        let Some(place) = place_of_kind(&self.pool, kind) else {
+        let Some(place) = self.place_of(kind) else {
             return Err(MakeFault::PoolEmpty);
         };
-        let vacant = self.store.vacant();
-        if events.reserve(1).is_err() || self.marks.reserve(vacant).is_err() {
-            return Err(MakeFault::NoMemory);
+        match self.draw_at(number, place, events) {
+            Ok(()) => Ok(number),
+            Err(_) => Err(MakeFault::NoMemory),
         }
-        let item = Occupant {
-            count: 0,
-            touched: true,
-            body: Body::Host(self.pool.remove(place)),
-        };
-        if let Err(refused) = self.store.insert(number, item) {
-            let Body::Host(object) = refused.value.body else {
-                unreachable!()
-            };
-            let Ok(()) = self.pool.insert(place, object) else {
-                unreachable!()
-            };
-            return Err(MakeFault::NoMemory);
-        }
-        self.marks.mark(vacant);
-        self.last = number;
-        events.push_reserved(Event::Drew(number));
-        Ok(number)
     }
 }

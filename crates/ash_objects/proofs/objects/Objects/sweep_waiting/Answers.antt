@@ -1,12 +1,32 @@
-use Rattle.std.proofs.Common.{◌≡◌, ◌++◌, ℕ, Bool, List, map, ap, ◌∙◌}
+use Rattle.std.proofs.Common.{◌≡◌, ◌++◌, ◌+◌, ◌≤◌, ℕ, Bool, List, length, map, sym, ap, ◌∙◌, arith}
 use Rattle.ash_host.specs.declared.event.Event.{Event}
 use Rattle.ash_slots.specs.declared.entry.Entry.{Entry}
 use Rattle.ash_objects.specs.Counting.{living_in}
 use Rattle.ash_objects.specs.Collecting.{entry_mark, marked_since, marked_drops}
 use Rattle.ash_objects.specs.Sweeping.{gone_from}
 use Rattle.ash_objects.proofs.Collected.{living_mark, table_now, collects_now, gone_marks, drops_is, leaves_reachable, order_now}
+use Rattle.ash_objects.proofs.Faults.{reserved}
 use Rattle.ash_objects.proofs.Listed.{listed_left}
 use Rattle.ash_objects.proofs.objects.Objects.sweep_waiting.Goals as goal
+
+room_is : (had living objects room : ℕ) → had + living ≤ room → living ≡ objects → objects ≤ room
+room_is had living objects room fits many = omega arith
+
+-- there is room for what went, since there is for all
+fits : (had living objects left went seen room : ℕ) → had + living ≤ room → living ≡ objects → went + left ≡ objects → seen ≡ went → had + seen ≤ room
+fits had living objects left went seen room all many parts these = omega arith
+
+pub collect-requires-clause-room : goal.collect-requires-clause-room
+collect-requires-clause-room g c =
+    room_is _ _ _ _ (reserved c.reserve.result _ c.if-is_err.ensures.value c.reserve.ensures.ok) c.len-living.ensures.len
+
+pub push_dropped-requires-clause-numbers_fit : goal.push_dropped-requires-clause-numbers_fit
+push_dropped-requires-clause-numbers_fit g c =
+    fits _ _ _ (length c.collect.new.store.objects) (length c.collect.new.taken.items) _ _ (reserved c.reserve-else-is_err.result _ c.if-is_err-2.ensures.value c.reserve-else-is_err.ensures.ok) c.len-living.ensures.len c.collect.ensures.gone.many (c.deref.ensures.len ∙ c.sort_taken.ensures.len ∙ c.collect.new.taken.ok.0)
+
+pub push_dropped-requires-clause-events_fit : goal.push_dropped-requires-clause-events_fit
+push_dropped-requires-clause-events_fit g c =
+    fits _ _ _ (length c.collect.new.store.objects) (length c.collect.new.taken.items) _ _ (reserved c.reserve-else-is_err-2.result _ c.if-is_err-3.ensures.value c.reserve-else-is_err-2.ensures.ok) c.len-living.ensures.len c.collect.ensures.gone.many (c.deref.ensures.len ∙ c.sort_taken.ensures.len ∙ c.collect.new.taken.ok.0)
 
 pub invariant_of-self-2 : goal.invariant_of-self-2
 invariant_of-self-2 g c =
