@@ -3,3 +3,5 @@ pub mod FieldLaws
 pub mod ExactLaws
 pub mod MethodLaws
 pub mod CheckedLaws
+pub mod Walks
+pub mod Rows

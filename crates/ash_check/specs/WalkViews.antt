@@ -11,9 +11,9 @@ use Rattle.ash_tree.specs.Tree as written
 use Rattle.ash_typing.specs.TypingResult.{TypingResult, ◌>>=◌}
 use Rattle.ash_typing.specs.Environment.{Environment, inside}
 use Rattle.ash_typing.specs.ItemRules.{Names, Row, InterfaceMembers, Listed, Members, Walked, no_members, check_members}
-use Rattle.ash_typing.specs.ItemRules.{class_of_members}
+use Rattle.ash_typing.specs.ItemRules.{class_of_members, check_items, module_walked}
 use Rattle.ash_typed.specs.Modules.{Implementation, Class, variables_of, signature_of, implementation_of, class_of}
-use Rattle.ash_typed.specs.Modules.{module_of}
+use Rattle.ash_typed.specs.Modules.{Module, module_of}
 use Rattle.ash_typed.specs.declared.tree.items.Variables as variables
 use Rattle.ash_typed.specs.declared.tree.items.Class as class
 use Rattle.ash_typed.specs.declared.tree.items.Module as script
@@ -62,7 +62,14 @@ members_of names c = record { names = names; class = class_of c }
 abbrev pub walked_of : Names → script.Module → Walked
 walked_of names m = record { names = names; typed = module_of m }
 
+-- the class, or the module, after these members or items more
+
+abbrev pub class_after : Environment → Members → List written.Member → TypingResult Class
+class_after env ms rest = check_members env ms rest >>= λ next. Ok (class_of_members next)
+
+abbrev pub module_after : Environment → Walked → List written.Item → TypingResult Module
+module_after env w rest = check_items env w rest >>= λ next. Ok (module_walked next)
+
 -- the class of this place, with the interfaces that it lists
 abbrev pub class_with : Environment → ℕ → written.Class → List Implementation → TypingResult Class
-class_with env place c listed =
-    check_members (inside env place) (no_members c listed) c.members >>= λ ms. Ok (class_of_members ms)
+class_with env place c listed = class_after (inside env place) (no_members c listed) c.members

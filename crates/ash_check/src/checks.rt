@@ -1,6 +1,6 @@
 //! The check of a script: its typed module with a rank for each class, or why it is refused.
 
-ghost use Rattle.std.specs.Prelude.{◌≡◌, ◌↔◌, ◌<◌, ℕ, List, Ok, Err, length, map, string_bytes};
+ghost use Rattle.std.specs.Prelude.{◌≡◌, ◌↔◌, ◌<◌, ◌∷◌, ℕ, List, Ok, Err, length, map, string_bytes};
 ghost use Rattle.std.specs.Prelude.{All, IfOk};
 ghost use Rattle.std.specs.Prelude.{IfErr, OnOk, MatchResult};
 ghost use Rattle.ash_registrations.specs.Registrations.{Registration};
@@ -49,6 +49,17 @@ fn class_names_at(
     Ok(names)
 }
 
+// The places of the classes on a cycle, from the first on.
+fn places_on(alloc: Global, cycle: &Cycle) -> Result<Vec<usize>, AllocError>
+    ensures value { IfOk result
+        (λ places. places.items ≡ cycle.now.first ∷ cycle.now.others.items) }
+{
+    let mut places = Vec::new(alloc);
+    places.push(cycle.first)?;
+    places.extend_from_slice(&cycle.others)?;
+    Ok(places)
+}
+
 // The names of the classes on a cycle.
 fn cycle_names(
     alloc: Global,
@@ -63,10 +74,8 @@ fn cycle_names(
         ≡ names_of_cycle (classes_of (written_module script.now))
         (cycle.now.first, cycle.now.others.items)) }
 {
+    let places = places_on(alloc, cycle)?;
     let classes = classes(alloc, &script.items)?;
-    let mut places = Vec::new(alloc);
-    places.push(cycle.first)?;
-    places.extend_from_slice(&cycle.others)?;
     Ok(ClassNames(class_names_at(alloc, &classes, &places)?))
 }
 

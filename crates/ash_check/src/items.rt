@@ -1,6 +1,6 @@
 //! The walk over a module's items: its types and names, and its bodies in their turn.
 
-ghost use Rattle.std.specs.Prelude.{map};
+ghost use Rattle.std.specs.Prelude.{◌≡◌, [], map, IfOk};
 ghost use Rattle.ash_registrations.specs.Registered.{registered};
 ghost use Rattle.ash_tree.specs.TreeViews.{vars_of, member_of, class_of as written_class};
 ghost use Rattle.ash_tree.specs.TreeViews.{constructor_of};
@@ -10,7 +10,7 @@ ghost use Rattle.ash_typed.specs.Modules.{implementation_of, class_of, module_of
 ghost use Rattle.ash_environment.specs.Agreement.{Agrees};
 ghost use Rattle.ash_environment.specs.EnvironmentViews.{environment_of, signatures_of};
 ghost use Rattle.ash_check.specs.WalkViews.{names_of, routine_of, row_of, members_of};
-ghost use Rattle.ash_check.specs.WalkViews.{walked_of, class_with};
+ghost use Rattle.ash_check.specs.WalkViews.{walked_of, class_after, class_with, module_after};
 
 use crate::implementations::check_listed_interfaces;
 use crate::interfaces::check_interface;
@@ -25,7 +25,7 @@ use ash_tree::{Constructor, Item, Member, Vars};
 use ash_typed::{Class, Implementation, Module, Variables};
 use ash_typing::{Rule, Ty};
 use indexmap::IndexSet;
-use std::alloc::Global;
+use std::alloc::{AllocError, Global};
 
 /// Checks variables of a module or of a class.
 #[tactic(auto, unfolding(ash_typing::specs::ItemRules::check_vars))]
@@ -107,6 +107,44 @@ fn check_member<'a>(
     Ok(())
 }
 
+/// A class that lists these interfaces, before its members are checked.
+fn empty_class(
+    alloc: Global,
+    class: &ash_tree::Class,
+    interfaces: Vec<Implementation>,
+) -> Result<Class, AllocError>
+    ensures empty { IfOk result
+        (λ typed. class_of typed
+        ≡ (definition.no_members (written_class class.now)
+        (map implementation_of interfaces.items)).class) }
+{
+    Ok(Class {
+        name: class.name.clone()?,
+        line: class.place.line,
+        interfaces,
+        fields: Vec::new(alloc),
+        constructor: None,
+        methods: Vec::new(alloc),
+    })
+}
+
+/// Checks these members of a class, after those so far.
+fn check_more_members<'a>(
+    env: &Environment<'_, 'a>,
+    names: &mut Names<'a>,
+    mut class: Class,
+    members: &'a [Member],
+) -> CheckResult<Class>
+    ensures agrees { Agrees class_of result
+        (class_after (environment_of env.now) (members_of (names_of names.old) class)
+        (map member_of members.now)) }
+{
+    for member in members {
+        check_member(env, names, &mut class, member)?;
+    }
+    Ok(class)
+}
+
 /// Checks the members of the class of this place, which lists these interfaces.
 fn check_members<'a>(
     env: &Environment<'_, 'a>,
@@ -125,23 +163,13 @@ fn check_members<'a>(
         this: Some(place),
         locals: &[],
     };
+    let typed = empty_class(env.alloc, class, interfaces)?;
     let mut names = Names {
         registry: None,
         taken: IndexSet::new(env.alloc),
         room: MAX_CLASS_MEMBERS,
     };
-    let mut typed = Class {
-        name: class.name.clone()?,
-        line: class.place.line,
-        interfaces,
-        fields: Vec::new(env.alloc),
-        constructor: None,
-        methods: Vec::new(env.alloc),
-    };
-    for member in &class.members {
-        check_member(&inside, &mut names, &mut typed, member)?;
-    }
-    Ok(typed)
+    check_more_members(&inside, &mut names, typed, &class.members)
 }
 
 /// Checks the class of this place.
@@ -209,6 +237,51 @@ fn check_item<'a>(
     Ok(())
 }
 
+/// A module before its items are checked, with room for what it declares.
+fn empty_module(alloc: Global, signatures: &Signatures) -> Result<Module, AllocError>
+    ensures empty { IfOk result (λ typed. module_of typed ≡ (definition.nothing []).typed) }
+{
+    Ok(Module {
+        interfaces: Vec::with_capacity(alloc, signatures.interfaces.len())?,
+        classes: Vec::with_capacity(alloc, signatures.classes.len())?,
+        functions: Vec::with_capacity(alloc, signatures.functions.len())?,
+        globals: Vec::new(alloc),
+    })
+}
+
+/// The names that are taken in a module before its items are checked, with room for those of so many items.
+fn names_of_module(
+    alloc: Global,
+    registry: &Registrations,
+    items: usize,
+) -> Result<Names<'_>, AllocError>
+    ensures registered { IfOk result
+        (λ names. names_of names ≡ (definition.nothing (registered registry.now)).names) }
+{
+    Ok(Names {
+        registry: Some(registry),
+        taken: IndexSet::with_capacity(alloc, items)?,
+        room: MAX_GLOBALS,
+    })
+}
+
+/// Checks these items of a module in their order, after those so far.
+fn check_more_items<'a>(
+    env: &Environment<'_, 'a>,
+    names: &mut Names<'a>,
+    mut typed: Module,
+    items: &'a [Item],
+) -> CheckResult<Module>
+    ensures agrees { Agrees module_of result
+        (module_after (environment_of env.now) (walked_of (names_of names.old) typed)
+        (map item_of items.now)) }
+{
+    for item in items {
+        check_item(env, names, &mut typed, item)?;
+    }
+    Ok(typed)
+}
+
 /// Checks the items of a module in their order.
 fn check_items<'a>(
     alloc: Global,
@@ -227,21 +300,9 @@ fn check_items<'a>(
         this: None,
         locals: &[],
     };
-    let mut names = Names {
-        registry: Some(registry),
-        taken: IndexSet::with_capacity(alloc, items.len())?,
-        room: MAX_GLOBALS,
-    };
-    let mut typed = Module {
-        interfaces: Vec::with_capacity(alloc, signatures.interfaces.len())?,
-        classes: Vec::with_capacity(alloc, signatures.classes.len())?,
-        functions: Vec::with_capacity(alloc, signatures.functions.len())?,
-        globals: Vec::new(alloc),
-    };
-    for item in items {
-        check_item(&env, &mut names, &mut typed, item)?;
-    }
-    Ok(typed)
+    let typed = empty_module(alloc, signatures)?;
+    let mut names = names_of_module(alloc, registry, items.len())?;
+    check_more_items(&env, &mut names, typed, items)
 }
 
 /// Checks a module.

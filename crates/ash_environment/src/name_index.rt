@@ -11,11 +11,17 @@ use std::alloc::{AllocError, Global};
 /// The place of the first of each name.
 pub(crate) type NameIndex<'a> = IndexMap<&'a str, usize>;
 
+/// What a module declares, by name: an index for each kind.
+#[derive(Drop)]
+pub(crate) struct NameIndexes<'a> {
+    pub(crate) interfaces: NameIndex<'a>,
+    pub(crate) classes: NameIndex<'a>,
+    pub(crate) functions: NameIndex<'a>,
+    pub(crate) globals: NameIndex<'a>,
+}
+
 /// The index of these names. It goes from the last name to the first, so that the first of each name is what is left.
-pub(crate) fn name_index_of<'a>(
-    alloc: Global,
-    names: &[&'a str],
-) -> Result<NameIndex<'a>, AllocError>
+fn name_index_of<'a>(alloc: Global, names: &[&'a str]) -> Result<NameIndex<'a>, AllocError>
     ensures name_index { IfOk result (λ places. IsNameIndex places (texts names.now)) }
 {
     let mut places = IndexMap::with_capacity(alloc, names.len())?;
@@ -25,7 +31,7 @@ pub(crate) fn name_index_of<'a>(
     Ok(places)
 }
 
-pub(crate) fn interface_names<'a>(
+fn interface_names<'a>(
     alloc: Global,
     all: &[InterfaceSignature<'a>],
 ) -> Result<Vec<&'a str>, AllocError>
@@ -38,10 +44,7 @@ pub(crate) fn interface_names<'a>(
     Ok(names)
 }
 
-pub(crate) fn class_names<'a>(
-    alloc: Global,
-    all: &[ClassSignature<'a>],
-) -> Result<Vec<&'a str>, AllocError>
+fn class_names<'a>(alloc: Global, all: &[ClassSignature<'a>]) -> Result<Vec<&'a str>, AllocError>
     ensures value { IfOk result (λ names. texts names.items ≡ map (λ c. c.name.now) all.now) }
 {
     let mut names = Vec::with_capacity(alloc, all.len())?;
@@ -51,7 +54,7 @@ pub(crate) fn class_names<'a>(
     Ok(names)
 }
 
-pub(crate) fn function_names<'a>(
+fn function_names<'a>(
     alloc: Global,
     all: &[FunctionSignature<'a>],
 ) -> Result<Vec<&'a str>, AllocError>
@@ -64,10 +67,7 @@ pub(crate) fn function_names<'a>(
     Ok(names)
 }
 
-pub(crate) fn variable_names<'a>(
-    alloc: Global,
-    all: &[Binding<'a>],
-) -> Result<Vec<&'a str>, AllocError>
+fn variable_names<'a>(alloc: Global, all: &[Binding<'a>]) -> Result<Vec<&'a str>, AllocError>
     ensures value { IfOk result (λ names. texts names.items ≡ map (λ v. v.name.now) all.now) }
 {
     let mut names = Vec::with_capacity(alloc, all.len())?;
@@ -75,6 +75,106 @@ pub(crate) fn variable_names<'a>(
         names.push(variable.name)?;
     }
     Ok(names)
+}
+
+/// The index of the names of interfaces.
+fn index_of_interfaces<'a>(
+    alloc: Global,
+    all: &[InterfaceSignature<'a>],
+) -> Result<NameIndex<'a>, AllocError>
+    ensures value { IfOk result (λ places. IsNameIndex places (map (λ i. i.name.now) all.now)) }
+{
+    let names = interface_names(alloc, all)?;
+    name_index_of(alloc, &names)
+}
+
+/// The index of the names of classes.
+fn index_of_classes<'a>(
+    alloc: Global,
+    all: &[ClassSignature<'a>],
+) -> Result<NameIndex<'a>, AllocError>
+    ensures value { IfOk result (λ places. IsNameIndex places (map (λ c. c.name.now) all.now)) }
+{
+    let names = class_names(alloc, all)?;
+    name_index_of(alloc, &names)
+}
+
+/// The index of the names of functions.
+fn index_of_functions<'a>(
+    alloc: Global,
+    all: &[FunctionSignature<'a>],
+) -> Result<NameIndex<'a>, AllocError>
+    ensures value { IfOk result (λ places. IsNameIndex places (map (λ f. f.name.now) all.now)) }
+{
+    let names = function_names(alloc, all)?;
+    name_index_of(alloc, &names)
+}
+
+/// The index of the names of variables.
+fn index_of_variables<'a>(alloc: Global, all: &[Binding<'a>]) -> Result<NameIndex<'a>, AllocError>
+    ensures value { IfOk result (λ places. IsNameIndex places (map (λ v. v.name.now) all.now)) }
+{
+    let names = variable_names(alloc, all)?;
+    name_index_of(alloc, &names)
+}
+
+/// The indexes of interfaces and of classes.
+fn type_indexes<'a>(
+    alloc: Global,
+    interfaces: &[InterfaceSignature<'a>],
+    classes: &[ClassSignature<'a>],
+) -> Result<(NameIndex<'a>, NameIndex<'a>), AllocError>
+    ensures interfaces { IfOk result
+        (λ found. IsNameIndex found.0 (map (λ i. i.name.now) interfaces.now)) }
+    ensures classes { IfOk result
+        (λ found. IsNameIndex found.1 (map (λ c. c.name.now) classes.now)) }
+{
+    let interfaces = index_of_interfaces(alloc, interfaces)?;
+    let classes = index_of_classes(alloc, classes)?;
+    Ok((interfaces, classes))
+}
+
+/// The indexes of functions and of variables.
+fn value_indexes<'a>(
+    alloc: Global,
+    functions: &[FunctionSignature<'a>],
+    variables: &[Binding<'a>],
+) -> Result<(NameIndex<'a>, NameIndex<'a>), AllocError>
+    ensures functions { IfOk result
+        (λ found. IsNameIndex found.0 (map (λ f. f.name.now) functions.now)) }
+    ensures variables { IfOk result
+        (λ found. IsNameIndex found.1 (map (λ v. v.name.now) variables.now)) }
+{
+    let functions = index_of_functions(alloc, functions)?;
+    let variables = index_of_variables(alloc, variables)?;
+    Ok((functions, variables))
+}
+
+/// The indexes of what a module declares.
+pub(crate) fn indexes_of<'a>(
+    alloc: Global,
+    interfaces: &[InterfaceSignature<'a>],
+    classes: &[ClassSignature<'a>],
+    functions: &[FunctionSignature<'a>],
+    globals: &[Binding<'a>],
+) -> Result<NameIndexes<'a>, AllocError>
+    ensures interfaces { IfOk result
+        (λ found. IsNameIndex found.interfaces (map (λ i. i.name.now) interfaces.now)) }
+    ensures classes { IfOk result
+        (λ found. IsNameIndex found.classes (map (λ c. c.name.now) classes.now)) }
+    ensures functions { IfOk result
+        (λ found. IsNameIndex found.functions (map (λ f. f.name.now) functions.now)) }
+    ensures globals { IfOk result
+        (λ found. IsNameIndex found.globals (map (λ v. v.name.now) globals.now)) }
+{
+    let (interfaces, classes) = type_indexes(alloc, interfaces, classes)?;
+    let (functions, globals) = value_indexes(alloc, functions, globals)?;
+    Ok(NameIndexes {
+        interfaces,
+        classes,
+        functions,
+        globals,
+    })
 }
 
 /// The item at a place.

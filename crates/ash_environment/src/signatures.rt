@@ -3,9 +3,7 @@
 ghost use Rattle.std.specs.Prelude.{map};
 ghost use Rattle.ash_environment.specs.NameIndex.{IsNameIndex};
 
-use crate::name_index::{
-    NameIndex, class_names, function_names, interface_names, item_at, name_index_of, variable_names,
-};
+use crate::name_index::{NameIndex, indexes_of, item_at};
 use ash_typing::Ty;
 use std::alloc::{AllocError, Global};
 
@@ -82,19 +80,16 @@ impl<'a> Signatures<'a> {
         ensures functions { IfOk result (λ h. h.functions.items ≡ functions.entry.items) }
         ensures globals { IfOk result (λ h. h.globals.items ≡ globals.entry.items) }
     {
-        let interface_names = interface_names(alloc, &interfaces)?;
-        let class_names = class_names(alloc, &classes)?;
-        let function_names = function_names(alloc, &functions)?;
-        let global_names = variable_names(alloc, &globals)?;
+        let indexes = indexes_of(alloc, &interfaces, &classes, &functions, &globals)?;
         Ok(Signatures {
             interfaces,
             classes,
             functions,
             globals,
-            interface_index: name_index_of(alloc, &interface_names)?,
-            class_index: name_index_of(alloc, &class_names)?,
-            function_index: name_index_of(alloc, &function_names)?,
-            global_index: name_index_of(alloc, &global_names)?,
+            interface_index: indexes.interfaces,
+            class_index: indexes.classes,
+            function_index: indexes.functions,
+            global_index: indexes.globals,
         })
     }
 

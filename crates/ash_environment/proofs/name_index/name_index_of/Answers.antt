@@ -1,4 +1,4 @@
-use Rattle.std.proofs.Common.{◌≡◌, ◌+◌, ◌-◌, ℕ, List, [], ◌∷◌, sym, ap, subst, ◌∙◌, drop, get_or, arith}
+use Rattle.std.proofs.Common.{◌≡◌, ◌+◌, ◌-◌, ℕ, List, [], sym, subst, drop, get_or, arith}
 use Rattle.std.specs.Borrow.{Bor}
 use Rattle.ash_environment.specs.NameIndex.{texts}
 use Rattle.ash_environment.proofs.IndexLaws.{ArePlacesFrom, placed_before, placed_from_none, from_next}

@@ -3,7 +3,7 @@ use Rattle.ash_tree.specs.TreeViews.{item_of}
 use Rattle.ash_typing.specs.ItemRules as definition
 use Rattle.ash_environment.specs.EnvironmentViews.{environment_of}
 use Rattle.ash_check.specs.WalkViews.{names_of, walked_of}
-use Rattle.ash_check.proofs.items.check_items.Given as goal
+use Rattle.ash_check.proofs.items.check_more_items.Given as goal
 
 -- the outcome of what is left is that of the whole
 abbrev pub invariant-loop-item : goal.invariant-loop-item

@@ -1,0 +1,11 @@
+use Rattle.std.proofs.Common.{map, refl}
+use Rattle.ash_registrations.specs.Registered.{registered}
+use Rattle.ash_tree.specs.TreeViews.{item_of}
+use Rattle.ash_tree.specs.Items.{interfaces_of}
+use Rattle.ash_typing.specs.ModuleDeclarations.{interface_declaration}
+use Rattle.ash_environment.specs.EnvironmentViews.{interface_signature_of, signatures_of}
+use Rattle.ash_check.proofs.Rows.{whole}
+use Rattle.ash_check.proofs.signatures.interface_signatures.Goals as goal
+
+pub returns : goal.returns
+returns c = record { value = whole (λ xs. map (interface_declaration (registered c.args.registry.now) (signatures_of c.args.type_names.now)) (interfaces_of (map item_of xs))) c.args.items.now c.loop-item.item-index (map interface_signature_of c.loop-item.all.items) c.loop-item-test.false refl c.loop-item.invariant }
