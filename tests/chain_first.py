@@ -4,9 +4,9 @@
 The crates build on each other in one long chain, and `rt ci` shares the processors evenly among the proofs that are ready,
 those of tests among them. So the crate that all others wait for would be proved beside what can wait. And a check with
 several jobs takes a fifth more of the processors than one with a single job, or more, since each copy of rattle loads what
-it needs anew. Here a task gets one job. The one at the head of the longest chain gets half of the processors where that
-chain, at one job for each of its tasks, would take much longer than all work that is left, shared out among the processors,
-and all of them where nothing else can run. The heads of long chains begin even where others still have all processors,
+it needs anew. Here a task gets one job. The one at the head of the longest chain gets the processors for which there is no
+other task, or half of all where that chain, at one job for each of its tasks, would take much longer than all work that is
+left, shared out among the processors. The heads of long chains begin even where others still have all processors,
 since many wait for them, and all other tasks are nice to them, and edits to these. So they fill what the chains leave free.
 How much work a crate is, is known from an earlier run (tests/work.record).
 What is proved and run, and the verdict, are those of `rt ci`. Where rt tries a crate's edits one after the other, several
@@ -37,8 +37,8 @@ MEMORY_OF_A_JOB = 0.6
 MEMORY_GIVEN_OUT = 0.85
 # A chain is long where it has at least this share of the work of every other. Of a chain whose head is under way, what
 # comes after the head counts.
-LONG = 0.8
-# The head of the longest chain gets several jobs where its chain has more than so many times an even share of the work left.
+LONG = 0.6
+# The head of the longest chain gets several jobs where its chain has more than so many times an even share of what is left.
 OVER_SHARE = 1.5
 # Which share of the work of a crate of tests is not its tests.
 HARDLY = 0.03
@@ -111,8 +111,10 @@ def work_ahead(tasks):
 def jobs_for(ahead, left, others, processors, memory):
     """How many jobs the head of the longest chain gets, where so much work is ahead in its chain and so much is left in all,
     and so many other tasks can run beside it, as far as memory for so many goes."""
-    free = processors - others if others < 2 else processors // 2
-    return max(1, min(free, memory)) if others < 2 or ahead * processors > OVER_SHARE * left else 1
+    free = processors - others
+    if free < 2 and ahead * processors > OVER_SHARE * left:
+        free = processors // 2
+    return max(1, min(free, memory))
 
 
 def begin(call, given, jobs, niceness):

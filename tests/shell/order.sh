@@ -9,9 +9,9 @@ import chain_first
 tasks = {"low": ([], 2), "middle": (["low"], 3), "tests": (["low"], 7), "high": (["middle"], 1), "alone": ([], 4)}
 print("ahead:", chain_first.work_ahead(tasks))
 
-# a chain of 20 minutes of 40 that are left, on four processors, beside two, one and no other task, and where memory is for one
-# job; a chain that is no longer than one and a half times an even share
-for ahead, others, memory in ((20, 2, 4), (20, 1, 4), (20, 0, 4), (20, 0, 1), (15, 2, 4)):
+# a chain of 20 or 15 minutes of 40 that are left, on four processors, beside three other tasks and fewer, and where memory is
+# for one job
+for ahead, others, memory in ((20, 3, 4), (15, 3, 4), (15, 2, 4), (20, 1, 4), (20, 0, 4), (20, 0, 1)):
     print("jobs:", chain_first.jobs_for(ahead, 40, others, 4, memory))
 print("on two processors:", chain_first.jobs_for(40, 40, 2, 2, 4))
 
@@ -37,9 +37,10 @@ PROGRAM
 cmp -s - "$scratch/output" <<'WANTED'
 ahead: {'low': 9, 'middle': 4, 'tests': 7, 'high': 1, 'alone': 4}
 jobs: 2
+jobs: 1
+jobs: 2
 jobs: 3
 jobs: 4
-jobs: 1
 jobs: 1
 on two processors: 1
 minutes: 10.0 3.0
