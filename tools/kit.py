@@ -8,7 +8,7 @@ TOP = os.path.dirname(os.path.dirname(os.path.abspath(__file__)))
 
 # How many minutes a run of the gate took to prove all crates below ashd from nothing, and ashd after these, by the number of
 # processors. The gate proves the tests beside them; a build by ashd.sh alone was not timed.
-MINUTES = {4: 38}
+MINUTES = {4: 43}
 
 
 def processors():
