@@ -8,6 +8,7 @@ it needs anew. Here a task gets one job. The one at the head of the longest chai
 other task, or half of all where that chain, at one job for each of its tasks, would take much longer than all work that is
 left, shared out among the processors. The heads of long chains begin even where others still have all processors,
 since many wait for them, and all other tasks are nice to them, and edits to these. So they fill what the chains leave free.
+A check leaves some of its jobs idle for part of its time, so one job more is given out than there are processors.
 How much work a crate is, is known from an earlier run (tests/work.record).
 What is proved and run, and the verdict, are those of `rt ci`. Where rt tries a crate's edits one after the other, several
 are tried in one check (tests/together.py). Contracts that no call can meet are looked for where edits are tried: in a crate
@@ -41,7 +42,7 @@ LONG = 0.6
 # The head of the longest chain gets several jobs where its chain has more than so many times an even share of what is left.
 OVER_SHARE = 1.5
 # Which share of the work of a crate of tests is not its tests.
-HARDLY = 0.03
+SHARE_BESIDE_TESTS = 0.03
 # Where it is known how much work each crate is.
 WORK_FILE = os.path.join(record.TOP, "tests", "work.record")
 # How nice the head of another long chain is to that of the longest, any other task to both, and an edit to all proofs.
@@ -94,7 +95,7 @@ def work(key, known, has_tests):
     """The processor minutes of a task. A crate that has tests has hardly anything else."""
     if fills(key):
         return len(record.edits(key[0])) * record.MINUTES_OF_AN_EDIT
-    return minutes_of(key[0], known) * (1 if has_tests == (key[1] == "tests") else HARDLY)
+    return minutes_of(key[0], known) * (1 if has_tests == (key[1] == "tests") else SHARE_BESIDE_TESTS)
 
 
 def work_ahead(tasks):
