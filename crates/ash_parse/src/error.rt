@@ -22,7 +22,7 @@ pub(crate) enum Stop {
     NoMemory,
 }
 
-/// Why reading stops, with how many tokens there are from the fault on: none where memory ran out.
+/// Why reading stops, with how many tokens there are from the fault on. Where memory ran out that number says nothing.
 #[derive(Clone, Copy, Debug, Error)]
 #[error("{stop}")]
 pub(crate) struct ParseError {
