@@ -12,9 +12,7 @@ pub fn check<T: Debug + PartialEq>(rt: &impl Abort, found: &T, wanted: &T, what:
 
 /// The same of bytes.
 pub fn check_bytes(rt: &impl Abort, found: &[u8], wanted: &[u8], what: &str) {
-    if found != wanted {
-        panic!(rt; "{what}: found {found:?}, wanted {wanted:?}");
-    }
+    check(rt, &found, &wanted, what);
 }
 
 /// The same of texts.
