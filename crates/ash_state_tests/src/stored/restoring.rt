@@ -4,7 +4,9 @@
 ghost use Rattle.ash_state_image.specs.Rules.{IsShaped};
 ghost use Rattle.ash_state_image.specs.SnapshotViews.{snapshot_of};
 
+use crate::registered::BoxedRegistry;
 use crate::stored::compare::{ReadAs, check_bytes, check_count, check_read_as};
+use crate::stored::hosts::BoxedState;
 use crate::stored::images::{
     DANGLING, EACH_WORD, NOTHING, OF_TWO_MODULES, ONE, ONE_MODULE, ONE_SERVICE, STORED, THREE_TAGS,
     TWO, TWO_TAGS, image, with_byte,
@@ -27,8 +29,7 @@ enum Registered {
     Both,
 }
 
-fn registry_of(alloc: Global, registered: Registered) -> Result<Registry, RegistryFault> {
-    let mut registry = Registry::new(alloc);
+fn register(registry: &mut BoxedRegistry, registered: Registered) -> Result<(), RegistryFault> {
     match registered {
         Registered::Nothing => {}
         Registered::Counter => registry.object_type("Counter", 1)?,
@@ -37,6 +38,12 @@ fn registry_of(alloc: Global, registered: Registered) -> Result<Registry, Regist
             registry.service(2)?;
         }
     }
+    Ok(())
+}
+
+fn registry_of(alloc: Global, registered: Registered) -> Result<BoxedRegistry, RegistryFault> {
+    let mut registry = Box::new(alloc, Registry::new(alloc))?;
+    register(&mut registry, registered)?;
     Ok(registry)
 }
 
@@ -44,23 +51,26 @@ fn registry_of(alloc: Global, registered: Registered) -> Result<Registry, Regist
 /// holds is of the types that its sources say.
 fn restored(
     alloc: Global,
-    registry: Registry,
+    registry: BoxedRegistry,
     stored: StoredState,
-) -> Result<Option<HostState>, AllocError>
+) -> Result<Option<BoxedState>, AllocError>
     requires shaped { IsShaped (snapshot_of stored) }
 {
     if stored.registered.as_str() != registry.text() {
         return Ok(None);
     }
-    HostState::restore(alloc, registry, stored)
+    match HostState::restore(alloc, Box::into_inner(registry), stored)? {
+        Some(state) => Ok(Some(Box::new(alloc, state)?)),
+        None => Ok(None),
+    }
 }
 
 /// The host with this registry that bytes are read as, if they are the image of one.
 fn reads_as(
     alloc: Global,
-    registry: Registry,
+    registry: BoxedRegistry,
     bytes: &[u8],
-) -> Result<Option<HostState>, AllocError> {
+) -> Result<Option<BoxedState>, AllocError> {
     match read_image(alloc, bytes)? {
         Some(stored) => restored(alloc, registry, stored.state),
         None => Ok(None),
