@@ -3,5 +3,6 @@ pub mod FieldLaws
 pub mod ExactLaws
 pub mod MethodLaws
 pub mod CheckedLaws
+pub mod SignatureLaws
+pub mod VariableLaws
 pub mod Walks
-pub mod Rows

@@ -355,8 +355,7 @@ fn resolve_signatures<'a>(
     let classes = class_signatures(alloc, registry, type_names, items)?;
     let functions = function_signatures(alloc, registry, type_names, items)?;
     let globals = global_bindings(alloc, registry, type_names, items)?;
-    let signatures = Signatures::new(alloc, interfaces, classes, functions, globals)?;
-    Ok(signatures)
+    Signatures::new(alloc, interfaces, classes, functions, globals)
 }
 
 /// What a module declares.
@@ -371,5 +370,7 @@ pub(crate) fn module_signatures<'a>(
         ≡ definition.declarations (registered registry.now) (module_of declared.now)) }
 {
     let type_names = type_names(alloc, &declared.items)?;
-    resolve_signatures(alloc, registry, &type_names, &declared.items)
+    let signatures = resolve_signatures(alloc, registry, &type_names, &declared.items);
+    drop(type_names);
+    signatures
 }
