@@ -14,7 +14,6 @@ use ash_sources::checking::check_source;
 use ash_sources::fault::{SourceError, SourceFault};
 use std::alloc::{AllocError, Global};
 use std::io;
-use std::time::Instant;
 
 /// The fault of a source, if there is one.
 fn fault(alloc: Global, registry: &Registry, text: &str) -> Result<Option<SourceFault>> {
@@ -56,21 +55,21 @@ fn print_timing(rt: &HostRuntime, work: &str, timing: &Timing, bytes: usize) -> 
 
 /// Reads a source so many times, without the check, and prints how long it took.
 fn measure_parser(rt: &HostRuntime, text: &str, rounds: u64) -> Result<()> {
-    let start = Instant::now(rt)?;
-    for _ in 0..rounds {
+    let mut timing = Timing::zero();
+    timing.measure(rt, rounds, || {
         count(rt.alloc(), text)?;
-    }
-    let timing = Timing::since(rt, start, rounds)?;
+        Ok(())
+    })?;
     print_timing(rt, "lexer and parser", &timing, text.len())
 }
 
 /// The same with the check.
 fn measure_checker(rt: &HostRuntime, registry: &Registry, text: &str, rounds: u64) -> Result<()> {
-    let start = Instant::now(rt)?;
-    for _ in 0..rounds {
+    let mut timing = Timing::zero();
+    timing.measure(rt, rounds, || {
         fault(rt.alloc(), registry, text)?;
-    }
-    let timing = Timing::since(rt, start, rounds)?;
+        Ok(())
+    })?;
     print_timing(rt, "with the checker", &timing, text.len())
 }
 

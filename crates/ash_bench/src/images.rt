@@ -10,9 +10,8 @@ use ash_host::MAX_OBJECTS;
 use ash_registry::Registry;
 use ash_state_image::image::read_image;
 use ash_states::state::HostState;
-use std::alloc::{AllocError, Global};
+use std::alloc::Global;
 use std::io;
-use std::time::Instant;
 
 /// The name of each module, by ascending name.
 const NAMES: &[u8; 16] = b"abcdefghijklmnop";
@@ -31,27 +30,37 @@ const SOURCE: &str =
     "class C { B@ a, b, c, d, e, f, g, h, i, j, k, l, m, n, o, p, q, r, s, t, u, v, w, x, y, z; \
 B@ a1, a2, a3, a4, a5, a6; } class B { } array<C@>@ all;";
 
-fn write_u16(out: &mut Vec<u8>, value: u16) -> Result<(), AllocError> {
-    out.extend_from_slice(&value.to_le_bytes())
+fn write_u8(out: &mut Vec<u8>, value: u8) -> Result<()> {
+    out.push(value)?;
+    Ok(())
 }
 
-fn write_u32(out: &mut Vec<u8>, value: u32) -> Result<(), AllocError> {
-    out.extend_from_slice(&value.to_le_bytes())
+fn write_u16(out: &mut Vec<u8>, value: u16) -> Result<()> {
+    out.extend_from_slice(&value.to_le_bytes())?;
+    Ok(())
 }
 
-fn write_u64(out: &mut Vec<u8>, value: u64) -> Result<(), AllocError> {
-    out.extend_from_slice(&value.to_le_bytes())
+fn write_u32(out: &mut Vec<u8>, value: u32) -> Result<()> {
+    out.extend_from_slice(&value.to_le_bytes())?;
+    Ok(())
+}
+
+fn write_u64(out: &mut Vec<u8>, value: u64) -> Result<()> {
+    out.extend_from_slice(&value.to_le_bytes())?;
+    Ok(())
 }
 
 /// Writes the handle of an object.
-fn write_handle(out: &mut Vec<u8>, number: u64) -> Result<(), AllocError> {
-    out.extend_from_slice(&[6])?;
-    write_u64(out, number)
+fn write_handle(out: &mut Vec<u8>, number: u64) -> Result<()> {
+    write_u8(out, 6)?;
+    write_u64(out, number)?;
+    Ok(())
 }
 
 /// Writes a module whose global has the array of this number.
-fn write_module(out: &mut Vec<u8>, name: u8, first: u64) -> Result<(), AllocError> {
-    out.extend_from_slice(&[1, name])?;
+fn write_module(out: &mut Vec<u8>, name: u8, first: u64) -> Result<()> {
+    write_u8(out, 1)?;
+    write_u8(out, name)?;
     write_u32(out, SOURCE.len() as u32)?;
     out.extend_from_slice(SOURCE.as_bytes())?;
     write_u16(out, 1)?;
@@ -59,9 +68,11 @@ fn write_module(out: &mut Vec<u8>, name: u8, first: u64) -> Result<(), AllocErro
 }
 
 /// Writes the array of the module at this place, which has all objects of the module but the last.
-fn write_array(out: &mut Vec<u8>, place: u8, first: u64, last: u64) -> Result<(), AllocError> {
+fn write_array(out: &mut Vec<u8>, place: u8, first: u64, last: u64) -> Result<()> {
     write_u64(out, first)?;
-    out.extend_from_slice(&[3, 5, place])?;
+    write_u8(out, 3)?;
+    write_u8(out, 5)?;
+    write_u8(out, place)?;
     write_u16(out, 0)?;
     write_u16(out, 254)?;
     for number in first.wrapping_add(1)..last {
@@ -71,11 +82,12 @@ fn write_array(out: &mut Vec<u8>, place: u8, first: u64, last: u64) -> Result<()
 }
 
 /// Writes an object of the module at this place, whose fields have handles of the last.
-fn write_object(out: &mut Vec<u8>, place: u8, number: u64, last: u64) -> Result<(), AllocError> {
+fn write_object(out: &mut Vec<u8>, place: u8, number: u64, last: u64) -> Result<()> {
     write_u64(out, number)?;
-    out.extend_from_slice(&[1, place])?;
+    write_u8(out, 1)?;
+    write_u8(out, place)?;
     write_u16(out, 0)?;
-    out.extend_from_slice(&[FIELDS])?;
+    write_u8(out, FIELDS)?;
     for _ in 0..FIELDS {
         write_handle(out, last)?;
     }
@@ -83,11 +95,12 @@ fn write_object(out: &mut Vec<u8>, place: u8, number: u64, last: u64) -> Result<
 }
 
 /// Writes the last object of the module at this place, which has no fields.
-fn write_last(out: &mut Vec<u8>, place: u8, number: u64) -> Result<(), AllocError> {
+fn write_last(out: &mut Vec<u8>, place: u8, number: u64) -> Result<()> {
     write_u64(out, number)?;
-    out.extend_from_slice(&[1, place])?;
+    write_u8(out, 1)?;
+    write_u8(out, place)?;
     write_u16(out, 1)?;
-    out.extend_from_slice(&[0])
+    write_u8(out, 0)
 }
 
 /// The number of the first object of the module at a place.
@@ -98,7 +111,7 @@ fn first_of(place: u8) -> u64 {
 }
 
 /// Writes the objects of the module at a place.
-fn write_objects(out: &mut Vec<u8>, place: u8) -> Result<(), AllocError> {
+fn write_objects(out: &mut Vec<u8>, place: u8) -> Result<()> {
     let first = first_of(place);
     let last = first.wrapping_add(OBJECTS_OF_A_MODULE).wrapping_sub(1);
     write_array(out, place, first, last)?;
@@ -109,14 +122,14 @@ fn write_objects(out: &mut Vec<u8>, place: u8) -> Result<(), AllocError> {
 }
 
 /// The image of the state: version 2, nothing registered, no request, so many objects, no service.
-fn image(alloc: Global) -> Result<Vec<u8>, AllocError> {
+fn image(alloc: Global) -> Result<Vec<u8>> {
     let mut out = Vec::new(alloc);
     write_u16(&mut out, 2)?;
     write_u32(&mut out, 0)?;
     write_u64(&mut out, 0)?;
     write_u64(&mut out, u64::from(OBJECTS))?;
     write_u16(&mut out, 0)?;
-    out.extend_from_slice(&[NAMES.len() as u8])?;
+    write_u8(&mut out, NAMES.len() as u8)?;
     for (place, name) in NAMES.iter().enumerate() {
         write_module(&mut out, *name, first_of(place as u8))?;
     }
@@ -139,8 +152,17 @@ fn restored(alloc: Global, image: &[u8]) -> Result<Box<HostState>> {
     }
 }
 
-/// Prints how long a piece of work took, done once.
-fn print_time(rt: &HostRuntime, work: &str, timing: Timing) -> Result<()> {
+/// Does a piece of work so many times, and prints how long it took once.
+fn measure<F: FnMut() -> Result<()>>(
+    rt: &HostRuntime,
+    work: &str,
+    rounds: u64,
+    run: F,
+) -> Result<()>
+    requires always_callable { F.IsAlwaysCallable run }
+{
+    let mut timing = Timing::zero();
+    timing.measure(rt, rounds, run)?;
     println!(rt; "  {work}: {} microseconds each", timing.microseconds())?;
     Ok(())
 }
@@ -160,27 +182,24 @@ fn checked(alloc: Global, image: &[u8]) -> Result<Box<HostState>> {
 }
 
 fn measure_reading(rt: &HostRuntime, image: &[u8], rounds: u64) -> Result<()> {
-    let start = Instant::now(rt)?;
-    for _ in 0..rounds {
+    measure(rt, "read by its shape", rounds, || {
         read_image(rt.alloc(), image)?;
-    }
-    print_time(rt, "read by its shape", Timing::since(rt, start, rounds)?)
+        Ok(())
+    })
 }
 
 fn measure_restoring(rt: &HostRuntime, image: &[u8], rounds: u64) -> Result<()> {
-    let start = Instant::now(rt)?;
-    for _ in 0..rounds {
+    measure(rt, "read and restored", rounds, || {
         restored(rt.alloc(), image)?;
-    }
-    print_time(rt, "read and restored", Timing::since(rt, start, rounds)?)
+        Ok(())
+    })
 }
 
 fn measure_writing(rt: &HostRuntime, host: &HostState, rounds: u64) -> Result<()> {
-    let start = Instant::now(rt)?;
-    for _ in 0..rounds {
+    measure(rt, "written", rounds, || {
         host.image()?;
-    }
-    print_time(rt, "written", Timing::since(rt, start, rounds)?)
+        Ok(())
+    })
 }
 
 /// Writes the image of a host that has this one.

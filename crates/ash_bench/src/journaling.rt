@@ -7,7 +7,6 @@ use ash_disk::{DeviceFailed, Disk, FileDisk, write_durably};
 use ash_journal::{AppendError, CreateFault, Journal, RECORD_BYTES_LIMIT};
 use std::alloc::Global;
 use std::io;
-use std::time::Instant;
 
 const BODY: [u8; 64] = [7; 64];
 
@@ -60,12 +59,8 @@ fn measure(
 ) -> Result<()> {
     let (mut with_journal, mut without) = (Timing::zero(), Timing::zero());
     for round in 0..rounds {
-        let start = Instant::now(rt)?;
-        append_round(journal)?;
-        with_journal.add(rt, start)?;
-        let start = Instant::now(rt)?;
-        bare_round(bare, round)?;
-        without.add(rt, start)?;
+        with_journal.measure(rt, 1, || Ok(append_round(journal)?))?;
+        without.measure(rt, 1, || Ok(bare_round(bare, round)?))?;
     }
     let ours = with_journal.per_second(RECORDS);
     let theirs = without.per_second(RECORDS);

@@ -6,7 +6,6 @@ use anyhow::Result;
 use ash_lex::{MAX_SOURCE_BYTES, lex};
 use std::alloc::Global;
 use std::io;
-use std::time::Instant;
 
 /// How many tokens a source has.
 fn count(alloc: Global, text: &str) -> Result<usize> {
@@ -15,11 +14,12 @@ fn count(alloc: Global, text: &str) -> Result<usize> {
 
 /// Cuts a source so many times, and prints how fast that was.
 fn measure(rt: &HostRuntime, text: &str, rounds: u64) -> Result<()> {
-    let start = Instant::now(rt)?;
-    for _ in 0..rounds {
+    let mut timing = Timing::zero();
+    timing.measure(rt, rounds, || {
         count(rt.alloc(), text)?;
-    }
-    let speed = Timing::since(rt, start, rounds)?.per_second(text.len() as u64);
+        Ok(())
+    })?;
+    let speed = timing.per_second(text.len() as u64);
     println!(rt; "{speed} bytes per second")?;
     Ok(())
 }

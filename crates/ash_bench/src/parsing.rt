@@ -9,7 +9,6 @@ use ash_lex::lex;
 use ash_parse::parse_module;
 use std::alloc::Global;
 use std::io;
-use std::time::Instant;
 
 /// How many tokens and items a source has.
 pub fn count(alloc: Global, text: &str) -> Result<(usize, usize)> {
@@ -20,11 +19,11 @@ pub fn count(alloc: Global, text: &str) -> Result<(usize, usize)> {
 
 /// Parses a source so many times, and prints how long it took.
 fn measure(rt: &HostRuntime, text: &str, rounds: u64) -> Result<()> {
-    let start = Instant::now(rt)?;
-    for _ in 0..rounds {
+    let mut timing = Timing::zero();
+    timing.measure(rt, rounds, || {
         count(rt.alloc(), text)?;
-    }
-    let timing = Timing::since(rt, start, rounds)?;
+        Ok(())
+    })?;
     let (one, speed) = (timing.microseconds(), timing.per_second(text.len() as u64));
     println!(rt; "{one} microseconds each, {speed} bytes per second")?;
     Ok(())

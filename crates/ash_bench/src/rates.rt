@@ -19,13 +19,23 @@ impl Timing {
         }
     }
 
-    /// Of work that was done so many times, from a moment until now.
-    pub fn since(rt: &HostRuntime, start: Instant, rounds: u64) -> Result<Timing> {
+    /// Does the work so many times more.
+    pub fn measure<F: FnMut() -> Result<()>>(
+        &mut self,
+        rt: &HostRuntime,
+        rounds: u64,
+        mut work: F,
+    ) -> Result<()>
+        requires always_callable { F.IsAlwaysCallable work }
+    {
+        let start = Instant::now(rt)?;
+        for _ in 0..rounds {
+            work()?;
+        }
         let nanoseconds = start.elapsed(rt)?.as_nanos();
-        Ok(Timing {
-            rounds,
-            nanoseconds,
-        })
+        self.rounds = self.rounds.wrapping_add(rounds);
+        self.nanoseconds = self.nanoseconds.wrapping_add(nanoseconds);
+        Ok(())
     }
 
     /// Counts the work as done once more, from a moment until now.

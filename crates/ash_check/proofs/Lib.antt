@@ -3,6 +3,5 @@ pub mod FieldLaws
 pub mod ExactLaws
 pub mod MethodLaws
 pub mod CheckedLaws
-pub mod SignatureLaws
-pub mod VariableLaws
 pub mod Walks
+pub mod Rows

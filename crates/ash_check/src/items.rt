@@ -3,7 +3,7 @@
 ghost use Rattle.std.specs.Prelude.{◌≡◌, [], map, IfOk};
 ghost use Rattle.ash_registrations.specs.Registered.{registered};
 ghost use Rattle.ash_tree.specs.TreeViews.{vars_of, member_of, class_of as written_class};
-ghost use Rattle.ash_tree.specs.TreeViews.{constructor_of, decl_of};
+ghost use Rattle.ash_tree.specs.TreeViews.{constructor_of};
 ghost use Rattle.ash_tree.specs.TreeViews.{item_of, module_of as written_module};
 ghost use Rattle.ash_typing.specs.ItemRules as definition;
 ghost use Rattle.ash_typed.specs.Modules.{implementation_of, class_of, module_of};
@@ -21,31 +21,11 @@ use crate::signatures::module_signatures;
 use ash_environment::{CheckResult, Environment, Signatures, fault_at};
 use ash_registrations::Registrations;
 use ash_statements::{WrittenType, check_decl, check_variable_type, place_of, ty_in};
-use ash_tree::{Constructor, Decl, Item, Member, Vars};
+use ash_tree::{Constructor, Item, Member, Vars};
 use ash_typed::{Class, Implementation, Module, Variables};
 use ash_typing::{Rule, Ty};
 use indexmap::IndexSet;
 use std::alloc::{AllocError, Global};
-
-/// Checks these variables of one type, after those so far.
-fn check_more_variables<'a>(
-    env: &Environment<'_, 'a>,
-    names: &mut Names<'a>,
-    written: WrittenType,
-    mut variables: Variables,
-    decls: &'a [Decl],
-) -> CheckResult<Variables>
-    ensures agrees { Agrees (row_of (names_of names.new)) result
-        (definition.check_decls (environment_of env.now) written.at written.of
-        (row_of (names_of names.old) variables) (map decl_of decls.now)) }
-{
-    for decl in decls {
-        names.take_counted(decl.place.at, decl.name.as_str())?;
-        let value = check_decl(env, written, decl)?;
-        variables.initializations.push(value)?;
-    }
-    Ok(variables)
-}
 
 /// Checks variables of a module or of a class.
 #[tactic(auto, unfolding(ash_typing::specs::ItemRules::check_vars))]
@@ -60,11 +40,16 @@ fn check_vars<'a>(
     let place = place_of(&vars.of);
     let of = check_variable_type(&vars.of, ty_in(env, &vars.of))?;
     let written = WrittenType { at: place.at, of };
-    let variables = Variables {
+    let mut variables = Variables {
         line: place.line,
         initializations: Vec::with_capacity(env.alloc, vars.decls.len())?,
     };
-    check_more_variables(env, names, written, variables, &vars.decls)
+    for decl in &vars.decls {
+        names.take_counted(decl.place.at, decl.name.as_str())?;
+        let value = check_decl(env, written, decl)?;
+        variables.initializations.push(value)?;
+    }
+    Ok(variables)
 }
 
 /// A class has one constructor, which has its name.
@@ -331,7 +316,5 @@ pub(crate) fn check_module(
         (definition.check_module (registered registry.now) (written_module declared.now)) }
 {
     let signatures = module_signatures(alloc, registry, declared)?;
-    let checked = check_items(alloc, registry, &signatures, &declared.items);
-    drop(signatures);
-    checked
+    check_items(alloc, registry, &signatures, &declared.items)
 }

@@ -355,7 +355,8 @@ fn resolve_signatures<'a>(
     let classes = class_signatures(alloc, registry, type_names, items)?;
     let functions = function_signatures(alloc, registry, type_names, items)?;
     let globals = global_bindings(alloc, registry, type_names, items)?;
-    Signatures::new(alloc, interfaces, classes, functions, globals)
+    let signatures = Signatures::new(alloc, interfaces, classes, functions, globals)?;
+    Ok(signatures)
 }
 
 /// What a module declares.
@@ -370,7 +371,5 @@ pub(crate) fn module_signatures<'a>(
         ≡ definition.declarations (registered registry.now) (module_of declared.now)) }
 {
     let type_names = type_names(alloc, &declared.items)?;
-    let signatures = resolve_signatures(alloc, registry, &type_names, &declared.items);
-    drop(type_names);
-    signatures
+    resolve_signatures(alloc, registry, &type_names, &declared.items)
 }

@@ -60,5 +60,6 @@ pub(crate) fn type_names<'a>(alloc: Global, items: &'a [Item]) -> Result<Signatu
 {
     let interfaces = named_interfaces(alloc, items)?;
     let classes = named_classes(alloc, items)?;
-    Signatures::new(alloc, interfaces, classes, Vec::new(alloc), Vec::new(alloc))
+    let signatures = Signatures::new(alloc, interfaces, classes, Vec::new(alloc), Vec::new(alloc))?;
+    Ok(signatures)
 }

@@ -1,13 +1,11 @@
 -- Calls come to what their frames do: constructions, bodies by how deep calls go, and calls from outside.
-use Rattle.std.proofs.Common.{◌≡◌, ◌<◌, ◌≤◌, ℕ, ◌+◌, List, length, get_or, Option, Some, None, refl, sym, ap, ◌∙◌, add-one}
+use Rattle.std.proofs.Common.{◌≡◌, ℕ, ◌+◌, List, Option, Some, None, refl, sym, ap, ◌∙◌, add-one}
 use Rattle.std.specs.Prelude.{option_map, slice_get}
 use Rattle.std.specs.Option.{option_and_then}
-use Rattle.std.proofs.lemmas.Option.{slice_get-map, slice_get_past, slice_get_read}
 use Rattle.ash_host.specs.declared.word.Word.{Word}
 use Rattle.ash_host.specs.declared.word.Word.TheVariants as words
 use Rattle.ash_host.specs.declared.word.Word.TheVariants.{Null}
-use Rattle.ash_typed.specs.declared.tree.items.Class as code_class
-use Rattle.ash_typed.specs.Modules.{Class, class_of}
+use Rattle.ash_typed.specs.Modules.{Class}
 use Rattle.ash_phrases.specs.Activity.{World, Activity}
 use Rattle.ash_phrases.specs.Runs.{Progress, Done, Ended, NoStep, OutOfTicks, Run, give, onward, found, ◌>>=◌, ◌>>◌}
 use Rattle.ash_phrases.specs.Frames.{frame_of, tick, demand_frame, in_frame_of}
@@ -16,8 +14,6 @@ use Rattle.ash_phrases.specs.Classes.{Program, FreeFunction, ModuleCallee, Entry
 use Rattle.ash_phrases.specs.CallMeaning.{Calls, blank, construct}
 use Rattle.ash_phrases.specs.Functions.{body, calls_within}
 use Rattle.ash_phrases.specs.Ends.{outcome_of, begun, call_entry, call_function}
-use Rattle.ash_plain_data.specs.declared.classes.Program as code_program
-use Rattle.ash_plain_data.specs.ClassViews.{program_seen}
 use Rattle.ash_evaluator.specs.Entering.{function_run, construction_run, entry_run}
 use Rattle.ash_evaluator.specs.Bodies.{body_of_callee}
 
@@ -35,20 +31,6 @@ construct_is calls class args c a h =
 pub no_class : (calls : Calls) (class : ℕ) (args : List Word) (a : Activity) → slice_get calls.program.tree.classes class ≡ None → construct calls class args a ≡ NoStep
 no_class calls class args a h =
     ap (λ (o : Option Class). onward (found (option_map entry_of_construction o) a) (λ e. found o >>= (λ k. demand_frame >> demand_number >> make (blank calls.program class k) >>= (λ number. in_frame_of e.name e.line (words.Object number) args (calls.body e >> give (words.Object number)))))) h
-
--- classes, which the code has in a vector
-
-pub class_there : (p : code_program.Program) (cs : List code_class.Class) (place : ℕ) (c : code_class.Class) → cs ≡ p.tree.now.classes.items → place < length cs → c ≡ get_or cs place c → slice_get (program_seen p).tree.classes place ≡ Some (class_of c)
-class_there p cs place c is within at =
-    slice_get-map class_of p.tree.now.classes.items place
-    ∙ ap (λ (l : List code_class.Class). option_map class_of (slice_get l place)) (sym is)
-    ∙ ap (λ (o : Option code_class.Class). option_map class_of o) (slice_get_read cs (length cs) place c refl within at)
-
-pub class_nowhere : (p : code_program.Program) (cs : List code_class.Class) (place : ℕ) → cs ≡ p.tree.now.classes.items → length cs ≤ place → slice_get (program_seen p).tree.classes place ≡ None
-class_nowhere p cs place is past =
-    slice_get-map class_of p.tree.now.classes.items place
-    ∙ ap (λ (l : List code_class.Class). option_map class_of (slice_get l place)) (sym is)
-    ∙ ap (λ (o : Option code_class.Class). option_map class_of o) (slice_get_past cs place past)
 
 -- bodies
 

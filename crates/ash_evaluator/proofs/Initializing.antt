@@ -2,15 +2,13 @@
 use Rattle.std.proofs.Common.{◌≡◌, ◌<◌, ◌+◌, ℕ, length, get_or, map, drop, List, ◌∷◌, sym, ap, ◌∙◌}
 use Rattle.std.proofs.lemmas.List.{drop_more, length-map}
 use Rattle.ash_typed.specs.declared.tree.items.Variables as variables_code
-use Rattle.ash_typed.specs.declared.tree.statements.Initialization as initialization_code
 use Rattle.ash_typed.specs.BodyViews.{value_of}
 use Rattle.ash_typed.specs.Modules.{variables_of}
 use Rattle.ash_phrases.specs.Activity.{Activity}
 use Rattle.ash_phrases.specs.Runs.{Run, onward, ◌>>◌}
 use Rattle.ash_phrases.specs.Frames.{tick}
 use Rattle.ash_phrases.specs.CallMeaning.{Calls}
-use Rattle.ash_phrases.specs.Functions.{initialize_field, initialize_fields, initialize_global, initialize_globals, initialize_module}
-use Rattle.ash_evaluator.proofs.Walks.{next_is}
+use Rattle.ash_phrases.specs.Functions.{initialize_globals, initialize_module}
 
 -- one declaration, with the tick before it
 abbrev pub declaration_run : Calls → ℕ → variables_code.Variables → Run (Unit {0})
@@ -20,13 +18,3 @@ pub module_step : (calls : Calls) (place : ℕ) (ds : List variables_code.Variab
 module_step calls place ds i d a low is =
     ap (λ (l : List variables_code.Variables). initialize_module calls place (map variables_of l) a) (drop_more ds i d low ∙ ap (λ (x : variables_code.Variables). x ∷ drop (i + 1) ds) (sym is))
     ∙ ap (λ (n : ℕ). onward (declaration_run calls place d a) (λ _. initialize_module calls (place + n) (map variables_of (drop (i + 1) ds)))) (length-map d.initializations.items value_of)
-
--- the fields of an object and the globals of a declaration, from one on
-
-pub fields_step : (calls : Calls) (place : ℕ) (vs : List initialization_code.Initialization) (i : ℕ) (v : initialization_code.Initialization) (a : Activity) → i < length vs → v ≡ get_or vs i v → initialize_fields calls place (map value_of (drop i vs)) a ≡ onward (initialize_field calls place (value_of v) a) (λ _. initialize_fields calls (place + 1) (map value_of (drop (i + 1) vs)))
-fields_step calls place vs i v a low is =
-    ap (λ (l : List initialization_code.Initialization). initialize_fields calls place (map value_of l) a) (next_is vs i v low is)
-
-pub globals_step : (calls : Calls) (place : ℕ) (vs : List initialization_code.Initialization) (i : ℕ) (v : initialization_code.Initialization) (a : Activity) → i < length vs → v ≡ get_or vs i v → initialize_globals calls place (map value_of (drop i vs)) a ≡ onward (initialize_global calls place (value_of v) a) (λ _. initialize_globals calls (place + 1) (map value_of (drop (i + 1) vs)))
-globals_step calls place vs i v a low is =
-    ap (λ (l : List initialization_code.Initialization). initialize_globals calls place (map value_of l) a) (next_is vs i v low is)

@@ -26,10 +26,6 @@ use Rattle.ash_plain_data.specs.Conversions.{converted_by}
 use Rattle.ash_evaluator.specs.WalkedPhrases.{operand_run, operands_run, link_run, links_run, lazies_run, arguments_after, target_run, invocation_run}
 use Rattle.ash_evaluator.proofs.Failing.{onward_assoc, onward_give}
 
--- what is left of a list begins with the next one
-pub next_is : {X : Type 0} (xs : List X) (i : ℕ) (x : X) → i < length xs → x ≡ get_or xs i x → drop i xs ≡ x ∷ drop (i + 1) xs
-next_is xs i x low is = drop_more xs i x low ∙ ap (λ (y : _). y ∷ drop (i + 1) xs) (sym is)
-
 three : {A B C D : Type 0} (p : Progress A) (f : A → Run B) (g : B → Run C) (h : C → Run D) → onward (onward (onward p f) g) h ≡ onward p (λ v. f v >>= g >>= h)
 three (Done v a) f g h = refl
 three (Ended i a) f g h = refl
@@ -89,20 +85,6 @@ module _ (calls : Calls) where
   pub lazy_follows : (k : kind_code.ExprKind) (op : Lazy) (first : expr_code.Expr) (xs : Vec expr_code.Expr Global) (a : Activity) → k ≡ views.Lazy op first xs → expression calls (expr_in k) a ≡ onward (expression calls (expr_of first) a) (lazies_run calls op xs.items)
   lazy_follows k op first xs a is =
       ap (λ (x : Expr). expression calls x a) (ap expr_in is ∙ lazy_is op first xs) ∙ lazies_follow op (expr_of first) xs.items a
-
-  -- what is in a list, from one on
-
-  pub operands_step : (os : List operand_code.Operand) (i : ℕ) (o : operand_code.Operand) (left : Word) (a : Activity) → i < length os → o ≡ get_or os i o → operands_run calls (drop i os) left a ≡ onward (operand_run calls o left a) (operands_run calls (drop (i + 1) os))
-  operands_step os i o left a low is =
-      ap (λ (l : List operand_code.Operand). operands_run calls l left a) (next_is os i o low is)
-
-  pub links_step : (ls : List link_code.Link) (i : ℕ) (l : link_code.Link) (handle : Word) (a : Activity) → i < length ls → l ≡ get_or ls i l → links_run calls (drop i ls) handle a ≡ onward (link_run calls l handle a) (links_run calls (drop (i + 1) ls))
-  links_step ls i l handle a low is =
-      ap (λ (k : List link_code.Link). links_run calls k handle a) (next_is ls i l low is)
-
-  pub lazies_step : (op : Lazy) (xs : List expr_code.Expr) (i : ℕ) (x : expr_code.Expr) (left : Word) (a : Activity) → i < length xs → x ≡ get_or xs i x → lazies_run calls op (drop i xs) left a ≡ onward (lazily op (is_true left) (expression calls (expr_of x)) a) (lazies_run calls op (drop (i + 1) xs))
-  lazies_step op xs i x left a low is =
-      ap (λ (l : List expr_code.Expr). lazies_run calls op l left a) (next_is xs i x low is)
 
 -- arguments, one after the other
 

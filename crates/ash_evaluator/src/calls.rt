@@ -83,7 +83,7 @@ impl<F: Fn(&mut Activity, ModuleCallee) -> RunResult<Option<Word>> + Drop> Evalu
     }
 
     /// Constructs an object of a class, whose frame has it as `this`, and gives it.
-    #[tactic(auto, unfolding(crate::specs::EvaluatorViews::calls_seen))]
+    #[tactic(auto, using(crate::proofs::Calling::construct_is, crate::proofs::Calling::no_class), unfolding(crate::specs::EvaluatorViews::calls_seen))]
     fn construct(&self, activity: &mut Activity, class: usize, args: Vec<Word>) -> RunResult<Word>
         requires callable { F.IsAlwaysCallable self.now.body }
         requires bodies { RunsBodies F.Fn self.now }

@@ -1,3 +1,2 @@
 pub mod Loops
 pub mod Nodes
-pub mod Walks

@@ -140,20 +140,17 @@ fn adapt_number(other: Form, of: Ty, typed: &mut TypedExpr)
         ≡ typing.placed typed.old.at
         (terms.adapted_number other of typed.old.form (typing.term_of (typed_of typed.old))) }
 {
-    let Form::Number(number) = typed.form else {
-        return;
-    };
-    let Ty::Integer(int_type) = of else {
-        return;
-    };
-    if matches!(other, Form::Number(_)) || !holds(int_type, number) {
-        return;
+    match (other, of, typed.form) {
+        (Form::Number(_), _, Form::Number(_)) => {}
+        (_, Ty::Integer(int_type), Form::Number(number)) if holds(int_type, number) => {
+            typed.ty = Ty::Integer(int_type);
+            *typed.tree.kind = ExprKind::Number {
+                of: int_type,
+                value: number,
+            };
+        }
+        _ => {}
     }
-    typed.ty = Ty::Integer(int_type);
-    *typed.tree.kind = ExprKind::Number {
-        of: int_type,
-        value: number,
-    };
 }
 
 /// An operand beside another, whose type and form are given.

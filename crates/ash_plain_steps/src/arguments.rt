@@ -62,6 +62,7 @@ fn are_held(parameters: &[VarType], arguments: &[Argument]) -> bool
 }
 
 /// The words of arguments, where there are as many as parameters, each of its type.
+#[tactic(auto, using(crate::proofs::ArgumentLists::one_more, crate::proofs::ArgumentLists::no_word, crate::proofs::ArgumentLists::as_many))]
 fn words_of(
     alloc: Global,
     parameters: &[VarType],

@@ -1,14 +1,10 @@
 -- These definitions say when one more registration is added.
-use Rattle.std.specs.Prelude.{◌≡◌, ◌+◌, ℕ, Bool, true, false, List, [], ◌∷◌, ◌++◌, Result, OnOk, OnErr, IfErr, length}
+use Rattle.std.specs.Prelude.{◌≡◌, ◌+◌, Bool, true, false, List, [], ◌∷◌, ◌++◌, Result, OnOk, OnErr, IfErr, length}
 use Rattle.std.specs.Prelude.{nat_lt}
 use Rattle.ash_registrations.specs.declared.adding.AddFault.{AddFault}
 use Rattle.ash_registrations.specs.declared.adding.AddFault.TheVariants.{TooLong}
 use Rattle.ash_registrations.specs.Registrations.{Registration}
 use Rattle.ash_registrations.specs.Text.{line_of, text_of, max_registered_text_bytes}
-
--- A text would be too long with this line.
-abbrev pub exceeds : List ℕ → List ℕ → Bool
-exceeds text line = nat_lt max_registered_text_bytes (length text + length line)
 
 -- The text would be too long with one more registration.
 abbrev pub is_too_long : List Registration → Registration → Bool

@@ -1,20 +1,15 @@
 //! One more registration.
-ghost use Rattle.std.specs.Prelude.{◌≡◌, ◌≤◌, ◌+◌, ℕ, List, true, false, Some, cond, length, OnOk, OnErr};
-ghost use Rattle.std.specs.Prelude.{IfOk, IfErr, string_bytes, string_len, string_capacity};
-ghost use Rattle.std.specs.Prelude.{vec_len, vec_capacity};
+ghost use Rattle.std.specs.Prelude.{◌≡◌, ℕ, List, false, string_bytes};
 ghost use Rattle.std.specs.List.{list_any};
 ghost use Rattle.std.specs.Str.{bytes_eq};
-ghost use Rattle.indexmap.specs.IndexMap.{get_by_text};
-ghost use Rattle.ash_registrations.specs.Added.{IsAdded, exceeds};
+ghost use Rattle.ash_registrations.specs.Added.{IsAdded};
 ghost use Rattle.ash_registrations.specs.Registrations.{registration_of, takes_name};
 ghost use Rattle.ash_registrations.specs.Registered.{registered};
-ghost use Rattle.ash_registrations.specs.Text.{line_of};
-ghost use Rattle.ash_registrations.specs.declared.adding.AddFault.TheVariants.{TooLong, NoMemory};
+ghost use Rattle.ash_registrations.specs.declared.adding.AddFault.TheVariants.{NoMemory};
 
 use crate::text::line;
 use crate::{Registration, Registrations};
-use indexmap::IndexMap;
-use std::alloc::{AllocError, AllocFailed, Global};
+use std::alloc::{AllocError, AllocFailed};
 use thiserror::Error;
 
 /// The most bytes of the text.
@@ -47,49 +42,6 @@ impl<T: Drop> From<AllocFailed<T>> for AddFault {
     }
 }
 
-/// The line of a registration, for which the text has room then.
-fn line_with_room(
-    alloc: Global,
-    text: &mut String,
-    registration: &Registration,
-) -> Result<String, AddFault>
-    ensures unchanged { string_bytes text.new ≡ string_bytes text.old }
-    ensures line { IfOk result (λ line. string_bytes line
-        ≡ line_of (registration_of registration.now)) }
-    ensures fits { OnOk result (exceeds (string_bytes text.old)
-        (line_of (registration_of registration.now)) ≡ false) }
-    ensures room { IfOk result (λ line. string_len text.new + length (string_bytes line)
-        ≤ string_capacity text.new) }
-    ensures too_long { IfErr result (λ fault. fault ≡ TooLong → exceeds (string_bytes text.old)
-        (line_of (registration_of registration.now)) ≡ true) }
-{
-    let line = line(alloc, registration)?;
-    if text.len() + line.len() > MAX_REGISTERED_TEXT_BYTES {
-        return Err(AddFault::TooLong);
-    }
-    text.reserve(line.len())?;
-    Ok(line)
-}
-
-/// Gives a name the place after the registrations, which have room for one more then.
-fn place_name(
-    names: &mut IndexMap<String, usize>,
-    registrations: &mut Vec<Registration>,
-    key: String,
-) -> Result<(), AllocError>
-    ensures kept { registrations.new.items ≡ registrations.old.items }
-    ensures room { OnOk result (vec_len registrations.new + 1 ≤ vec_capacity registrations.new) }
-    ensures placed { OnOk result ((name : List ℕ) → get_by_text names.new name
-        ≡ cond (bytes_eq (string_bytes key) name) (Some (length registrations.old.items))
-        (get_by_text names.old name)) }
-    ensures unchanged { OnErr result ((name : List ℕ) → get_by_text names.new name
-        ≡ get_by_text names.old name) }
-{
-    registrations.reserve(1)?;
-    names.insert(key, registrations.len())?;
-    Ok(())
-}
-
 impl Registrations {
     /// Adds a registration that takes a name of a type or function, with that name.
     pub fn add_named(&mut self, registration: Registration, key: String) -> Result<(), AddFault>
@@ -99,10 +51,15 @@ impl Registrations {
         ensures added { IsAdded (registration_of registration) result
             (registered self.old) (registered self.new) }
     {
-        let line = line_with_room(self.alloc, &mut self.text, &registration)?;
-        place_name(&mut self.names, &mut self.registrations, key)?;
+        let added = line(self.alloc, &registration)?;
+        if self.text.len() + added.len() > MAX_REGISTERED_TEXT_BYTES {
+            return Err(AddFault::TooLong);
+        }
+        self.text.reserve(added.len())?;
+        self.registrations.reserve(1)?;
+        self.names.insert(key, self.registrations.len())?;
         self.registrations.push(registration).unwrap();
-        self.text.push_str(line.as_str()).unwrap();
+        self.text.push_str(added.as_str()).unwrap();
         Ok(())
     }
 
@@ -113,7 +70,11 @@ impl Registrations {
         ensures added { IsAdded (registration_of registration) result
             (registered self.old) (registered self.new) }
     {
-        let line = line_with_room(self.alloc, &mut self.text, &registration)?;
+        let line = line(self.alloc, &registration)?;
+        if self.text.len() + line.len() > MAX_REGISTERED_TEXT_BYTES {
+            return Err(AddFault::TooLong);
+        }
+        self.text.reserve(line.len())?;
         self.registrations.push(registration)?;
         self.text.push_str(line.as_str()).unwrap();
         Ok(())

@@ -32,8 +32,9 @@ pub enum HostStep {
 /// Those that answer.
 #[derive(Drop)]
 struct Answerers {
-    /// The counters, each after its number.
-    counters: Vec<(u64, Counter)>,
+    /// The numbers of the counters.
+    numbers: Vec<u64>,
+    counters: Vec<Counter>,
     tally: Tally,
 }
 
@@ -126,6 +127,7 @@ fn odd_record(alloc: Global, number: u64, call: HostCall, answer: HostAnswer) ->
 impl Answerers {
     fn new(alloc: Global) -> Answerers {
         Answerers {
+            numbers: Vec::new(alloc),
             counters: Vec::new(alloc),
             tally: Tally::new(),
         }
@@ -135,7 +137,8 @@ impl Answerers {
     fn start(&mut self, alloc: Global, number: u64, call: HostCall) -> Result<HostRecord, Fail> {
         let mut counter = Counter::new();
         let record = record_of(alloc, &mut counter, Target::Object(number), call)?;
-        self.counters.push((number, counter))?;
+        self.numbers.push(number)?;
+        self.counters.push(counter)?;
         Ok(record)
     }
 
@@ -146,12 +149,13 @@ impl Answerers {
         number: u64,
         call: HostCall,
     ) -> Result<Option<HostRecord>, Fail> {
-        for (other, counter) in &mut self.counters {
-            if *other == number {
-                return Ok(Some(record_of(alloc, counter, Target::Object(number), call)?));
-            }
+        let Some(place) = self.numbers.iter().position(|other| *other == number) else {
+            return Ok(None);
+        };
+        match self.counters.get_mut(place) {
+            Some(counter) => Ok(Some(record_of(alloc, counter, Target::Object(number), call)?)),
+            None => Ok(None),
         }
-        Ok(None)
     }
 
     fn ask_service(&mut self, alloc: Global, call: HostCall) -> Result<HostRecord, NoMemory> {

@@ -7,29 +7,25 @@ static THROUGH_AN_INTERFACE: Row<'static> = Row {
     what: "calls through an interface, and casts",
     host: HOST,
     steps: &[],
-    exchanges: "load m interface I { int v(); } class A : I { int k; int v() { return k; } } \
+    exchanges: &[
+        (
+            "load m interface I { int v(); } class A : I { int k; int v() { return k; } } \
         class B : I { int v() { return 7; } } I@ g; \
         int f() { A@ a = A(); a.k = 3; @g = a; return g.v(); } \
-        int h() { @g = B(); return g.v(); } bool c() { A@ a = cast<A>(g); return a is null; }\n\
-        -> ok seq 1\n\
-        call m c\n\
-        -> ok true seq 2\n\
-        call m f\n\
-        -> ok 3 seq 3\n\
-        call m c\n\
-        -> ok false seq 4\n\
-        object 1\n\
-        -> ok object 1 m.A count 1 k 3\n\
-        call m h\n\
-        -> ok 7 seq 5\n\
-        call m c\n\
-        -> ok true seq 6\n\
-        get m g\n\
-        -> ok object 2\n\
-        object 1\n\
-        -> refused 407 NoObject\n\
-        object 2\n\
-        -> ok object 2 m.B count 1",
+        int h() { @g = B(); return g.v(); } bool c() { A@ a = cast<A>(g); return a is null; }",
+            "ok seq 1",
+            "",
+        ),
+        ("call m c", "ok true seq 2", ""),
+        ("call m f", "ok 3 seq 3", ""),
+        ("call m c", "ok false seq 4", ""),
+        ("object 1", "ok object 1 m.A count 1 k 3", ""),
+        ("call m h", "ok 7 seq 5", ""),
+        ("call m c", "ok true seq 6", ""),
+        ("get m g", "ok object 2", ""),
+        ("object 1", "refused 407 NoObject", ""),
+        ("object 2", "ok object 2 m.B count 1", ""),
+    ],
     left: "seq 6 last 2 | m object 2 | objects 2 | services 00000000 | free 3 left 0",
 };
 
@@ -42,10 +38,18 @@ static REFUSED_INTERFACES: Row<'static> = Row {
     what: "an interface in a cycle, and a method that is missing",
     host: HOST,
     steps: &[],
-    exchanges: "load m interface I { void g(); } class A : I { I@ n; void g() {} }\n\
-        -> refused 309 CyclicType A\n\
-        load m interface I { int v(); } class A : I { }\n\
-        -> refused 304 TypeMismatch 35",
+    exchanges: &[
+        (
+            "load m interface I { void g(); } class A : I { I@ n; void g() {} }",
+            "refused 309 CyclicType A",
+            "",
+        ),
+        (
+            "load m interface I { int v(); } class A : I { }",
+            "refused 304 TypeMismatch 35",
+            "",
+        ),
+    ],
     left: "seq 0 last 0 | objects | services 00000000 | free 3 left 0",
 };
 

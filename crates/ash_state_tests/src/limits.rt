@@ -8,20 +8,20 @@ static THE_LAST_TICK: [Row<'static>; 2] = [
         what: "as many ticks as are taken",
         host: Host { budget: 2, ..HOST },
         steps: &[],
-        exchanges: "load m int f() { return 1; }\n\
-            -> ok seq 1\n\
-            call m f\n\
-            -> ok 1 seq 2",
+        exchanges: &[
+            ("load m int f() { return 1; }", "ok seq 1", ""),
+            ("call m f", "ok 1 seq 2", ""),
+        ],
         left: "seq 2 last 0 | m | objects | services 00000000 | free 3 left 0",
     },
     Row {
         what: "one tick fewer than are taken",
         host: Host { budget: 1, ..HOST },
         steps: &[],
-        exchanges: "load m int f() { return 1; }\n\
-            -> ok seq 1\n\
-            call m f\n\
-            -> aborted f 1 seq 2",
+        exchanges: &[
+            ("load m int f() { return 1; }", "ok seq 1", ""),
+            ("call m f", "aborted f 1 seq 2", ""),
+        ],
         left: "seq 2 last 0 | m | objects | services 00000000 | free 3 left 0",
     },
 ];
@@ -35,10 +35,14 @@ static A_LOAD_WITHOUT_TICKS: Row<'static> = Row {
     what: "a load without ticks",
     host: Host { budget: 0, ..HOST },
     steps: &[],
-    exchanges: "load m int n = 2; int f(int k) { n += k; return n; }\n\
-        -> aborted (init) 1 seq 1\n\
-        call m f\n\
-        -> refused 401 NoModule",
+    exchanges: &[
+        (
+            "load m int n = 2; int f(int k) { n += k; return n; }",
+            "aborted (init) 1 seq 1",
+            "",
+        ),
+        ("call m f", "refused 401 NoModule", ""),
+    ],
     left: "seq 1 last 0 | objects | services 00000000 | free 3 left 0",
 };
 
@@ -55,12 +59,15 @@ static ENDLESS_CALLS: [Row<'static>; 2] = [
             ..HOST
         },
         steps: &[],
-        exchanges: "load m int f() { return f(); } void g() { for (;;) {} }\n\
-            -> ok seq 1\n\
-            call m f\n\
-            -> exception StackOverflow f 1 seq 2\n\
-            call m g\n\
-            -> aborted g 1 seq 3",
+        exchanges: &[
+            (
+                "load m int f() { return f(); } void g() { for (;;) {} }",
+                "ok seq 1",
+                "",
+            ),
+            ("call m f", "exception StackOverflow f 1 seq 2", ""),
+            ("call m g", "aborted g 1 seq 3", ""),
+        ],
         left: "seq 3 last 0 | m | objects | services 00000000 | free 3 left 0",
     },
     Row {
@@ -70,10 +77,14 @@ static ENDLESS_CALLS: [Row<'static>; 2] = [
             ..HOST
         },
         steps: &[],
-        exchanges: "load m int f() { return f(); } void g() { for (;;) {} }\n\
-            -> ok seq 1\n\
-            call m f\n\
-            -> aborted f 1 seq 2",
+        exchanges: &[
+            (
+                "load m int f() { return f(); } void g() { for (;;) {} }",
+                "ok seq 1",
+                "",
+            ),
+            ("call m f", "aborted f 1 seq 2", ""),
+        ],
         left: "seq 2 last 0 | m | objects | services 00000000 | free 3 left 0",
     },
 ];
@@ -91,10 +102,10 @@ static NUMBERS_THAT_ARE_SPENT: Row<'static> = Row {
         ..HOST
     },
     steps: &[],
-    exchanges: "load m void f() { Counter c(1); }\n\
-        -> ok seq 1\n\
-        call m f\n\
-        -> exception NumbersSpent f 1 seq 2",
+    exchanges: &[
+        ("load m void f() { Counter c(1); }", "ok seq 1", ""),
+        ("call m f", "exception NumbersSpent f 1 seq 2", ""),
+    ],
     left: "seq 2 last 18446744073709551615 | m | objects | services 00000000 | free 1 left 0",
 };
 

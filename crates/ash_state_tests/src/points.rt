@@ -19,10 +19,18 @@ static EXPRESSIONS: [Row<'static>; 8] = [
             HostStep::Start(2, 2),
             HostStep::Start(3, 3),
         ],
-        exchanges: "load m void f() { Counter(1); Counter(2); Counter(3); }\n\
-            -> ok seq 1\n\
-            call m f\n\
-            -> ok seq 2 dropped 1 2 3 | Drew 1; Dropped 1; Drew 2; Dropped 2; Drew 3; Dropped 3;",
+        exchanges: &[
+            (
+                "load m void f() { Counter(1); Counter(2); Counter(3); }",
+                "ok seq 1",
+                "",
+            ),
+            (
+                "call m f",
+                "ok seq 2 dropped 1 2 3",
+                "Drew 1; Dropped 1; Drew 2; Dropped 2; Drew 3; Dropped 3; ",
+            ),
+        ],
         left: "seq 2 last 3 | m | objects | services 00000000 | free 2 left 0",
     },
     Row {
@@ -35,10 +43,18 @@ static EXPRESSIONS: [Row<'static>; 8] = [
             HostStep::Read(2),
             HostStep::Start(3, 3),
         ],
-        exchanges: "load m void f() { int a = Counter(1).value, b = Counter(2).value; Counter c(3); }\n\
-            -> ok seq 1\n\
-            call m f\n\
-            -> ok seq 2 dropped 1 2 3 | Drew 1; Dropped 1; Drew 2; Dropped 2; Drew 3; Dropped 3;",
+        exchanges: &[
+            (
+                "load m void f() { int a = Counter(1).value, b = Counter(2).value; Counter c(3); }",
+                "ok seq 1",
+                "",
+            ),
+            (
+                "call m f",
+                "ok seq 2 dropped 1 2 3",
+                "Drew 1; Dropped 1; Drew 2; Dropped 2; Drew 3; Dropped 3; ",
+            ),
+        ],
         left: "seq 2 last 3 | m | objects | services 00000000 | free 2 left 0",
     },
     Row {
@@ -50,10 +66,18 @@ static EXPRESSIONS: [Row<'static>; 8] = [
             HostStep::Start(2, 2),
             HostStep::Start(3, 3),
         ],
-        exchanges: "load m void f() { if (Counter(1).value == 1) Counter(2); Counter c(3); }\n\
-            -> ok seq 1\n\
-            call m f\n\
-            -> ok seq 2 dropped 1 2 3 | Drew 1; Dropped 1; Drew 2; Dropped 2; Drew 3; Dropped 3;",
+        exchanges: &[
+            (
+                "load m void f() { if (Counter(1).value == 1) Counter(2); Counter c(3); }",
+                "ok seq 1",
+                "",
+            ),
+            (
+                "call m f",
+                "ok seq 2 dropped 1 2 3",
+                "Drew 1; Dropped 1; Drew 2; Dropped 2; Drew 3; Dropped 3; ",
+            ),
+        ],
         left: "seq 2 last 3 | m | objects | services 00000000 | free 2 left 0",
     },
     Row {
@@ -65,11 +89,19 @@ static EXPRESSIONS: [Row<'static>; 8] = [
             HostStep::Start(2, 2),
             HostStep::Start(3, 3),
         ],
-        exchanges: "load m void f() { switch (Counter(1).value) { case 1: Counter(2); } Counter \
-            c(3); }\n\
-            -> ok seq 1\n\
-            call m f\n\
-            -> ok seq 2 dropped 1 2 3 | Drew 1; Dropped 1; Drew 2; Dropped 2; Drew 3; Dropped 3;",
+        exchanges: &[
+            (
+                "load m void f() { switch (Counter(1).value) { case 1: Counter(2); } Counter \
+        c(3); }",
+                "ok seq 1",
+                "",
+            ),
+            (
+                "call m f",
+                "ok seq 2 dropped 1 2 3",
+                "Drew 1; Dropped 1; Drew 2; Dropped 2; Drew 3; Dropped 3; ",
+            ),
+        ],
         left: "seq 2 last 3 | m | objects | services 00000000 | free 2 left 0",
     },
     Row {
@@ -81,10 +113,18 @@ static EXPRESSIONS: [Row<'static>; 8] = [
             HostStep::Read(2),
             HostStep::Start(3, 3),
         ],
-        exchanges: "load m void f() { for (Counter(1); Counter(2).value < 2; ) ; Counter c(3); }\n\
-            -> ok seq 1\n\
-            call m f\n\
-            -> ok seq 2 dropped 1 2 3 | Drew 1; Dropped 1; Drew 2; Dropped 2; Drew 3; Dropped 3;",
+        exchanges: &[
+            (
+                "load m void f() { for (Counter(1); Counter(2).value < 2; ) ; Counter c(3); }",
+                "ok seq 1",
+                "",
+            ),
+            (
+                "call m f",
+                "ok seq 2 dropped 1 2 3",
+                "Drew 1; Dropped 1; Drew 2; Dropped 2; Drew 3; Dropped 3; ",
+            ),
+        ],
         left: "seq 2 last 3 | m | objects | services 00000000 | free 2 left 0",
     },
     Row {
@@ -95,11 +135,19 @@ static EXPRESSIONS: [Row<'static>; 8] = [
             HostStep::Start(2, 2),
             HostStep::Start(3, 3),
         ],
-        exchanges: "load m void f() { for (int i = 0; i < 1; Counter(1), i++, Counter(2)) ; Counter \
-            c(3); }\n\
-            -> ok seq 1\n\
-            call m f\n\
-            -> ok seq 2 dropped 1 2 3 | Drew 1; Dropped 1; Drew 2; Dropped 2; Drew 3; Dropped 3;",
+        exchanges: &[
+            (
+                "load m void f() { for (int i = 0; i < 1; Counter(1), i++, Counter(2)) ; Counter \
+        c(3); }",
+                "ok seq 1",
+                "",
+            ),
+            (
+                "call m f",
+                "ok seq 2 dropped 1 2 3",
+                "Drew 1; Dropped 1; Drew 2; Dropped 2; Drew 3; Dropped 3; ",
+            ),
+        ],
         left: "seq 2 last 3 | m | objects | services 00000000 | free 2 left 0",
     },
     Row {
@@ -111,13 +159,20 @@ static EXPRESSIONS: [Row<'static>; 8] = [
             HostStep::Start(3, 2),
             HostStep::Read(3),
         ],
-        exchanges: "load m class A { int a = Counter(1).value; int b = Counter(2).value; } A@ g; \
-            void f() { @g = A(); }\n\
-            -> ok seq 1\n\
-            call m f\n\
-            -> ok seq 2 dropped 2 3 | Drew 2; Dropped 2; Drew 3; Dropped 3;\n\
-            object 1\n\
-            -> ok object 1 m.A count 1 a 1 b 2",
+        exchanges: &[
+            (
+                "load m class A { int a = Counter(1).value; int b = Counter(2).value; } A@ g; \
+        void f() { @g = A(); }",
+                "ok seq 1",
+                "",
+            ),
+            (
+                "call m f",
+                "ok seq 2 dropped 2 3",
+                "Drew 2; Dropped 2; Drew 3; Dropped 3; ",
+            ),
+            ("object 1", "ok object 1 m.A count 1 a 1 b 2", ""),
+        ],
         left: "seq 2 last 3 | m object 1 | objects 1 | services 00000000 | free 3 left 0",
     },
     Row {
@@ -129,10 +184,14 @@ static EXPRESSIONS: [Row<'static>; 8] = [
             HostStep::Start(2, 2),
             HostStep::Read(2),
         ],
-        exchanges: "load m int a = Counter(1).value, b = Counter(2).value;\n\
-            -> ok seq 1 dropped 1 2 | Drew 1; Dropped 1; Drew 2; Dropped 2;\n\
-            get m b\n\
-            -> ok 2",
+        exchanges: &[
+            (
+                "load m int a = Counter(1).value, b = Counter(2).value;",
+                "ok seq 1 dropped 1 2",
+                "Drew 1; Dropped 1; Drew 2; Dropped 2; ",
+            ),
+            ("get m b", "ok 2", ""),
+        ],
         left: "seq 1 last 2 | m 1 2 | objects | services 00000000 | free 3 left 0",
     },
 ];
@@ -151,10 +210,18 @@ static BLOCKS: [Row<'static>; 7] = [
             HostStep::Start(2, 2),
             HostStep::Start(3, 3),
         ],
-        exchanges: "load m void f() { { Counter@ b; Counter a(1); @b = Counter(2); } Counter c(3); }\n\
-            -> ok seq 1\n\
-            call m f\n\
-            -> ok seq 2 dropped 1 2 3 | Drew 1; Drew 2; Dropped 1; Dropped 2; Drew 3; Dropped 3;",
+        exchanges: &[
+            (
+                "load m void f() { { Counter@ b; Counter a(1); @b = Counter(2); } Counter c(3); }",
+                "ok seq 1",
+                "",
+            ),
+            (
+                "call m f",
+                "ok seq 2 dropped 1 2 3",
+                "Drew 1; Drew 2; Dropped 1; Dropped 2; Drew 3; Dropped 3; ",
+            ),
+        ],
         left: "seq 2 last 3 | m | objects | services 00000000 | free 2 left 0",
     },
     Row {
@@ -165,10 +232,18 @@ static BLOCKS: [Row<'static>; 7] = [
             HostStep::Start(2, 2),
             HostStep::Start(3, 3),
         ],
-        exchanges: "load m void f() { { Counter a(1); { Counter b(2); } } Counter c(3); }\n\
-            -> ok seq 1\n\
-            call m f\n\
-            -> ok seq 2 dropped 2 1 3 | Drew 1; Drew 2; Dropped 2; Dropped 1; Drew 3; Dropped 3;",
+        exchanges: &[
+            (
+                "load m void f() { { Counter a(1); { Counter b(2); } } Counter c(3); }",
+                "ok seq 1",
+                "",
+            ),
+            (
+                "call m f",
+                "ok seq 2 dropped 2 1 3",
+                "Drew 1; Drew 2; Dropped 2; Dropped 1; Drew 3; Dropped 3; ",
+            ),
+        ],
         left: "seq 2 last 3 | m | objects | services 00000000 | free 2 left 0",
     },
     Row {
@@ -179,11 +254,19 @@ static BLOCKS: [Row<'static>; 7] = [
             HostStep::Start(2, 2),
             HostStep::Start(3, 3),
         ],
-        exchanges: "load m void f() { while (true) { Counter a(1); { Counter b(2); break; } } \
-            Counter c(3); }\n\
-            -> ok seq 1\n\
-            call m f\n\
-            -> ok seq 2 dropped 1 2 3 | Drew 1; Drew 2; Dropped 1; Dropped 2; Drew 3; Dropped 3;",
+        exchanges: &[
+            (
+                "load m void f() { while (true) { Counter a(1); { Counter b(2); break; } } \
+        Counter c(3); }",
+                "ok seq 1",
+                "",
+            ),
+            (
+                "call m f",
+                "ok seq 2 dropped 1 2 3",
+                "Drew 1; Drew 2; Dropped 1; Dropped 2; Drew 3; Dropped 3; ",
+            ),
+        ],
         left: "seq 2 last 3 | m | objects | services 00000000 | free 2 left 0",
     },
     Row {
@@ -194,11 +277,19 @@ static BLOCKS: [Row<'static>; 7] = [
             HostStep::Start(2, 2),
             HostStep::Start(3, 3),
         ],
-        exchanges: "load m void f() { switch (1) { case 1: { Counter a(1); { Counter b(2); break; } \
-            } } Counter c(3); }\n\
-            -> ok seq 1\n\
-            call m f\n\
-            -> ok seq 2 dropped 1 2 3 | Drew 1; Drew 2; Dropped 1; Dropped 2; Drew 3; Dropped 3;",
+        exchanges: &[
+            (
+                "load m void f() { switch (1) { case 1: { Counter a(1); { Counter b(2); break; } \
+        } } Counter c(3); }",
+                "ok seq 1",
+                "",
+            ),
+            (
+                "call m f",
+                "ok seq 2 dropped 1 2 3",
+                "Drew 1; Drew 2; Dropped 1; Dropped 2; Drew 3; Dropped 3; ",
+            ),
+        ],
         left: "seq 2 last 3 | m | objects | services 00000000 | free 2 left 0",
     },
     Row {
@@ -209,10 +300,18 @@ static BLOCKS: [Row<'static>; 7] = [
             HostStep::Start(2, 2),
             HostStep::Start(3, 3),
         ],
-        exchanges: "load m void f() { for (Counter a(1); ; ) { Counter b(2); break; } Counter c(3); }\n\
-            -> ok seq 1\n\
-            call m f\n\
-            -> ok seq 2 dropped 1 2 3 | Drew 1; Drew 2; Dropped 1; Dropped 2; Drew 3; Dropped 3;",
+        exchanges: &[
+            (
+                "load m void f() { for (Counter a(1); ; ) { Counter b(2); break; } Counter c(3); }",
+                "ok seq 1",
+                "",
+            ),
+            (
+                "call m f",
+                "ok seq 2 dropped 1 2 3",
+                "Drew 1; Drew 2; Dropped 1; Dropped 2; Drew 3; Dropped 3; ",
+            ),
+        ],
         left: "seq 2 last 3 | m | objects | services 00000000 | free 2 left 0",
     },
     Row {
@@ -224,12 +323,19 @@ static BLOCKS: [Row<'static>; 7] = [
             HostStep::Start(3, 1),
             HostStep::Start(4, 2),
         ],
-        exchanges: "load m void f() { for (int i = 0; i < 2; i++) { Counter a(1); { Counter b(2); \
-            continue; } } }\n\
-            -> ok seq 1\n\
-            call m f\n\
-            -> ok seq 2 dropped 1 2 3 4 | Drew 1; Drew 2; Dropped 1; Dropped 2; Drew 3; Drew 4; Dropped 3; Dropped \
-            4;",
+        exchanges: &[
+            (
+                "load m void f() { for (int i = 0; i < 2; i++) { Counter a(1); { Counter b(2); \
+        continue; } } }",
+                "ok seq 1",
+                "",
+            ),
+            (
+                "call m f",
+                "ok seq 2 dropped 1 2 3 4",
+                "Drew 1; Drew 2; Dropped 1; Dropped 2; Drew 3; Drew 4; Dropped 3; Dropped 4; ",
+            ),
+        ],
         left: "seq 2 last 4 | m | objects | services 00000000 | free 1 left 0",
     },
     Row {
@@ -243,11 +349,19 @@ static BLOCKS: [Row<'static>; 7] = [
             HostStep::Read(1),
             HostStep::Start(3, 3),
         ],
-        exchanges: "load m void f() { for (Counter a(1); a.value == 1; a.value = 2) { Counter b(2); \
-            continue; } Counter c(3); }\n\
-            -> ok seq 1\n\
-            call m f\n\
-            -> ok seq 2 dropped 2 1 3 | Drew 1; Drew 2; Dropped 2; Dropped 1; Drew 3; Dropped 3;",
+        exchanges: &[
+            (
+                "load m void f() { for (Counter a(1); a.value == 1; a.value = 2) { Counter b(2); \
+        continue; } Counter c(3); }",
+                "ok seq 1",
+                "",
+            ),
+            (
+                "call m f",
+                "ok seq 2 dropped 2 1 3",
+                "Drew 1; Drew 2; Dropped 2; Dropped 1; Drew 3; Dropped 3; ",
+            ),
+        ],
         left: "seq 2 last 3 | m | objects | services 00000000 | free 2 left 0",
     },
 ];

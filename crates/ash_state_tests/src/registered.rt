@@ -35,11 +35,8 @@ fn register(registry: &mut Registry) -> Result<(), RegistryFault> {
     register_odd(registry)
 }
 
-/// What is registered, in a box, since it is long where it is written out.
-pub type BoxedRegistry = Box<Registry>;
-
-/// What the program registers, and `Odd`.
-pub fn registry(alloc: Global) -> Result<BoxedRegistry, Fail> {
+/// What the program registers, and `Odd`: in a box, since a registry is long where it is written out.
+pub fn registry(alloc: Global) -> Result<Box<Registry>, Fail> {
     let mut registry = Registry::new(alloc);
     register(&mut registry)?;
     Ok(Box::new(alloc, registry)?)

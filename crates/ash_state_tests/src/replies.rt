@@ -19,7 +19,7 @@ pub fn write_word(out: &mut String, word: Word) -> Result<(), AllocError> {
         Word::Uint(number) => write!(out, "{number}"),
         Word::Int64(number) => write!(out, "{number}"),
         Word::Uint64(number) => write!(out, "{number}"),
-        Word::Null => out.push_str("null"),
+        Word::Null => write!(out, "null"),
         Word::Object(number) => write!(out, "object {number}"),
     }
 }
@@ -42,9 +42,9 @@ fn write_exception(out: &mut String, exception: Exception) -> Result<(), AllocEr
 
 fn write_end(out: &mut String, end: &End) -> Result<(), AllocError> {
     match end {
-        End::Finished(None) => out.push_str("ok"),
+        End::Finished(None) => write!(out, "ok"),
         End::Finished(Some(word)) => {
-            out.push_str("ok ")?;
+            write!(out, "ok ")?;
             write_word(out, *word)
         }
         End::Threw {
@@ -84,7 +84,7 @@ fn write_elements(out: &mut String, elements: &[Word]) -> Result<(), AllocError>
         return write!(out, " ({} zeros)", elements.len());
     }
     for word in elements {
-        out.push_str(" ")?;
+        write!(out, " ")?;
         write_word(out, *word)?;
     }
     Ok(())
@@ -100,7 +100,7 @@ fn write_contents(out: &mut String, contents: &ObjectContents) -> Result<(), All
             Ok(())
         }
         ObjectContents::HostState(state) => {
-            out.push_str(" state ")?;
+            write!(out, " state ")?;
             write_bytes(out, state)
         }
         ObjectContents::Elements(elements) => write_elements(out, elements),
@@ -187,25 +187,32 @@ fn write_reply(out: &mut String, reply: &Reply<SourceFault>) -> Result<(), Alloc
     match reply {
         Reply::Answered(answer) => write_answer(out, answer),
         Reply::Value(word) => {
-            out.push_str("ok ")?;
+            write!(out, "ok ")?;
             write_word(out, *word)
         }
         Reply::Shown(shown) => write_shown(out, shown),
         Reply::Number(seq) => write!(out, "ok {seq}"),
-        Reply::Done => out.push_str("ok"),
+        Reply::Done => write!(out, "ok"),
         Reply::Refused(refusal) => write_refusal(out, refusal),
     }
 }
 
+/// A reply as the program writes it.
+pub fn reply_text(alloc: Global, reply: &Reply<SourceFault>) -> Result<String, AllocError> {
+    let mut out = String::new(alloc);
+    write_reply(&mut out, reply)?;
+    Ok(out)
+}
+
 /// Writes an event of an object: what comes to it, and its number.
 fn write_named(out: &mut String, name: &str, number: u64) -> Result<(), AllocError> {
-    write!(out, "{name} {number};")
+    write!(out, "{name} {number}; ")
 }
 
 fn write_call(out: &mut String, target: Target, function: u16) -> Result<(), AllocError> {
     match target {
-        Target::Object(number) => write!(out, "Called {number} {function};"),
-        Target::Service(place) => write!(out, "Called service {place} {function};"),
+        Target::Object(number) => write!(out, "Called {number} {function}; "),
+        Target::Service(place) => write!(out, "Called service {place} {function}; "),
     }
 }
 
@@ -217,23 +224,13 @@ fn write_event(out: &mut String, event: Event) -> Result<(), AllocError> {
     }
 }
 
-/// Writes events after a bar, where there are some.
-fn write_events(out: &mut String, events: &[Event]) -> Result<(), AllocError> {
-    let mut before = " | ";
-    for event in events {
-        out.push_str(before)?;
-        write_event(out, *event)?;
-        before = " ";
-    }
-    Ok(())
-}
-
-/// A reply as the program writes it, and its events. One that is no answer has none.
-pub fn reply_text(alloc: Global, reply: &Reply<SourceFault>) -> Result<String, AllocError> {
+/// The events of a reply; one that is no answer has none.
+pub fn events_text(alloc: Global, reply: &Reply<SourceFault>) -> Result<String, AllocError> {
     let mut out = String::new(alloc);
-    write_reply(&mut out, reply)?;
     if let Reply::Answered(answer) = reply {
-        write_events(&mut out, &answer.events)?;
+        for event in &answer.events {
+            write_event(&mut out, *event)?;
+        }
     }
     Ok(out)
 }

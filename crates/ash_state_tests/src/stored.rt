@@ -6,7 +6,7 @@
 //! changed and each cut; `hosts`, the states of hosts, and `restoring`, the changes that a host may be in.
 
 mod changes;
-pub(crate) mod compare;
+mod compare;
 mod encoding;
 mod hosts;
 mod images;

@@ -1,5 +1,3 @@
 pub mod ReturnLaws
-pub mod DeclarationLaws
-pub mod ControlLaws
 pub mod StatementLaws
 pub mod NodeLaws

@@ -36,6 +36,9 @@ use Rattle.ash_typing.specs.Labels.{is_last}
 
 -- the results so far, with those of the rest
 
+abbrev pub values_after : List Initialization → TypingResult (List Initialization) → TypingResult (List Initialization)
+values_after done r = r >>= λ values. Ok (done ++ values)
+
 abbrev pub stmts_before : List Stmt → Stmts → Stmts
 stmts_before [] ss = ss
 stmts_before (s ∷ done) ss = stmt s (stmts_before done ss)

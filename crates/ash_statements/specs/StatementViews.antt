@@ -1,5 +1,5 @@
 -- The structs of the walk over statements and variables, as the definitions of typing see them.
-use Rattle.std.specs.Prelude.{ℕ, List, Option, Ok, map, option_map}
+use Rattle.std.specs.Prelude.{List, Option, map, option_map}
 use Rattle.std.specs.declared.vec.Vec.{Vec}
 use Rattle.std.specs.declared.alloc.Global.{Global}
 use Rattle.ash_registrations.specs.Registered.{registered}
@@ -9,20 +9,16 @@ use Rattle.ash_typed.specs.declared.tree.statements.Case as case_code
 use Rattle.ash_typed.specs.declared.tree.statements.Initialization as initialization_code
 use Rattle.ash_typed.specs.TypedTree.{Expr}
 use Rattle.ash_typed.specs.TypedTreeViews.{expr_of}
-use Rattle.ash_typed.specs.StatementTree.{Initialization, Head, Stmt, Switch, Stmts, Cases, cases}
-use Rattle.ash_tree.specs.Tree as written
-use Rattle.ash_typed.specs.BodyViews.{value_of, case_of, body_of, head_of}
+use Rattle.ash_typed.specs.StatementTree.{Initialization, Stmts, Cases, cases}
+use Rattle.ash_typed.specs.BodyViews.{value_of, case_of, body_of}
 use Rattle.ash_typing.specs.Environment.{Declared}
-use Rattle.ash_typing.specs.ExpressionRules.{TypedExpr, integer_of, check_exprs}
-use Rattle.ash_typing.specs.Scopes.{Scope, after}
-use Rattle.ash_typing.specs.StatementRules.{check_head, check_optional}
-use Rattle.ash_typing.specs.TypingResult.{TypingResult, ◌>>=◌}
+use Rattle.ash_typing.specs.ExpressionRules.{TypedExpr}
+use Rattle.ash_typing.specs.Scopes.{Scope}
 use Rattle.ash_environment.specs.declared.signatures.Binding as binding
 use Rattle.ash_expressions.specs.declared.typed_expr.TypedExpr as typed_expr
 use Rattle.ash_environment.specs.EnvironmentViews.{binding_of, signatures_of}
-use Rattle.ash_expressions.specs.TypedExprViews.{typed_of, all_typed_of}
+use Rattle.ash_expressions.specs.TypedExprViews.{typed_of}
 use Rattle.ash_statements.specs.declared.scopes.Scope as scope
-use Rattle.ash_statements.specs.declared.loops.CheckedControl as control_code
 
 abbrev pub locals_of : Vec binding.Binding Global → List Declared
 locals_of locals = map binding_of locals.items
@@ -57,27 +53,3 @@ optional_typed_of t = option_map typed_of t
 -- the initial value of a variable, where it has one
 abbrev pub optional_expr : Option expr_code.Expr → Option Expr
 optional_expr value = option_map expr_of value
-
--- a `switch`, once its parts are typed: its value has to be of an integer type
-abbrev pub built_switch : ℕ → TypedExpr → Cases → TypingResult Stmt
-built_switch line value labels = integer_of value.at value.ty >>= λ int_type. Ok (Switch line int_type value.tree labels)
-
--- what a `for` has before its body: the condition and the steps see the variables of its head
-pub record Control : Type 0 where
-  pub head : Head
-  pub condition : Option TypedExpr
-  pub steps : List TypedExpr
-
-abbrev pub control_of : control_code.CheckedControl → Control
-control_of c =
-    record { head = head_of c.head; condition = optional_typed_of c.condition; steps = all_typed_of c.steps }
-
-abbrev pub control_by : TypingResult Head → TypingResult (Option TypedExpr) → TypingResult (List TypedExpr)
-    → TypingResult Control
-control_by head condition steps =
-    head >>= λ h. condition >>= λ c. steps >>= λ ts. Ok (record { head = h; condition = c; steps = ts })
-
-abbrev pub control_at : Scope → written.Stmt → Option written.Expr → List written.Expr → TypingResult Control
-control_at scope first condition steps =
-    control_by (check_head scope first) (check_optional (after scope first).env condition)
-    (check_exprs (after scope first).env (written.exprs steps))

@@ -1,4 +1,4 @@
-//! Loops, once their parts are typed, and what a `for` has before its body.
+//! Loops, once their parts are typed, and the head of a `for`.
 
 ghost use Rattle.std.specs.Prelude.{◌≡◌, true, Ok, map, option_map, IfOk};
 ghost use Rattle.ash_tree.specs.TreeViews as written;
@@ -7,14 +7,15 @@ ghost use Rattle.ash_typed.specs.BodyViews.{stmt_of, head_of};
 ghost use Rattle.ash_typing.specs.Scopes as scopes;
 ghost use Rattle.ash_typing.specs.StatementRules as definition;
 ghost use Rattle.ash_environment.specs.Agreement.{Agrees};
+ghost use Rattle.ash_environment.specs.EnvironmentViews.{environment_of};
 ghost use Rattle.ash_expressions.specs.TypedExprViews.{typed_of, all_typed_of};
 ghost use Rattle.ash_statements.specs.StatementViews.{locals_of, scope_of, optional_typed_of};
-ghost use Rattle.ash_statements.specs.StatementViews.{optional_expr, control_of, control_at};
+ghost use Rattle.ash_statements.specs.StatementViews.{optional_expr};
 
 use crate::locals::check_local_vars;
-use crate::scopes::{Scope, check_optional_value, check_value, check_values};
-use ash_environment::{Binding, CheckResult, fault_at};
-use ash_expressions::{TypedExpr, check_bool};
+use crate::scopes::Scope;
+use ash_environment::{Binding, CheckResult, Environment, fault_at};
+use ash_expressions::{AssignmentSide, TypedExpr, check_bool, check_expr};
 use ash_tree::{Expr, Position, Stmt as Source, StmtKind};
 use ash_typed::{Expr as Tree, Head, Stmt, Test, nodes};
 use ash_typing::Rule;
@@ -43,7 +44,7 @@ pub(crate) fn check_for_head<'n>(
             Ok(Head::Declare(values))
         }
         StmtKind::Expr(value) => {
-            let value = check_value(scope, locals, value)?;
+            let value = check_expr(&(&*scope).environment(locals), AssignmentSide::Value, value)?;
             Ok(Head::Evaluate(value.tree))
         }
         StmtKind::Block(_) | StmtKind::If { .. } | StmtKind::IfElse { .. } => {
@@ -101,58 +102,43 @@ pub(crate) struct ForParts<'n> {
     pub(crate) body: &'n Source,
 }
 
-/// What a `for` has before its body, once it is typed.
+/// The checked parts of `for`.
 #[derive(Drop)]
-pub(crate) struct CheckedControl {
+pub(crate) struct CheckedFor {
     pub(crate) head: Head,
     pub(crate) condition: Option<TypedExpr>,
     pub(crate) steps: Vec<TypedExpr>,
+    pub(crate) body: Box<Stmt>,
 }
 
-/// Checks what a `for` has before its body. The variables of its head are added to the locals.
-pub(crate) fn check_control<'n>(
-    scope: &Scope<'_, 'n>,
-    locals: &mut Vec<Binding<'n>>,
-    parts: ForParts<'n>,
-) -> CheckResult<CheckedControl>
-    ensures typed { Agrees control_of result
-        (control_at (scope_of scope.now (locals_of locals.old))
-        (written.stmt_of parts.entry.first.now)
-        (option_map written.expr_of parts.entry.condition.now)
-        (map written.expr_of parts.entry.steps.now)) }
-    ensures locals { IfOk result
-        (λ _. scope_of scope.now (locals_of locals.new)
-        ≡ scopes.after (scope_of scope.now (locals_of locals.old))
-        (written.stmt_of parts.entry.first.now)) }
-{
-    let head = check_for_head(scope, locals, parts.first)?;
-    let condition = check_optional_value(scope, locals, parts.condition)?;
-    let steps = check_values(scope, locals, parts.steps)?;
-    Ok(CheckedControl {
-        head,
-        condition,
-        steps,
-    })
-}
-
-/// `for (head; condition; steps) body`
+/// `for (head condition; steps) body`
 #[tactic(auto, unfolding(ash_typing::specs::StatementRules::check_for))]
-pub(crate) fn build_for(
-    alloc: Global,
-    line: usize,
-    control: CheckedControl,
-    body: Box<Stmt>,
-) -> CheckResult<Stmt>
+pub(crate) fn build_for(alloc: Global, line: usize, parts: CheckedFor) -> CheckResult<Stmt>
     ensures agrees { Agrees stmt_of result
-        (definition.check_for line (Ok (head_of control.head))
-        (Ok (optional_typed_of control.condition)) (Ok (all_typed_of control.steps))
-        (Ok (stmt_of body.value))) }
+        (definition.check_for line (Ok (head_of parts.head))
+        (Ok (optional_typed_of parts.condition)) (Ok (all_typed_of parts.steps))
+        (Ok (stmt_of parts.body.value))) }
 {
-    check_optional_bool(&control.condition)?;
-    let steps = trees_of(alloc, control.steps)?;
-    let condition = optional_tree(control.condition);
-    let inside = nodes::repetition(Test::First, condition, steps, body);
-    Ok(nodes::for_loop(line, control.head, inside))
+    check_optional_bool(&parts.condition)?;
+    let steps = trees_of(alloc, parts.steps)?;
+    let condition = optional_tree(parts.condition);
+    let inside = nodes::repetition(Test::First, condition, steps, parts.body);
+    Ok(nodes::for_loop(line, parts.head, inside))
+}
+
+/// Checks a condition, where there is one.
+pub(crate) fn check_optional_expr(
+    env: &Environment,
+    condition: &Option<Expr>,
+) -> CheckResult<Option<TypedExpr>>
+    ensures agrees { Agrees optional_typed_of result
+        (definition.check_optional (environment_of env.now)
+        (option_map written.expr_of condition.now)) }
+{
+    match condition {
+        None => Ok(None),
+        Some(condition) => Ok(Some(check_expr(env, AssignmentSide::Value, condition)?)),
+    }
 }
 
 /// Requires that a condition is a truth value, where there is one.

@@ -1,24 +1,19 @@
-//! The scope of a statement: its block, the loop or `switch` that it is in, and the function around it; and the
-//! expressions that are checked in it.
+//! The scope of a statement: its block, the loop or `switch` that it is in, and the function around it.
 
-ghost use Rattle.std.specs.Prelude.{◌≡◌, false, drop, map, option_map, IfOk};
+ghost use Rattle.std.specs.Prelude.{◌≡◌, drop, map, IfOk};
 ghost use Rattle.std.specs.List.{list_any};
-ghost use Rattle.ash_tree.specs.Tree.{exprs};
-ghost use Rattle.ash_tree.specs.TreeViews.{decl_of, expr_of};
+ghost use Rattle.ash_tree.specs.TreeViews.{decl_of};
 ghost use Rattle.ash_typing.specs.Environment.{declares};
 ghost use Rattle.ash_typing.specs.ModuleDeclarations.{declared};
-ghost use Rattle.ash_typing.specs.ExpressionRules as typing;
 ghost use Rattle.ash_typing.specs.Scopes as scopes;
 ghost use Rattle.ash_typing.specs.StatementRules as definition;
 ghost use Rattle.ash_environment.specs.Agreement.{Agrees};
 ghost use Rattle.ash_environment.specs.EnvironmentViews.{binding_of, environment_of};
-ghost use Rattle.ash_expressions.specs.TypedExprViews.{typed_of, all_typed_of};
-ghost use Rattle.ash_statements.specs.StatementViews.{scope_of, optional_typed_of};
+ghost use Rattle.ash_statements.specs.StatementViews.{scope_of};
 
 use ash_environment::{Binding, CheckResult, Environment, Signatures, fault_at};
-use ash_expressions::{AssignmentSide, TypedExpr, check_expr, check_exprs};
 use ash_registrations::Registrations;
-use ash_tree::{Decl, Expr};
+use ash_tree::Decl;
 use ash_typing::{Rule, Ty};
 use std::alloc::Global;
 
@@ -102,50 +97,4 @@ impl<'a, 'n> Scope<'a, 'n> {
         }
         Ok(Binding { name, of })
     }
-}
-
-/// Checks an expression of which the value is taken.
-pub(crate) fn check_value(
-    scope: &Scope,
-    locals: &[Binding],
-    source: &Expr,
-) -> CheckResult<TypedExpr>
-    ensures typed { Agrees typed_of result
-        (typing.check_expr (scope_of scope.now (map binding_of locals.now)).env false
-        (expr_of source.now)) }
-{
-    check_expr(
-        &(&*scope).environment(locals),
-        AssignmentSide::Value,
-        source,
-    )
-}
-
-/// Checks an expression of which the value is taken, where there is one.
-pub(crate) fn check_optional_value(
-    scope: &Scope,
-    locals: &[Binding],
-    source: &Option<Expr>,
-) -> CheckResult<Option<TypedExpr>>
-    ensures typed { Agrees optional_typed_of result
-        (definition.check_optional (scope_of scope.now (map binding_of locals.now)).env
-        (option_map expr_of source.now)) }
-{
-    match source {
-        None => Ok(None),
-        Some(source) => Ok(Some(check_value(scope, locals, source)?)),
-    }
-}
-
-/// Checks expressions of which the values are taken.
-pub(crate) fn check_values(
-    scope: &Scope,
-    locals: &[Binding],
-    source: &[Expr],
-) -> CheckResult<Vec<TypedExpr>>
-    ensures typed { Agrees all_typed_of result
-        (typing.check_exprs (scope_of scope.now (map binding_of locals.now)).env
-        (exprs (map expr_of source.now))) }
-{
-    check_exprs(&(&*scope).environment(locals), source)
 }

@@ -14,10 +14,14 @@ ghost use Rattle.ash_environment.specs.EnvironmentViews.{binding_of};
 use crate::conditions::{boxed_stmt, build_if, build_if_else};
 use crate::jumps::{check_break, check_continue, check_return};
 use crate::locals::check_local_vars;
-use crate::loops::{ForParts, build_do_while, build_for, build_while, check_control};
-use crate::scopes::{Scope, check_value};
-use crate::switches::{LabelContext, build_switch, check_label, integer_type_in, is_last};
+use crate::loops::{
+    CheckedFor, ForParts, build_do_while, build_for, build_while, check_for_head,
+    check_optional_expr,
+};
+use crate::scopes::Scope;
+use crate::switches::{LabelContext, check_label, integer_type_in, is_last};
 use ash_environment::{Binding, CheckResult};
+use ash_expressions::{AssignmentSide, check_expr, check_exprs, integer_type};
 use ash_tree::{Case, Expr, Position, Stmt, StmtKind, Vars};
 use ash_typed::{Case as TypedCase, IntType, Stmt as TypedStmt, StmtKind as TypedKind, nodes};
 
@@ -119,7 +123,7 @@ fn check_evaluation(
         (definition.check_stmt (scope_of scope.now (map binding_of locals.now))
         (Evaluate place (written.expr_of value.now))) }
 {
-    let value = check_value(scope, locals, value)?;
+    let value = check_expr(&(&*scope).environment(locals), AssignmentSide::Value, value)?;
     Ok(TypedStmt {
         line: place.line,
         kind: TypedKind::Evaluate(value.tree),
@@ -142,25 +146,6 @@ fn check_branch<'n>(
     let typed = check_stmt(scope, locals, source)?;
     locals.truncate(outer);
     Ok(boxed_stmt(scope.alloc, typed)?)
-}
-
-/// Checks the statement that a loop repeats, as a branch.
-#[cycle(statements)]
-fn check_repeated<'n>(
-    scope: &Scope<'_, 'n>,
-    locals: &mut Vec<Binding<'n>>,
-    source: &'n Stmt,
-) -> CheckResult<Box<TypedStmt>>
-    ensures typed { Agrees (λ s. stmt_of s.value) result
-        (definition.check_stmt (scopes.loop_of (scope_of scope.now (locals_of locals.old)))
-        (written.stmt_of source.now)) }
-    ensures unchanged { IfOk result (λ _. locals_of locals.new ≡ locals_of locals.old) }
-{
-    let repeated = Scope {
-        in_loop: true,
-        ..*scope
-    };
-    check_branch(&repeated, locals, source)
 }
 
 /// Checks the statements of a block. After it, none of its variables is left.
@@ -221,7 +206,11 @@ fn check_if<'n>(
         (If place (written.expr_of condition.now) (written.stmt_of inner.now))) }
     ensures unchanged { IfOk result (λ _. locals_of locals.new ≡ locals_of locals.old) }
 {
-    let condition = check_value(scope, locals, condition)?;
+    let condition = check_expr(
+        &(&*scope).environment(locals),
+        AssignmentSide::Value,
+        condition,
+    )?;
     let inner = check_branch(scope, locals, inner)?;
     build_if(place.line, condition, inner)
 }
@@ -242,7 +231,11 @@ fn check_if_else<'n>(
         (written.stmt_of branches.entry.otherwise.now))) }
     ensures unchanged { IfOk result (λ _. locals_of locals.new ≡ locals_of locals.old) }
 {
-    let condition = check_value(scope, locals, condition)?;
+    let condition = check_expr(
+        &(&*scope).environment(locals),
+        AssignmentSide::Value,
+        condition,
+    )?;
     let then = check_branch(scope, locals, branches.then)?;
     let otherwise = check_branch(scope, locals, branches.otherwise)?;
     build_if_else(place.line, condition, then, otherwise)
@@ -263,8 +256,16 @@ fn check_while<'n>(
         (While place (written.expr_of condition.now) (written.stmt_of inner.now))) }
     ensures unchanged { IfOk result (λ _. locals_of locals.new ≡ locals_of locals.old) }
 {
-    let condition = check_value(scope, locals, condition)?;
-    let inner = check_repeated(scope, locals, inner)?;
+    let condition = check_expr(
+        &(&*scope).environment(locals),
+        AssignmentSide::Value,
+        condition,
+    )?;
+    let repeated = Scope {
+        in_loop: true,
+        ..*scope
+    };
+    let inner = check_branch(&repeated, locals, inner)?;
     build_while(scope.alloc, place.line, condition, inner)
 }
 
@@ -283,8 +284,16 @@ fn check_do_while<'n>(
         (DoWhile place (written.stmt_of inner.now) (written.expr_of condition.now))) }
     ensures unchanged { IfOk result (λ _. locals_of locals.new ≡ locals_of locals.old) }
 {
-    let inner = check_repeated(scope, locals, inner)?;
-    let condition = check_value(scope, locals, condition)?;
+    let repeated = Scope {
+        in_loop: true,
+        ..*scope
+    };
+    let inner = check_branch(&repeated, locals, inner)?;
+    let condition = check_expr(
+        &(&*scope).environment(locals),
+        AssignmentSide::Value,
+        condition,
+    )?;
     build_do_while(scope.alloc, place.line, inner, condition)
 }
 
@@ -304,14 +313,27 @@ fn check_for<'n>(
     ensures unchanged { IfOk result (λ _. locals_of locals.new ≡ locals_of locals.old) }
 {
     let outer = locals.len();
-    let inner = Scope {
+    let head = Scope {
         block_start: outer,
         ..*scope
     };
-    let control = check_control(&inner, locals, parts)?;
-    let body = check_repeated(&inner, locals, parts.body)?;
+    let first = check_for_head(&head, locals, parts.first)?;
+    let env = head.environment(locals);
+    let condition = check_optional_expr(&env, parts.condition)?;
+    let steps = check_exprs(&env, parts.steps)?;
+    let repeated = Scope {
+        in_loop: true,
+        ..head
+    };
+    let body = check_branch(&repeated, locals, parts.body)?;
     locals.truncate(outer);
-    build_for(scope.alloc, parts.place.line, control, body)
+    let checked = CheckedFor {
+        head: first,
+        condition,
+        steps,
+        body,
+    };
+    build_for(scope.alloc, parts.place.line, checked)
 }
 
 /// `switch (value) { labels }`
@@ -328,29 +350,14 @@ fn check_switch<'n>(
         (Switch place (written.expr_of value.now) (cases (map written.case_of labels.now)))) }
     ensures unchanged { IfOk result (λ _. locals_of locals.new ≡ locals_of locals.old) }
 {
-    let value = check_value(scope, locals, value)?;
-    let labels = check_chosen(scope, locals, integer_type_in(value.ty), labels)?;
-    build_switch(place.line, value, labels)
-}
-
-/// Checks the labels of a `switch`, which is what its statements leave by `break`.
-#[cycle(statements)]
-fn check_chosen<'n>(
-    scope: &Scope<'_, 'n>,
-    locals: &mut Vec<Binding<'n>>,
-    int_type: Option<IntType>,
-    labels: &'n [Case],
-) -> CheckResult<Vec<TypedCase>>
-    ensures typed { Agrees cases_in result
-        (definition.check_cases (scopes.switch_of (scope_of scope.now (locals_of locals.old)))
-        int_type [] (cases (map written.case_of labels.now))) }
-    ensures unchanged { IfOk result (λ _. locals_of locals.new ≡ locals_of locals.old) }
-{
+    let value = check_expr(&(&*scope).environment(locals), AssignmentSide::Value, value)?;
     let chosen = Scope {
         in_switch: true,
         ..*scope
     };
-    check_cases(&chosen, locals, int_type, labels)
+    let labels = check_cases(&chosen, locals, integer_type_in(value.ty), labels)?;
+    let int_type = integer_type(value.at, value.ty)?;
+    Ok(nodes::switch(place.line, int_type, value.tree, labels))
 }
 
 /// Checks labels in their order, with the statements after each.

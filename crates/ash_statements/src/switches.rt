@@ -1,21 +1,17 @@
-//! Labels of a `switch`, and the `switch` once its parts are typed.
+//! Labels of a `switch`.
 
 ghost use Rattle.std.specs.Prelude.{◌≡◌, ◌<◌, ◌+◌, length, map, drop, IsErrOf};
 ghost use Rattle.std.specs.List.{list_any};
 ghost use Rattle.ash_tree.specs.Tree.{cases};
 ghost use Rattle.ash_tree.specs.TreeViews.{case_of};
-ghost use Rattle.ash_typed.specs.BodyViews.{stmt_of};
 ghost use Rattle.ash_typing.specs.Labels as constants;
 ghost use Rattle.ash_typing.specs.Switches as definition;
 ghost use Rattle.ash_environment.specs.declared.error.CheckError.TheVariants.{NoMemory};
 ghost use Rattle.ash_environment.specs.Agreement.{Agrees};
-ghost use Rattle.ash_expressions.specs.TypedExprViews.{typed_of};
-ghost use Rattle.ash_statements.specs.StatementViews.{built_switch, cases_in};
 
 use ash_environment::{CheckResult, fault_at, holds};
-use ash_expressions::{TypedExpr, integer_type};
 use ash_tree::{Case, Label};
-use ash_typed::{Case as TypedCase, IntType, Stmt, nodes};
+use ash_typed::IntType;
 use ash_typing::{Rule, Ty};
 
 /// The integer type of the value, where it has one.
@@ -130,17 +126,4 @@ pub(crate) fn check_label(context: LabelContext, at: usize, label: Label) -> Che
         }
         _ => check_constant(context.int_type, context.before, at, label),
     }
-}
-
-/// `switch (value) { labels }`, whose value has to be of an integer type.
-pub(crate) fn build_switch(
-    line: usize,
-    value: TypedExpr,
-    labels: Vec<TypedCase>,
-) -> CheckResult<Stmt>
-    ensures agrees { Agrees stmt_of result
-        (built_switch line (typed_of value) (cases_in labels)) }
-{
-    let int_type = integer_type(value.at, value.ty)?;
-    Ok(nodes::switch(line, int_type, value.tree, labels))
 }

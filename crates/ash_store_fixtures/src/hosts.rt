@@ -3,7 +3,7 @@
 //! written of it.
 
 use ash_disk::{Disk, FailingDisk, MemoryDisk, Survives};
-use ash_durable::{Host, HostRefused, StoreFault};
+use ash_durable::{Host, StoreFault};
 use ash_host::Word;
 use ash_lines::reply::{LineReply, write_line_reply};
 use ash_lines::sink::WriteFault;
@@ -90,35 +90,6 @@ pub fn crashed(
     MemoryDisk::with_bytes(alloc, &image)
 }
 
-/// A host over disks in memory. It is in a box where it is handed on, since it is large.
-pub(crate) type BoxedHost = Box<Host<MemoryDisk>>;
-
-/// A host in a box.
-fn boxed(alloc: Global, host: Host<MemoryDisk>) -> Result<BoxedHost, AllocError> {
-    Ok(Box::new(alloc, host)?)
-}
-
-/// What was begun in a box, or why there is none.
-pub(crate) fn boxed_or_fault(
-    alloc: Global,
-    begun: Result<Host<MemoryDisk>, StoreFault>,
-) -> Result<Result<BoxedHost, StoreFault>, AllocError> {
-    match begun {
-        Ok(host) => Ok(Ok(boxed(alloc, host)?)),
-        Err(fault) => Ok(Err(fault)),
-    }
-}
-
-/// What was begun, or why there is none.
-fn host_or_fault<D: Disk + Drop>(
-    begun: Result<Host<D>, HostRefused<D>>,
-) -> Result<Host<D>, StoreFault> {
-    match begun {
-        Ok(host) => Ok(host),
-        Err(refused) => Err(refused.fault),
-    }
-}
-
 /// A host with a new store on these disks, or why there is none.
 pub fn created<D: Disk + Drop>(
     alloc: Global,
@@ -126,7 +97,7 @@ pub fn created<D: Disk + Drop>(
     b: D,
     registry: Registry,
 ) -> Result<Host<D>, StoreFault> {
-    host_or_fault(Host::create(alloc, a, b, registry))
+    Host::create(alloc, a, b, registry).map_err(|refused| refused.fault)
 }
 
 /// A host with the store on these disks, or why there is none.
@@ -136,12 +107,12 @@ pub fn opened<D: Disk + Drop>(
     b: D,
     registry: Registry,
 ) -> Result<Host<D>, StoreFault> {
-    host_or_fault(Host::open(alloc, a, b, registry))
+    Host::open(alloc, a, b, registry).map_err(|refused| refused.fault)
 }
 
 /// A host that was closed and opened again with the same registry, or why it can't be.
 pub fn reopened<D: Disk + Drop>(host: Host<D>) -> Result<Host<D>, StoreFault> {
-    host_or_fault(host.reopen())
+    host.reopen().map_err(|refused| refused.fault)
 }
 
 /// The two disks of a host that is closed.
@@ -263,93 +234,47 @@ pub fn state<D: Disk>(host: &mut Host<D>) -> State {
     }
 }
 
-/// Two disks in memory with these bytes.
-fn two_disks(alloc: Global, a: &[u8], b: &[u8]) -> Result<(MemoryDisk, MemoryDisk), AllocError> {
-    let a = disk(alloc, a)?;
-    let b = disk(alloc, b)?;
-    Ok((a, b))
-}
-
 /// A host with a new store on such disks and nothing registered.
 pub fn new_host(alloc: Global, a: &[u8], b: &[u8]) -> Result<Host<MemoryDisk>, Fail> {
-    let (a, b) = two_disks(alloc, a, b)?;
+    let (a, b) = (disk(alloc, a)?, disk(alloc, b)?);
     Ok(created(alloc, a, b, Registry::new(alloc))?)
-}
-
-/// A host that is opened over two disks, with nothing registered, or why there is none.
-pub(crate) fn opened_host(
-    alloc: Global,
-    disks: (MemoryDisk, MemoryDisk),
-) -> Result<Result<BoxedHost, StoreFault>, AllocError> {
-    let (a, b) = disks;
-    boxed_or_fault(alloc, opened(alloc, a, b, Registry::new(alloc)))
 }
 
 /// What opening a store on such disks gives, where nothing is registered: its number, or why there is no host.
 pub fn found(alloc: Global, a: &[u8], b: &[u8]) -> Result<Result<u64, StoreFault>, Fail> {
-    let disks = two_disks(alloc, a, b)?;
-    match opened_host(alloc, disks)? {
-        Ok(host) => Ok(Ok(seq(&host))),
-        Err(fault) => Ok(Err(fault)),
-    }
+    let (a, b) = (disk(alloc, a)?, disk(alloc, b)?);
+    Ok(opened(alloc, a, b, Registry::new(alloc)).map(|host| seq(&host)))
 }
 
 /// The same for the host's state.
 pub fn found_state(alloc: Global, a: &[u8], b: &[u8]) -> Result<Result<State, StoreFault>, Fail> {
-    let disks = two_disks(alloc, a, b)?;
-    match opened_host(alloc, disks)? {
+    let (a, b) = (disk(alloc, a)?, disk(alloc, b)?);
+    match opened(alloc, a, b, Registry::new(alloc)) {
         Ok(mut host) => Ok(Ok(state(&mut host))),
         Err(fault) => Ok(Err(fault)),
     }
 }
 
-/// A host with a new store on two empty disks.
-fn empty_host(alloc: Global) -> Result<BoxedHost, Fail> {
-    Ok(boxed(alloc, new_host(alloc, &[], &[])?)?)
-}
-
-/// A host, where it has replied this and did what it was asked for.
-fn when_done(alloc: Global, host: BoxedHost, reply: HostReply) -> Result<BoxedHost, Fail> {
-    need(alloc, reply)?;
-    Ok(host)
-}
-
-/// A host that has loaded this source as a module of this name.
-fn with_module(
-    alloc: Global,
-    mut host: BoxedHost,
-    module: &str,
-    source: &[u8],
-) -> Result<BoxedHost, Fail> {
-    let reply = load_as(&mut host, module, source);
-    when_done(alloc, host, reply)
-}
-
-/// A host that has called the function `f` of the module `m` with a number.
-fn with_call(alloc: Global, mut host: BoxedHost, number: i128) -> Result<BoxedHost, Fail> {
-    let reply = add(&mut host, number);
-    when_done(alloc, host, reply)
-}
-
 /// A host that has answered two requests, after which `n` is 7.
 pub fn used(alloc: Global) -> Result<Host<MemoryDisk>, Fail> {
-    let host = with_module(alloc, empty_host(alloc)?, "m", SOURCE)?;
-    Ok(Box::into_inner(with_call(alloc, host, 5)?))
+    let mut host = new_host(alloc, &[], &[])?;
+    need(alloc, load(&mut host, SOURCE))?;
+    need(alloc, add(&mut host, 5))?;
+    Ok(host)
 }
 
 /// A host with a module without source for each of these names, loaded in this order.
 pub fn with_modules(alloc: Global, names: &[&str]) -> Result<Host<MemoryDisk>, Fail> {
-    let mut host = empty_host(alloc)?;
+    let mut host = new_host(alloc, &[], &[])?;
     for name in names {
-        host = with_module(alloc, host, name, b"")?;
+        need(alloc, load_as(&mut host, name, b""))?;
     }
-    Ok(Box::into_inner(host))
+    Ok(host)
 }
 
 /// The disk of the second generation, which holds the state of a host with a new store, and no record.
 pub fn second_generation(alloc: Global, mut host: Host<MemoryDisk>) -> Result<MemoryDisk, Fail> {
-    let reply = snapshot(&mut host);
+    need(alloc, snapshot(&mut host))?;
     let (_, second) = closed(host);
-    need(alloc, reply)?;
     Ok(second)
 }

@@ -3,11 +3,10 @@
 
 use crate::files::{ImageModule, add_record, generation, image_in};
 use crate::hosts::{
-    BoxedHost, EMPTY, SOURCE, State, add, boxed_or_fault, call_in, closed, created, discard,
-    discard_of, disk, fuse, get, global, inner, line_of, load, load_as, object, opened,
-    opened_host, reopened, seq, shown, snapshot, state,
+    EMPTY, SOURCE, State, add, call_in, closed, created, discard, discard_of, disk, fuse, get,
+    global, inner, line_of, load, load_as, object, opened, reopened, seq, shown, snapshot, state,
 };
-use ash_disk::{Disk, FailingDisk, MemoryDisk};
+use ash_disk::{Disk, MemoryDisk};
 use ash_durable::{Host, StoreFault};
 use ash_registry::Registry;
 use std::alloc::{AllocError, Global};
@@ -197,33 +196,18 @@ fn begun(
     }
 }
 
-/// The same in a box.
-fn begun_in_box(
-    alloc: Global,
-    disks: (MemoryDisk, MemoryDisk),
-    start: Start,
-) -> Result<BoxedHost, Fail> {
-    Ok(boxed_or_fault(alloc, begun(alloc, disks, start))??)
-}
-
-/// The disks of a host that is closed at the end of a run.
-fn left_by(host: BoxedHost, run: &Run) -> Result<(MemoryDisk, MemoryDisk), StoreFault> {
-    let host = Box::into_inner(host);
-    if run.is_reopened {
-        return Ok(closed(reopened(host)?));
-    }
-    Ok(closed(host))
-}
-
 /// Handles a run: what is answered, and the disks.
 pub fn lived(
     alloc: Global,
     disks: (MemoryDisk, MemoryDisk),
     run: &Run,
 ) -> Result<(String, (MemoryDisk, MemoryDisk)), Fail> {
-    let mut host = begun_in_box(alloc, disks, run.start)?;
+    let mut host = begun(alloc, disks, run.start)?;
     let answers = answers(alloc, &mut host, run.steps)?;
-    Ok((answers, left_by(host, run)?))
+    if run.is_reopened {
+        host = reopened(host)?;
+    }
+    Ok((answers, closed(host)))
 }
 
 /// What a store that these disks hold answers to steps, or why it isn't opened.
@@ -233,26 +217,10 @@ pub fn found_answers(
     b: MemoryDisk,
     steps: &[HostStep],
 ) -> Result<String, Fail> {
-    match opened_host(alloc, (a, b))? {
+    match opened(alloc, a, b, Registry::new(alloc)) {
         Ok(mut host) => answers(alloc, &mut host, steps),
         Err(fault) => Ok(shown(alloc, &fault)?),
     }
-}
-
-/// A host over disks that fail, in a box.
-type FusedHost = Box<Host<FailingDisk<MemoryDisk>>>;
-
-/// A host with a new store on disks that fail after so many calls.
-fn fused_host(alloc: Global, calls: (u64, u64)) -> Result<FusedHost, Fail> {
-    let (a, b) = (fuse(alloc, calls.0), fuse(alloc, calls.1));
-    let host = created(alloc, a, b, Registry::new(alloc))?;
-    Ok(Box::new(alloc, host)?)
-}
-
-/// The disks in those of such a host, which is closed.
-fn inner_disks(host: FusedHost) -> (MemoryDisk, MemoryDisk) {
-    let (a, b) = closed(Box::into_inner(host));
-    (inner(a), inner(b))
 }
 
 /// What a new store answers to steps whose disks fail after so many calls, and the disks.
@@ -261,7 +229,9 @@ pub fn lived_on_fuses(
     calls: (u64, u64),
     steps: &[HostStep],
 ) -> Result<(String, (MemoryDisk, MemoryDisk)), Fail> {
-    let mut host = fused_host(alloc, calls)?;
+    let (a, b) = (fuse(alloc, calls.0), fuse(alloc, calls.1));
+    let mut host = created(alloc, a, b, Registry::new(alloc))?;
     let answers = answers(alloc, &mut host, steps)?;
-    Ok((answers, inner_disks(host)))
+    let (a, b) = closed(host);
+    Ok((answers, (inner(a), inner(b))))
 }

@@ -12,7 +12,9 @@ pub fn check<T: Debug + PartialEq>(rt: &impl Abort, found: &T, wanted: &T, what:
 
 /// The same of bytes.
 pub fn check_bytes(rt: &impl Abort, found: &[u8], wanted: &[u8], what: &str) {
-    check(rt, &found, &wanted, what);
+    if found != wanted {
+        panic!(rt; "{what}: found {found:?}, wanted {wanted:?}");
+    }
 }
 
 /// The same of texts.

@@ -39,13 +39,6 @@ fn calls_of_create(alloc: Global, failing: Failing) -> Result<u64, Fail> {
 /// next row.
 type Fused = (u64, &'static str);
 
-/// Requests to a store of which each call of one disk fails in turn, and what is replied.
-struct Failures {
-    failing: Failing,
-    requests: &'static [u8],
-    replies: &'static [Fused],
-}
-
 /// The replies where a disk fails after so many calls.
 fn wanted_of(rows: &[Fused], calls: u64) -> &'static str {
     let mut wanted = "";
@@ -67,27 +60,28 @@ fn replies_on_fuses(alloc: Global, fuses: (u64, u64), requests: &[u8]) -> Result
 fn check_fused(
     rt: &impl Abort,
     alloc: Global,
-    failures: &Failures,
-    made: u64,
-    calls: u64,
+    fuses: (u64, u64),
+    requests: &[u8],
+    wanted: &str,
 ) -> Result<(), Fail> {
-    let fuses = fuses(failures.failing, made.saturating_add(calls), u64::MAX);
-    let found = replies_on_fuses(alloc, fuses, failures.requests)?;
-    let wanted = (fuses, wanted_of(failures.replies, calls));
-    check(
-        rt,
-        &(fuses, found.as_str()),
-        &wanted,
-        "calls of the disks, and replies",
-    );
+    let found = replies_on_fuses(alloc, fuses, requests)?;
+    let what = format!(in alloc; "after {} and {} calls", fuses.0, fuses.1)?;
+    check_text(rt, &found, wanted, &what);
     Ok(())
 }
 
 /// Compares what is replied where each call of a disk beyond those that make the store fails in turn.
-fn check_each(rt: &impl Abort, alloc: Global, failures: &Failures) -> Result<(), Fail> {
-    let made = calls_of_create(alloc, failures.failing)?;
+fn check_each(
+    rt: &impl Abort,
+    alloc: Global,
+    failing: Failing,
+    requests: &[u8],
+    rows: &[Fused],
+) -> Result<(), Fail> {
+    let made = calls_of_create(alloc, failing)?;
     for calls in 0..12 {
-        check_fused(rt, alloc, failures, made, calls)?;
+        let fuses = fuses(failing, made.saturating_add(calls), u64::MAX);
+        check_fused(rt, alloc, fuses, requests, wanted_of(rows, calls))?;
     }
     Ok(())
 }
@@ -104,97 +98,87 @@ fn the_calls_that_make_a_store(rt: HostRuntime) -> Result<(), Fail> {
 }
 
 // A request that is answered has written its record and synced, and then the gate before it: four calls.
-static CALLS: Failures = Failures {
-    failing: Failing::First,
-    requests: FIRST,
-    replies: &[
-        (
-            0,
-            "refused 507 DeviceFailed\nrefused 508 Reopen\nrefused 508 Reopen\nok 0\n",
-        ),
-        (
-            4,
-            "ok seq 1\nrefused 507 DeviceFailed\nrefused 508 Reopen\nok 1\n",
-        ),
-        (8, "ok seq 1\nok 7 seq 2\nok 7\nok 2\n"),
-    ],
-};
+static CALLS: [Fused; 3] = [
+    (
+        0,
+        "refused 507 DeviceFailed\nrefused 508 Reopen\nrefused 508 Reopen\nok 0\n",
+    ),
+    (
+        4,
+        "ok seq 1\nrefused 507 DeviceFailed\nrefused 508 Reopen\nok 1\n",
+    ),
+    (8, "ok seq 1\nok 7 seq 2\nok 7\nok 2\n"),
+];
 
 #[test]
 fn each_call_of_the_first_disk_fails_in_turn(rt: HostRuntime) -> Result<(), Fail> {
-    check_each(&rt, rt.alloc(), &CALLS)
+    check_each(&rt, rt.alloc(), Failing::First, FIRST, &CALLS)
 }
 
 const DISCARD: &[u8] = b"load m 0\n\ndiscard m\ndiscard m\nget m n\nseq\n";
 
 /// The same for a discard.
-static DISCARDS: Failures = Failures {
-    failing: Failing::First,
-    requests: DISCARD,
-    replies: &[
-        (
-            0,
-            "refused 507 DeviceFailed\nrefused 508 Reopen\nrefused 508 Reopen\nrefused 508 Reopen\nok 0\n",
-        ),
-        (
-            4,
-            "ok seq 1\nrefused 507 DeviceFailed\nrefused 508 Reopen\nrefused 508 Reopen\nok 1\n",
-        ),
-        (
-            8,
-            "ok seq 1\nok seq 2\nrefused 401 NoModule\nrefused 401 NoModule\nok 2\n",
-        ),
-    ],
-};
+static DISCARDS: [Fused; 3] = [
+    (
+        0,
+        "refused 507 DeviceFailed\nrefused 508 Reopen\nrefused 508 Reopen\nrefused 508 Reopen\nok 0\n",
+    ),
+    (
+        4,
+        "ok seq 1\nrefused 507 DeviceFailed\nrefused 508 Reopen\nrefused 508 Reopen\nok 1\n",
+    ),
+    (
+        8,
+        "ok seq 1\nok seq 2\nrefused 401 NoModule\nrefused 401 NoModule\nok 2\n",
+    ),
+];
 
 #[test]
 fn a_discard_that_is_not_kept(rt: HostRuntime) -> Result<(), Fail> {
-    check_each(&rt, rt.alloc(), &DISCARDS)
+    check_each(&rt, rt.alloc(), Failing::First, DISCARD, &DISCARDS)
 }
 
 const SNAPSHOT: &[u8] = b"load m 0\n\nsnapshot\nsnapshot\ndiscard m\nget m n\nseq\n";
 
 /// The same for a snapshot, which is written to the second disk; the one after it is written to the first, and the
 /// discard to that.
-static SNAPSHOTS: Failures = Failures {
-    failing: Failing::Second,
-    requests: SNAPSHOT,
-    replies: &[
-        (
-            0,
-            "ok seq 1\nrefused 507 DeviceFailed\nrefused 508 Reopen\nrefused 508 Reopen\nrefused 508 Reopen\nok 1\n",
-        ),
-        (
-            4,
-            "ok seq 1\nok\nok\nok seq 2\nrefused 401 NoModule\nok 2\n",
-        ),
-    ],
-};
+static SNAPSHOTS: [Fused; 2] = [
+    (
+        0,
+        "ok seq 1\nrefused 507 DeviceFailed\nrefused 508 Reopen\nrefused 508 Reopen\nrefused 508 Reopen\nok 1\n",
+    ),
+    (
+        4,
+        "ok seq 1\nok\nok\nok seq 2\nrefused 401 NoModule\nok 2\n",
+    ),
+];
 
 #[test]
 fn a_snapshot_that_is_not_kept(rt: HostRuntime) -> Result<(), Fail> {
-    check_each(&rt, rt.alloc(), &SNAPSHOTS)
+    check_each(&rt, rt.alloc(), Failing::Second, SNAPSHOT, &SNAPSHOTS)
 }
 
 const SNAPSHOT_ALONE: &[u8] = b"snapshot\nsnapshot\ndiscard m\nseq\n";
 
 /// The second snapshot shuts the gate of the older generation on the first disk, with a write and a sync, and then
 /// writes the new one. No discard is stored, since there is no module.
-static SECOND_SNAPSHOTS: Failures = Failures {
-    failing: Failing::First,
-    requests: SNAPSHOT_ALONE,
-    replies: &[
-        (
-            0,
-            "ok\nrefused 507 DeviceFailed\nrefused 508 Reopen\nok 0\n",
-        ),
-        (6, "ok\nok\nrefused 401 NoModule\nok 0\n"),
-    ],
-};
+static SECOND_SNAPSHOTS: [Fused; 2] = [
+    (
+        0,
+        "ok\nrefused 507 DeviceFailed\nrefused 508 Reopen\nok 0\n",
+    ),
+    (6, "ok\nok\nrefused 401 NoModule\nok 0\n"),
+];
 
 #[test]
 fn a_second_snapshot_that_is_not_kept(rt: HostRuntime) -> Result<(), Fail> {
-    check_each(&rt, rt.alloc(), &SECOND_SNAPSHOTS)
+    check_each(
+        &rt,
+        rt.alloc(),
+        Failing::First,
+        SNAPSHOT_ALONE,
+        &SECOND_SNAPSHOTS,
+    )
 }
 
 /// The disks after the first example.

@@ -10,7 +10,7 @@ use ash_serve::program::registrations::registrations;
 use ash_serve::run::run;
 use ash_states::state::HostReply;
 use ash_store_fixtures::hosts::{
-    State, closed, created, found_state, image_after, is_done, load, need, opened, reopened,
+    State, closed, created, found_state, image_after, load, need, opened, reopened,
 };
 use std::alloc::{AllocError, Global};
 use std::io::{Read, Write};
@@ -54,7 +54,7 @@ fn disk_with(alloc: Global, bytes: &[u8]) -> Result<Box<MemoryDisk>, AllocError>
 pub type Refused = (StoreFault, Disks);
 
 /// What is refused, with the disks in boxes.
-fn refused_with_disks(
+pub fn refused_with_disks(
     alloc: Global,
     refused: HostRefused<MemoryDisk>,
 ) -> Result<Refused, AllocError> {
@@ -120,20 +120,6 @@ pub fn found_host(
     }
 }
 
-/// A host that was made or opened, or what was refused of that.
-pub type Begun = Result<BoxedHost, Refused>;
-
-/// What was begun, in boxes.
-pub fn boxed_begun(
-    alloc: Global,
-    begun: Result<Host<MemoryDisk>, HostRefused<MemoryDisk>>,
-) -> Result<Begun, AllocError> {
-    match begun {
-        Ok(host) => Ok(Ok(boxed(alloc, host)?)),
-        Err(refused) => Ok(Err(refused_with_disks(alloc, refused)?)),
-    }
-}
-
 /// What is refused of opening these disks with this registry, if it is.
 pub fn refused_opening(
     alloc: Global,
@@ -141,9 +127,9 @@ pub fn refused_opening(
     registry: Registry,
 ) -> Result<Option<Refused>, AllocError> {
     let (a, b) = unboxed(disks);
-    match boxed_begun(alloc, Host::open(alloc, a, b, registry))? {
+    match Host::open(alloc, a, b, registry) {
         Ok(_) => Ok(None),
-        Err(refused) => Ok(Some(refused)),
+        Err(refused) => Ok(Some(refused_with_disks(alloc, refused)?)),
     }
 }
 
@@ -253,11 +239,6 @@ pub fn replies_once(alloc: Global, mut host: BoxedHost, requests: &[u8]) -> Resu
 pub fn disks_after(alloc: Global, mut host: BoxedHost, requests: &[u8]) -> Result<Disks, Fail> {
     replies(alloc, &mut host, requests)?;
     Ok(closed_disks(alloc, host)?)
-}
-
-/// Whether a host did what it was asked for, where it has replied this.
-pub fn is_answered(reply: HostReply) -> bool {
-    is_done(&reply)
 }
 
 /// A host, where it has replied this and did what it was asked for.

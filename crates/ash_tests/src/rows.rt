@@ -1,6 +1,6 @@
 //! Rows: what is asked of a host with what the program registers, and what is replied, byte for byte.
 
-use crate::checks::{check, check_text};
+use crate::checks::check_text;
 use crate::hosts::{BoxedHost, registered_after_crash, registered_host, replies_within};
 use std::alloc::{AllocError, Global};
 use std::process::Abort;
@@ -17,31 +17,30 @@ pub struct Row {
 /// What a line with a reply begins with.
 const ARROW: &str = "-> ";
 
-/// Adds a line to a text.
-fn add_line(text: &mut String, line: &str) -> Result<(), AllocError> {
-    text.push_str(line)?;
-    text.push_str("\n")
-}
-
-/// The requests of a part.
-fn requests_of(alloc: Global, part: &str) -> Result<String, AllocError> {
-    let mut requests = String::new(alloc);
+/// The bytes of the requests of a part.
+fn requests_of(alloc: Global, part: &str) -> Result<Vec<u8>, AllocError> {
+    let mut requests = Vec::new(alloc);
     for line in part.lines() {
         if !line.starts_with(ARROW) {
-            add_line(&mut requests, line)?;
+            requests.extend_from_slice(line.as_bytes())?;
+            requests.push(b'\n')?;
         }
     }
     Ok(requests)
 }
 
 /// Compares the reply to a request of a row.
-fn check_reply(rt: &impl Abort, what: (&str, &str), found: &str, wanted: &str) {
-    check(
-        rt,
-        &(what, found),
-        &(what, wanted),
-        "a row, a request and its reply",
-    );
+fn check_reply(
+    rt: &impl Abort,
+    alloc: Global,
+    what: (&str, &str),
+    found: &str,
+    wanted: &str,
+) -> Result<(), AllocError> {
+    let (row, request) = what;
+    let what = format!(in alloc; "{row}, {request}")?;
+    check_text(rt, found, wanted, what.as_str());
+    Ok(())
 }
 
 /// Compares the replies to the requests of a part.
@@ -58,10 +57,13 @@ fn check_replies(
         match line.strip_prefix(ARROW) {
             Some(wanted) => {
                 let found = found.next().unwrap_or("no reply");
-                check_reply(rt, (what, request.as_str()), found, wanted);
+                check_reply(rt, alloc, (what, request.as_str()), found, wanted)?;
                 request.clear();
             }
-            None => add_line(&mut request, line)?,
+            None => {
+                request.push_str(line)?;
+                request.push_str("\n")?;
+            }
         }
     }
     check_text(rt, found.next().unwrap_or(""), "", what);
@@ -77,7 +79,7 @@ fn check_part(
     part: &str,
 ) -> Result<(), Fail> {
     let requests = requests_of(alloc, part)?;
-    let replies = replies_within(alloc, host, row.budget, requests.as_bytes())?;
+    let replies = replies_within(alloc, host, row.budget, &requests)?;
     check_replies(rt, alloc, row.what, part, &replies)?;
     Ok(())
 }

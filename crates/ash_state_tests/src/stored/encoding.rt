@@ -1,6 +1,5 @@
 //! The image of what was read, written by the layout alone, without the code that is tested.
 
-use crate::stored::images::add_parts;
 use ash_host::Word;
 use ash_state_image::stored::{
     ElementType, StoredArray, StoredBody, StoredHost, StoredImage, StoredModule, StoredObject,
@@ -26,7 +25,8 @@ fn four_of(length: usize) -> [u8; 4] {
 
 /// Adds a tag and what follows it.
 fn add_tagged(out: &mut Vec<u8>, tag: u8, rest: &[u8]) -> Result<(), AllocError> {
-    add_parts(out, &[&[tag], rest])
+    out.push(tag)?;
+    out.extend_from_slice(rest)
 }
 
 fn add_word(out: &mut Vec<u8>, word: Word) -> Result<(), AllocError> {
@@ -50,8 +50,9 @@ fn add_words(out: &mut Vec<u8>, words: &[Word]) -> Result<(), AllocError> {
 
 /// A kind and a state, of a service or a host object.
 fn add_host(out: &mut Vec<u8>, host: &StoredHost) -> Result<(), AllocError> {
-    let kind = host.kind.to_le_bytes();
-    add_parts(out, &[&kind, &two_of(host.state.len()), &host.state])
+    out.extend_from_slice(&host.kind.to_le_bytes())?;
+    out.extend_from_slice(&two_of(host.state.len()))?;
+    out.extend_from_slice(&host.state)
 }
 
 fn add_services(out: &mut Vec<u8>, services: &[StoredHost]) -> Result<(), AllocError> {
@@ -63,8 +64,10 @@ fn add_services(out: &mut Vec<u8>, services: &[StoredHost]) -> Result<(), AllocE
 }
 
 fn add_module(out: &mut Vec<u8>, module: &StoredModule) -> Result<(), AllocError> {
-    add_tagged(out, byte_of(module.name.len()), module.name.as_bytes())?;
-    add_parts(out, &[&four_of(module.source.len()), &module.source])?;
+    out.push(byte_of(module.name.len()))?;
+    out.extend_from_slice(module.name.as_bytes())?;
+    out.extend_from_slice(&four_of(module.source.len()))?;
+    out.extend_from_slice(&module.source)?;
     out.extend_from_slice(&two_of(module.globals.len()))?;
     add_words(out, &module.globals)
 }
@@ -78,11 +81,10 @@ fn add_modules(out: &mut Vec<u8>, modules: &[StoredModule]) -> Result<(), AllocE
 }
 
 fn add_script(out: &mut Vec<u8>, script: &StoredScript) -> Result<(), AllocError> {
-    let count = byte_of(script.fields.len());
-    add_parts(
-        out,
-        &[&[1, script.owner], &script.class.to_le_bytes(), &[count]],
-    )?;
+    out.push(1)?;
+    out.push(script.owner)?;
+    out.extend_from_slice(&script.class.to_le_bytes())?;
+    out.push(byte_of(script.fields.len()))?;
     add_words(out, &script.fields)
 }
 
@@ -94,8 +96,14 @@ fn add_element(out: &mut Vec<u8>, element: ElementType) -> Result<(), AllocError
         ElementType::Uint => out.extend_from_slice(&[2]),
         ElementType::Int64 => out.extend_from_slice(&[3]),
         ElementType::Uint64 => out.extend_from_slice(&[4]),
-        ElementType::Class(owner, class) => add_parts(out, &[&[5, owner], &class.to_le_bytes()]),
-        ElementType::Host(kind) => add_tagged(out, 6, &kind.to_le_bytes()),
+        ElementType::Class(owner, class) => {
+            out.extend_from_slice(&[5, owner])?;
+            out.extend_from_slice(&class.to_le_bytes())
+        }
+        ElementType::Host(kind) => {
+            out.push(6)?;
+            out.extend_from_slice(&kind.to_le_bytes())
+        }
     }
 }
 
@@ -136,9 +144,10 @@ fn add_version(out: &mut Vec<u8>, version: Version) -> Result<(), AllocError> {
 
 /// What comes before the services: the text, how many requests were answered, and the last number of an object.
 fn add_beginning(out: &mut Vec<u8>, state: &StoredState) -> Result<(), AllocError> {
-    let text = state.registered.as_bytes();
-    add_parts(out, &[&four_of(text.len()), text])?;
-    add_parts(out, &[&state.seq.to_le_bytes(), &state.last.to_le_bytes()])
+    out.extend_from_slice(&four_of(state.registered.len()))?;
+    out.extend_from_slice(state.registered.as_bytes())?;
+    out.extend_from_slice(&state.seq.to_le_bytes())?;
+    out.extend_from_slice(&state.last.to_le_bytes())
 }
 
 fn add_state(out: &mut Vec<u8>, state: &StoredState) -> Result<(), AllocError> {

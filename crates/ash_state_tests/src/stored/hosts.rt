@@ -1,13 +1,11 @@
 //! The states of hosts, and the images by hand that they have.
 
-use crate::registered::BoxedRegistry;
-use crate::requests::request_of;
 use crate::stored::compare::check_bytes;
 use crate::stored::images::{
     AFTER_THREE, CONSTRUCTED, LOADED, MODULE_A, MODULE_B, NOTHING, OF_TWO_MODULES, ONE_SERVICE,
     TWO, image, modules, with_tag,
 };
-use ash_plain_steps::request::Reply;
+use ash_plain_steps::request::{Reply, Request};
 use ash_registry::{Registry, RegistryFault};
 use ash_states::state::HostState;
 use std::alloc::{AllocError, Global};
@@ -17,18 +15,9 @@ use std::test::Fail;
 /// How many ticks a request has.
 const BUDGET: u64 = 1000;
 
-/// The state of a host, in a box, since it is long where it is written out.
-pub(crate) type BoxedState = Box<HostState>;
-
-/// The state of a host with this registry before any request.
-fn first_state(alloc: Global, registry: BoxedRegistry) -> Result<BoxedState, AllocError> {
-    let state = HostState::new(alloc, Box::into_inner(registry));
-    Ok(Box::new(alloc, state)?)
-}
-
-/// Handles the request of a line, which is answered.
-fn handle(state: &mut BoxedState, line: &str) -> Result<(), Fail> {
-    match state.handle(&request_of(line, &[]), BUDGET)? {
+/// Handles a request that is answered.
+fn handle(state: &mut HostState, request: &Request) -> Result<(), Fail> {
+    match state.handle(request, BUDGET)? {
         Reply::Answered(_) => Ok(()),
         _ => Err(Fail::new("no answer")),
     }
@@ -41,18 +30,23 @@ struct Written {
     body: Vec<u8>,
 }
 
-fn written_of(state: &BoxedState) -> Result<Written, AllocError> {
+fn written_of(state: &HostState) -> Result<Written, AllocError> {
     Ok(Written {
         image: state.image()?,
         body: state.body()?,
     })
 }
 
-/// What is written of the state of a host with this registry after these requests, each of which is answered.
-fn written_after(alloc: Global, registry: BoxedRegistry, requests: &str) -> Result<Written, Fail> {
-    let mut state = first_state(alloc, registry)?;
-    for line in requests.lines() {
-        handle(&mut state, line)?;
+/// What is written of the state of a host with this registry after these requests, each of which is answered. Only this
+/// is handed on, since a state is long where it is written out.
+fn written_after(
+    alloc: Global,
+    registry: Registry,
+    requests: &[Request<'_>],
+) -> Result<Written, Fail> {
+    let mut state = HostState::new(alloc, registry);
+    for request in requests {
+        handle(&mut state, request)?;
     }
     Ok(written_of(&state)?)
 }
@@ -71,14 +65,14 @@ fn check_written(
     Ok(())
 }
 
-/// What requests lead to: what they are called, a line for each of them, and what follows the version in the image.
-type Row = (&'static str, &'static str, &'static [u8]);
+/// What requests lead to: what they are called, each of them, and what follows the version in the image.
+type Row = (&'static str, &'static [Request<'static>], &'static [u8]);
 
 /// Compares what requests lead to where this is registered.
 fn check_registered(
     rt: &impl Abort,
     alloc: Global,
-    registry: BoxedRegistry,
+    registry: Registry,
     row: &Row,
 ) -> Result<(), Fail> {
     let (what, requests, rest) = *row;
@@ -89,24 +83,19 @@ fn check_registered(
 
 /// Compares what requests lead to where nothing is registered.
 fn check_row(rt: &impl Abort, alloc: Global, row: &Row) -> Result<(), Fail> {
-    let registry = nothing_registered(alloc)?;
-    check_registered(rt, alloc, registry, row)
-}
-
-fn nothing_registered(alloc: Global) -> Result<BoxedRegistry, AllocError> {
-    Ok(Box::new(alloc, Registry::new(alloc))?)
+    check_registered(rt, alloc, Registry::new(alloc), row)
 }
 
 /// A service is registered.
-fn one_service(alloc: Global) -> Result<BoxedRegistry, RegistryFault> {
-    let mut registry = nothing_registered(alloc)?;
+fn one_service(alloc: Global) -> Result<Registry, RegistryFault> {
+    let mut registry = Registry::new(alloc);
     registry.service(2)?;
     Ok(registry)
 }
 
-const NO_REQUEST: Row = ("nothing", "", NOTHING);
+const NO_REQUEST: Row = ("nothing", &[], NOTHING);
 
-const NO_REQUEST_OF_A_SERVICE: Row = ("a registration", "", ONE_SERVICE);
+const NO_REQUEST_OF_A_SERVICE: Row = ("a registration", &[], ONE_SERVICE);
 
 #[test]
 fn before_any_request(rt: HostRuntime) -> Result<(), Fail> {
@@ -115,7 +104,14 @@ fn before_any_request(rt: HostRuntime) -> Result<(), Fail> {
     check_registered(&rt, rt.alloc(), registry, &NO_REQUEST_OF_A_SERVICE)
 }
 
-const A_LOAD: Row = ("a load", "load m", LOADED);
+const A_LOAD: Row = (
+    "a load",
+    &[Request::Load {
+        module: "m",
+        source: b"",
+    }],
+    LOADED,
+);
 
 #[test]
 fn after_a_load(rt: HostRuntime) -> Result<(), Fail> {
@@ -124,9 +120,17 @@ fn after_a_load(rt: HostRuntime) -> Result<(), Fail> {
 
 const THREE_REQUESTS: Row = (
     "three requests",
-    "load k\n\
-     discard k\n\
-     load m int n = -2;\n",
+    &[
+        Request::Load {
+            module: "k",
+            source: b"",
+        },
+        Request::Discard { module: "k" },
+        Request::Load {
+            module: "m",
+            source: b"int n = -2;",
+        },
+    ],
     AFTER_THREE,
 );
 
@@ -135,14 +139,25 @@ fn after_three_requests(rt: HostRuntime) -> Result<(), Fail> {
     check_row(&rt, rt.alloc(), &THREE_REQUESTS)
 }
 
-const TWO_MODULES: &str = "load a int x = -1; int z = 256;\n\
-    load k\n\
-    load B int y = 7;\n\
-    discard k\n";
+const TWO_MODULES: [Request<'static>; 4] = [
+    Request::Load {
+        module: "a",
+        source: b"int x = -1; int z = 256;",
+    },
+    Request::Load {
+        module: "k",
+        source: b"",
+    },
+    Request::Load {
+        module: "B",
+        source: b"int y = 7;",
+    },
+    Request::Discard { module: "k" },
+];
 
 /// Compares what the requests of two modules lead to.
 fn check_modules(rt: &impl Abort, alloc: Global) -> Result<(), Fail> {
-    let found = written_after(alloc, nothing_registered(alloc)?, TWO_MODULES)?;
+    let found = written_after(alloc, Registry::new(alloc), &TWO_MODULES)?;
     let wanted = modules(alloc, MODULE_B, MODULE_A)?;
     Ok(check_written(rt, alloc, &found, &wanted, "two modules")?)
 }
@@ -154,7 +169,10 @@ fn two_modules_by_name(rt: HostRuntime) -> Result<(), Fail> {
 
 const AN_OBJECT_AND_AN_ARRAY: Row = (
     "an object and an array",
-    "load m class A { int v = 7; } A@ a = A(); array<int> l(2);",
+    &[Request::Load {
+        module: "m",
+        source: b"class A { int v = 7; } A@ a = A(); array<int> l(2);",
+    }],
     CONSTRUCTED,
 );
 
@@ -165,8 +183,16 @@ fn an_object_and_an_array(rt: HostRuntime) -> Result<(), Fail> {
 
 const OBJECTS_OF_TWO_MODULES: Row = (
     "objects of two modules",
-    "load a class A { int v = 7; } A@ a = A(); array<A@> l(1);\n\
-     load B class C { } class D { } D@ d = D(); array<D@> l;\n",
+    &[
+        Request::Load {
+            module: "a",
+            source: b"class A { int v = 7; } A@ a = A(); array<A@> l(1);",
+        },
+        Request::Load {
+            module: "B",
+            source: b"class C { } class D { } D@ d = D(); array<D@> l;",
+        },
+    ],
     OF_TWO_MODULES,
 );
 

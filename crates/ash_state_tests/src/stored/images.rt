@@ -250,34 +250,27 @@ pub(crate) const OF_TWO_MODULES: &[u8] = b"\
     \x04\x00\x00\x00\x00\x00\x00\x00\
     \x03\x05\x00\x01\x00\x00\x00";
 
-/// Adds parts one after another.
-pub(crate) fn add_parts(out: &mut Vec<u8>, parts: &[&[u8]]) -> Result<(), AllocError> {
-    for part in parts {
-        out.extend_from_slice(part)?;
-    }
-    Ok(())
-}
-
-/// Parts one after another.
-pub(crate) fn joined(alloc: Global, parts: &[&[u8]]) -> Result<Vec<u8>, AllocError> {
-    let mut bytes = Vec::new(alloc);
-    add_parts(&mut bytes, parts)?;
-    Ok(bytes)
-}
-
 /// An image in a version.
 pub(crate) fn image(alloc: Global, version: &[u8], rest: &[u8]) -> Result<Vec<u8>, AllocError> {
-    joined(alloc, &[version, rest])
+    let mut image = Vec::from_slice(alloc, version)?;
+    image.extend_from_slice(rest)?;
+    Ok(image)
 }
 
 /// The image of two modules in this order.
 pub(crate) fn modules(alloc: Global, first: &[u8], second: &[u8]) -> Result<Vec<u8>, AllocError> {
-    joined(alloc, &[TWO, BEFORE_MODULES, first, second, NO_OBJECTS])
+    let mut image = image(alloc, TWO, BEFORE_MODULES)?;
+    image.extend_from_slice(first)?;
+    image.extend_from_slice(second)?;
+    image.extend_from_slice(NO_OBJECTS)?;
+    Ok(image)
 }
 
 /// Bytes after a tag, as the body of a record has an image.
 pub(crate) fn with_tag(alloc: Global, tag: u8, bytes: &[u8]) -> Result<Vec<u8>, AllocError> {
-    joined(alloc, &[&[tag], bytes])
+    let mut body = Vec::from_slice(alloc, &[tag])?;
+    body.extend_from_slice(bytes)?;
+    Ok(body)
 }
 
 /// Bytes with another byte at a place.

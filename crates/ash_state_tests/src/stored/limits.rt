@@ -1,7 +1,7 @@
 //! Images at their limits, and one step past these.
 
 use crate::stored::compare::{ReadAs, check_read_as, image_read_as};
-use crate::stored::images::{ONE, TWO, add_parts, joined};
+use crate::stored::images::{ONE, TWO};
 use std::alloc::{AllocError, Global};
 use std::process::Abort;
 use std::test::Fail;
@@ -34,33 +34,31 @@ const MADE_UP: [MadeUp; 7] = [
     ("17 modules", 0, 0, 17, ReadAs::Nothing),
 ];
 
-/// How many modules there are, and so many of one letter each, from `A` on, with no source and no globals.
-fn modules(alloc: Global, count: u8) -> Result<Vec<u8>, AllocError> {
-    let mut modules = Vec::from_slice(alloc, &[count])?;
+/// Adds so many modules of one letter each, from `A` on, with no source and no globals.
+fn add_modules(image: &mut Vec<u8>, count: u8) -> Result<(), AllocError> {
+    image.push(count)?;
     for place in 0..count {
-        modules.extend_from_slice(&[1, b'A'.wrapping_add(place), 0, 0, 0, 0, 0, 0])?;
+        image.extend_from_slice(&[1, b'A'.wrapping_add(place), 0, 0, 0, 0, 0, 0])?;
     }
-    Ok(modules)
+    Ok(())
 }
 
-/// A byte so many times.
-fn repeated(alloc: Global, byte: u8, count: usize) -> Result<Vec<u8>, AllocError> {
-    let mut bytes = Vec::new(alloc);
-    bytes.resize(count, byte)?;
-    Ok(bytes)
+/// Adds a byte so many times.
+fn add_times(image: &mut Vec<u8>, byte: u8, count: usize) -> Result<(), AllocError> {
+    image.resize(image.len().saturating_add(count), byte)
 }
 
 /// The image of a state before any request, whose text is so many spaces, with a length of its own, and so many modules
 /// with no source and no globals.
 fn made_up(alloc: Global, version: &[u8], row: &MadeUp) -> Result<Vec<u8>, AllocError> {
     let (_, length, spaces, count, _) = *row;
-    let text = repeated(alloc, b' ', spaces)?;
-    let modules = modules(alloc, count)?;
-    let length = length.to_le_bytes();
-    joined(
-        alloc,
-        &[version, &length, &text, &[0; 18], &modules, &[0; 4]],
-    )
+    let mut image = Vec::from_slice(alloc, version)?;
+    image.extend_from_slice(&length.to_le_bytes())?;
+    add_times(&mut image, b' ', spaces)?;
+    add_times(&mut image, 0, 18)?;
+    add_modules(&mut image, count)?;
+    add_times(&mut image, 0, 4)?;
+    Ok(image)
 }
 
 /// Compares what bytes are read as.
@@ -91,19 +89,23 @@ fn texts_and_modules_at_their_limits(rt: HostRuntime) -> Result<(), Fail> {
     Ok(())
 }
 
-/// The image of a state before any request that has a module `m` with a source of so many spaces, and so many globals
-/// that are null.
+/// Adds a module `m` with a source of so many spaces, and so many globals that are null.
+fn add_module(image: &mut Vec<u8>, spaces: u32, globals: u16) -> Result<(), AllocError> {
+    image.extend_from_slice(b"\x01m")?;
+    image.extend_from_slice(&spaces.to_le_bytes())?;
+    add_times(image, b' ', spaces as usize)?;
+    image.extend_from_slice(&globals.to_le_bytes())?;
+    add_times(image, 5, usize::from(globals))
+}
+
+/// The image of a state before any request that has such a module.
 fn one_module(alloc: Global, spaces: u32, globals: u16) -> Result<Vec<u8>, AllocError> {
-    let source = repeated(alloc, b' ', spaces as usize)?;
-    let nulls = repeated(alloc, 5, usize::from(globals))?;
-    let name: &[u8] = b"\x01\x01m";
-    let (spaces, globals) = (spaces.to_le_bytes(), globals.to_le_bytes());
-    joined(
-        alloc,
-        &[
-            TWO, &[0; 22], name, &spaces, &source, &globals, &nulls, &[0; 4],
-        ],
-    )
+    let mut image = Vec::from_slice(alloc, TWO)?;
+    add_times(&mut image, 0, 22)?;
+    image.push(1)?;
+    add_module(&mut image, spaces, globals)?;
+    add_times(&mut image, 0, 4)?;
+    Ok(image)
 }
 
 /// A module: what it is called, the length of its source, how many globals it has, and what its image is read as.
@@ -130,29 +132,30 @@ fn sources_and_globals_at_their_limits(rt: HostRuntime) -> Result<(), Fail> {
     Ok(())
 }
 
-/// A module `m` with no source, whose global has the object 1, after how many modules there are.
-const ONE_HANDLE: &[u8] = b"\
-    \x01\
-    \x01m\
-    \x00\x00\x00\x00\
-    \x01\x00\
-    \x06\x01\x00\x00\x00\x00\x00\x00\x00";
+/// Adds what comes before the objects: no text, no request, this last number of an object, no services, a module `m` with
+/// no source, whose global has the object 1, and how many objects there are.
+fn add_beginning(image: &mut Vec<u8>, last: u16, objects: u16) -> Result<(), AllocError> {
+    add_times(image, 0, 12)?;
+    image.extend_from_slice(&u64::from(last).to_le_bytes())?;
+    add_times(image, 0, 2)?;
+    image.extend_from_slice(b"\x01\x01m\x00\x00\x00\x00")?;
+    image.extend_from_slice(b"\x01\x00\x06\x01\x00\x00\x00\x00\x00\x00\x00")?;
+    image.extend_from_slice(&u32::from(objects).to_le_bytes())
+}
 
-/// What such an image has before its objects: no text, no request, this last number of an object, no services, such a
-/// module, and how many objects there are.
+/// What such an image has before its objects.
 fn before_objects(alloc: Global, last: u16, objects: u16) -> Result<Vec<u8>, AllocError> {
-    let last = u64::from(last).to_le_bytes();
-    let objects = u32::from(objects).to_le_bytes();
-    joined(
-        alloc,
-        &[TWO, &[0; 12], &last, &[0; 2], ONE_HANDLE, &objects],
-    )
+    let mut image = Vec::from_slice(alloc, TWO)?;
+    add_beginning(&mut image, last, objects)?;
+    Ok(image)
 }
 
 /// The image of such a module, where the object 1 is this.
 fn one_object(alloc: Global, object: &[u8]) -> Result<Vec<u8>, AllocError> {
-    let before = before_objects(alloc, 1, 1)?;
-    joined(alloc, &[&before, &1_u64.to_le_bytes(), object])
+    let mut image = before_objects(alloc, 1, 1)?;
+    image.extend_from_slice(&1_u64.to_le_bytes())?;
+    image.extend_from_slice(object)?;
+    Ok(image)
 }
 
 /// An object: what it is called, its bytes up to how many parts it has, that number, each part, and what its image is
@@ -193,18 +196,12 @@ const FILLED: [Filled; 6] = [
     ),
 ];
 
-/// The bytes of an object up to how many parts it has, and so many times a part.
-fn filled(alloc: Global, first: &[u8], count: usize, part: &[u8]) -> Result<Vec<u8>, AllocError> {
+fn check_filled(rt: &impl Abort, alloc: Global, row: Filled) -> Result<(), Fail> {
+    let (what, first, count, part, wanted) = row;
     let mut object = Vec::from_slice(alloc, first)?;
     for _ in 0..count {
         object.extend_from_slice(part)?;
     }
-    Ok(object)
-}
-
-fn check_filled(rt: &impl Abort, alloc: Global, row: Filled) -> Result<(), Fail> {
-    let (what, first, count, part, wanted) = row;
-    let object = filled(alloc, first, count, part)?;
     let image = one_object(alloc, &object)?;
     check_image(rt, alloc, &image, wanted, what)
 }
@@ -220,7 +217,8 @@ fn objects_as_long_as_they_may_be(rt: HostRuntime) -> Result<(), Fail> {
 /// Adds handles to the objects up to this number, from 2 on.
 fn add_handles(image: &mut Vec<u8>, last: u16) -> Result<(), AllocError> {
     for number in 2..=last {
-        add_parts(image, &[&[6], &u64::from(number).to_le_bytes()])?;
+        image.push(6)?;
+        image.extend_from_slice(&u64::from(number).to_le_bytes())?;
     }
     Ok(())
 }
@@ -228,15 +226,17 @@ fn add_handles(image: &mut Vec<u8>, last: u16) -> Result<(), AllocError> {
 /// Adds these objects, which have no fields.
 fn add_objects(image: &mut Vec<u8>, last: u16) -> Result<(), AllocError> {
     for number in 2..=last {
-        add_parts(image, &[&u64::from(number).to_le_bytes(), &[1, 0, 0, 0, 0]])?;
+        image.extend_from_slice(&u64::from(number).to_le_bytes())?;
+        image.extend_from_slice(&[1, 0, 0, 0, 0])?;
     }
     Ok(())
 }
 
 /// Adds the object 1, an array with handles to all others.
 fn add_array(image: &mut Vec<u8>, last: u16) -> Result<(), AllocError> {
-    let count = last.saturating_sub(1).to_le_bytes();
-    add_parts(image, &[&1_u64.to_le_bytes(), &[3, 5, 0, 0, 0], &count])?;
+    image.extend_from_slice(&1_u64.to_le_bytes())?;
+    image.extend_from_slice(&[3, 5, 0, 0, 0])?;
+    image.extend_from_slice(&last.saturating_sub(1).to_le_bytes())?;
     add_handles(image, last)
 }
 
@@ -248,19 +248,22 @@ fn objects_in_an_array(alloc: Global, last: u16) -> Result<Vec<u8>, AllocError> 
     Ok(image)
 }
 
-/// How many services there are, and so many that have no state.
-fn services(alloc: Global, count: u8) -> Result<Vec<u8>, AllocError> {
-    let mut services = Vec::from_slice(alloc, &[count, 0])?;
+/// Adds so many services that have no state.
+fn add_services(image: &mut Vec<u8>, count: u8) -> Result<(), AllocError> {
+    image.extend_from_slice(&[count, 0])?;
     for kind in 0..count {
-        services.extend_from_slice(&[kind, 0, 0, 0])?;
+        image.extend_from_slice(&[kind, 0, 0, 0])?;
     }
-    Ok(services)
+    Ok(())
 }
 
 /// The image of a state before any request with so many services that have no state.
-fn only_services(alloc: Global, count: u8) -> Result<Vec<u8>, AllocError> {
-    let services = services(alloc, count)?;
-    joined(alloc, &[TWO, &[0; 20], &services, &[0; 5]])
+fn services(alloc: Global, count: u8) -> Result<Vec<u8>, AllocError> {
+    let mut image = Vec::from_slice(alloc, TWO)?;
+    add_times(&mut image, 0, 20)?;
+    add_services(&mut image, count)?;
+    add_times(&mut image, 0, 5)?;
+    Ok(image)
 }
 
 /// Objects in an array: what they are called, how many there are, and what their image is read as.
@@ -287,7 +290,7 @@ const SERVICES: [Services; 2] = [
 
 fn check_services(rt: &impl Abort, alloc: Global, row: Services) -> Result<(), Fail> {
     let (what, count, wanted) = row;
-    let image = only_services(alloc, count)?;
+    let image = services(alloc, count)?;
     check_image(rt, alloc, &image, wanted, what)
 }
 

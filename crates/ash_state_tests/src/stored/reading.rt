@@ -28,14 +28,21 @@ fn bytes_of(alloc: Global, found: &Option<StoredImage>) -> Result<Vec<u8>, Alloc
     }
 }
 
-/// What is read of an image, written out.
-fn image_shown(alloc: Global, image: &[u8]) -> Result<String, AllocError> {
-    shown(alloc, &read_image(alloc, image)?)
+/// What is made of bytes that are read as an image.
+#[derive(Drop)]
+struct Reading {
+    /// What was read, written out.
+    text: String,
+    /// What was read, as bytes.
+    bytes: Vec<u8>,
 }
 
-/// What is read of an image, as bytes.
-fn image_again(alloc: Global, image: &[u8]) -> Result<Vec<u8>, AllocError> {
-    bytes_of(alloc, &read_image(alloc, image)?)
+fn reading_of(alloc: Global, image: &[u8]) -> Result<Reading, AllocError> {
+    let found = read_image(alloc, image)?;
+    Ok(Reading {
+        text: shown(alloc, &found)?,
+        bytes: bytes_of(alloc, &found)?,
+    })
 }
 
 /// What is read of the body of a record, written out.
@@ -52,18 +59,18 @@ fn check_read(
     wanted: &str,
     what: &str,
 ) -> Result<(), Fail> {
-    let text = image_shown(alloc, image)?;
-    check_text(rt, text.as_str(), wanted, what);
-    let again = image_again(alloc, image)?;
-    check_bytes(rt, &again, image, what);
-    let text = body_shown(alloc, &with_tag(alloc, 1, image)?)?;
+    let found = reading_of(alloc, image)?;
+    check_text(rt, found.text.as_str(), wanted, what);
+    check_bytes(rt, found.bytes.as_slice(), image, what);
+    let body = with_tag(alloc, 1, image)?;
+    let text = body_shown(alloc, &body)?;
     check_text(rt, text.as_str(), wanted, what);
     Ok(())
 }
 
 /// Compares that bytes are no image.
 fn check_no_image(rt: &impl Abort, alloc: Global, bytes: &[u8], what: &str) -> Result<(), Fail> {
-    let found = image_shown(alloc, bytes)?;
+    let found = shown(alloc, &read_image(alloc, bytes)?)?;
     check_text(rt, found.as_str(), "none", what);
     Ok(())
 }

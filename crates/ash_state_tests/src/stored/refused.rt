@@ -3,11 +3,36 @@
 use crate::stored::compare::{ReadAs, body_read_as, check_read_as, image_read_as};
 use crate::stored::images::{
     DANGLING, EACH_WORD, MODULE_A, MODULE_B, NOTHING, ONE, ONE_MODULE, ONE_SERVICE, THREE_TAGS,
-    TWO, TWO_TAGS, image, joined, modules, with_byte, with_tag,
+    TWO, TWO_TAGS, image, modules, with_byte, with_tag,
 };
-use std::alloc::Global;
+use std::alloc::{AllocError, Global};
 use std::process::Abort;
 use std::test::Fail;
+
+/// What is done to bytes.
+#[derive(Clone, Copy)]
+enum Change {
+    /// They stay as they are.
+    Same,
+    /// They are cut to so many.
+    Cut(usize),
+    /// Another byte is at a place.
+    Byte(usize, u8),
+    /// Others come after them.
+    More(&'static [u8]),
+}
+
+/// Bytes with a change.
+fn changed(alloc: Global, bytes: &[u8], change: Change) -> Result<Vec<u8>, AllocError> {
+    let mut changed = Vec::from_slice(alloc, bytes)?;
+    match change {
+        Change::Same => {}
+        Change::Cut(length) => changed.truncate(length),
+        Change::Byte(place, byte) => changed = with_byte(alloc, bytes, place, byte)?,
+        Change::More(more) => changed.extend_from_slice(more)?,
+    }
+    Ok(changed)
+}
 
 /// Compares what bytes are read as, and what a body is read as that has them after the tag 1.
 fn check_both(
@@ -23,12 +48,12 @@ fn check_both(
     Ok(())
 }
 
-/// An image: what it is called, its version, what follows it, and what it is read as.
-type Row = (&'static str, &'static [u8], &'static [u8], ReadAs);
+/// Bytes: what they are called, a version, what follows it, what is done to that, and what they are read as then.
+type Row = (&'static str, &'static [u8], &'static [u8], Change, ReadAs);
 
 fn check_row(rt: &impl Abort, alloc: Global, row: &Row) -> Result<(), Fail> {
-    let (what, version, rest, wanted) = *row;
-    let bytes = image(alloc, version, rest)?;
+    let (what, version, rest, change, wanted) = *row;
+    let bytes = changed(alloc, &image(alloc, version, rest)?, change)?;
     check_both(rt, alloc, &bytes, wanted, what)
 }
 
@@ -39,70 +64,110 @@ fn check_rows(rt: &impl Abort, alloc: Global, rows: &[Row]) -> Result<(), Fail> 
     Ok(())
 }
 
-const VERSIONS: [Row; 6] = [
-    ("no bytes", b"", b"", ReadAs::Nothing),
-    ("the version 0", b"\x00\x00", NOTHING, ReadAs::Nothing),
-    ("the version 1", ONE, NOTHING, ReadAs::Image),
-    ("the version 2", TWO, NOTHING, ReadAs::Image),
-    ("the version 3", b"\x03\x00", NOTHING, ReadAs::Nothing),
-    ("the version 258", b"\x02\x01", NOTHING, ReadAs::Nothing),
-];
-
-#[test]
-fn versions_of_images(rt: HostRuntime) -> Result<(), Fail> {
-    check_rows(&rt, rt.alloc(), &VERSIONS)
-}
-
-/// An image in version 2 with another byte at a place, which is read as nothing then: what it is called, what follows the
-/// version, the place and the byte.
-type Changed = (&'static str, &'static [u8], usize, u8);
-
-fn check_changed(rt: &impl Abort, alloc: Global, row: &Changed) -> Result<(), Fail> {
-    let (what, rest, place, byte) = *row;
-    let bytes = with_byte(alloc, &image(alloc, TWO, rest)?, place, byte)?;
-    check_both(rt, alloc, &bytes, ReadAs::Nothing, what)
-}
-
-const CHANGED: [Changed; 4] = [
+const FRAMES: [Row; 14] = [
+    ("no bytes", b"", b"", Change::Same, ReadAs::Nothing),
+    (
+        "the version 0",
+        b"\x00\x00",
+        NOTHING,
+        Change::Same,
+        ReadAs::Nothing,
+    ),
+    ("the version 1", ONE, NOTHING, Change::Same, ReadAs::Image),
+    ("the version 2", TWO, NOTHING, Change::Same, ReadAs::Image),
+    (
+        "the version 3",
+        b"\x03\x00",
+        NOTHING,
+        Change::Same,
+        ReadAs::Nothing,
+    ),
+    (
+        "the version 258",
+        b"\x02\x01",
+        NOTHING,
+        Change::Same,
+        ReadAs::Nothing,
+    ),
+    (
+        "a byte less",
+        TWO,
+        EACH_WORD,
+        Change::Cut(69),
+        ReadAs::Nothing,
+    ),
+    (
+        "a byte more",
+        TWO,
+        NOTHING,
+        Change::More(&[0]),
+        ReadAs::Nothing,
+    ),
+    (
+        "an image more",
+        TWO,
+        NOTHING,
+        Change::More(b"\x02\x00"),
+        ReadAs::Nothing,
+    ),
+    (
+        "a handle to no object",
+        TWO,
+        DANGLING,
+        Change::Same,
+        ReadAs::Nothing,
+    ),
     // The truth value is neither 0 nor 1, and then its tag is no tag.
-    ("the truth value 2", EACH_WORD, 36, 2),
-    ("the tag 7", EACH_WORD, 35, 7),
-    ("a byte that begins no character", ONE_SERVICE, 6, 0xff),
-    ("a name of a digit", ONE_MODULE, 26, b'1'),
+    (
+        "the truth value 2",
+        TWO,
+        EACH_WORD,
+        Change::Byte(36, 2),
+        ReadAs::Nothing,
+    ),
+    (
+        "the tag 7",
+        TWO,
+        EACH_WORD,
+        Change::Byte(35, 7),
+        ReadAs::Nothing,
+    ),
+    (
+        "a byte that begins no character",
+        TWO,
+        ONE_SERVICE,
+        Change::Byte(6, 0xff),
+        ReadAs::Nothing,
+    ),
+    (
+        "a name of a digit",
+        TWO,
+        ONE_MODULE,
+        Change::Byte(26, b'1'),
+        ReadAs::Nothing,
+    ),
 ];
-
-#[test]
-fn changed_bytes_of_images(rt: HostRuntime) -> Result<(), Fail> {
-    for row in &CHANGED {
-        check_changed(&rt, rt.alloc(), row)?;
-    }
-    Ok(())
-}
-
-/// The first 69 bytes of the image `EACH_WORD`, which are all but one.
-fn check_cut(rt: &impl Abort, alloc: Global) -> Result<(), Fail> {
-    let mut bytes = image(alloc, TWO, EACH_WORD)?;
-    bytes.truncate(69);
-    check_both(rt, alloc, &bytes, ReadAs::Nothing, "a byte less")
-}
-
-/// The image `NOTHING` with more bytes after it.
-fn check_more(rt: &impl Abort, alloc: Global, more: &[u8], what: &str) -> Result<(), Fail> {
-    let bytes = joined(alloc, &[TWO, NOTHING, more])?;
-    check_both(rt, alloc, &bytes, ReadAs::Nothing, what)
-}
 
 #[test]
 fn frames_of_images(rt: HostRuntime) -> Result<(), Fail> {
-    check_cut(&rt, rt.alloc())?;
-    check_more(&rt, rt.alloc(), b"\x00", "a byte more")?;
-    check_more(&rt, rt.alloc(), b"\x02\x00", "an image more")
+    check_rows(&rt, rt.alloc(), &FRAMES)
 }
 
-const OBJECTS: [Row; 3] = [
-    ("a handle to no object", TWO, DANGLING, ReadAs::Nothing),
-    ("an array in version 1", ONE, THREE_TAGS, ReadAs::Nothing),
-    ("no array in version 1", ONE, TWO_TAGS, ReadAs::Image),
+const OBJECTS: [Row; 2] = [
+    (
+        "an array in version 1",
+        ONE,
+        THREE_TAGS,
+        Change::Same,
+        ReadAs::Nothing,
+    ),
+    (
+        "no array in version 1",
+        ONE,
+        TWO_TAGS,
+        Change::Same,
+        ReadAs::Image,
+    ),
 ];
 
 /// The image `THREE_TAGS` with another byte at a place: what it is called, the place, the byte, and what it is read as.

@@ -4,9 +4,7 @@
 ghost use Rattle.ash_state_image.specs.Rules.{IsShaped};
 ghost use Rattle.ash_state_image.specs.SnapshotViews.{snapshot_of};
 
-use crate::registered::BoxedRegistry;
 use crate::stored::compare::{ReadAs, check_bytes, check_count, check_read_as};
-use crate::stored::hosts::BoxedState;
 use crate::stored::images::{
     DANGLING, EACH_WORD, NOTHING, OF_TWO_MODULES, ONE, ONE_MODULE, ONE_SERVICE, STORED, THREE_TAGS,
     TWO, TWO_TAGS, image, with_byte,
@@ -29,7 +27,8 @@ enum Registered {
     Both,
 }
 
-fn register(registry: &mut BoxedRegistry, registered: Registered) -> Result<(), RegistryFault> {
+fn registry_of(alloc: Global, registered: Registered) -> Result<Registry, RegistryFault> {
+    let mut registry = Registry::new(alloc);
     match registered {
         Registered::Nothing => {}
         Registered::Counter => registry.object_type("Counter", 1)?,
@@ -38,12 +37,6 @@ fn register(registry: &mut BoxedRegistry, registered: Registered) -> Result<(), 
             registry.service(2)?;
         }
     }
-    Ok(())
-}
-
-fn registry_of(alloc: Global, registered: Registered) -> Result<BoxedRegistry, RegistryFault> {
-    let mut registry = Box::new(alloc, Registry::new(alloc))?;
-    register(&mut registry, registered)?;
     Ok(registry)
 }
 
@@ -51,26 +44,23 @@ fn registry_of(alloc: Global, registered: Registered) -> Result<BoxedRegistry, R
 /// holds is of the types that its sources say.
 fn restored(
     alloc: Global,
-    registry: BoxedRegistry,
+    registry: Registry,
     stored: StoredState,
-) -> Result<Option<BoxedState>, AllocError>
+) -> Result<Option<HostState>, AllocError>
     requires shaped { IsShaped (snapshot_of stored) }
 {
     if stored.registered.as_str() != registry.text() {
         return Ok(None);
     }
-    match HostState::restore(alloc, Box::into_inner(registry), stored)? {
-        Some(state) => Ok(Some(Box::new(alloc, state)?)),
-        None => Ok(None),
-    }
+    HostState::restore(alloc, registry, stored)
 }
 
 /// The host with this registry that bytes are read as, if they are the image of one.
 fn reads_as(
     alloc: Global,
-    registry: BoxedRegistry,
+    registry: Registry,
     bytes: &[u8],
-) -> Result<Option<BoxedState>, AllocError> {
+) -> Result<Option<HostState>, AllocError> {
     match read_image(alloc, bytes)? {
         Some(stored) => restored(alloc, registry, stored.state),
         None => Ok(None),

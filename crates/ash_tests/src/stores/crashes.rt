@@ -254,20 +254,6 @@ fn stopped_after(
     handle_plan(alloc, plan, fused_disks(alloc, disks, calls)?)
 }
 
-/// Stops a plan over disks with these files, which fail after so many calls, and looks at what crashes leave. Gives how
-/// many parts were acknowledged.
-fn parts_of_stop(
-    rt: &impl Abort,
-    alloc: Global,
-    plan: &Plan,
-    files: Files,
-    calls: (u64, u64),
-) -> Result<usize, Fail> {
-    let stopped = stopped_after(alloc, plan, files, calls)?;
-    check_moments(rt, alloc, plan, &stopped)?;
-    Ok(stopped.done)
-}
-
 /// Stops a plan over disks with these files at each call of one disk, and looks at what crashes leave. Gives how many
 /// stops there were until it ran to its end.
 fn count_stops(
@@ -278,8 +264,9 @@ fn count_stops(
     failing: Failing,
 ) -> Result<u64, Fail> {
     for calls in 0..200 {
-        let done = parts_of_stop(rt, alloc, plan, files, fuses(failing, calls, u64::MAX))?;
-        if done == plan.parts() {
+        let stopped = stopped_after(alloc, plan, files, fuses(failing, calls, u64::MAX))?;
+        check_moments(rt, alloc, plan, &stopped)?;
+        if stopped.done == plan.parts() {
             return Ok(calls);
         }
     }

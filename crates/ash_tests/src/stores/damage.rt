@@ -130,17 +130,6 @@ pub fn changed(alloc: Global, file: &[u8], place: usize, byte: u8) -> Result<Vec
     Ok(file)
 }
 
-/// What opening a store gives whose file has another byte at a place.
-fn found_with(
-    alloc: Global,
-    file: &[u8],
-    place: usize,
-    byte: u8,
-) -> Result<Result<u64, StoreFault>, Fail> {
-    let file = changed(alloc, file, place, byte)?;
-    found(alloc, &file, &[0])
-}
-
 /// The number 1 with another byte at a place, the lowest first.
 fn number_with(place: usize, byte: u8) -> u64 {
     let mut bytes = [1, 0, 0, 0, 0, 0, 0, 0];
@@ -187,10 +176,14 @@ fn wanted_of_loaded(place: usize, byte: u8) -> Found {
 /// Compares what opening gives that store with each other byte at a place.
 fn check_place(rt: &impl Abort, alloc: Global, place: usize, old: u8) -> Result<(), Fail> {
     for byte in 0..=255 {
-        if byte != old {
-            let row = (place, byte, wanted_of_loaded(place, byte));
-            check_changed(rt, alloc, loaded(), row)?;
+        if byte == old {
+            continue;
         }
+        let file = changed(alloc, loaded(), place, byte)?;
+        let found = (place, byte, found(alloc, &file, &[0])?);
+        let wanted = wanted_of_loaded(place, byte).map_err(StoreFault::Open);
+        let wanted = (place, byte, wanted);
+        check(rt, &found, &wanted, "another byte at a place");
     }
     Ok(())
 }
@@ -205,8 +198,7 @@ fn each_byte_changed(rt: HostRuntime) -> Result<(), Fail> {
     Ok(())
 }
 
-/// A place in a file, another byte at it, and what opening is to give then.
-pub type Changed = (usize, u8, Found);
+type Changed = (usize, u8, Found);
 
 // A store whose state is all in its image, with a module of 45 bytes of source and one global.
 static CHANGED: [Changed; 24] = [
@@ -246,40 +238,20 @@ static CHANGED: [Changed; 24] = [
 /// Compares what opening a store gives whose file has another byte at a place.
 fn check_changed(rt: &impl Abort, alloc: Global, file: &[u8], row: Changed) -> Result<(), Fail> {
     let (place, byte, wanted) = row;
-    let found = (place, byte, found_with(alloc, file, place, byte)?);
+    let file = changed(alloc, file, place, byte)?;
+    let found = (place, byte, found(alloc, &file, &[0])?);
     let wanted = (place, byte, wanted.map_err(StoreFault::Open));
     check(rt, &found, &wanted, "another byte at a place");
     Ok(())
 }
 
-/// The same for each row.
-fn check_each_changed(
-    rt: &impl Abort,
-    alloc: Global,
-    file: &[u8],
-    rows: &[Changed],
-) -> Result<(), Fail> {
-    for row in rows {
-        check_changed(rt, alloc, file, *row)?;
-    }
-    Ok(())
-}
-
-/// The same of a file by hand.
-pub fn check_all_changed(
-    rt: &impl Abort,
-    alloc: Global,
-    file: File,
-    rows: &[Changed],
-) -> Result<(), Fail> {
-    let file = bytes_of(alloc, file)?;
-    check_each_changed(rt, alloc, file.as_slice(), rows)
-}
-
 #[test]
 fn a_byte_changed(rt: HostRuntime) -> Result<(), Fail> {
-    let file = File::Written(2, (2, Some(7)), &[], &[]);
-    check_all_changed(&rt, rt.alloc(), file, &CHANGED)
+    let file = bytes_of(rt.alloc(), File::Written(2, (2, Some(7)), &[], &[]))?;
+    for row in &CHANGED {
+        check_changed(&rt, rt.alloc(), file.as_slice(), *row)?;
+    }
+    Ok(())
 }
 
 // A store with the modules `a` and `k`, whose names are at 47 and 55.
@@ -298,15 +270,13 @@ static NAMED: [Changed; 11] = [
     (45, 17, DAMAGED),
 ];
 
-/// Compares what opening gives that store with other bytes.
-fn check_named(rt: &impl Abort, alloc: Global) -> Result<(), Fail> {
-    let file = file_with(alloc, &["k", "a"])?;
-    check_each_changed(rt, alloc, &file, &NAMED)
-}
-
 #[test]
 fn modules_out_of_order(rt: HostRuntime) -> Result<(), Fail> {
-    check_named(&rt, rt.alloc())
+    let file = file_with(rt.alloc(), &["k", "a"])?;
+    for row in &NAMED {
+        check_changed(&rt, rt.alloc(), &file, *row)?;
+    }
+    Ok(())
 }
 
 /// Opens a store with one record, whose next gate is this byte, beside another file, and gives its disks.

@@ -1,19 +1,16 @@
 //! Stores that are there already or damaged, and disks that fail.
 
 use crate::checks::{check, check_bytes, check_text};
-use crate::hosts::{
-    Begun, Disks, Refused, boxed_begun, boxed_disks, is_answered, state_after_crash, unboxed,
-};
-use crate::stores::fuses::{
-    Failing, FusedHost, answers_on_fuses, close_host, fused_host, fuses, open_host,
-};
+use crate::hosts::{Disks, Refused, boxed_disks, refused_with_disks, state_after_crash, unboxed};
+use crate::stores::fuses::{Failing, FusedHost, answers_on_fuses, fused_host, fuses};
 use ash_disk::Survives;
 use ash_durable::{CreateFault, Host, OpenFault, StoreFault};
 use ash_plain_steps::request::Request;
 use ash_registry::Registry;
 use ash_steps::Argument;
 use ash_store_fixtures::hosts::{
-    EMPTY, SOURCE, State, add, closed, created, disk, found, lines_for, load, seq, used,
+    EMPTY, SOURCE, State, add, closed, created, disk, found, is_done, lines_for, load, opened, seq,
+    used,
 };
 use ash_store_fixtures::lives::{File, HostStep, bytes_of};
 use std::alloc::{AllocError, Global};
@@ -56,20 +53,12 @@ fn used_disks(alloc: Global) -> Result<Disks, Fail> {
     Ok(boxed_disks(alloc, closed(used(alloc)?))?)
 }
 
-/// A host with a store that is made over these disks, or what is refused of that.
-fn begun_again(alloc: Global, disks: Disks) -> Result<Begun, AllocError> {
-    let (first, second) = unboxed(disks);
-    boxed_begun(
-        alloc,
-        Host::create(alloc, first, second, Registry::new(alloc)),
-    )
-}
-
 /// What is refused of making a store over the disks of a used one.
 fn made_again(alloc: Global) -> Result<Refused, Fail> {
-    match begun_again(alloc, used_disks(alloc)?)? {
+    let (first, second) = unboxed(used_disks(alloc)?);
+    match Host::create(alloc, first, second, Registry::new(alloc)) {
         Ok(_) => Err("made over a store".into()),
-        Err(refused) => Ok(refused),
+        Err(refused) => Ok(refused_with_disks(alloc, refused)?),
     }
 }
 
@@ -332,26 +321,23 @@ fn requests_after_a_failure(rt: HostRuntime) -> Result<(), Fail> {
 
 /// How many of two requests a host answers, and its number after them.
 fn answers(host: &mut FusedHost) -> (u64, u64) {
-    let loaded = is_answered(load(host, SOURCE));
-    let called = is_answered(add(host, 5));
+    let loaded = is_done(&load(host, SOURCE));
+    let called = is_done(&add(host, 5));
     (u64::from(loaded) + u64::from(called), seq(host))
 }
 
 /// What opening the store of a host again gives: its number, or why there is no host.
-fn number_again(alloc: Global, host: FusedHost) -> Result<Result<u64, StoreFault>, AllocError> {
-    let disks = close_host(alloc, host)?;
-    match open_host(alloc, disks)? {
-        Ok(host) => Ok(Ok(seq(&host))),
-        Err((fault, _)) => Ok(Err(fault)),
-    }
+fn number_again(alloc: Global, host: FusedHost) -> Result<u64, StoreFault> {
+    let (first, second) = closed(Box::into_inner(host));
+    opened(alloc, first, second, Registry::new(alloc)).map(|host| seq(&host))
 }
 
 /// What a host comes to: how many of two requests it answers, its number then, and what opening its store again gives.
 type Served = ((u64, u64), Result<u64, StoreFault>);
 
-fn served(alloc: Global, mut host: FusedHost) -> Result<Served, AllocError> {
+fn served(alloc: Global, mut host: FusedHost) -> Served {
     let answers = answers(&mut host);
-    Ok((answers, number_again(alloc, host)?))
+    (answers, number_again(alloc, host))
 }
 
 /// What a host comes to whose disks fail after so many calls, or why there is no host.
@@ -360,7 +346,7 @@ fn served_on_fuses(
     calls: (u64, u64),
 ) -> Result<Result<Served, StoreFault>, AllocError> {
     match fused_host(alloc, calls)? {
-        Ok(host) => Ok(Ok(served(alloc, host)?)),
+        Ok(host) => Ok(Ok(served(alloc, host))),
         Err(fault) => Ok(Err(fault)),
     }
 }

@@ -41,19 +41,17 @@ static SURVIVES: [Survives; 4] = [
     Survives::Part(2),
 ];
 
-/// Whether the first disk as it reads and an image of the second hold what they are to hold.
-fn is_held_with(alloc: Global, stopped: &Stopped, second: &[u8]) -> Result<bool, Fail> {
-    let first = stopped.first.bytes();
-    is_held(alloc, &FROM_A_FULL_FILE, stopped.done, first, second)
-}
-
 /// The first crash whose image of the second disk, beside the first as it reads, doesn't hold what it is to hold. An
 /// image that is as the one before it is not opened again.
 fn loss_on_second(alloc: Global, stopped: &Stopped) -> Result<Option<Survives>, Fail> {
     let mut last = Vec::new(alloc);
     for survives in &SURVIVES {
         let second = image_after(&stopped.second, stopped.second.calls(), *survives)?;
-        if second.as_slice() != last.as_slice() && !is_held_with(alloc, stopped, &second)? {
+        if second.as_slice() == last.as_slice() {
+            continue;
+        }
+        let first = stopped.first.bytes();
+        if !is_held(alloc, &FROM_A_FULL_FILE, stopped.done, first, &second)? {
             return Ok(Some(*survives));
         }
         last = second;
@@ -81,26 +79,15 @@ fn check_full_stop(
     Ok(())
 }
 
-/// Stops the plan that installs a generation by size over disks that fail after so many calls, and looks at what crashes
-/// leave. Gives how many parts were acknowledged.
-fn parts_of_full_stop(
-    rt: &impl Abort,
-    alloc: Global,
-    file: &[u8],
-    calls: (u64, u64),
-) -> Result<usize, Fail> {
-    let disks = full_disks(alloc, file, calls)?;
-    let stopped = handle_plan(alloc, &FROM_A_FULL_FILE, disks)?;
-    check_full_stop(rt, alloc, file, &stopped)?;
-    Ok(stopped.done)
-}
-
 /// Stops the plan that installs a generation by size at each call of one disk.
 fn count_full_stops(rt: &impl Abort, alloc: Global, failing: Failing) -> Result<u64, Fail> {
     let file = full_file(alloc, 1, AT_THE_LIMIT)?;
+    let plan = &FROM_A_FULL_FILE;
     for calls in 0..200 {
-        let done = parts_of_full_stop(rt, alloc, &file, fuses(failing, calls, u64::MAX))?;
-        if done == FROM_A_FULL_FILE.parts() {
+        let disks = full_disks(alloc, &file, fuses(failing, calls, u64::MAX))?;
+        let stopped = handle_plan(alloc, plan, disks)?;
+        check_full_stop(rt, alloc, &file, &stopped)?;
+        if stopped.done == plan.parts() {
             return Ok(calls);
         }
     }

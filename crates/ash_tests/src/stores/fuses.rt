@@ -4,7 +4,7 @@ use crate::hosts::{Disks, boxed_disks};
 use ash_disk::{FailingDisk, MemoryDisk};
 use ash_durable::{Host, HostRefused, StoreFault};
 use ash_registry::Registry;
-use ash_store_fixtures::hosts::{closed, fuse, inner};
+use ash_store_fixtures::hosts::{closed, created, fuse, inner};
 use ash_store_fixtures::lives::{HostStep, lived_on_fuses};
 use std::alloc::{AllocError, Global};
 use std::test::Fail;
@@ -103,20 +103,20 @@ pub(crate) fn close_host(alloc: Global, host: FusedHost) -> Result<FusedDisks, A
     boxed_fused(alloc, closed(Box::into_inner(host)))
 }
 
-/// Empty disks that fail after so many calls.
-fn empty_disks(alloc: Global, calls: (u64, u64)) -> Result<FusedDisks, AllocError> {
-    boxed_fused(alloc, (fuse(alloc, calls.0), fuse(alloc, calls.1)))
+/// A host with a new store on disks that fail after so many calls, or why there is none.
+fn created_on_fuses(alloc: Global, calls: (u64, u64)) -> Result<Host<Fused>, StoreFault> {
+    let (a, b) = (fuse(alloc, calls.0), fuse(alloc, calls.1));
+    created(alloc, a, b, Registry::new(alloc))
 }
 
-/// A host with a new store on disks that fail after so many calls, or why there is none.
+/// The same in a box.
 pub(crate) fn fused_host(
     alloc: Global,
     calls: (u64, u64),
 ) -> Result<Result<FusedHost, StoreFault>, AllocError> {
-    let disks = empty_disks(alloc, calls)?;
-    match create_host(alloc, disks)? {
-        Ok(host) => Ok(Ok(host)),
-        Err((fault, _)) => Ok(Err(fault)),
+    match created_on_fuses(alloc, calls) {
+        Ok(host) => Ok(Ok(boxed_host(alloc, host)?)),
+        Err(fault) => Ok(Err(fault)),
     }
 }
 

@@ -1,12 +1,12 @@
 //! What is done to a store, up to the call at which a disk fails.
 
-use crate::hosts::{Disks, is_answered};
+use crate::hosts::Disks;
 use crate::stores::fuses::{
     Begun, FusedDisks, FusedHost, FusedRefused, close_host, create_host, inner_disks, open_host,
 };
 use ash_disk::MemoryDisk;
 use ash_durable::{CreateFault, OpenFault, StoreFault};
-use ash_store_fixtures::hosts::{State, add, load, snapshot};
+use ash_store_fixtures::hosts::{State, add, is_done, load, snapshot};
 use std::alloc::{AllocError, Global};
 use std::test::Fail;
 
@@ -66,11 +66,12 @@ pub(crate) struct Stopped {
 
 /// Takes a step, where this is loaded. Whether it is acknowledged.
 fn is_acknowledged(host: &mut FusedHost, source: &[u8], step: Step) -> bool {
-    match step {
-        Step::Load => is_answered(load(host, source)),
-        Step::Call(number) => is_answered(add(host, number)),
-        Step::Snapshot => is_answered(snapshot(host)),
-    }
+    let reply = match step {
+        Step::Load => load(host, source),
+        Step::Call(number) => add(host, number),
+        Step::Snapshot => snapshot(host),
+    };
+    is_done(&reply)
 }
 
 /// How many steps are acknowledged, up to the first that is not.

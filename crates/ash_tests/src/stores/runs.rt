@@ -1,7 +1,8 @@
 //! Runs over stores, compared with what they are to answer and to leave.
 
-use crate::checks::{check, check_text};
+use crate::checks::check_text;
 use crate::hosts::{Disks, boxed_disks, closed_disks, opened_unregistered, unboxed};
+use ash_disk::MemoryDisk;
 use ash_store_fixtures::lives::{File, HostStep, Run, answers, bytes_of, disks_of, lived};
 use std::alloc::Global;
 use std::process::Abort;
@@ -10,20 +11,25 @@ use std::test::Fail;
 /// Compares how many writes and syncs two disks have had.
 pub fn check_calls(rt: &impl Abort, disks: &Disks, wanted: (usize, usize), what: &str) {
     let found = (disks.first.calls(), disks.second.calls());
-    check(rt, &(what, found), &(what, wanted), "calls of both disks");
+    if found != wanted {
+        panic!(rt; "{what}: found {found:?} calls of the disks, wanted {wanted:?}");
+    }
 }
 
-/// Compares bytes with those of a file by hand.
-pub fn check_bytes_of(
+/// Compares the bytes of a disk with a file by hand.
+pub fn check_file(
     rt: &impl Abort,
     alloc: Global,
-    found: &[u8],
+    disk: &MemoryDisk,
     file: File,
     what: (&str, &str),
 ) -> Result<(), Fail> {
     let wanted = bytes_of(alloc, file)?;
-    let wanted = (what, wanted.as_slice());
-    check(rt, &(what, found), &wanted, "the bytes of a file");
+    let (found, wanted) = (disk.bytes(), wanted.as_slice());
+    if found != wanted {
+        let (run, disk) = what;
+        panic!(rt; "{run}, {disk} disk: found {found:?}, wanted {wanted:?}");
+    }
     Ok(())
 }
 
@@ -51,10 +57,14 @@ fn lived_in_boxes(alloc: Global, disks: Disks, run: &Run) -> Result<(String, Dis
 
 /// Compares the files that a run leaves, and the calls of both disks.
 fn check_left(rt: &impl Abort, alloc: Global, disks: &Disks, run: &Run) -> Result<(), Fail> {
-    let what = (run.what, "the first disk");
-    check_bytes_of(rt, alloc, disks.first.bytes(), run.first, what)?;
-    let what = (run.what, "the second disk");
-    check_bytes_of(rt, alloc, disks.second.bytes(), run.second, what)?;
+    check_file(rt, alloc, &disks.first, run.first, (run.what, "the first"))?;
+    check_file(
+        rt,
+        alloc,
+        &disks.second,
+        run.second,
+        (run.what, "the second"),
+    )?;
     check_calls(rt, disks, run.calls, run.what);
     Ok(())
 }

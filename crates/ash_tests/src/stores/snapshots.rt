@@ -167,24 +167,22 @@ static FAILED: [HostStep; 6] = [
     HostStep::Seq,
 ];
 
-/// What the failures of a snapshot are called.
-const FAILS: &str = "a snapshot that fails after so many calls";
-
 const REFUSED: &str = "ok seq 1\nrefused 507 DeviceFailed\nrefused 508 Reopen\nrefused 508 Reopen\n\
     refused 508 Reopen\n1\n";
 
 /// The disks of a host whose second disk fails after so many calls. Compares what it answers.
-fn failed(rt: &impl Abort, alloc: Global, calls: u64) -> Result<Disks, Fail> {
+fn failed(rt: &impl Abort, alloc: Global, calls: u64, what: &str) -> Result<Disks, Fail> {
     let (found, disks) = answers_on_fuses(alloc, (u64::MAX, calls), &FAILED)?;
-    check(rt, &(calls, found.as_str()), &(calls, REFUSED), FAILS);
+    check_text(rt, found.as_str(), REFUSED, what);
     Ok(disks)
 }
 
 /// Compares what is left of a snapshot where the second disk fails after so many calls, of which five make the store.
 fn check_failed(rt: &impl Abort, alloc: Global, calls: u64) -> Result<(), Fail> {
-    let disks = failed(rt, alloc, calls)?;
+    let what = format!(in alloc; "a snapshot that fails after {calls} calls")?;
+    let disks = failed(rt, alloc, calls, &what)?;
     let found = found_state(alloc, disks.first.bytes(), disks.second.bytes())?;
-    check(rt, &(calls, found), &(calls, Ok((1, Some(2)))), FAILS);
+    check(rt, &found, &Ok((1, Some(2))), what.as_str());
     Ok(())
 }
 
@@ -340,26 +338,20 @@ static AT_THE_SIZE: [Full; 2] = [
     },
 ];
 
-/// Compares how many bytes of records a full file has with how many there may be.
-fn check_full_size(rt: &impl Abort, alloc: Global) -> Result<(), Fail> {
-    let full = full_file(alloc, 1, AT_THE_LIMIT)?;
-    let records = full.len().saturating_sub(EMPTY.len()) as u64;
-    check(rt, &records, &FULL_RECORD_BYTES, "the bytes of records");
-    Ok(())
-}
-
-/// Compares what stores about as full as they may be answer and leave.
-fn check_sizes(rt: &impl Abort, alloc: Global) -> Result<(), Fail> {
-    check_full_size(rt, alloc)?;
-    for row in &AT_THE_SIZE {
-        check_full(rt, alloc, row)?;
-    }
-    Ok(())
-}
-
 #[test]
 fn a_byte_less_than_the_limit(rt: HostRuntime) -> Result<(), Fail> {
-    check_sizes(&rt, rt.alloc())
+    let full = full_file(rt.alloc(), 1, AT_THE_LIMIT)?;
+    let records = full.len().saturating_sub(EMPTY.len());
+    check(
+        &rt,
+        &(records as u64),
+        &FULL_RECORD_BYTES,
+        "the bytes of records",
+    );
+    for row in &AT_THE_SIZE {
+        check_full(&rt, rt.alloc(), row)?;
+    }
+    Ok(())
 }
 
 static REFUSED_REQUESTS: Full = Full {

@@ -5,11 +5,11 @@ use crate::checks::check;
 use crate::hosts::{
     Disks, Refused, closed_disks, disks_with, opened_unregistered, refused_opening, when_done,
 };
-use crate::stores::damage::{Changed, changed, check_all_changed};
+use crate::stores::damage::changed;
 use crate::stores::runs::{RunSeries, boxed_disks_of, check_lives};
 use ash_durable::{OpenFault, StoreFault};
 use ash_registry::Registry;
-use ash_store_fixtures::hosts::{EMPTY, State, add, found_state};
+use ash_store_fixtures::hosts::{EMPTY, State, add, found, found_state};
 use ash_store_fixtures::lives::{File, HostStep, Run, Start, bytes_of};
 use std::alloc::Global;
 use std::process::Abort;
@@ -85,14 +85,31 @@ fn requests_to_a_store_of_version_one(rt: HostRuntime) -> Result<(), Fail> {
     Ok(())
 }
 
-// A record of version 1 in a store of version 1, and one of version 2. The record comes after the gate at 50, and its
-// version is at 56.
-static VERSIONS_OF_A_RECORD: [Changed; 2] = [(56, 1, Ok(1)), (56, 2, Err(OpenFault::Damaged(50)))];
+/// What opening a store of version 1 gives whose file has another byte at a place.
+fn found_with(
+    alloc: Global,
+    file: File,
+    place: usize,
+    byte: u8,
+) -> Result<Result<u64, StoreFault>, Fail> {
+    let file = changed(alloc, &bytes_of(alloc, file)?, place, byte)?;
+    found(alloc, &file, &[0])
+}
 
 #[test]
 fn records_of_another_version(rt: HostRuntime) -> Result<(), Fail> {
+    // The record comes after the gate at 50, and its version is at 56.
     let file = File::Older(1, (0, None), &[(1, Some(2))]);
-    check_all_changed(&rt, rt.alloc(), file, &VERSIONS_OF_A_RECORD)
+    let as_it_was = found_with(rt.alloc(), file, 56, 1)?;
+    check(&rt, &as_it_was, &Ok(1), "a record of version 1");
+    let other = found_with(rt.alloc(), file, 56, 2)?;
+    check(
+        &rt,
+        &other,
+        &Err(StoreFault::Open(OpenFault::Damaged(50))),
+        "a record of version 2",
+    );
+    Ok(())
 }
 
 /// Why a store of this file isn't opened, and whether its disks read as before.

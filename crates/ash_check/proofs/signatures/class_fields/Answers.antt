@@ -4,7 +4,7 @@ use Rattle.ash_tree.specs.TreeViews.{member_of}
 use Rattle.ash_tree.specs.Items.{fields_of}
 use Rattle.ash_typing.specs.ModuleDeclarations.{all_variables}
 use Rattle.ash_environment.specs.EnvironmentViews.{binding_of, signatures_of}
-use Rattle.ash_environment.proofs.Rows.{whole}
+use Rattle.ash_check.proofs.Rows.{whole}
 use Rattle.ash_check.proofs.signatures.class_fields.Goals as goal
 
 pub returns : goal.returns

@@ -4,7 +4,7 @@ use Rattle.ash_tree.specs.TreeViews.{member_of}
 use Rattle.ash_tree.specs.Items.{methods_of}
 use Rattle.ash_typing.specs.ModuleDeclarations.{function_declaration}
 use Rattle.ash_environment.specs.EnvironmentViews.{function_signature_of, signatures_of}
-use Rattle.ash_environment.proofs.Rows.{whole}
+use Rattle.ash_check.proofs.Rows.{whole}
 use Rattle.ash_check.proofs.signatures.class_methods.Goals as goal
 
 pub returns : goal.returns

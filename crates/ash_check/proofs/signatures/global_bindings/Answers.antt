@@ -4,7 +4,7 @@ use Rattle.ash_tree.specs.TreeViews.{item_of}
 use Rattle.ash_tree.specs.Items.{globals_of}
 use Rattle.ash_typing.specs.ModuleDeclarations.{all_variables}
 use Rattle.ash_environment.specs.EnvironmentViews.{binding_of, signatures_of}
-use Rattle.ash_environment.proofs.Rows.{whole}
+use Rattle.ash_check.proofs.Rows.{whole}
 use Rattle.ash_check.proofs.signatures.global_bindings.Goals as goal
 
 pub returns : goal.returns

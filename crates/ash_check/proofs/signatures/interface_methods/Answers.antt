@@ -5,7 +5,7 @@ use Rattle.ash_tree.specs.declared.tree.items.InterfaceMethod.{InterfaceMethod}
 use Rattle.ash_tree.specs.TreeViews.{interface_method_of}
 use Rattle.ash_typing.specs.ModuleDeclarations.{signature_declaration}
 use Rattle.ash_environment.specs.EnvironmentViews.{function_signature_of, signatures_of}
-use Rattle.ash_environment.proofs.Rows.{further, whole}
+use Rattle.ash_check.proofs.Rows.{further, whole}
 use Rattle.ash_check.proofs.signatures.interface_methods.Goals as goal
 
 pub loop-method-preserved : goal.loop-method-preserved

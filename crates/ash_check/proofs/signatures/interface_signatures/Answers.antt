@@ -4,7 +4,7 @@ use Rattle.ash_tree.specs.TreeViews.{item_of}
 use Rattle.ash_tree.specs.Items.{interfaces_of}
 use Rattle.ash_typing.specs.ModuleDeclarations.{interface_declaration}
 use Rattle.ash_environment.specs.EnvironmentViews.{interface_signature_of, signatures_of}
-use Rattle.ash_environment.proofs.Rows.{whole}
+use Rattle.ash_check.proofs.Rows.{whole}
 use Rattle.ash_check.proofs.signatures.interface_signatures.Goals as goal
 
 pub returns : goal.returns

@@ -3,7 +3,7 @@ use Rattle.ash_registrations.specs.Registered.{registered}
 use Rattle.ash_tree.specs.TreeViews.{type_name_of}
 use Rattle.ash_typing.specs.ModuleDeclarations.{listed_in}
 use Rattle.ash_environment.specs.EnvironmentViews.{signatures_of}
-use Rattle.ash_environment.proofs.Rows.{whole}
+use Rattle.ash_check.proofs.Rows.{whole}
 use Rattle.ash_check.proofs.signatures.listed_interfaces.Goals as goal
 
 pub returns : goal.returns

@@ -12,7 +12,7 @@ returns c = record {
       let registrations = registered c.args.registry.now in
       let items = c.args.declared.now.items.items in
       let names = signatures_of c.in_ok-type_names.type_names in
-      subst (λ h. IfOk c.resolve_signatures-signatures.result (λ r. signatures_of r ≡ h))
+      subst (λ h. IfOk c.resolve_signatures.result (λ r. signatures_of r ≡ h))
       (ap (λ xs. definition.declarations_by registrations names (map item_of xs)) c.deref-2.ensures.value ∙ ap (λ all. definition.declarations_by registrations all (map item_of items)) (c.in_ok-type_names.ensures.value ∙ ap (λ xs. definition.names_in (map item_of xs)) c.deref.ensures.value))
-      c.resolve_signatures-signatures.ensures.value;
+      c.resolve_signatures.ensures.value;
 }

@@ -4,7 +4,7 @@ use Rattle.ash_tree.specs.declared.tree.items.Parameter.{Parameter}
 use Rattle.ash_tree.specs.TreeViews.{parameter_of}
 use Rattle.ash_typing.specs.ModuleDeclarations.{parameter_ty}
 use Rattle.ash_environment.specs.EnvironmentViews.{signatures_of}
-use Rattle.ash_environment.proofs.Rows.{further, whole}
+use Rattle.ash_check.proofs.Rows.{further, whole}
 use Rattle.ash_check.proofs.signatures.parameter_types.Goals as goal
 
 pub loop-parameter-preserved : goal.loop-parameter-preserved

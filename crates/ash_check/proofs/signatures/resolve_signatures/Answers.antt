@@ -1,13 +1,15 @@
-use Rattle.std.proofs.Common.{map}
-use Rattle.ash_registrations.specs.Registered.{registered}
-use Rattle.ash_tree.specs.TreeViews.{item_of}
-use Rattle.ash_typing.specs.ModuleDeclarations as definition
-use Rattle.ash_environment.specs.EnvironmentViews.{signatures_of}
-use Rattle.ash_check.proofs.SignatureLaws.{signatures_made}
+use Rattle.std.proofs.Common.{map, ap, ◌∙◌}
+use Rattle.ash_environment.specs.EnvironmentViews.{binding_of, function_signature_of, interface_signature_of}
+use Rattle.ash_environment.specs.EnvironmentViews.{class_signature_of}
 use Rattle.ash_check.proofs.signatures.resolve_signatures.Goals as goal
 
 pub returns : goal.returns
 returns c = record {
   value =
-      signatures_made c.new.result c.in_ok-interfaces.interfaces.items c.in_ok-classes.classes.items c.in_ok-functions.functions.items c.in_ok-globals.globals.items (definition.declarations_by (registered c.args.registry.now) (signatures_of c.args.type_names.now) (map item_of c.args.items.now)) c.new.ensures.interfaces c.new.ensures.classes c.new.ensures.functions c.new.ensures.globals c.in_ok-interfaces.ensures.value c.in_ok-classes.ensures.value c.in_ok-functions.ensures.value c.in_ok-globals.ensures.value;
+      let made = c.in_ok-signatures.ensures in
+      let interfaces = ap (map interface_signature_of) made.interfaces ∙ c.in_ok-interfaces.ensures.value in
+      let classes = ap (map class_signature_of) made.classes ∙ c.in_ok-classes.ensures.value in
+      let functions = ap (map function_signature_of) made.functions ∙ c.in_ok-functions.ensures.value in
+      let globals = ap (map binding_of) made.globals ∙ c.in_ok-globals.ensures.value in
+      λ k. record { interfaces = interfaces k; classes = classes k; functions = functions k; globals = globals k };
 }

@@ -3,7 +3,7 @@ use Rattle.ash_tree.specs.TreeViews.{item_of}
 use Rattle.ash_tree.specs.Items.{classes_of}
 use Rattle.ash_typing.specs.ModuleDeclarations.{named_class}
 use Rattle.ash_environment.specs.EnvironmentViews.{class_signature_of}
-use Rattle.ash_environment.proofs.Rows.{whole}
+use Rattle.ash_check.proofs.Rows.{whole}
 use Rattle.ash_check.proofs.type_names.named_classes.Goals as goal
 
 pub returns : goal.returns

@@ -1,32 +1,14 @@
 use Rattle.std.proofs.Common.{◌∙◌, ap, sym, subst}
 use Rattle.std.specs.Prelude.{slice_get}
-use Rattle.ash_typed.specs.Modules.{module_of}
-use Rattle.ash_steps.specs.Tasks.{Initialize, Invoke, Remove}
+use Rattle.ash_steps.specs.Tasks.{Remove}
 use Rattle.ash_plain_steps.specs.declared.state.LoadedModule.{LoadedModule}
 use Rattle.ash_plain_steps.specs.declared.task.Task as task
 use Rattle.ash_plain_steps.specs.declared.task.Task.TheVariants as tasks
 use Rattle.ash_plain_steps.specs.StateViews.{loaded_seen, state_seen, hosts_seen}
 use Rattle.ash_plain_steps.specs.TaskViews.{task_seen}
 use Rattle.ash_plain_steps.specs.StepViews.{ChangesState, LosesMemory}
-use Rattle.ash_plain_steps.proofs.Ran.{performs_as, performs_at, loses_changing}
+use Rattle.ash_plain_steps.proofs.Ran.{performs_at, loses_changing}
 use Rattle.ash_plain_steps.proofs.steps.perform.Goals as goal
-
-pub returns-in-Initialize-clause-stepped : goal.returns-in-Initialize-clause-stepped
-returns-in-Initialize-clause-stepped g c one e =
-    let new = c.in-Initialize.new in
-    performs_as g.S.SourceReader.fault_seen c.args.budget (state_seen c.args.state) (hosts_seen c.args.hosts) c.initialize.result
-    (Initialize new.name.now new.source.now (module_of new.tree)) one
-    (ap (λ (t : task.Task). task_seen c.args.state.modules.items t) (sym c.in-Initialize.is) ∙ e)
-    c.initialize.ensures.stepped
-
-pub returns-in-Invoke-clause-stepped : goal.returns-in-Invoke-clause-stepped
-returns-in-Invoke-clause-stepped g c one e =
-    let ms = c.args.state.modules.items in
-    let call = c.in-Invoke.call in
-    performs_at g.S.SourceReader.fault_seen c.args.budget (state_seen c.args.state) (hosts_seen c.args.hosts) c.invoke.result
-    (λ (m : LoadedModule). Invoke (loaded_seen m) (module_of m.tree) call.function call.args.items) (slice_get ms call.module) one
-    (ap (λ (t : task.Task). task_seen ms t) (sym c.in-Invoke.is) ∙ e)
-    (λ m there. c.invoke.ensures.stepped m there c.requires.consistent.ascending)
 
 pub returns-in-Remove-clause-stepped : goal.returns-in-Remove-clause-stepped
 returns-in-Remove-clause-stepped g c one e =

@@ -4,4 +4,4 @@ use Rattle.ash_state_tests.proofs.rows.check_exchanges.Given as goal
 
 -- the modules so far are what their sources are read as
 abbrev pub invariant-loop-line : goal.invariant-loop-line
-invariant-loop-line g l = AreConsistent (embedding_of (rules_of l.run.value.sources)) l.step.value.state.modules.items
+invariant-loop-line g l = AreConsistent (embedding_of (rules_of l.sources)) l.step.value.state.modules.items

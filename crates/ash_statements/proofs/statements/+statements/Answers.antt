@@ -1,20 +1,17 @@
-use Rattle.std.proofs.Common.{◌≡◌, Ok, refl, sym, ap, subst, ◌∙◌, ◌+◌, length, map, option_map, drop, arith}
+use Rattle.std.proofs.Common.{◌≡◌, Ok, refl, sym, ap, subst, ◌∙◌, ◌+◌, length, map, drop, arith}
 use Rattle.std.proofs.lemmas.List.{length-map}
 use Rattle.std.proofs.lemmas.Result.{err_from_is_err_and}
 use Rattle.ash_tree.specs.declared.tree.statements.Case as code_case
 use Rattle.ash_tree.specs.Tree as written
-use Rattle.ash_tree.specs.TreeViews.{stmt_of, case_of, expr_of}
+use Rattle.ash_tree.specs.TreeViews.{stmt_of, case_of}
 use Rattle.ash_typed.specs.BodyViews as typed_views
 use Rattle.ash_typing.specs.Labels.{is_last}
 use Rattle.ash_typing.specs.StatementRules as definition
-use Rattle.ash_typing.specs.ExpressionRules.{check_exprs}
-use Rattle.ash_typing.specs.Scopes.{block_of, loop_of, after}
-use Rattle.ash_typing.specs.StatementRules.{check_stmt, check_stmts, check_head, check_optional}
+use Rattle.ash_typing.specs.StatementRules.{check_stmts}
 use Rattle.ash_typing.specs.Switches.{check_label}
 use Rattle.ash_environment.specs.Agreement.{Agrees, FailsWith}
 use Rattle.ash_environment.specs.EnvironmentViews.{binding_of}
-use Rattle.ash_statements.specs.StatementViews.{locals_of, scope_of, control_of, control_at}
-use Rattle.ash_statements.proofs.ControlLaws.{for_control_fails, for_body_fails, for_built}
+use Rattle.ash_statements.specs.StatementViews.{locals_of, scope_of}
 use Rattle.ash_statements.proofs.StatementLaws.{Extends, at_first, extends_itself, extends_next, locals_go, block_step}
 use Rattle.ash_statements.proofs.StatementLaws.{block_end, block_of_source, switch_of_source}
 use Rattle.ash_statements.proofs.StatementLaws.{block_checked, block_fails, cases_step, label_fails, labelled_fails, cases_end}
@@ -118,51 +115,10 @@ check_stmt-returns-in-Switch-clause-typed t c =
     let is = switch_of_source c.args.source.now _ c.in-Switch.value c.in-Switch.cases c.deref-in-Switch.result.now c.deref.ensures c.in-Switch.is c.deref-in-Switch.ensures.value in
     subst (λ (x : written.Stmt). Agrees typed_views.stmt_of c.check_switch.result (definition.check_stmt scope x)) (sym is) c.check_switch.ensures.typed
 
-pub check_for-returns-in_err-control-clause-typed : goal.check_for-returns-in_err-control-clause-typed
-check_for-returns-in_err-control-clause-typed t c =
-    let p = err_from_is_err_and c.from_residual.result c.from_residual.ensures.1 in
-    let e = c.in_err-control.field-0.0 in
-    let scope = scope_of c.args.scope.now (locals_of c.args.locals.now) in
-    let k : c.len-outer.result ≡ length (locals_of c.args.locals.now) = omega (arith, c.len-outer.ensures, c.args.locals.now.ok.0, length-map c.args.locals.now.items binding_of) in
-    let first = stmt_of c.args.parts.first.now in
-    let condition = option_map expr_of c.args.parts.condition.now in
-    let steps = map expr_of c.args.parts.steps.now in
-    let env = (after (block_of scope) first).env in
-    let body = check_stmt (loop_of (after (block_of scope) first)) (stmt_of c.args.parts.body.now) in
-    rw (p.1, p.2) (for_control_fails c.args.parts.place.line (check_head (block_of scope) first) (check_optional env condition) (check_exprs env (written.exprs steps)) body e (subst (λ x. FailsWith e (control_at x first condition steps)) (first_is_all scope c.len-outer.result k) c.in_err-control.ensures.typed))
-
-pub check_for-returns-in_err-body-clause-typed : goal.check_for-returns-in_err-body-clause-typed
-check_for-returns-in_err-body-clause-typed t c =
-    let p = err_from_is_err_and c.from_residual-in_err-body.result c.from_residual-in_err-body.ensures.1 in
-    let e = c.in_err-body.field-0.0 in
-    let scope = scope_of c.args.scope.now (locals_of c.args.locals.now) in
-    let k : c.len-outer.result ≡ length (locals_of c.args.locals.now) = omega (arith, c.len-outer.ensures, c.args.locals.now.ok.0, length-map c.args.locals.now.items binding_of) in
-    let inner = first_is_all scope c.len-outer.result k in
-    let first = stmt_of c.args.parts.first.now in
-    let condition = option_map expr_of c.args.parts.condition.now in
-    let steps = map expr_of c.args.parts.steps.now in
-    let env = (after (block_of scope) first).env in
-    let repeated = stmt_of c.args.parts.body.now in
-    let body = check_stmt (loop_of (after (block_of scope) first)) repeated in
-    rw (p.1, p.2) (for_body_fails c.args.parts.place.line (check_head (block_of scope) first) (check_optional env condition) (check_exprs env (written.exprs steps)) body e (control_of c.in_ok-control.control) (ap (λ x. control_at x first condition steps) (sym inner) ∙ c.in_ok-control.ensures.typed) (subst (λ x. FailsWith e (check_stmt (loop_of x) repeated)) (c.in_ok-control.ensures.locals ∙ ap (λ x. after x first) inner) c.in_err-body.ensures.typed))
-
-pub check_for-returns-clause-typed : goal.check_for-returns-clause-typed
-check_for-returns-clause-typed t c =
-    let scope = scope_of c.args.scope.now (locals_of c.args.locals.now) in
-    let k : c.len-outer.result ≡ length (locals_of c.args.locals.now) = omega (arith, c.len-outer.ensures, c.args.locals.now.ok.0, length-map c.args.locals.now.items binding_of) in
-    let inner = first_is_all scope c.len-outer.result k in
-    let first = stmt_of c.args.parts.first.now in
-    let condition = option_map expr_of c.args.parts.condition.now in
-    let steps = map expr_of c.args.parts.steps.now in
-    let env = (after (block_of scope) first).env in
-    let repeated = stmt_of c.args.parts.body.now in
-    let body = check_stmt (loop_of (after (block_of scope) first)) repeated in
-    for_built typed_views.stmt_of c.build_for.result c.args.parts.place.line (check_head (block_of scope) first) (check_optional env condition) (check_exprs env (written.exprs steps)) body (control_of c.in_ok-control.control) (typed_views.stmt_of c.in_ok-body.body.value) (ap (λ x. control_at x first condition steps) (sym inner) ∙ c.in_ok-control.ensures.typed) (ap (λ x. check_stmt (loop_of x) repeated) (sym (c.in_ok-control.ensures.locals ∙ ap (λ x. after x first) inner)) ∙ c.in_ok-body.ensures.typed) c.build_for.ensures.agrees
-
 pub check_for-returns-clause-unchanged : goal.check_for-returns-clause-unchanged
 check_for-returns-clause-unchanged t c =
     let k : c.len-outer.result ≡ length c.args.locals.now.items = omega (arith, c.len-outer.ensures, c.args.locals.now.ok.0) in
     let scope = scope_of c.args.scope.now (locals_of c.args.locals.now) in
-    let first : Extends (locals_of c.args.locals.now) (locals_of c.check_control.new.locals) = extends_next (locals_of c.args.locals.now) (at_first scope c.len-outer.result) (at_first (scope_of c.args.scope.now (locals_of c.check_control.new.locals)) c.len-outer.result) (stmt_of c.args.parts.first.now) c.in_ok-control.ensures.locals (extends_itself (locals_of c.args.locals.now)) in
+    let first : Extends (locals_of c.args.locals.now) (locals_of c.check_for_head.new.locals) = extends_next (locals_of c.args.locals.now) (at_first scope c.len-outer.result) (at_first (scope_of c.args.scope.now (locals_of c.check_for_head.new.locals)) c.len-outer.result) (stmt_of c.args.parts.first.now) c.in_ok-first.ensures.locals (extends_itself (locals_of c.args.locals.now)) in
     let go : locals_of c.truncate.new.self ≡ locals_of c.args.locals.now = locals_go c.args.locals.now.items _ c.truncate.new.self.items c.len-outer.result k c.truncate.ensures.items (first.0, c.in_ok-body.ensures.unchanged ∙ first.1) in
     any_ok _ c.build_for.result go

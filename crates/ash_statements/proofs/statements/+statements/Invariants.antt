@@ -13,43 +13,37 @@ use Rattle.ash_statements.proofs.statements.+statements.Given as goal
 -- the depth that a function descends, and how near it is to the next statement
 
 abbrev pub decreases-check_stmt : goal.decreases-check_stmt
-decreases-check_stmt l = 4 * size-Stmt l.source.now
+decreases-check_stmt l = 3 * size-Stmt l.source.now
 
 abbrev pub decreases-check_branch : goal.decreases-check_branch
-decreases-check_branch l = 4 * size-Stmt l.source.now + 1
-
-abbrev pub decreases-check_repeated : goal.decreases-check_repeated
-decreases-check_repeated l = 4 * size-Stmt l.source.now + 2
+decreases-check_branch l = 3 * size-Stmt l.source.now + 1
 
 abbrev pub decreases-check_block : goal.decreases-check_block
-decreases-check_block l = 4 * most size-Stmt l.body.now + 1
+decreases-check_block l = 3 * most size-Stmt l.body.now + 1
 
 abbrev pub decreases-check_inner_block : goal.decreases-check_inner_block
-decreases-check_inner_block l = 4 * most size-Stmt l.body.now + 2
+decreases-check_inner_block l = 3 * most size-Stmt l.body.now + 2
 
 abbrev pub decreases-check_if : goal.decreases-check_if
-decreases-check_if l = 4 * size-Stmt l.inner.now + 3
+decreases-check_if l = 3 * size-Stmt l.inner.now + 2
 
 abbrev pub decreases-check_if_else : goal.decreases-check_if_else
-decreases-check_if_else l = 4 * max (size-Stmt l.branches.then.now) (size-Stmt l.branches.otherwise.now) + 3
+decreases-check_if_else l = 3 * max (size-Stmt l.branches.then.now) (size-Stmt l.branches.otherwise.now) + 2
 
 abbrev pub decreases-check_while : goal.decreases-check_while
-decreases-check_while l = 4 * size-Stmt l.inner.now + 3
+decreases-check_while l = 3 * size-Stmt l.inner.now + 2
 
 abbrev pub decreases-check_do_while : goal.decreases-check_do_while
-decreases-check_do_while l = 4 * size-Stmt l.inner.now + 3
+decreases-check_do_while l = 3 * size-Stmt l.inner.now + 2
 
 abbrev pub decreases-check_for : goal.decreases-check_for
-decreases-check_for l = 4 * size-Stmt l.parts.body.now + 3
+decreases-check_for l = 3 * size-Stmt l.parts.body.now + 2
 
 abbrev pub decreases-check_switch : goal.decreases-check_switch
-decreases-check_switch l = 4 * most size-Case l.labels.now + 3
-
-abbrev pub decreases-check_chosen : goal.decreases-check_chosen
-decreases-check_chosen l = 4 * most size-Case l.labels.now + 2
+decreases-check_switch l = 3 * most size-Case l.labels.now + 2
 
 abbrev pub decreases-check_cases : goal.decreases-check_cases
-decreases-check_cases l = 4 * most size-Case l.labels.now + 1
+decreases-check_cases l = 3 * most size-Case l.labels.now + 1
 
 -- the results so far, with those of the rest, are those of the whole
 

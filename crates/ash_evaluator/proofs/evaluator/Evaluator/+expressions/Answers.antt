@@ -2,7 +2,7 @@ use Rattle.std.proofs.Common.{sym, ◌∙◌, rules}
 use Rattle.ash_plain.specs.ActivityViews.{activity_seen}
 use Rattle.ash_evaluator.specs.EvaluatorViews.{calls_seen}
 use Rattle.ash_evaluator.proofs.Failing.{fails_onward}
-use Rattle.ash_evaluator.proofs.Walks.{path_follows, chain_follows, lazy_follows, call_follows, invoke_follows, operands_step, links_step, lazies_step, arguments_begin, arguments_step, arguments_end}
+use Rattle.ash_evaluator.proofs.Walks.{path_follows, chain_follows, lazy_follows, call_follows, invoke_follows, arguments_begin, arguments_step, arguments_end}
 use Rattle.ash_evaluator.proofs.evaluator.Evaluator.+expressions.Goals as goal
 
 pub expression-returns-in-Path : goal.expression-returns-in-Path
@@ -53,33 +53,3 @@ arguments-returns g t c = record {
   run =
       sym c.loop-expr.invariant ∙ arguments_end (calls_seen c.args.self.now) c.loop-expr.words.items c.args.all.now c.loop-expr.expr-index (activity_seen c.loop-expr.activity) c.loop-expr-test.false;
 }
-
-pub links-returns-in_err-handle : goal.links-returns-in_err-handle
-links-returns-in_err-handle g t c = record {
-  run =
-      rw (← c.loop-link.invariant, links_step (calls_seen c.args.self.now) c.args.links.now c.loop-link.link-index c.link-item.result c.loop-link.handle (activity_seen c.loop-link.activity) c.loop-link-test.true c.link-item.is) (search (rules, fails_onward));
-}
-
-pub links-loop-link-preserved : goal.links-loop-link-preserved
-links-loop-link-preserved g t c =
-    sym (links_step (calls_seen c.args.self.now) c.args.links.now c.loop-link.link-index c.link-item.result c.loop-link.handle (activity_seen c.loop-link.activity) c.loop-link-test.true c.link-item.is ∙ search rules) ∙ c.loop-link.invariant
-
-pub operands-returns-in_err-left : goal.operands-returns-in_err-left
-operands-returns-in_err-left g t c = record {
-  run =
-      rw (← c.loop-operand.invariant, operands_step (calls_seen c.args.self.now) c.args.operands.now c.loop-operand.operand-index c.operand-item.result c.loop-operand.left (activity_seen c.loop-operand.activity) c.loop-operand-test.true c.operand-item.is) (search (rules, fails_onward));
-}
-
-pub operands-loop-operand-preserved : goal.operands-loop-operand-preserved
-operands-loop-operand-preserved g t c =
-    sym (operands_step (calls_seen c.args.self.now) c.args.operands.now c.loop-operand.operand-index c.operand-item.result c.loop-operand.left (activity_seen c.loop-operand.activity) c.loop-operand-test.true c.operand-item.is ∙ search rules) ∙ c.loop-operand.invariant
-
-pub lazies-returns-in_err-left : goal.lazies-returns-in_err-left
-lazies-returns-in_err-left g t c = record {
-  run =
-      rw (← c.loop-other.invariant, lazies_step (calls_seen c.args.self.now) c.args.operator c.args.others.now c.loop-other.other-index c.other-item.result c.loop-other.left (activity_seen c.loop-other.activity) c.loop-other-test.true c.other-item.is) (search (rules, fails_onward));
-}
-
-pub lazies-loop-other-preserved : goal.lazies-loop-other-preserved
-lazies-loop-other-preserved g t c =
-    sym (lazies_step (calls_seen c.args.self.now) c.args.operator c.args.others.now c.loop-other.other-index c.other-item.result c.loop-other.left (activity_seen c.loop-other.activity) c.loop-other-test.true c.other-item.is ∙ search rules) ∙ c.loop-other.invariant

@@ -4,7 +4,7 @@ use Rattle.ash_evaluator.specs.EvaluatorViews.{calls_seen}
 use Rattle.ash_evaluator.specs.EvaluatorViews.{turn_seen}
 use Rattle.ash_evaluator.proofs.Failing.{fails_onward}
 use Rattle.ash_evaluator.proofs.Turns.{turns_more}
-use Rattle.ash_evaluator.proofs.StatementWalks.{block_follows, declare_follows, switch_follows, statements_step}
+use Rattle.ash_evaluator.proofs.StatementWalks.{block_follows, declare_follows, switch_follows}
 use Rattle.ash_evaluator.proofs.Switching.{fall_step}
 use Rattle.ash_evaluator.proofs.evaluator.Evaluator.+statements.Goals as goal
 
@@ -60,19 +60,3 @@ fall_through-returns-in_default g t c = record {
 pub fall_through-loop-case-preserved : goal.fall_through-loop-case-preserved
 fall_through-loop-case-preserved g t c =
     sym (fall_step (calls_seen c.args.self.now) c.args.self.now.depth c.args.cases.now c.loop-case.case-index c.case-item.result (activity_seen c.loop-case.activity) c.loop-case-test.true c.case-item.is ∙ search rules) ∙ c.loop-case.invariant
-
-pub statements-returns-in_err-flow : goal.statements-returns-in_err-flow
-statements-returns-in_err-flow g t c = record {
-  run =
-      rw (← c.loop-stmt.invariant, statements_step (calls_seen c.args.self.now) c.args.self.now.depth c.args.body.now c.loop-stmt.stmt-index c.stmt-item.result (activity_seen c.loop-stmt.activity) c.loop-stmt-test.true c.stmt-item.is) (search (rules, fails_onward));
-}
-
-pub statements-returns-in_default : goal.statements-returns-in_default
-statements-returns-in_default g t c = record {
-  run =
-      rw (← c.loop-stmt.invariant, statements_step (calls_seen c.args.self.now) c.args.self.now.depth c.args.body.now c.loop-stmt.stmt-index c.stmt-item.result (activity_seen c.loop-stmt.activity) c.loop-stmt-test.true c.stmt-item.is) (search rules);
-}
-
-pub statements-loop-stmt-preserved : goal.statements-loop-stmt-preserved
-statements-loop-stmt-preserved g t c =
-    sym (statements_step (calls_seen c.args.self.now) c.args.self.now.depth c.args.body.now c.loop-stmt.stmt-index c.stmt-item.result (activity_seen c.loop-stmt.activity) c.loop-stmt-test.true c.stmt-item.is ∙ search rules) ∙ c.loop-stmt.invariant
