@@ -1,10 +1,10 @@
 # Each allocation of the tests of the object table that are refused memory is refused in turn, until a run meets no refusal.
 # Such a test passes whichever of its allocations is refused. They are those of refusals.rt. OBJECTS_TESTS names the program
-# with the tests, else it is the one in the checkout, which `rt test` in crates/ash_host_tests makes.
+# with the tests, else it is the one in the checkout, which `rt test` in crates/ash_objects_tests makes.
 
-tests=${OBJECTS_TESTS:-$top/crates/ash_host_tests/out/ash_host_tests_tests}
+tests=${OBJECTS_TESTS:-$top/crates/ash_objects_tests/out/ash_host_tests_tests}
 if [ ! -x "$tests" ]; then
-    verdict 1 "the tests of the object table are not built (rt test in crates/ash_host_tests does it): $tests"
+    verdict 1 "the tests of the object table are not built (rt test in crates/ash_objects_tests does it): $tests"
     return
 fi
 cc -shared -fPIC -o "$scratch/refuse_memory.so" tests/refuse_memory.c -ldl
@@ -19,7 +19,7 @@ refuse() {
 
 "$tests" --list > "$scratch/list"
 grep -o '^refusals::[a-z_]*' "$scratch/list" > "$scratch/names"
-[ "$(wc -l < "$scratch/names")" -eq "$(grep -c '^#\[test\]' crates/ash_host_tests/src/refusals.rt)" ]
+[ "$(wc -l < "$scratch/names")" -eq "$(grep -c '^#\[test\]' crates/ash_objects_tests/src/refusals.rt)" ]
 verdict $? "the list of the tests that are refused memory"
 while read -r test; do
     untouched=1

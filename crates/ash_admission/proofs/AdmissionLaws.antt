@@ -10,14 +10,14 @@ use Rattle.ash_host.specs.Objects.{IsInOrder}
 use Rattle.ash_host.proofs.Membership.{and_both, both_and}
 use Rattle.ash_typed.specs.Modules.{Module, module_of}
 use Rattle.ash_typed.specs.Signatures.{HostSignatures, types_of_globals}
-use Rattle.ash_phrases.specs.Classes.{Program}
-use Rattle.ash_wellformed.specs.WellFormed.{Known, AreValues, AreObjects}
-use Rattle.ash_steps.specs.States.{Embedding, has_name}
-use Rattle.ash_steps.specs.Tasks.{tree_of}
+use Rattle.ash_meaning.specs.Classes.{Program}
+use Rattle.ash_soundness.specs.WellFormed.{Known, AreValues, AreObjects}
+use Rattle.ash_requests.specs.States.{Embedding, has_name}
+use Rattle.ash_requests.specs.Tasks.{tree_of}
 use Rattle.ash_plain_steps.specs.declared.state.LoadedModule.{LoadedModule}
 use Rattle.ash_plain_steps.specs.StateViews.{loaded_seen, modules_seen}
 use Rattle.ash_plain_steps.specs.Consistency.{IsReadFromSource, AreConsistent}
-use Rattle.ash_wellformed_states.specs.WellFormedStates.{IsLoaded, known_of}
+use Rattle.ash_soundness.specs.WellFormedStates.{IsLoaded, known_of}
 use Rattle.ash_admission.specs.Contents.{program_of_name, known_in, are_objects}
 use Rattle.ash_admission.specs.Admission.{ConstructsNothing, program_of, HasTypedGlobals, AreWellTypedObjects, IsWellTypedAsRead, is_loaded, is_well_typed}
 use Rattle.ash_admission.proofs.ValueLaws.{values_say, values_yes}

@@ -13,9 +13,9 @@ use Rattle.ash_tree.specs.declared.tree.types.Primitive.{Primitive}
 use Rattle.ash_typed.specs.Modules.{Class}
 use Rattle.ash_typed.specs.Signatures as signatures
 use Rattle.ash_typed.specs.Signatures.{type_declared}
-use Rattle.ash_phrases.specs.Classes.{Program}
-use Rattle.ash_wellformed.specs.WellFormed as formed
-use Rattle.ash_wellformed.specs.WellFormed.{Shape, OfKind, shape_of, shape_at, AreValues, IsScript, IsObject, AreObjects, IsOffered, AreOffered}
+use Rattle.ash_meaning.specs.Classes.{Program}
+use Rattle.ash_soundness.specs.WellFormed as formed
+use Rattle.ash_soundness.specs.WellFormed.{Shape, OfKind, shape_of, shape_at, AreValues, IsScript, IsObject, AreObjects, IsOffered, AreOffered}
 use Rattle.ash_admission.specs.Places.{class_at}
 use Rattle.ash_admission.specs.Values.{are_values}
 use Rattle.ash_admission.specs.Contents.{program_of_name, known_in, is_script, are_elements, is_object, are_objects}

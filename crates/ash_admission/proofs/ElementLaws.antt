@@ -19,9 +19,9 @@ use Rattle.ash_typed.specs.declared.types.ObjectType.TheVariants as objects
 use Rattle.ash_typed.specs.declared.types.VarType.TheVariants as vars
 use Rattle.ash_typed.specs.TypeOf.{type_of_element}
 use Rattle.ash_typed.specs.Modules.{Interface, Class, Module}
-use Rattle.ash_phrases.specs.Classes.{Program, place_of_class, place_of_interface, element_of}
-use Rattle.ash_wellformed.specs.WellFormed as formed
-use Rattle.ash_wellformed.specs.WellFormed.{Shape, OfKind, IsOfClass, IsOf, IsNamed, IsKnownFor, IsReference, IsValue, AllAre, IsArray}
+use Rattle.ash_meaning.specs.Classes.{Program, place_of_class, place_of_interface, element_of}
+use Rattle.ash_soundness.specs.WellFormed as formed
+use Rattle.ash_soundness.specs.WellFormed.{Shape, OfKind, IsOfClass, IsOf, IsNamed, IsKnownFor, IsReference, IsValue, AllAre, IsArray}
 use Rattle.ash_admission.specs.Places.{class_at, is_of_place, is_of_kind, is_of}
 use Rattle.ash_admission.specs.Values.{is_truth, is_integer, is_reference}
 use Rattle.ash_admission.specs.Contents.{program_of_name, known_in, are_of_class, any_interface, are_handles, are_elements}

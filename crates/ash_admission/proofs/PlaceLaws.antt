@@ -3,8 +3,8 @@ use Rattle.std.proofs.Common.{◌≡◌, ◌+◌, ℕ, zero, suc, Bool, true, fa
 use Rattle.std.specs.Prelude.{Some, slice_get}
 use Rattle.std.proofs.lemmas.Bool.{eqb-true, eq-eqb}
 use Rattle.ash_typed.specs.Modules.{Class, Module}
-use Rattle.ash_phrases.specs.Classes.{place_of_class}
-use Rattle.ash_wellformed.proofs.Places.{one_class}
+use Rattle.ash_meaning.specs.Classes.{place_of_class}
+use Rattle.ash_soundness.proofs.Places.{one_class}
 use Rattle.ash_admission.specs.Places.{class_from, class_at}
 
 -- what is found is at the place

@@ -13,8 +13,8 @@ use Rattle.ash_typed.specs.declared.types.ObjectType.{ObjectType}
 use Rattle.ash_typed.specs.declared.types.ObjectType.TheVariants as objects
 use Rattle.ash_typed.specs.Modules.{Interface, Class, Module}
 use Rattle.ash_typed.specs.Signatures as signatures
-use Rattle.ash_phrases.specs.Classes.{Program, place_of_class, place_of_interface, element_of}
-use Rattle.ash_wellformed.specs.WellFormed.{Shape, OfClass, OfElements, OfKind, IsOfClass, ListsInterface, IsNamed, IsOf}
+use Rattle.ash_meaning.specs.Classes.{Program, place_of_class, place_of_interface, element_of}
+use Rattle.ash_soundness.specs.WellFormed.{Shape, OfClass, OfElements, OfKind, IsOfClass, ListsInterface, IsNamed, IsOf}
 use Rattle.ash_admission.specs.Places.{class_at, is_class_at, is_interface_at, lists, implements, is_of_place, is_of_kind, is_element, is_of}
 use Rattle.ash_admission.proofs.Tests.{same_text, text_itself, some_within, within_some, got_within}
 use Rattle.ash_admission.proofs.PlaceLaws.{class_there, class_found}

@@ -12,9 +12,9 @@ use Rattle.ash_integers.specs.declared.int_type.IntType.{IntType}
 use Rattle.ash_integers.specs.declared.int_type.IntType.TheVariants as ints
 use Rattle.ash_typed.specs.declared.types.VarType.{VarType}
 use Rattle.ash_typed.specs.declared.types.VarType.TheVariants as vars
-use Rattle.ash_phrases.specs.Classes.{Program}
-use Rattle.ash_wellformed.specs.WellFormed as formed
-use Rattle.ash_wellformed.specs.WellFormed.{Shape, shape_at, IsOf, IsReference, IsInteger, IsValue, AreValues, AllAre}
+use Rattle.ash_meaning.specs.Classes.{Program}
+use Rattle.ash_soundness.specs.WellFormed as formed
+use Rattle.ash_soundness.specs.WellFormed.{Shape, shape_at, IsOf, IsReference, IsInteger, IsValue, AreValues, AllAre}
 use Rattle.ash_admission.specs.Places.{is_of}
 use Rattle.ash_admission.specs.Values.{fits_bits, is_truth, is_integer, is_reference, is_value, after_value, after_values, is_end, are_values}
 use Rattle.ash_admission.proofs.Tests.{lt_says, lt_yes}

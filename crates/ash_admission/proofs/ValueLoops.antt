@@ -10,7 +10,7 @@ use Rattle.ash_typed.specs.declared.tree.items.Variables as variables
 use Rattle.ash_typed.specs.BodyViews.{value_of}
 use Rattle.ash_typed.specs.Modules.{variables_of}
 use Rattle.ash_typed.specs.Signatures.{type_declared, types_of_globals}
-use Rattle.ash_phrases.specs.Classes.{Program}
+use Rattle.ash_meaning.specs.Classes.{Program}
 use Rattle.ash_plain_steps.proofs.Drops.{at_place, past}
 use Rattle.ash_admission.specs.Values.{after_value, after_values, is_end, are_values}
 use Rattle.ash_admission.proofs.ValueLaws.{after_both}

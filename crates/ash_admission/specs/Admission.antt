@@ -4,11 +4,11 @@ use Rattle.std.specs.List.{AllByRecursion, list_all}
 use Rattle.ash_host.specs.Objects as plain
 use Rattle.ash_typed.specs.Modules.{module_of}
 use Rattle.ash_typed.specs.Signatures.{HostSignatures, types_of_globals}
-use Rattle.ash_phrases.specs.Classes.{Program}
-use Rattle.ash_wellformed.specs.WellFormed.{AreValues, AreObjects, AreOffered}
-use Rattle.ash_steps.specs.States.{Embedding, LoadedModule as Loaded}
+use Rattle.ash_meaning.specs.Classes.{Program}
+use Rattle.ash_soundness.specs.WellFormed.{AreValues, AreObjects, AreOffered}
+use Rattle.ash_requests.specs.States.{Embedding, LoadedModule as Loaded}
 use Rattle.ash_plain_steps.specs.declared.state.LoadedModule.{LoadedModule}
-use Rattle.ash_wellformed_states.specs.WellFormedStates.{IsLoaded, known_of}
+use Rattle.ash_soundness.specs.WellFormedStates.{IsLoaded, known_of}
 use Rattle.ash_admission.specs.Values.{are_values}
 use Rattle.ash_admission.specs.Contents.{known_in, are_objects}
 

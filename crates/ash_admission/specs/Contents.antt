@@ -12,8 +12,8 @@ use Rattle.ash_integers.specs.declared.int_type.IntType.TheVariants as ints
 use Rattle.ash_typed.specs.declared.types.ObjectType.TheVariants as objects
 use Rattle.ash_typed.specs.Modules.{Interface, Class}
 use Rattle.ash_typed.specs.Signatures.{type_declared}
-use Rattle.ash_phrases.specs.Classes.{Program}
-use Rattle.ash_wellformed.specs.WellFormed.{Known}
+use Rattle.ash_meaning.specs.Classes.{Program}
+use Rattle.ash_soundness.specs.WellFormed.{Known}
 use Rattle.ash_admission.specs.Places.{class_at, is_of_place, is_of_kind, is_of}
 use Rattle.ash_admission.specs.Values.{is_truth, is_integer, is_reference, are_values}
 

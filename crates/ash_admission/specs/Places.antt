@@ -12,8 +12,8 @@ use Rattle.ash_typed.specs.declared.types.ObjectType.{ObjectType}
 use Rattle.ash_typed.specs.declared.types.ObjectType.TheVariants as objects
 use Rattle.ash_typed.specs.Modules.{Interface, Class, Module}
 use Rattle.ash_typed.specs.Signatures as signatures
-use Rattle.ash_phrases.specs.Classes.{Program, place_of_class}
-use Rattle.ash_wellformed.specs.WellFormed.{Shape, OfClass, OfElements, OfKind}
+use Rattle.ash_meaning.specs.Classes.{Program, place_of_class}
+use Rattle.ash_soundness.specs.WellFormed.{Shape, OfClass, OfElements, OfKind}
 
 -- the class at a place of the source, among these classes, of which the first has this index
 abbrev pub class_from : Module → ℕ → ℕ → List Class → Option Class

@@ -5,7 +5,7 @@ ghost use Rattle.std.specs.List.{list_all};
 ghost use Rattle.ash_host.specs.Objects as plain;
 ghost use Rattle.ash_host.specs.Objects.{IsInOrder};
 ghost use Rattle.ash_typed.specs.Signatures.{HostSignatures};
-ghost use Rattle.ash_steps.specs.States.{Embedding};
+ghost use Rattle.ash_requests.specs.States.{Embedding};
 ghost use Rattle.ash_plain_steps.specs.declared.state.LoadedModule as loaded_module;
 ghost use Rattle.ash_plain_steps.specs.StateViews.{modules_seen};
 ghost use Rattle.ash_plain_steps.specs.Consistency.{AreConsistent};
@@ -15,8 +15,8 @@ ghost use Rattle.ash_admission.specs.Admission.{is_well_typed};
 
 use crate::contents::are_objects;
 use crate::values::is_loaded;
-use ash_plain::objects::ObjectMap;
 use ash_plain_steps::state::LoadedModule;
+use ash_plain_world::objects::ObjectMap;
 
 /// Whether what the globals of each module hold is of their types.
 fn are_loaded(modules: &[LoadedModule], objects: &ObjectMap) -> bool

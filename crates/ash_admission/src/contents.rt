@@ -11,9 +11,9 @@ use crate::elements::{are_handles, are_integers, are_of_kind, are_truths};
 use crate::places::class_at;
 use crate::values::are_values;
 use ash_host::{MAX_ELEMENTS, Word};
-use ash_plain::objects::ObjectMap;
 use ash_plain_data::object::{Elements, Object};
 use ash_plain_steps::state::LoadedModule;
+use ash_plain_world::objects::ObjectMap;
 use ash_typed::IntType;
 
 /// The module of a name.

@@ -12,8 +12,8 @@ use crate::places::{class_at, is_sum};
 use crate::types::{is_of_kind, is_of_place};
 use crate::values::{is_integer, is_reference, is_truth};
 use ash_host::Word;
-use ash_plain::objects::ObjectMap;
 use ash_plain_steps::state::LoadedModule;
+use ash_plain_world::objects::ObjectMap;
 use ash_typed::{IntType, Interface, ObjectType};
 
 /// Whether words are truth values.

@@ -4,7 +4,7 @@
 //! their types, that each object is as its class or its elements say, and that there is no host object, since no kind
 //! is registered. That numbers and names are in order, limits hold and every object can be reached is tested where
 //! the image is read. It promises that the answer is exactly whether these parts of a well-formed state hold
-//! (`ash_wellformed_states`). The answer takes no memory, one look-up for each handle and one turn for each object. A
+//! (`ash_soundness`). The answer takes no memory, one look-up for each handle and one turn for each object. A
 //! class is found by its place among those of its module.
 //!
 //! In reading order: `places` (classes and interfaces by their places in the source), `types` (whether an object is of

@@ -4,7 +4,7 @@ ghost use Rattle.std.specs.Prelude.{◌≡◌, ◌+◌, map, option_map, count_b
 ghost use Rattle.ash_host.specs.Reach.{is_among};
 ghost use Rattle.ash_typed.specs.Modules.{interface_of, implementation_of, class_of, module_of};
 ghost use Rattle.ash_typed.specs.Signatures.{place_of_interface};
-ghost use Rattle.ash_phrases.specs.Classes.{place_of_class};
+ghost use Rattle.ash_meaning.specs.Classes.{place_of_class};
 ghost use Rattle.ash_admission.specs.Places.{class_from, class_at, is_class_at};
 ghost use Rattle.ash_admission.specs.Places.{is_interface_at, lists};
 ghost use Rattle.ash_admission.specs.Places.{implements};

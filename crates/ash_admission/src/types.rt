@@ -2,7 +2,7 @@
 
 ghost use Rattle.std.specs.Prelude.{◌≡◌};
 ghost use Rattle.ash_plain_data.specs.ObjectViews.{element_seen, object_seen};
-ghost use Rattle.ash_wellformed.specs.WellFormed.{shape_of};
+ghost use Rattle.ash_soundness.specs.WellFormed.{shape_of};
 ghost use Rattle.ash_admission.specs.Places.{is_of_place, is_of_kind, is_element, is_of};
 ghost use Rattle.ash_admission.specs.Admission.{program_of};
 

@@ -12,8 +12,8 @@ ghost use Rattle.ash_admission.specs.Admission.{program_of, is_loaded};
 
 use crate::types::is_of;
 use ash_host::Word;
-use ash_plain::objects::ObjectMap;
 use ash_plain_steps::state::LoadedModule;
+use ash_plain_world::objects::ObjectMap;
 use ash_typed::{Initialization, IntType, ObjectType, VarType, Variables};
 
 /// Whether a word is a truth value.

@@ -7,8 +7,8 @@
 use crate::rates::Timing;
 use anyhow::{Result, bail};
 use ash_host::MAX_OBJECTS;
+use ash_image::image::read_image;
 use ash_registry::Registry;
-use ash_state_image::image::read_image;
 use ash_states::state::HostState;
 use std::alloc::Global;
 use std::io;

@@ -10,13 +10,13 @@ use Rattle.std.specs.List.{Contains}
 use Rattle.ash_registrations.specs.Registrations.{Registration}
 use Rattle.ash_tree.specs.Tree.{Class, Item}
 use Rattle.ash_typed.specs.Modules.{Module}
-use Rattle.ash_typing.specs.ItemRules.{check_module}
-use Rattle.ash_environment.specs.declared.error.CheckError.{CheckError}
-use Rattle.ash_environment.specs.declared.error.CheckError.TheVariants as errors
-use Rattle.ash_environment.specs.Agreement.{FailsWith}
-use Rattle.ash_classes.specs.Paths.{IsPath}
-use Rattle.ash_classes.specs.ClassReferences.{DeclaredClassRefers, classes_of}
-use Rattle.ash_classes.specs.ReportedCycle.{reported_cycle}
+use Rattle.ash_type_rules.specs.ItemRules.{check_module}
+use Rattle.ash_check_names.specs.declared.error.CheckError.{CheckError}
+use Rattle.ash_check_names.specs.declared.error.CheckError.TheVariants as errors
+use Rattle.ash_check_names.specs.Agreement.{FailsWith}
+use Rattle.ash_class_cycles.specs.Paths.{IsPath}
+use Rattle.ash_class_cycles.specs.ClassReferences.{DeclaredClassRefers, classes_of}
+use Rattle.ash_class_cycles.specs.ReportedCycle.{reported_cycle}
 use Rattle.ash_check.specs.declared.faults.ScriptError.{ScriptError}
 use Rattle.ash_check.specs.ScriptFaults.{ScriptFault, Cyclic, script_error}
 use Rattle.ash_check.specs.Checks.{name_at, names_of_cycle, unless_cycle, checked_by, checked}

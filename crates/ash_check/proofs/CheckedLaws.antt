@@ -3,13 +3,13 @@ use Rattle.std.proofs.Common.{◌≡◌, ℕ, List, length, Ok}
 use Rattle.ash_registrations.specs.Registrations.{Registration}
 use Rattle.ash_tree.specs.Tree.{Item}
 use Rattle.ash_typed.specs.Modules.{Module}
-use Rattle.ash_typing.specs.ItemRules.{check_module}
-use Rattle.ash_typing.specs.Nesting.{ItemsDeclareInBlocks}
-use Rattle.ash_typing.proofs.ModuleLaws.{check_module-exact}
-use Rattle.ash_typing.proofs.SoundnessModules.{module_sound}
-use Rattle.ash_classes.specs.ClassReferences.{DeclaredClassRefers, classes_of}
-use Rattle.ash_classes.specs.Paths.{AreRanksAlong}
-use Rattle.ash_ranks.proofs.RankLaws.{typed_ranks}
+use Rattle.ash_type_rules.specs.ItemRules.{check_module}
+use Rattle.ash_type_rules.specs.Nesting.{ItemsDeclareInBlocks}
+use Rattle.ash_type_rules.proofs.ModuleLaws.{check_module-exact}
+use Rattle.ash_type_rules.proofs.SoundnessModules.{module_sound}
+use Rattle.ash_class_cycles.specs.ClassReferences.{DeclaredClassRefers, classes_of}
+use Rattle.ash_class_cycles.specs.Paths.{AreRanksAlong}
+use Rattle.ash_class_cycles.proofs.RankLaws.{typed_ranks}
 use Rattle.ash_check.specs.CheckedModules.{IsChecked}
 
 -- what is typed is sound, and ranks of the written classes are ranks of the typed ones

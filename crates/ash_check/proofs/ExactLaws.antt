@@ -3,15 +3,15 @@ use Rattle.std.proofs.Common.{◌≡◌, ◌↔◌, ◌∙◌, ℕ, List, Option
 use Rattle.ash_registrations.specs.Registrations.{Registration}
 use Rattle.ash_tree.specs.Tree.{Class, Item}
 use Rattle.ash_typed.specs.Modules.{Module}
-use Rattle.ash_typing.specs.declared.fault.Fault.{Fault}
-use Rattle.ash_typing.specs.TypingResult.{TypingResult}
-use Rattle.ash_typing.specs.ItemRules.{check_module}
-use Rattle.ash_typing.specs.TypedModules.{IsTyped}
-use Rattle.ash_typing.proofs.ModuleLaws.{check_module-exact}
-use Rattle.ash_classes.specs.ClassReferences.{DeclaredClassRefers, classes_of}
-use Rattle.ash_classes.specs.ReportedCycle.{reported_cycle}
-use Rattle.ash_classes.specs.Paths.{IsReportedCycle, Reaches}
-use Rattle.ash_classes.proofs.CycleSearches.{reported_is, none_is_reported}
+use Rattle.ash_type_rules.specs.declared.fault.Fault.{Fault}
+use Rattle.ash_type_rules.specs.TypingResult.{TypingResult}
+use Rattle.ash_type_rules.specs.ItemRules.{check_module}
+use Rattle.ash_type_rules.specs.TypedModules.{IsTyped}
+use Rattle.ash_type_rules.proofs.ModuleLaws.{check_module-exact}
+use Rattle.ash_class_cycles.specs.ClassReferences.{DeclaredClassRefers, classes_of}
+use Rattle.ash_class_cycles.specs.ReportedCycle.{reported_cycle}
+use Rattle.ash_class_cycles.specs.Paths.{IsReportedCycle, Reaches}
+use Rattle.ash_class_cycles.proofs.CycleSearches.{reported_is, none_is_reported}
 use Rattle.ash_check.specs.ScriptFaults.{ScriptFault, Broken, Cyclic}
 use Rattle.ash_check.specs.Checks.{names_of_cycle, unless_cycle, checked_by, checked}
 use Rattle.ash_check.proofs.CheckLaws.{typed_is_checked, cycle_is_reported}

@@ -2,8 +2,8 @@
 use Rattle.std.proofs.Common.{◌≡◌, ◌<◌, ℕ, List, [], ◌∷◌, ◌++◌, false, Option, Some, None, length, drop, refl, sym, ap}
 use Rattle.std.proofs.Common.{append_assoc, arith}
 use Rattle.std.proofs.lemmas.List.{length-drop}
-use Rattle.ash_typing.specs.declared.types.Ty.{Ty}
-use Rattle.ash_typing.specs.Implementations.{are_same, with_first}
+use Rattle.ash_type_rules.specs.declared.types.Ty.{Ty}
+use Rattle.ash_type_rules.specs.Implementations.{are_same, with_first}
 
 -- types
 

@@ -1,10 +1,10 @@
 -- Walks over lists, step by step: the first step that fails ends them.
 use Rattle.std.proofs.Common.{◌≡◌, ℕ, ◌+◌, List, [], ◌∷◌, length, Ok, sym, ap, ◌∙◌, ◌<◌, ◌≤◌, drop, get_or}
 use Rattle.std.proofs.lemmas.List.{at_drop_more, at_drop_all}
-use Rattle.ash_typing.specs.TypingResult.{TypingResult, ◌>>=◌}
-use Rattle.ash_environment.specs.declared.error.CheckError.{CheckError}
-use Rattle.ash_environment.specs.declared.error.CheckError.TheVariants as errors
-use Rattle.ash_environment.specs.Agreement.{FailsWith}
+use Rattle.ash_type_rules.specs.TypingResult.{TypingResult, ◌>>=◌}
+use Rattle.ash_check_names.specs.declared.error.CheckError.{CheckError}
+use Rattle.ash_check_names.specs.declared.error.CheckError.TheVariants as errors
+use Rattle.ash_check_names.specs.Agreement.{FailsWith}
 
 -- where the first step fails, what is bound to it does
 pub stops : {X Y : Type 0} (first : TypingResult X) (rest : X → TypingResult Y) (e : CheckError) → FailsWith e first → FailsWith e (first >>= rest)

@@ -6,7 +6,7 @@ use Rattle.ash_typed.specs.Modules.{Module}
 use Rattle.ash_typed.specs.References.{AreRanks}
 use Rattle.ash_typed.specs.Signatures.{signatures_of}
 use Rattle.ash_typed.specs.SoundModules.{IsSound}
-use Rattle.ash_typing.specs.Offered.{offered}
+use Rattle.ash_type_rules.specs.Offered.{offered}
 
 -- the accepted registrations of the registry that a script was checked against, its typed module, and a rank for each
 -- class

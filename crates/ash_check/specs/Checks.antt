@@ -5,11 +5,11 @@ use Rattle.std.specs.List.{Contains}
 use Rattle.std.specs.Option.{option_map_or}
 use Rattle.ash_registrations.specs.Registrations.{Registration}
 use Rattle.ash_tree.specs.Tree.{Class, Item}
-use Rattle.ash_typing.specs.TypingResult.{TypingResult}
+use Rattle.ash_type_rules.specs.TypingResult.{TypingResult}
 use Rattle.ash_typed.specs.Modules.{Module}
-use Rattle.ash_typing.specs.ItemRules.{check_module}
-use Rattle.ash_classes.specs.ClassReferences.{RefersTo, classes_of}
-use Rattle.ash_classes.specs.ReportedCycle.{reported_cycle}
+use Rattle.ash_type_rules.specs.ItemRules.{check_module}
+use Rattle.ash_class_cycles.specs.ClassReferences.{RefersTo, classes_of}
+use Rattle.ash_class_cycles.specs.ReportedCycle.{reported_cycle}
 use Rattle.ash_check.specs.declared.faults.ScriptFault.TheVariants as faults
 use Rattle.ash_check.specs.declared.faults.ScriptError.{ScriptError}
 use Rattle.ash_check.specs.declared.faults.ScriptError.TheVariants as errors

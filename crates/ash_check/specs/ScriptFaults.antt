@@ -1,10 +1,10 @@
 -- Why a script is refused, without where names lie in memory; the codes by which that is reported; and how the check of
 -- a script fails.
 use Rattle.std.specs.Prelude.{ℕ, List, map, string_bytes, codes}
-use Rattle.ash_typing.specs.declared.fault.Fault.{Fault}
-use Rattle.ash_typing.specs.RuleCodes as typing
-use Rattle.ash_environment.specs.declared.error.CheckError.{CheckError}
-use Rattle.ash_environment.specs.declared.error.CheckError.TheVariants as parts
+use Rattle.ash_type_rules.specs.declared.fault.Fault.{Fault}
+use Rattle.ash_type_rules.specs.RuleCodes as typing
+use Rattle.ash_check_names.specs.declared.error.CheckError.{CheckError}
+use Rattle.ash_check_names.specs.declared.error.CheckError.TheVariants as parts
 use Rattle.ash_check.specs.declared.faults.ScriptFault as code
 use Rattle.ash_check.specs.declared.faults.ScriptFault.TheVariants as the
 use Rattle.ash_check.specs.declared.faults.ScriptError.{ScriptError}

@@ -8,16 +8,16 @@ use Rattle.ash_registrations.specs.Registered.{registered}
 use Rattle.ash_registrations.specs.Registrations as host
 use Rattle.ash_tree.specs.TreeViews.{parameter_of, stmt_of}
 use Rattle.ash_tree.specs.Tree as written
-use Rattle.ash_typing.specs.TypingResult.{TypingResult, ◌>>=◌}
-use Rattle.ash_typing.specs.Environment.{Environment, inside}
-use Rattle.ash_typing.specs.ItemRules.{Names, Row, InterfaceMembers, Listed, Members, Walked, no_members, check_members}
-use Rattle.ash_typing.specs.ItemRules.{class_of_members, check_items, module_walked}
+use Rattle.ash_type_rules.specs.TypingResult.{TypingResult, ◌>>=◌}
+use Rattle.ash_type_rules.specs.Environment.{Environment, inside}
+use Rattle.ash_type_rules.specs.ItemRules.{Names, Row, InterfaceMembers, Listed, Members, Walked, no_members, check_members}
+use Rattle.ash_type_rules.specs.ItemRules.{class_of_members, check_items, module_walked}
 use Rattle.ash_typed.specs.Modules.{Implementation, Class, variables_of, signature_of, implementation_of, class_of}
 use Rattle.ash_typed.specs.Modules.{Module, module_of}
 use Rattle.ash_typed.specs.declared.tree.items.Variables as variables
 use Rattle.ash_typed.specs.declared.tree.items.Class as class
 use Rattle.ash_typed.specs.declared.tree.items.Module as script
-use Rattle.ash_environment.specs.NameIndex.{texts}
+use Rattle.ash_check_names.specs.NameIndex.{texts}
 use Rattle.ash_check.specs.declared.names.Names as names
 use Rattle.ash_check.specs.declared.routines.Routine as routine
 use Rattle.ash_check.specs.declared.interfaces.InterfaceParts as interface_parts

@@ -5,7 +5,7 @@ ghost use Rattle.ash_typed.specs.Modules.{module_of};
 ghost use Rattle.ash_typed.specs.References.{AreRanks};
 ghost use Rattle.ash_typed.specs.Signatures.{signatures_of};
 ghost use Rattle.ash_typed.specs.SoundModules.{IsSound};
-ghost use Rattle.ash_typing.specs.Offered.{offered};
+ghost use Rattle.ash_type_rules.specs.Offered.{offered};
 
 use ash_registrations::Registrations;
 use ash_typed::Module;

@@ -4,8 +4,8 @@ ghost use Rattle.std.specs.Prelude.{◌≡◌};
 ghost use Rattle.ash_check.specs.declared.faults.ScriptError.TheVariants.{NoMemory};
 ghost use Rattle.ash_check.specs.ScriptFaults.{script_fault_of, code_of, script_error};
 
-use ash_environment::CheckError;
-use ash_typing::Fault;
+use ash_check_names::CheckError;
+use ash_type_rules::Fault;
 use std::alloc::{AllocError, AllocFailed};
 use std::fmt;
 use thiserror::Error;

@@ -2,21 +2,21 @@
 
 ghost use Rattle.std.specs.Prelude.{◌≡◌, map, option_map, IfOk};
 ghost use Rattle.ash_tree.specs.TreeViews.{type_name_of};
-ghost use Rattle.ash_typing.specs.Implementations as implementing;
-ghost use Rattle.ash_typing.specs.ItemRules as definition;
+ghost use Rattle.ash_type_rules.specs.Implementations as implementing;
+ghost use Rattle.ash_type_rules.specs.ItemRules as definition;
 ghost use Rattle.ash_typed.specs.Modules.{implementation_of};
-ghost use Rattle.ash_environment.specs.Agreement.{Agrees};
-ghost use Rattle.ash_environment.specs.EnvironmentViews.{function_signature_of, environment_of};
-ghost use Rattle.ash_environment.specs.EnvironmentViews.{placed_function};
+ghost use Rattle.ash_check_names.specs.Agreement.{Agrees};
+ghost use Rattle.ash_check_names.specs.EnvironmentViews.{function_signature_of, environment_of};
+ghost use Rattle.ash_check_names.specs.EnvironmentViews.{placed_function};
 ghost use Rattle.ash_check.specs.WalkViews.{optional_places, listed_interfaces_of};
 
 use crate::names::Names;
-use ash_environment::{
+use ash_check_names::{
     CheckResult, Environment, FunctionSignature, fault_at, first_function, is_same, object_named,
 };
 use ash_tree::TypeName;
+use ash_type_rules::{Rule, Ty};
 use ash_typed::{Implementation, ObjectType};
-use ash_typing::{Rule, Ty};
 use indexmap::IndexSet;
 use std::alloc::{AllocError, Global};
 
@@ -71,7 +71,7 @@ fn matching_method(
     }
 }
 
-#[tactic(auto, unfolding(ash_typing::specs::Implementations::method_for))]
+#[tactic(auto, unfolding(ash_type_rules::specs::Implementations::method_for))]
 fn method_for(methods: &[FunctionSignature], method: &FunctionSignature) -> Option<usize>
     ensures value { result
         ≡ implementing.method_for (map function_signature_of methods.now)
@@ -103,7 +103,7 @@ fn methods_for(
 }
 
 /// The methods of the class of this place for those of the interface of that place, where it has them all.
-#[tactic(auto, unfolding(ash_typing::specs::Implementations::implemented))]
+#[tactic(auto, unfolding(ash_type_rules::specs::Implementations::implemented))]
 fn implementing_methods(
     env: &Environment,
     class: usize,
@@ -144,7 +144,7 @@ pub(crate) struct ListedInterfaces<'a> {
 }
 
 /// Checks one of the interfaces that the class of this place lists, after those so far.
-#[tactic(auto, unfolding(ash_typing::specs::ItemRules::check_listed))]
+#[tactic(auto, unfolding(ash_type_rules::specs::ItemRules::check_listed))]
 fn check_listed<'a>(
     env: &Environment,
     class: usize,

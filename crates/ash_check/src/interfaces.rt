@@ -1,16 +1,16 @@
 //! Interfaces: the methods that they declare.
 
 ghost use Rattle.ash_tree.specs.TreeViews.{interface_method_of, interface_of as written_interface};
-ghost use Rattle.ash_typing.specs.ItemRules as definition;
+ghost use Rattle.ash_type_rules.specs.ItemRules as definition;
 ghost use Rattle.ash_typed.specs.Modules.{interface_of};
-ghost use Rattle.ash_environment.specs.Agreement.{Agrees};
-ghost use Rattle.ash_environment.specs.EnvironmentViews.{environment_of};
+ghost use Rattle.ash_check_names.specs.Agreement.{Agrees};
+ghost use Rattle.ash_check_names.specs.EnvironmentViews.{environment_of};
 ghost use Rattle.ash_check.specs.WalkViews.{interface_parts_of};
 
 use crate::limits::MAX_CLASS_MEMBERS;
 use crate::names::Names;
 use crate::routines::{check_parameters, check_result_type, types_of};
-use ash_environment::{CheckResult, Environment, result_type};
+use ash_check_names::{CheckResult, Environment, result_type};
 use ash_tree::InterfaceMethod;
 use ash_typed::{Interface, Signature};
 use indexmap::IndexSet;
@@ -23,7 +23,7 @@ pub(crate) struct InterfaceParts<'a> {
 }
 
 /// Checks a method that an interface declares, after those so far.
-#[tactic(auto, unfolding(ash_typing::specs::ItemRules::check_signature))]
+#[tactic(auto, unfolding(ash_type_rules::specs::ItemRules::check_signature))]
 fn check_signature<'a>(
     env: &Environment<'_, 'a>,
     parts: &mut InterfaceParts<'a>,
@@ -47,7 +47,7 @@ fn check_signature<'a>(
 }
 
 /// Checks an interface that is after so many classes.
-#[tactic(auto, unfolding(ash_typing::specs::ItemRules::check_interface))]
+#[tactic(auto, unfolding(ash_type_rules::specs::ItemRules::check_interface))]
 pub(crate) fn check_interface<'a>(
     env: &Environment<'_, 'a>,
     classes: usize,

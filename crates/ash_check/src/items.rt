@@ -5,10 +5,10 @@ ghost use Rattle.ash_registrations.specs.Registered.{registered};
 ghost use Rattle.ash_tree.specs.TreeViews.{vars_of, member_of, class_of as written_class};
 ghost use Rattle.ash_tree.specs.TreeViews.{constructor_of};
 ghost use Rattle.ash_tree.specs.TreeViews.{item_of, module_of as written_module};
-ghost use Rattle.ash_typing.specs.ItemRules as definition;
+ghost use Rattle.ash_type_rules.specs.ItemRules as definition;
 ghost use Rattle.ash_typed.specs.Modules.{implementation_of, class_of, module_of};
-ghost use Rattle.ash_environment.specs.Agreement.{Agrees};
-ghost use Rattle.ash_environment.specs.EnvironmentViews.{environment_of, signatures_of};
+ghost use Rattle.ash_check_names.specs.Agreement.{Agrees};
+ghost use Rattle.ash_check_names.specs.EnvironmentViews.{environment_of, signatures_of};
 ghost use Rattle.ash_check.specs.WalkViews.{names_of, routine_of, row_of, members_of};
 ghost use Rattle.ash_check.specs.WalkViews.{walked_of, class_after, class_with, module_after};
 
@@ -18,17 +18,17 @@ use crate::limits::{MAX_CLASS_MEMBERS, MAX_GLOBALS, MAX_MODULE_TYPES};
 use crate::names::Names;
 use crate::routines::{Routine, as_routine, check_result_type, check_routine};
 use crate::signatures::module_signatures;
-use ash_environment::{CheckResult, Environment, Signatures, fault_at};
+use ash_check_names::{CheckResult, Environment, Signatures, fault_at};
+use ash_check_statements::{WrittenType, check_decl, check_variable_type, place_of, ty_in};
 use ash_registrations::Registrations;
-use ash_statements::{WrittenType, check_decl, check_variable_type, place_of, ty_in};
 use ash_tree::{Constructor, Item, Member, Vars};
+use ash_type_rules::{Rule, Ty};
 use ash_typed::{Class, Implementation, Module, Variables};
-use ash_typing::{Rule, Ty};
 use indexmap::IndexSet;
 use std::alloc::{AllocError, Global};
 
 /// Checks variables of a module or of a class.
-#[tactic(auto, unfolding(ash_typing::specs::ItemRules::check_vars))]
+#[tactic(auto, unfolding(ash_type_rules::specs::ItemRules::check_vars))]
 fn check_vars<'a>(
     env: &Environment<'_, 'a>,
     names: &mut Names<'a>,
@@ -53,7 +53,7 @@ fn check_vars<'a>(
 }
 
 /// A class has one constructor, which has its name.
-#[tactic(auto, unfolding(ash_typing::specs::ItemRules::constructor_named))]
+#[tactic(auto, unfolding(ash_type_rules::specs::ItemRules::constructor_named))]
 fn check_constructor_name<'a>(
     class: &Class,
     constructor: &'a Constructor,
@@ -76,7 +76,7 @@ fn check_constructor_name<'a>(
 }
 
 /// Checks a member of a class, after those so far.
-#[tactic(auto, using(crate::proofs::FieldLaws::values_append), unfolding(ash_typing::specs::ItemRules::check_member))]
+#[tactic(auto, using(crate::proofs::FieldLaws::values_append), unfolding(ash_type_rules::specs::ItemRules::check_member))]
 fn check_member<'a>(
     env: &Environment<'_, 'a>,
     names: &mut Names<'a>,
@@ -173,7 +173,7 @@ fn check_members<'a>(
 }
 
 /// Checks the class of this place.
-#[tactic(auto, unfolding(ash_typing::specs::ItemRules::check_class))]
+#[tactic(auto, unfolding(ash_type_rules::specs::ItemRules::check_class))]
 fn check_class<'a>(
     env: &Environment<'_, 'a>,
     place: usize,
@@ -187,7 +187,7 @@ fn check_class<'a>(
 }
 
 /// Requires that a module has room for one more class or interface.
-#[tactic(auto, unfolding(ash_typing::specs::ItemRules::room_for_type))]
+#[tactic(auto, unfolding(ash_type_rules::specs::ItemRules::room_for_type))]
 fn check_type_count(at: usize, typed: &Module) -> CheckResult<usize>
     ensures agrees { Agrees (λ place. place) result
         (definition.room_for_type at (module_of typed.now)) }
@@ -199,7 +199,7 @@ fn check_type_count(at: usize, typed: &Module) -> CheckResult<usize>
 }
 
 /// Checks an item of a module, after those so far.
-#[tactic(auto, unfolding(ash_typing::specs::ItemRules::check_item))]
+#[tactic(auto, unfolding(ash_type_rules::specs::ItemRules::check_item))]
 fn check_item<'a>(
     env: &Environment<'_, 'a>,
     names: &mut Names<'a>,
@@ -306,7 +306,7 @@ fn check_items<'a>(
 }
 
 /// Checks a module.
-#[tactic(auto, unfolding(ash_typing::specs::ItemRules::check_module))]
+#[tactic(auto, unfolding(ash_type_rules::specs::ItemRules::check_module))]
 pub(crate) fn check_module(
     alloc: Global,
     registry: &Registrations,

@@ -3,15 +3,15 @@
 ghost use Rattle.std.specs.Prelude.{◌≡◌, [], ◌∷◌, ◌++◌, not, is_some, if◌then◌else◌, IfOk};
 ghost use Rattle.std.specs.List.{list_any};
 ghost use Rattle.std.specs.Str.{bytes_eq};
-ghost use Rattle.ash_typing.specs.Environment.{named_in};
-ghost use Rattle.ash_typing.specs.ItemRules as definition;
-ghost use Rattle.ash_environment.specs.Agreement.{Agrees};
-ghost use Rattle.ash_environment.specs.NameIndex.{texts};
+ghost use Rattle.ash_type_rules.specs.Environment.{named_in};
+ghost use Rattle.ash_type_rules.specs.ItemRules as definition;
+ghost use Rattle.ash_check_names.specs.Agreement.{Agrees};
+ghost use Rattle.ash_check_names.specs.NameIndex.{texts};
 ghost use Rattle.ash_check.specs.WalkViews.{names_of};
 
-use ash_environment::{CheckResult, fault_at};
+use ash_check_names::{CheckResult, fault_at};
 use ash_registrations::Registrations;
-use ash_typing::Rule;
+use ash_type_rules::Rule;
 use indexmap::IndexSet;
 use std::alloc::AllocError;
 
@@ -46,7 +46,7 @@ impl<'a> Names<'a> {
     }
 
     /// Takes a name at this offset, which has to be free.
-    #[tactic(auto, unfolding(ash_typing::specs::ItemRules::untaken))]
+    #[tactic(auto, unfolding(ash_type_rules::specs::ItemRules::untaken))]
     pub(crate) fn take(&mut self, at: usize, name: &'a str) -> CheckResult<()>
         ensures agrees { Agrees (λ _. names_of self.new) result
             (definition.untaken (names_of self.old) at name.now) }
@@ -58,7 +58,7 @@ impl<'a> Names<'a> {
     }
 
     /// Counts one more, at this offset.
-    #[tactic(auto, unfolding(ash_typing::specs::ItemRules::one_more))]
+    #[tactic(auto, unfolding(ash_type_rules::specs::ItemRules::one_more))]
     pub(crate) fn count(&mut self, at: usize) -> CheckResult<()>
         ensures agrees { Agrees (λ _. names_of self.new) result
             (definition.one_more (names_of self.old) at) }

@@ -3,20 +3,22 @@
 ghost use Rattle.std.specs.Prelude.{◌≡◌, [], map, option_map, IfOk};
 ghost use Rattle.ash_tree.specs.TreeViews.{type_of, parameter_of, function_of as written_function};
 ghost use Rattle.ash_tree.specs.Items as items;
-ghost use Rattle.ash_typing.specs.Environment.{type_declared};
-ghost use Rattle.ash_typing.specs.ItemRules as definition;
+ghost use Rattle.ash_type_rules.specs.Environment.{type_declared};
+ghost use Rattle.ash_type_rules.specs.ItemRules as definition;
 ghost use Rattle.ash_typed.specs.Modules.{function_of};
-ghost use Rattle.ash_environment.specs.Agreement.{Agrees};
-ghost use Rattle.ash_environment.specs.EnvironmentViews.{binding_of, environment_of};
+ghost use Rattle.ash_check_names.specs.Agreement.{Agrees};
+ghost use Rattle.ash_check_names.specs.EnvironmentViews.{binding_of, environment_of};
 ghost use Rattle.ash_check.specs.WalkViews.{routine_of};
 
-use ash_environment::{
+use ash_check_names::{
     Binding, CheckResult, Environment, fault_at, is_void, result_type, var_type,
 };
-use ash_statements::{any_declares, body_returns, check_body, place_of, ty_in, type_name_offset};
+use ash_check_statements::{
+    any_declares, body_returns, check_body, place_of, ty_in, type_name_offset,
+};
 use ash_tree::{Parameter, Position, Stmt, Type};
+use ash_type_rules::{Rule, Ty};
 use ash_typed::{Function, VarType};
-use ash_typing::{Rule, Ty};
 use std::alloc::{AllocError, Global};
 
 /// A function, a method or a constructor, as it is written after its result.
@@ -29,7 +31,7 @@ pub(crate) struct Routine<'a> {
 }
 
 /// The type of a parameter or of a result: objects are passed by handles.
-#[tactic(auto, unfolding(ash_typing::specs::ItemRules::passed_ty))]
+#[tactic(auto, unfolding(ash_type_rules::specs::ItemRules::passed_ty))]
 fn check_passed_type(written: &Type, of: Ty) -> CheckResult<Ty>
     ensures agrees { Agrees (λ t. t) result (definition.passed_ty (type_of written.now) of) }
 {
@@ -84,7 +86,7 @@ pub(crate) fn types_of(alloc: Global, all: &[Binding]) -> Result<Vec<VarType>, A
 }
 
 /// Checks a function that returns this type, a method or a constructor.
-#[tactic(auto, unfolding(ash_typing::specs::ItemRules::check_routine, ash_typing::specs::ItemRules::returning))]
+#[tactic(auto, unfolding(ash_type_rules::specs::ItemRules::check_routine, ash_type_rules::specs::ItemRules::returning))]
 pub(crate) fn check_routine<'a>(
     env: &Environment<'_, 'a>,
     of: Ty,

@@ -8,20 +8,20 @@ ghost use Rattle.ash_tree.specs.TreeViews.{type_name_of, interface_method_of};
 ghost use Rattle.ash_tree.specs.TreeViews.{interface_of as written_interface};
 ghost use Rattle.ash_tree.specs.TreeViews.{class_of as written_class, item_of, module_of};
 ghost use Rattle.ash_tree.specs.Items as by_kind;
-ghost use Rattle.ash_typing.specs.ModuleDeclarations as definition;
-ghost use Rattle.ash_environment.specs.EnvironmentViews.{binding_of, function_signature_of};
-ghost use Rattle.ash_environment.specs.EnvironmentViews.{interface_signature_of, class_signature_of};
-ghost use Rattle.ash_environment.specs.EnvironmentViews.{signatures_of};
+ghost use Rattle.ash_type_rules.specs.ModuleDeclarations as definition;
+ghost use Rattle.ash_check_names.specs.EnvironmentViews.{binding_of, function_signature_of};
+ghost use Rattle.ash_check_names.specs.EnvironmentViews.{interface_signature_of, class_signature_of};
+ghost use Rattle.ash_check_names.specs.EnvironmentViews.{signatures_of};
 
 use crate::type_names::type_names;
-use ash_environment::{
+use ash_check_names::{
     Binding, ClassSignature, FunctionSignature, InterfaceSignature, Signatures, object_named,
     result_named, ty_named,
 };
 use ash_registrations::Registrations;
 use ash_tree::{InterfaceMethod, Item, Member, Module, Parameter, TypeName, Vars};
+use ash_type_rules::Ty;
 use ash_typed::ObjectType;
-use ash_typing::Ty;
 use std::alloc::{AllocError, Global};
 
 fn parameter_types(
@@ -360,7 +360,7 @@ fn resolve_signatures<'a>(
 }
 
 /// What a module declares.
-#[tactic(auto, unfolding(ash_typing::specs::ModuleDeclarations::declarations))]
+#[tactic(auto, unfolding(ash_type_rules::specs::ModuleDeclarations::declarations))]
 pub(crate) fn module_signatures<'a>(
     alloc: Global,
     registry: &Registrations,

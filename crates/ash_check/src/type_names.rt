@@ -3,11 +3,11 @@
 ghost use Rattle.std.specs.Prelude.{◌≡◌, map, IfOk};
 ghost use Rattle.ash_tree.specs.TreeViews.{item_of};
 ghost use Rattle.ash_tree.specs.Items as by_kind;
-ghost use Rattle.ash_typing.specs.ModuleDeclarations as definition;
-ghost use Rattle.ash_environment.specs.EnvironmentViews.{interface_signature_of, class_signature_of};
-ghost use Rattle.ash_environment.specs.EnvironmentViews.{signatures_of};
+ghost use Rattle.ash_type_rules.specs.ModuleDeclarations as definition;
+ghost use Rattle.ash_check_names.specs.EnvironmentViews.{interface_signature_of, class_signature_of};
+ghost use Rattle.ash_check_names.specs.EnvironmentViews.{signatures_of};
 
-use ash_environment::{ClassSignature, InterfaceSignature, Signatures};
+use ash_check_names::{ClassSignature, InterfaceSignature, Signatures};
 use ash_tree::Item;
 use std::alloc::{AllocError, Global};
 

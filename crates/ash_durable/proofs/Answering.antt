@@ -7,21 +7,21 @@ use Rattle.std.specs.Option.{option_and_then}
 use Rattle.std.specs.Str.{bytes_eq}
 use Rattle.ash_host.specs.Objects.{object_at}
 use Rattle.ash_typed.specs.Modules.{Function, Module}
-use Rattle.ash_phrases.specs.Activity.{World}
-use Rattle.ash_phrases.specs.Ends.{End, Finished, Threw, Aborted}
-use Rattle.ash_steps.specs.declared.argument.Argument.{Argument}
-use Rattle.ash_steps.specs.States.{LoadedModule, State, Hosts, Embedding, find_module}
-use Rattle.ash_steps.specs.Requests.{Request, Load, Call, Discard, Get, Object, Seq, Snapshot, Refusal, Reply, Value}
-use Rattle.ash_steps.specs.Requests.{ShownAs}
-use Rattle.ash_steps.specs.Requests.{Number, Done, Refused, SequenceSpent, BadName, ModuleTaken, TooManyModules}
-use Rattle.ash_steps.specs.Requests.{NoModule}
-use Rattle.ash_steps.specs.Requests.{NoFunction, NotCallable, BadArguments, NoGlobal, NoObject, DeviceFailed}
-use Rattle.ash_steps.specs.Tasks.{Task, Initialize, Invoke, Remove, Read, Show, Count, Rewrite, TaskResult, require}
-use Rattle.ash_steps.specs.Tasks.{require_some, initialize, call_in, tree_of, word_named, described, is_module_name}
-use Rattle.ash_steps.specs.Tasks.{is_callable, arguments_of, max_modules, max_seq}
-use Rattle.ash_steps.specs.Tasks as tasks
-use Rattle.ash_steps.specs.Steps.{Step, perform, unless_refused, after_load, after_load_with, after_call, after_discard}
-use Rattle.ash_steps.specs.Steps as steps
+use Rattle.ash_meaning.specs.Activity.{World}
+use Rattle.ash_meaning.specs.Ends.{End, Finished, Threw, Aborted}
+use Rattle.ash_requests.specs.declared.argument.Argument.{Argument}
+use Rattle.ash_requests.specs.States.{LoadedModule, State, Hosts, Embedding, find_module}
+use Rattle.ash_requests.specs.Requests.{Request, Load, Call, Discard, Get, Object, Seq, Snapshot, Refusal, Reply, Value}
+use Rattle.ash_requests.specs.Requests.{ShownAs}
+use Rattle.ash_requests.specs.Requests.{Number, Done, Refused, SequenceSpent, BadName, ModuleTaken, TooManyModules}
+use Rattle.ash_requests.specs.Requests.{NoModule}
+use Rattle.ash_requests.specs.Requests.{NoFunction, NotCallable, BadArguments, NoGlobal, NoObject, DeviceFailed}
+use Rattle.ash_requests.specs.Tasks.{Task, Initialize, Invoke, Remove, Read, Show, Count, Rewrite, TaskResult, require}
+use Rattle.ash_requests.specs.Tasks.{require_some, initialize, call_in, tree_of, word_named, described, is_module_name}
+use Rattle.ash_requests.specs.Tasks.{is_callable, arguments_of, max_modules, max_seq}
+use Rattle.ash_requests.specs.Tasks as tasks
+use Rattle.ash_requests.specs.Steps.{Step, perform, unless_refused, after_load, after_load_with, after_call, after_discard}
+use Rattle.ash_requests.specs.Steps as steps
 use Rattle.ash_plain_steps.specs.StepViews.{TaskChangesState}
 use Rattle.ash_sources.specs.SourceFaults.{SourceFault}
 use Rattle.ash_states.specs.HostStates.{HostState, embedding_for}

@@ -4,14 +4,14 @@ use Rattle.std.proofs.Common.{option_map}
 use Rattle.std.specs.Option.{option_and_then}
 use Rattle.ash_disk.specs.Device.{Device}
 use Rattle.ash_host.specs.Objects.{object_at}
-use Rattle.ash_steps.specs.States.{State, Hosts, Embedding, find_module}
-use Rattle.ash_steps.specs.Requests.{Request, Load, Call, Discard, Get, Object, Seq, Snapshot, Reply, SequenceSpent}
-use Rattle.ash_steps.specs.Requests.{NoModule, NoGlobal, NoObject}
-use Rattle.ash_steps.specs.Tasks.{Initialize, Invoke, Remove, Read, Show, Count, Rewrite, TaskResult, tree_of}
-use Rattle.ash_steps.specs.Tasks.{word_named}
-use Rattle.ash_steps.specs.Tasks.{described, max_seq}
-use Rattle.ash_steps.specs.Tasks as tasks
-use Rattle.ash_steps.specs.Steps.{Step, unless_refused}
+use Rattle.ash_requests.specs.States.{State, Hosts, Embedding, find_module}
+use Rattle.ash_requests.specs.Requests.{Request, Load, Call, Discard, Get, Object, Seq, Snapshot, Reply, SequenceSpent}
+use Rattle.ash_requests.specs.Requests.{NoModule, NoGlobal, NoObject}
+use Rattle.ash_requests.specs.Tasks.{Initialize, Invoke, Remove, Read, Show, Count, Rewrite, TaskResult, tree_of}
+use Rattle.ash_requests.specs.Tasks.{word_named}
+use Rattle.ash_requests.specs.Tasks.{described, max_seq}
+use Rattle.ash_requests.specs.Tasks as tasks
+use Rattle.ash_requests.specs.Steps.{Step, unless_refused}
 use Rattle.ash_plain_steps.specs.StepViews.{TaskChangesState}
 use Rattle.ash_sources.specs.SourceFaults.{SourceFault}
 use Rattle.ash_states.specs.HostStates.{HostState, embedding_for}

@@ -10,7 +10,7 @@ use Rattle.ash_states.specs.HostStates.{HostState}
 use Rattle.ash_plain_steps.specs.declared.request.Refusal.TheVariants as the
 use Rattle.ash_durable.specs.Contents.{record_header_size}
 use Rattle.ash_durable.specs.Saving.{Adds, Installs, last_generation}
-use Rattle.ash_state_image.specs.declared.version.Version.TheVariants.{Two}
+use Rattle.ash_image.specs.declared.version.Version.TheVariants.{Two}
 use Rattle.ash_states.specs.Images.{IsImageIn, IsBodyIn}
 use Rattle.ash_durable.specs.StoredStates.{HoldsState, ExtendsHistory, BeginsAnew}
 use Rattle.ash_durable.proofs.Settling.{record_goes_on, image_begins_anew}

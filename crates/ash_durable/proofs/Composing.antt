@@ -3,7 +3,7 @@
 use Rattle.std.proofs.Common.{◌≡◌, inl, inr, ℕ, Some, None, Ok, refl, sym, ◌∙◌, subst, arith, IsTrue}
 use Rattle.ash_disk.specs.Device.{Device}
 use Rattle.ash_journal.specs.JournalFailures.{CountsFailures}
-use Rattle.ash_steps.specs.Requests.{Request}
+use Rattle.ash_requests.specs.Requests.{Request}
 use Rattle.ash_states.specs.HostStates.{HostState}
 use Rattle.ash_durable.specs.StoredStates.{IsOne, IsEither, SettleSince, HoldsState, ExtendsHistory}
 use Rattle.ash_durable.specs.Saving.{FailsBy}

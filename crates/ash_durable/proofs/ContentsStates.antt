@@ -2,12 +2,12 @@
 use Rattle.std.proofs.Common.{◌≡◌, ◌∙◌, ℕ, List, [], ◌∷◌, ◌++◌, refl, sym, ap, subst}
 use Rattle.std.specs.List.{AllByRecursion}
 use Rattle.ash_journal.specs.Current.{Contents}
-use Rattle.ash_state_image.specs.declared.version.Version.{Version}
-use Rattle.ash_state_image.specs.Snapshots.{Snapshot}
-use Rattle.ash_state_image.specs.Rules.{IsImage, IsImageBody}
-use Rattle.ash_state_image.proofs.ImageLaws.{spelled_once}
+use Rattle.ash_image.specs.declared.version.Version.{Version}
+use Rattle.ash_image.specs.Snapshots.{Snapshot}
+use Rattle.ash_image.specs.Rules.{IsImage, IsImageBody}
+use Rattle.ash_image.proofs.ImageLaws.{spelled_once}
 use Rattle.ash_states.specs.HostStates.{HostState}
-use Rattle.ash_state_image.specs.declared.version.Version.TheVariants.{Two}
+use Rattle.ash_image.specs.declared.version.Version.TheVariants.{Two}
 use Rattle.ash_states.specs.Images.{IsDepicted, IsImageIn, IsImageOf, IsBodyIn, state_of}
 use Rattle.ash_durable.specs.StoredStates.{IsBodyAs, AreIn, Leads, LeadAll, IsStateOf}
 

@@ -14,8 +14,8 @@ use Rattle.ash_journal.specs.Opening.{FaultIs}
 use Rattle.ash_journal.specs.Reading.{bodies_of}
 use Rattle.ash_journal.specs.SettledSince.{Extends, NoContents}
 use Rattle.ash_journal.proofs.LayoutLaws.{solid_mark}
-use Rattle.ash_state_image.specs.declared.version.Version.{Version}
-use Rattle.ash_state_image.specs.declared.version.Version.TheVariants.{One}
+use Rattle.ash_image.specs.declared.version.Version.{Version}
+use Rattle.ash_image.specs.declared.version.Version.TheVariants.{One}
 use Rattle.ash_states.specs.HostStates.{HostState}
 use Rattle.ash_registry.specs.AcceptedRegistrations.{Registration}
 use Rattle.ash_durable.specs.StoreFaults.{IsFailed}

@@ -4,7 +4,7 @@ use Rattle.std.proofs.Common.{subst, add-one, drop-cons}
 use Rattle.std.proofs.Math.ListN.{drop_of_length-le}
 use Rattle.std.proofs.lemmas.List.{append-nil}
 use Rattle.ash_disk.specs.Device.{Device}
-use Rattle.ash_steps.specs.Requests.{Request, Reply}
+use Rattle.ash_requests.specs.Requests.{Request, Reply}
 use Rattle.ash_sources.specs.SourceFaults.{SourceFault}
 use Rattle.ash_durable.specs.Hosting.{Hosted, Handles, HandlesAll}
 

@@ -3,8 +3,8 @@ use Rattle.std.proofs.Common.{◌≡◌, inl, inr, ℕ, Option, Some, None, IsSo
 use Rattle.std.proofs.Common.{refl, sym, ◌∙◌, ap, subst}
 use Rattle.ash_disk.specs.Device.{Device}
 use Rattle.ash_journal.specs.declared.journal.Journal.{Journal}
-use Rattle.ash_steps.specs.Requests.{Request, Seq, Snapshot, Refusal, Reply, Number, Done, Refused}
-use Rattle.ash_steps.specs.Requests.{DeviceFailed, NoMemory, GenerationSpent}
+use Rattle.ash_requests.specs.Requests.{Request, Seq, Snapshot, Refusal, Reply, Number, Done, Refused}
+use Rattle.ash_requests.specs.Requests.{DeviceFailed, NoMemory, GenerationSpent}
 use Rattle.ash_plain_steps.specs.declared.request.StepError.{StepError}
 use Rattle.ash_plain_steps.specs.declared.request.StepError.TheVariants as errors
 use Rattle.ash_plain_steps.specs.RequestViews.{refusal_seen}

@@ -6,8 +6,8 @@ use Rattle.ash_journal.specs.Current.{SettleOn}
 use Rattle.ash_journal.specs.Layout.{IsOpen}
 use Rattle.ash_journal.proofs.LayoutLaws.{open_closed}
 use Rattle.ash_host.specs.declared.event.Event.{Event as HostEvent}
-use Rattle.ash_phrases.specs.Ends.{End}
-use Rattle.ash_steps.specs.Requests.{Request, Reply, Answered}
+use Rattle.ash_meaning.specs.Ends.{End}
+use Rattle.ash_requests.specs.Requests.{Request, Reply, Answered}
 use Rattle.ash_sources.specs.SourceFaults.{SourceFault}
 use Rattle.ash_states.specs.HostStates.{HostState, empty}
 use Rattle.ash_registry.specs.AcceptedRegistrations.{Registration}

@@ -7,8 +7,8 @@ use Rattle.ash_journal.specs.declared.journal.Journal.{Journal}
 use Rattle.ash_journal.specs.Current.{Contents, IsContents, HoldsOneOf, Represent}
 use Rattle.ash_journal.specs.Journal.{first_disk, second_disk}
 use Rattle.ash_journal.proofs.SettleLaws.{represent_now, represent_once}
-use Rattle.ash_state_image.specs.declared.version.Version.{Version}
-use Rattle.ash_state_image.specs.declared.version.Version.TheVariants.{One, Two}
+use Rattle.ash_image.specs.declared.version.Version.{Version}
+use Rattle.ash_image.specs.declared.version.Version.TheVariants.{One, Two}
 use Rattle.ash_states.specs.HostStates.{HostState, empty}
 use Rattle.ash_states.specs.Images.{IsImageIn}
 use Rattle.ash_registry.specs.AcceptedRegistrations.{Registration}

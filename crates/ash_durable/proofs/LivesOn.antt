@@ -2,7 +2,7 @@
 use Rattle.std.proofs.Common.{◌≡◌, ◌⊎◌, inl, inr, ℕ, List, [], ◌∷◌, ◌++◌, Option, Some, None, refl, sym, ◌∙◌, ap, subst}
 use Rattle.std.proofs.Common.{append_assoc}
 use Rattle.ash_disk.specs.Device.{Device}
-use Rattle.ash_steps.specs.Requests.{Request, Reply, Answered, Value, ShownAs, Number, Done, Refused}
+use Rattle.ash_requests.specs.Requests.{Request, Reply, Answered, Value, ShownAs, Number, Done, Refused}
 use Rattle.ash_sources.specs.SourceFaults.{SourceFault}
 use Rattle.ash_states.specs.HostStates.{HostState}
 use Rattle.ash_registry.specs.AcceptedRegistrations.{Registration}

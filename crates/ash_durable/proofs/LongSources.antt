@@ -8,10 +8,10 @@ use Rattle.ash_disk.specs.Device.{Device}
 use Rattle.ash_lex.specs.declared.faults.LexFault.TheVariants.{SourceTooLong}
 use Rattle.ash_registry.specs.AcceptedRegistrations.{Registration}
 use Rattle.ash_typed.specs.Modules.{Module}
-use Rattle.ash_steps.specs.States.{State, find_module}
-use Rattle.ash_steps.specs.Requests.{Load, Reply, BadName, ModuleTaken, TooManyModules}
-use Rattle.ash_steps.specs.Tasks.{TaskResult, numbered, require, initialize, is_module_name, max_modules}
-use Rattle.ash_steps.specs.Steps.{unless_refused}
+use Rattle.ash_requests.specs.States.{State, find_module}
+use Rattle.ash_requests.specs.Requests.{Load, Reply, BadName, ModuleTaken, TooManyModules}
+use Rattle.ash_requests.specs.Tasks.{TaskResult, numbered, require, initialize, is_module_name, max_modules}
+use Rattle.ash_requests.specs.Steps.{unless_refused}
 use Rattle.ash_plain_steps.specs.TaskViews.{TakesMemoryToFind}
 use Rattle.ash_plain_steps.specs.StepViews.{TaskChangesState}
 use Rattle.ash_sources.specs.SourceFaults.{SourceFault, Lexical}

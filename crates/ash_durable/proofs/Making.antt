@@ -17,7 +17,7 @@ use Rattle.ash_journal.specs.Writes.{AreUnused, WasUnused}
 use Rattle.ash_journal.proofs.LayoutLaws.{open_closed}
 use Rattle.ash_journal.proofs.ReadLaws.{rested_read}
 use Rattle.ash_journal.proofs.SettleLaws.{settle_more}
-use Rattle.ash_state_image.specs.declared.version.Version.TheVariants.{Two}
+use Rattle.ash_image.specs.declared.version.Version.TheVariants.{Two}
 use Rattle.ash_states.specs.HostStates.{HostState}
 use Rattle.ash_states.specs.Images.{IsImageIn}
 use Rattle.ash_durable.specs.StoreFaults.{IsFailed}

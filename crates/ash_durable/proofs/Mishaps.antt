@@ -4,7 +4,7 @@ use Rattle.std.proofs.Common.{◌≡◌, inl, inr, ℕ, List, Err, subst}
 use Rattle.ash_journal.specs.declared.error.OpenFault.TheVariants as opening
 use Rattle.ash_journal.specs.Current.{Contents, Represent}
 use Rattle.ash_journal.proofs.SettleLaws.{represent_once}
-use Rattle.ash_state_image.specs.declared.version.Version.TheVariants.{One, Two}
+use Rattle.ash_image.specs.declared.version.Version.TheVariants.{One, Two}
 use Rattle.ash_states.specs.HostStates.{HostState}
 use Rattle.ash_registry.specs.AcceptedRegistrations.{Registration}
 use Rattle.ash_durable.specs.Contents.{ReadsAs}

@@ -9,7 +9,7 @@ use Rattle.ash_journal.specs.JournalFailures.{CountsFailures}
 use Rattle.ash_journal.specs.Installing.{IsNext}
 use Rattle.ash_journal.specs.Journal.{first_disk, second_disk, generation, record_bytes, IsReady, Holds, LeavesCurrent}
 use Rattle.ash_journal.specs.SettledSince.{HoldsSince}
-use Rattle.ash_state_image.specs.declared.version.Version.TheVariants.{Two}
+use Rattle.ash_image.specs.declared.version.Version.TheVariants.{Two}
 use Rattle.ash_states.specs.HostStates.{HostState}
 use Rattle.ash_states.specs.Images.{IsImageIn}
 use Rattle.ash_durable.specs.OpenedStore.{Prepares, NotBegun, MayNotMove, WasMoved, WasNotMoved}

@@ -5,8 +5,8 @@ use Rattle.ash_disk.specs.Device.{Device}
 use Rattle.ash_journal.specs.declared.journal.Journal.{Journal}
 use Rattle.ash_journal.specs.Current.{Contents, Represent}
 use Rattle.ash_journal.specs.Journal.{first_disk, second_disk, IsReady}
-use Rattle.ash_state_image.specs.declared.version.Version.{Version}
-use Rattle.ash_state_image.specs.declared.version.Version.TheVariants.{One, Two}
+use Rattle.ash_image.specs.declared.version.Version.{Version}
+use Rattle.ash_image.specs.declared.version.Version.TheVariants.{One, Two}
 use Rattle.ash_states.specs.HostStates.{HostState, empty}
 use Rattle.ash_registry.specs.AcceptedRegistrations.{Registration}
 use Rattle.ash_durable.specs.StoreFaults.{IsMishap}

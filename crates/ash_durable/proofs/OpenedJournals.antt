@@ -11,7 +11,7 @@ use Rattle.ash_journal.specs.Journal.{first_disk, second_disk, HasFailed, IsRead
 use Rattle.ash_journal.specs.Reading.{AreAt, bodies_of}
 use Rattle.ash_journal.specs.SettledSince.{Extends, NoContents}
 use Rattle.ash_journal.proofs.RunLaws.{same_extends}
-use Rattle.ash_state_image.specs.declared.version.Version.TheVariants.{One, Two}
+use Rattle.ash_image.specs.declared.version.Version.TheVariants.{One, Two}
 use Rattle.ash_states.specs.HostStates.{HostState}
 use Rattle.ash_registry.specs.AcceptedRegistrations.{Registration}
 use Rattle.ash_durable.specs.Contents.{after_image, ReadsAs}

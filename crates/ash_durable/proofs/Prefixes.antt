@@ -2,8 +2,8 @@
 use Rattle.std.proofs.Common.{◌≡◌, ◌⊎◌, inl, inr, ℕ, List, [], ◌∷◌, Some, None, refl, sym, ◌∙◌, subst}
 use Rattle.ash_disk.specs.Device.{Device}
 use Rattle.ash_host.specs.declared.event.Event.{Event as HostEvent}
-use Rattle.ash_phrases.specs.Ends.{End}
-use Rattle.ash_steps.specs.Requests.{Request, Reply, Answered}
+use Rattle.ash_meaning.specs.Ends.{End}
+use Rattle.ash_requests.specs.Requests.{Request, Reply, Answered}
 use Rattle.ash_sources.specs.SourceFaults.{SourceFault}
 use Rattle.ash_registry.specs.AcceptedRegistrations.{Registration}
 use Rattle.ash_states.specs.HostStates.{HostState}

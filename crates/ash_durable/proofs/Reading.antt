@@ -11,11 +11,11 @@ use Rattle.ash_journal.specs.Current.{Contents}
 use Rattle.ash_journal.specs.Reading.{AreAt, bodies_of}
 use Rattle.ash_registry.specs.AcceptedRegistrations.{Registration}
 use Rattle.ash_registry.specs.RegistryText.{text_of}
-use Rattle.ash_state_image.specs.declared.stored.StoredImage.{StoredImage}
-use Rattle.ash_state_image.specs.declared.version.Version.{Version}
-use Rattle.ash_state_image.specs.Snapshots.{Snapshot}
-use Rattle.ash_state_image.specs.Rules.{IsImage, IsImageBody, IsShaped}
-use Rattle.ash_state_image.specs.SnapshotViews.{image_read}
+use Rattle.ash_image.specs.declared.stored.StoredImage.{StoredImage}
+use Rattle.ash_image.specs.declared.version.Version.{Version}
+use Rattle.ash_image.specs.Snapshots.{Snapshot}
+use Rattle.ash_image.specs.Rules.{IsImage, IsImageBody, IsShaped}
+use Rattle.ash_image.specs.SnapshotViews.{image_read}
 use Rattle.ash_states.specs.HostStates.{HostState}
 use Rattle.ash_states.specs.Images.{IsDepicted, IsImageOf, IsImageRestored, state_of}
 use Rattle.ash_durable.specs.StoredStates.{IsBodyAs, AreIn, Leads, LeadAll, IsStateOf}

@@ -2,9 +2,9 @@
 use Rattle.std.proofs.Common.{◌≡◌, inl, inr, ℕ, Option, Some, Ok, Err, option_map, sym, ◌∙◌, ap, subst}
 use Rattle.std.specs.Result.{result_err}
 use Rattle.ash_disk.specs.Device.{Device}
-use Rattle.ash_steps.specs.Requests.{Request, Refusal, Reply, Refused}
-use Rattle.ash_steps.specs.Tasks.{TaskResult}
-use Rattle.ash_steps.specs.Steps.{unless_refused}
+use Rattle.ash_requests.specs.Requests.{Request, Refusal, Reply, Refused}
+use Rattle.ash_requests.specs.Tasks.{TaskResult}
+use Rattle.ash_requests.specs.Steps.{unless_refused}
 use Rattle.ash_plain_steps.specs.TaskViews.{TakesMemoryToFind}
 use Rattle.ash_plain_steps.specs.StepViews.{TaskChangesState}
 use Rattle.ash_sources.specs.SourceFaults.{SourceFault}

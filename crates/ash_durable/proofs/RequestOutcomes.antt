@@ -2,7 +2,7 @@
 use Rattle.std.proofs.Common.{◌≡◌, ◌⊎◌, inl, inr, ℕ, List, [], ◌∷◌, ◌++◌, Option, Some, None, refl, sym, ◌∙◌, ap, subst}
 use Rattle.ash_disk.specs.Device.{Device}
 use Rattle.ash_journal.specs.declared.journal.Journal.{Journal}
-use Rattle.ash_steps.specs.Requests.{Request, Seq, Reply, Answered, Refused, DeviceFailed, NoMemory, GenerationSpent}
+use Rattle.ash_requests.specs.Requests.{Request, Seq, Reply, Answered, Refused, DeviceFailed, NoMemory, GenerationSpent}
 use Rattle.ash_sources.specs.SourceFaults.{SourceFault}
 use Rattle.ash_states.specs.HostStates.{HostState}
 use Rattle.ash_states.specs.StateSteps.{StateSteps}

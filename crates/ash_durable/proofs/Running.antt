@@ -2,9 +2,9 @@
 use Rattle.std.proofs.Common.{◌≡◌, ◌⊎◌, inl, inr, ℕ, List, [], ◌∷◌, Option, Some, None, refl, sym, ap, ◌∙◌, subst}
 use Rattle.ash_disk.specs.Device.{Device}
 use Rattle.ash_journal.specs.declared.journal.Journal.{Journal}
-use Rattle.ash_steps.specs.Requests.{Request, Get, Object, Seq, Refusal, Reply, Refused, DeviceFailed, NoMemory}
-use Rattle.ash_steps.specs.Requests.{GenerationSpent}
-use Rattle.ash_steps.specs.Steps.{WritesStore}
+use Rattle.ash_requests.specs.Requests.{Request, Get, Object, Seq, Refusal, Reply, Refused, DeviceFailed, NoMemory}
+use Rattle.ash_requests.specs.Requests.{GenerationSpent}
+use Rattle.ash_requests.specs.Steps.{WritesStore}
 use Rattle.ash_plain_steps.specs.StepViews.{TaskChangesState}
 use Rattle.ash_sources.specs.SourceFaults.{SourceFault}
 use Rattle.ash_states.specs.HostStates.{HostState}

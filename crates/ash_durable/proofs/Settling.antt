@@ -9,7 +9,7 @@ use Rattle.ash_journal.specs.SettledSince.{HoldsSince, Extends, NoContents}
 use Rattle.ash_journal.proofs.RunLaws.{run_extends, represented}
 use Rattle.ash_journal.proofs.SettleLaws.{Property, Implies, settle_more, further}
 use Rattle.ash_states.specs.HostStates.{HostState}
-use Rattle.ash_state_image.specs.declared.version.Version.TheVariants.{Two}
+use Rattle.ash_image.specs.declared.version.Version.TheVariants.{Two}
 use Rattle.ash_states.specs.Images.{IsImageIn, IsBodyIn}
 use Rattle.ash_durable.specs.StoredStates.{AreIn, IsStateOf, HaveState, IsOne, IsEither, SettleSince, SettleNow}
 use Rattle.ash_durable.specs.StoredStates.{HoldsState, ExtendsHistory, BeginsAnew}

@@ -9,11 +9,11 @@ use Rattle.ash_journal.specs.Layout.{header_size}
 use Rattle.ash_journal.specs.Reading.{bodies_of}
 use Rattle.ash_registry.specs.AcceptedRegistrations.{Registration}
 use Rattle.ash_registry.specs.RegistryText.{text_of}
-use Rattle.ash_state_image.specs.declared.stored.StoredImage.{StoredImage}
-use Rattle.ash_state_image.specs.declared.version.Version.{Version}
-use Rattle.ash_state_image.specs.Snapshots.{Snapshot}
-use Rattle.ash_state_image.specs.Rules.{IsImage, IsImageBody}
-use Rattle.ash_state_image.specs.SnapshotViews.{snapshot_of}
+use Rattle.ash_image.specs.declared.stored.StoredImage.{StoredImage}
+use Rattle.ash_image.specs.declared.version.Version.{Version}
+use Rattle.ash_image.specs.Snapshots.{Snapshot}
+use Rattle.ash_image.specs.Rules.{IsImage, IsImageBody}
+use Rattle.ash_image.specs.SnapshotViews.{snapshot_of}
 use Rattle.ash_states.specs.HostStates.{HostState}
 use Rattle.ash_states.specs.Images.{IsImageOf, IsImageRestored}
 use Rattle.ash_durable.specs.StoredStates.{AreIn, IsBodyOf, LeadAll, IsStateOf}

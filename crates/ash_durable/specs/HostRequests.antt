@@ -2,7 +2,7 @@
 use Rattle.std.specs.Prelude.{◌≡◌, ℕ, Some, None, Result, Ok, Err, OnOk}
 use Rattle.ash_disk.specs.Device.{Device}
 use Rattle.ash_journal.specs.JournalFailures.{CountsFailures}
-use Rattle.ash_steps.specs.Requests.{Request}
+use Rattle.ash_requests.specs.Requests.{Request}
 use Rattle.ash_states.specs.HostStates.{HostState}
 use Rattle.ash_durable.specs.StoredStates.{HoldsState, ExtendsHistory}
 use Rattle.ash_durable.specs.Saving.{HostRefusal, FailsBy, HasOneMore}

@@ -15,8 +15,8 @@ use Rattle.ash_journal.specs.Layout.{HasMark}
 use Rattle.ash_journal.specs.Opening.{FaultIs}
 use Rattle.ash_journal.specs.Reading.{AreAt, bodies_of}
 use Rattle.ash_journal.specs.SettledSince.{Extends, HoldsSince, NoContents}
-use Rattle.ash_state_image.specs.declared.version.Version.{Version}
-use Rattle.ash_state_image.specs.declared.version.Version.TheVariants.{One, Two}
+use Rattle.ash_image.specs.declared.version.Version.{Version}
+use Rattle.ash_image.specs.declared.version.Version.TheVariants.{One, Two}
 use Rattle.ash_states.specs.HostStates.{HostState}
 use Rattle.ash_states.specs.Images.{IsImageIn}
 use Rattle.ash_registry.specs.AcceptedRegistrations.{Registration}

@@ -1,7 +1,7 @@
 -- What a host did for a list of requests: a run of the definition, up to the first failure.
 use Rattle.std.specs.Prelude.{◌≡◌, ◌⊎◌, ℕ, List, [], ◌∷◌, ◌++◌, map, None}
-use Rattle.ash_steps.specs.Requests.{Request, Reply, Refused, DeviceFailed, NoMemory, GenerationSpent}
-use Rattle.ash_steps.specs.Steps.{WritesStore}
+use Rattle.ash_requests.specs.Requests.{Request, Reply, Refused, DeviceFailed, NoMemory, GenerationSpent}
+use Rattle.ash_requests.specs.Steps.{WritesStore}
 use Rattle.ash_plain_steps.specs.StepViews.{TaskChangesState}
 use Rattle.ash_sources.specs.SourceFaults.{SourceFault}
 use Rattle.ash_states.specs.HostStates.{HostState}

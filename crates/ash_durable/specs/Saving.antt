@@ -7,7 +7,7 @@ use Rattle.ash_journal.specs.Journal.{first_disk, second_disk, generation, recor
 use Rattle.ash_sources.specs.declared.fault.SourceFault.{SourceFault as CodeFault}
 use Rattle.ash_plain_steps.specs.declared.request.Refusal.{Refusal}
 use Rattle.ash_plain_steps.specs.declared.request.Refusal.TheVariants as the
-use Rattle.ash_state_image.specs.declared.version.Version.TheVariants.{Two}
+use Rattle.ash_image.specs.declared.version.Version.TheVariants.{Two}
 use Rattle.ash_states.specs.HostStates.{HostState}
 use Rattle.ash_states.specs.Images.{IsBodyIn}
 use Rattle.ash_durable.specs.Contents.{record_header_size}

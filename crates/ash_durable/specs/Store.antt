@@ -10,7 +10,7 @@ use Rattle.ash_journal.specs.JournalFailures.{CountsFailures}
 use Rattle.ash_journal.specs.Journal.{first_disk, second_disk, current_disk, generation, record_bytes, IsReady}
 use Rattle.ash_journal.specs.Layout.{IsClosed}
 use Rattle.ash_journal.specs.Writes.{WasUnused}
-use Rattle.ash_state_image.specs.declared.version.Version.TheVariants.{Two}
+use Rattle.ash_image.specs.declared.version.Version.TheVariants.{Two}
 use Rattle.ash_states.specs.HostStates.{HostState, empty}
 use Rattle.ash_states.specs.Images.{IsImageIn}
 use Rattle.ash_registry.specs.AcceptedRegistrations.{Registration}

@@ -8,10 +8,10 @@ use Rattle.ash_journal.specs.Current.{Contents}
 use Rattle.ash_journal.specs.Journal.{first_disk, second_disk, Holds}
 use Rattle.ash_journal.specs.SettledSince.{HoldsSince}
 use Rattle.ash_states.specs.HostStates.{HostState}
-use Rattle.ash_state_image.specs.declared.version.Version.{Version}
-use Rattle.ash_state_image.specs.declared.version.Version.TheVariants.{Two}
-use Rattle.ash_state_image.specs.Snapshots.{Snapshot}
-use Rattle.ash_state_image.specs.Rules.{IsImage, IsImageBody}
+use Rattle.ash_image.specs.declared.version.Version.{Version}
+use Rattle.ash_image.specs.declared.version.Version.TheVariants.{Two}
+use Rattle.ash_image.specs.Snapshots.{Snapshot}
+use Rattle.ash_image.specs.Rules.{IsImage, IsImageBody}
 use Rattle.ash_states.specs.Images.{IsImageOf, IsBodyIn}
 
 -- the body of a record that has an image of a state, in either version

@@ -5,19 +5,19 @@ ghost use Rattle.std.specs.List.{AllByRecursion};
 ghost use Rattle.ash_journal.specs.Reading.{AreAt, bodies_of};
 ghost use Rattle.ash_registry.specs.RegistryViews.{registered};
 ghost use Rattle.ash_registry.specs.RegistryText.{text_of};
-ghost use Rattle.ash_state_image.specs.Rules.{IsShaped};
-ghost use Rattle.ash_state_image.specs.SnapshotViews.{snapshot_of};
-ghost use Rattle.ash_state_image.specs.declared.version.Version.{Version};
+ghost use Rattle.ash_image.specs.Rules.{IsShaped};
+ghost use Rattle.ash_image.specs.SnapshotViews.{snapshot_of};
+ghost use Rattle.ash_image.specs.declared.version.Version.{Version};
 ghost use Rattle.ash_durable.specs.Contents.{after_image, IsBodyWith, ReadsAs, ReadsImage};
 ghost use Rattle.ash_durable.specs.Contents.{ChecksShapes, Restores, LeadsOn, LeadsThrough};
 ghost use Rattle.ash_durable.specs.StoreFaults.{IsFailed};
 
 use crate::fault::StoreFault;
+use ash_image::image::{read_body, read_image};
+use ash_image::stored::{StoredImage, StoredState};
+use ash_image::version::Version;
 use ash_journal::{OpenFault, Record};
 use ash_registry::Registry;
-use ash_state_image::image::{read_body, read_image};
-use ash_state_image::stored::{StoredImage, StoredState};
-use ash_state_image::version::Version;
 use ash_states::state::HostState;
 use std::alloc::{AllocError, Global};
 

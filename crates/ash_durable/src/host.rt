@@ -2,7 +2,7 @@
 
 ghost use Rattle.std.specs.Prelude.{◌≡◌, ◌↔◌, ℕ, map, Some, IfOk, IsSome, IsTrue, OnOk, OnErr};
 ghost use Rattle.ash_registry.specs.RegistryViews.{registered};
-ghost use Rattle.ash_steps.specs.Requests.{Call, Discard, Get, Load, Number, Object, Seq, Snapshot};
+ghost use Rattle.ash_requests.specs.Requests.{Call, Discard, Get, Load, Number, Object, Seq, Snapshot};
 ghost use Rattle.ash_plain_steps.specs.RequestViews.{request_seen, reply_seen};
 ghost use Rattle.ash_sources.specs.SourceFaults.{fault_of};
 ghost use Rattle.ash_states.specs.HostStates.{HostState};
@@ -23,8 +23,8 @@ use ash_disk::Disk;
 use ash_journal::Journal;
 use ash_plain_steps::request::{Refusal, Reply, Request};
 use ash_registry::Registry;
+use ash_requests::Argument;
 use ash_states::state::{HostRefusal, HostReply, HostState};
-use ash_steps::Argument;
 use std::alloc::{AllocError, Global};
 use std::marker::Model;
 

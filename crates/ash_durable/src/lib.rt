@@ -1,6 +1,6 @@
 //! The host that scripts run in, with its registry, and its state in a journal on two disks. It builds on
 //! `ash_registry`; on `ash_states`, which takes the steps of requests and writes and restores the image of a state; on
-//! `ash_state_image`, which reads images; and on `ash_journal`, which keeps images and records through every crash. It
+//! `ash_image`, which reads images; and on `ash_journal`, which keeps images and records through every crash. It
 //! promises that each reply is that of the written steps, or a refusal with nothing changed; that where no new
 //! generation is due a request for whose refusal there is a cause changes nothing, whatever the disks and the memory
 //! do; that at every moment of a request a crash leaves the state before it or the one after it, and once it is

@@ -10,9 +10,9 @@ use crate::contents::state_in;
 use crate::fault::{HostRefused, StoreFault};
 use crate::header::read_header;
 use ash_disk::Disk;
+use ash_image::version::Version;
 use ash_journal::{CreateFault, Journal, NextGeneration, OpenFault, OpenedJournal};
 use ash_registry::Registry;
-use ash_state_image::version::Version;
 use ash_states::state::HostState;
 use std::alloc::Global;
 

@@ -9,7 +9,7 @@ use Rattle.std.proofs.lemmas.Str.{IsUtf8-from_ascii}
 use Rattle.std.specs.List.{list_all}
 use Rattle.std.specs.Str.{IsUtf8}
 use Rattle.std.specs.Borrow.{Bor}
-use Rattle.ash_steps.specs.declared.argument.Argument.{Argument}
+use Rattle.ash_requests.specs.declared.argument.Argument.{Argument}
 use Rattle.ash_lines.specs.Lines.{pieces, onto, is_visible, is_word, both, argument_of, arguments_of, Complete}
 use Rattle.ash_lines.specs.Lines.{BadRequest, call_request, parse_call, parse_line, parse_words}
 use Rattle.ash_lines.specs.LineWords.{is_none_left, words_left}

@@ -3,9 +3,9 @@ use Rattle.std.specs.Prelude.{◌≡◌, ℕ, ◌+◌, ◌*◌, ◌-◌, ◌^◌
 use Rattle.std.specs.Prelude.{List, [], ◌∷◌, length, take, drop, codes, Option, Some, None, option_map, pos, neg_ℤ}
 use Rattle.std.specs.List.{list_all}
 use Rattle.std.specs.Str.{bytes_eq}
-use Rattle.ash_steps.specs.declared.argument.Argument.{Argument}
-use Rattle.ash_steps.specs.declared.argument.Argument.TheVariants.{Truth, Number}
-use Rattle.ash_steps.specs.Requests.{Request, Load, Call, Discard, Get, Object, Seq, Snapshot}
+use Rattle.ash_requests.specs.declared.argument.Argument.{Argument}
+use Rattle.ash_requests.specs.declared.argument.Argument.TheVariants.{Truth, Number}
+use Rattle.ash_requests.specs.Requests.{Request, Load, Call, Discard, Get, Object, Seq, Snapshot}
 
 -- What one request asks: something of the host, or to end the run. Or it is no request, or its line is too long.
 pub data Line : Type 0 where

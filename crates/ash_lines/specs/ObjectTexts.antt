@@ -5,7 +5,7 @@ use Rattle.std.specs.List.{flat_map}
 use Rattle.hex.specs.Hex.{encode_lower}
 use Rattle.ash_host.specs.declared.word.Word.{Word}
 use Rattle.ash_host.specs.declared.word.Word.TheVariants.{Bool, Int, Uint, Int64, Uint64, Null, Object}
-use Rattle.ash_steps.specs.Requests.{ObjectContents, Fields, HostState, Elements, Shown}
+use Rattle.ash_requests.specs.Requests.{ObjectContents, Fields, HostState, Elements, Shown}
 
 abbrev pub word_text : Word → List ℕ
 word_text (Bool true) = codes "true"

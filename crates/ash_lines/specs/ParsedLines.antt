@@ -1,7 +1,7 @@
 -- What the code's parse of a line represents.
 use Rattle.std.specs.Prelude.{ℕ, List, [], ◌∷◌}
-use Rattle.ash_steps.specs.declared.argument.Argument.{Argument}
-use Rattle.ash_steps.specs.Requests.{Call}
+use Rattle.ash_requests.specs.declared.argument.Argument.{Argument}
+use Rattle.ash_requests.specs.Requests.{Call}
 use Rattle.ash_plain_steps.specs.RequestViews.{request_seen}
 use Rattle.ash_lines.specs.Lines.{HostRequest, Quit, BadRequest, ParsedLine, Complete, LoadHeader}
 use Rattle.ash_lines.specs.declared.request_line.ParsedLine as code

@@ -5,11 +5,11 @@ use Rattle.std.specs.List.{flat_map, list_any}
 use Rattle.ash_host.specs.declared.word.Word.{Word}
 use Rattle.ash_host.specs.declared.event.Event.{Event}
 use Rattle.ash_host.specs.declared.event.Event.TheVariants.{Dropped}
-use Rattle.ash_phrases.specs.declared.exception.Exception.{Exception}
-use Rattle.ash_phrases.specs.declared.exception.Exception.TheVariants.{Raised}
-use Rattle.ash_phrases.specs.Exceptions.{name_of}
-use Rattle.ash_phrases.specs.Ends.{End, Finished, Threw, Aborted}
-use Rattle.ash_steps.specs.Requests.{Reply, Answered, Value, ShownAs, Number, Done, Refused}
+use Rattle.ash_meaning.specs.declared.exception.Exception.{Exception}
+use Rattle.ash_meaning.specs.declared.exception.Exception.TheVariants.{Raised}
+use Rattle.ash_meaning.specs.Exceptions.{name_of}
+use Rattle.ash_meaning.specs.Ends.{End, Finished, Threw, Aborted}
+use Rattle.ash_requests.specs.Requests.{Reply, Answered, Value, ShownAs, Number, Done, Refused}
 use Rattle.ash_plain_steps.specs.RequestViews.{reply_seen}
 use Rattle.ash_sources.specs.SourceFaults.{SourceFault, fault_of}
 use Rattle.ash_lines.specs.ObjectTexts.{word_text, shown_text}

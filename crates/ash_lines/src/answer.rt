@@ -2,7 +2,7 @@
 
 ghost use Rattle.std.specs.Prelude.{◌≡◌, ◌++◌, codes};
 ghost use Rattle.std.specs.List.{flat_map, list_any};
-ghost use Rattle.ash_evaluator.specs.EndViews.{end_seen};
+ghost use Rattle.ash_plain_scripts.specs.EndViews.{end_seen};
 ghost use Rattle.ash_lines.specs.Sink.{Writes};
 ghost use Rattle.ash_lines.specs.ReplyText.{answer_text, end_text, finished_text, exception_text};
 ghost use Rattle.ash_lines.specs.ReplyText.{raised_text, place_text, seq_text, is_drop, drop_text};
@@ -11,9 +11,9 @@ ghost use Rattle.ash_lines.specs.ReplyText.{drops_text};
 use crate::object::write_ok;
 use crate::pieces::write_all;
 use crate::sink::{Sink, WriteFault};
-use ash_evaluator::ends::End;
 use ash_host::{Event, Word};
-use ash_phrases::Exception;
+use ash_meaning::Exception;
+use ash_plain_scripts::ends::End;
 use ash_plain_steps::request::Answer;
 use itoa::Buffer;
 

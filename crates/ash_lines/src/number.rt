@@ -6,7 +6,7 @@ ghost use Rattle.std.specs.Str.{bytes_eq};
 ghost use Rattle.ash_lines.specs.Lines.{is_digit, is_number, number_of, length_of};
 ghost use Rattle.ash_lines.specs.Lines.{object_number_of, signed_of, argument_of};
 
-use ash_steps::Argument;
+use ash_requests::Argument;
 
 /// The most digits of a number below 2^64.
 pub const MAX_DIGITS: usize = 20;

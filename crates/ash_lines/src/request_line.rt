@@ -3,7 +3,7 @@
 ghost use Rattle.std.specs.Prelude.{◌≡◌, ◌≤◌, ◌∷◌, [], List, true, Some, None, length, MatchOption};
 ghost use Rattle.std.specs.Prelude.{vec_capacity, if◌then◌else◌};
 ghost use Rattle.std.specs.List.{list_all};
-ghost use Rattle.ash_steps.specs.declared.argument.Argument.{Argument};
+ghost use Rattle.ash_requests.specs.declared.argument.Argument.{Argument};
 ghost use Rattle.ash_lines.specs.Lines.{Line, Complete, is_word, arguments_of, max_line_bytes};
 ghost use Rattle.ash_lines.specs.Lines.{max_arguments, parse_line, parse_verb, parse_load};
 ghost use Rattle.ash_lines.specs.Lines.{parse_call, parse_discard, parse_get, parse_object};
@@ -15,7 +15,7 @@ use crate::line::MAX_LINE_BYTES;
 use crate::number::{is_same, parse_argument, parse_length, parse_object_number};
 use crate::words::{Words, is_all_words};
 use ash_plain_steps::request::Request;
-use ash_steps::Argument;
+use ash_requests::Argument;
 use std::str;
 
 /// More arguments than a line has room for.

@@ -1,7 +1,7 @@
 -- How a call of the code runs, beside what a phrase does.
 use Rattle.std.specs.Prelude.{◌≡◌, Result, Ok, Err}
-use Rattle.ash_phrases.specs.Activity.{Activity}
-use Rattle.ash_phrases.specs.Runs.{Progress, Done, Ended, NoStep, Raising, OutOfTicks}
+use Rattle.ash_meaning.specs.Activity.{Activity}
+use Rattle.ash_meaning.specs.Runs.{Progress, Done, Ended, NoStep, Raising, OutOfTicks}
 use Rattle.ash_plain_data.specs.declared.run_error.RunError.{RunError}
 use Rattle.ash_plain_data.specs.declared.run_error.RunError.TheVariants as errors
 

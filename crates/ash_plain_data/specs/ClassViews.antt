@@ -2,7 +2,7 @@
 use Rattle.std.specs.Prelude.{map, string_bytes}
 use Rattle.ash_typed.specs.BodyViews.{value_of, body_of}
 use Rattle.ash_typed.specs.Modules.{module_of}
-use Rattle.ash_phrases.specs.Classes.{Program, ModuleCallee, FreeFunction, Method, Construction, Entry}
+use Rattle.ash_meaning.specs.Classes.{Program, ModuleCallee, FreeFunction, Method, Construction, Entry}
 use Rattle.ash_plain_data.specs.declared.classes.Program as program
 use Rattle.ash_plain_data.specs.declared.classes.ModuleCallee as callee
 use Rattle.ash_plain_data.specs.declared.classes.ModuleCallee.TheVariants as callees

@@ -2,7 +2,7 @@
 use Rattle.std.specs.Prelude.{Option, Some, None}
 use Rattle.ash_host.specs.declared.word.Word.{Word}
 use Rattle.ash_typed.specs.declared.tree.operations.Conversion.{Conversion}
-use Rattle.ash_phrases.specs.OperatorMeaning.{converted_to}
+use Rattle.ash_meaning.specs.OperatorMeaning.{converted_to}
 
 -- a word, converted where a conversion is named
 abbrev pub converted_by : Option Conversion → Word → Word

@@ -9,14 +9,14 @@ ghost use Rattle.ash_typed.specs.Modules.{function_of, interface_of, implementat
 ghost use Rattle.ash_typed.specs.Modules.{class_of as class_seen};
 ghost use Rattle.ash_typed.specs.Modules.{module_of};
 ghost use Rattle.ash_typed.specs.BodyViews.{value_of};
-ghost use Rattle.ash_phrases.specs.Classes.{dotted, entry_of_function, entry_of_method};
-ghost use Rattle.ash_phrases.specs.Classes.{entry_of_construction};
-ghost use Rattle.ash_phrases.specs.Classes.{entry_of, place_of_class, place_of_interface, class_of};
-ghost use Rattle.ash_phrases.specs.Classes.{implementation_in, implemented, is_class_of};
-ghost use Rattle.ash_phrases.specs.Classes.{is_object_of, element_of};
-ghost use Rattle.ash_phrases.specs.Classes.{places_of_classes};
-ghost use Rattle.ash_phrases.specs.OperatorMeaning.{zero_of};
-ghost use Rattle.ash_phrases.specs.CallMeaning.{blank};
+ghost use Rattle.ash_meaning.specs.Classes.{dotted, entry_of_function, entry_of_method};
+ghost use Rattle.ash_meaning.specs.Classes.{entry_of_construction};
+ghost use Rattle.ash_meaning.specs.Classes.{entry_of, place_of_class, place_of_interface, class_of};
+ghost use Rattle.ash_meaning.specs.Classes.{implementation_in, implemented, is_class_of};
+ghost use Rattle.ash_meaning.specs.Classes.{is_object_of, element_of};
+ghost use Rattle.ash_meaning.specs.Classes.{places_of_classes};
+ghost use Rattle.ash_meaning.specs.OperatorMeaning.{zero_of};
+ghost use Rattle.ash_meaning.specs.CallMeaning.{blank};
 ghost use Rattle.ash_plain_data.specs.ObjectViews.{element_seen, object_seen};
 ghost use Rattle.ash_plain_data.specs.ClassViews.{program_seen, callee_seen, entry_seen};
 

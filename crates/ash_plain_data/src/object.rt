@@ -2,8 +2,8 @@
 
 ghost use Rattle.std.specs.Prelude.{◌≡◌, IfOk};
 ghost use Rattle.ash_host.specs.Objects.{fields_of, is_host};
-ghost use Rattle.ash_phrases.specs.ObjectSteps.{with_words};
-ghost use Rattle.ash_phrases.specs.HostSteps.{with_state_in};
+ghost use Rattle.ash_meaning.specs.ObjectSteps.{with_words};
+ghost use Rattle.ash_meaning.specs.HostSteps.{with_state_in};
 ghost use Rattle.ash_plain_data.specs.ObjectViews.{element_seen, object_seen};
 
 use ash_host::Word;

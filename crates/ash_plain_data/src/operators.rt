@@ -3,10 +3,10 @@
 ghost use Rattle.std.specs.Prelude.{◌≡◌, pos};
 ghost use Rattle.ash_host.specs.Records.{is_same_word};
 ghost use Rattle.ash_integers.specs.Integers.{number_of};
-ghost use Rattle.ash_phrases.specs.OperatorMeaning.{word_at, converted_to, zero_of};
-ghost use Rattle.ash_phrases.specs.OperatorMeaning.{is_true, calculated_by};
-ghost use Rattle.ash_phrases.specs.OperatorMeaning.{holds_of_numbers, holds_of_words, holds};
-ghost use Rattle.ash_phrases.specs.OperatorMeaning.{altered, counted, given_by};
+ghost use Rattle.ash_meaning.specs.OperatorMeaning.{word_at, converted_to, zero_of};
+ghost use Rattle.ash_meaning.specs.OperatorMeaning.{is_true, calculated_by};
+ghost use Rattle.ash_meaning.specs.OperatorMeaning.{holds_of_numbers, holds_of_words, holds};
+ghost use Rattle.ash_meaning.specs.OperatorMeaning.{altered, counted, given_by};
 ghost use Rattle.ash_plain_data.specs.Conversions.{converted_by};
 
 use ash_host::Word;

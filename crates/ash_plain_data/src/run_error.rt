@@ -3,7 +3,7 @@
 ghost use Rattle.std.specs.Prelude.{◌≡◌};
 ghost use Rattle.ash_plain_data.specs.declared.run_error.RunError.TheVariants.{NoMemory};
 
-use ash_phrases::Exception;
+use ash_meaning::Exception;
 use std::alloc::{AllocError, AllocFailed};
 use thiserror::Error;
 

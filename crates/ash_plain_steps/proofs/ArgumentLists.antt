@@ -4,9 +4,9 @@ use Rattle.std.specs.Prelude.{slice_get, is_some}
 use Rattle.std.proofs.lemmas.Bool.Decides.{nat_tests}
 use Rattle.ash_host.specs.declared.word.Word.{Word}
 use Rattle.ash_typed.specs.declared.types.VarType.{VarType}
-use Rattle.ash_steps.specs.declared.argument.Argument.{Argument}
+use Rattle.ash_requests.specs.declared.argument.Argument.{Argument}
 use Rattle.ash_plain_steps.proofs.Drops.{got_some, got_none, at_place, past}
-use Rattle.ash_steps.specs.Tasks.{option_cons, argument_of, arguments_of}
+use Rattle.ash_requests.specs.Tasks.{option_cons, argument_of, arguments_of}
 
 joined : (words : List Word) (w : Word) (o : Option (List Word)) → option_map (λ more. words ++ more) (option_cons (Some w) o) ≡ option_map (λ more. (words ++ w ∷ []) ++ more) o
 joined words w (Some more) = ap (λ (l : List Word). Some l) (sym (append_assoc words (w ∷ []) more))

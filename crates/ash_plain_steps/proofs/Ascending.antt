@@ -10,7 +10,7 @@ use Rattle.std.specs.Cmp.Lexicographic.{nat_list_cmp_total}
 use Rattle.std.proofs.lemmas.Map.Text.{is_eq-slice_cmp}
 use Rattle.std.proofs.lemmas.Slice.Eq.{bytes_eq-Decides}
 use Rattle.ash_host.specs.declared.word.Word.{Word}
-use Rattle.ash_steps.specs.States.{LoadedModule, compare_names, has_name, with_module, without_module, update_globals}
+use Rattle.ash_requests.specs.States.{LoadedModule, compare_names, has_name, with_module, without_module, update_globals}
 use Rattle.ash_plain_steps.specs.Consistency.{ModulesComeAfter, ModulesAscend}
 
 -- names

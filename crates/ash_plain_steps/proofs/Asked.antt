@@ -8,10 +8,10 @@ use Rattle.ash_host.specs.declared.word.Word.{Word}
 use Rattle.ash_typed.specs.Modules.{Function, Module}
 use Rattle.ash_typed.specs.SoundModules.{names_of_globals}
 use Rattle.ash_plain_data.proofs.Positions.{position_is}
-use Rattle.ash_steps.specs.declared.argument.Argument.{Argument}
-use Rattle.ash_steps.specs.States.{LoadedModule, State, Embedding, find_module}
-use Rattle.ash_steps.specs.Requests.{Load, Call, Discard, Get, SequenceSpent, BadName, ModuleTaken, TooManyModules, NoModule, NoFunction, NotCallable, BadArguments, NoGlobal}
-use Rattle.ash_steps.specs.Tasks.{TaskResult, Invoke, Remove, Read, max_seq, max_modules, is_module_name, is_callable, arguments_of, numbered, require, require_some, initialize, tree_of, task_of, call_in, word_named}
+use Rattle.ash_requests.specs.declared.argument.Argument.{Argument}
+use Rattle.ash_requests.specs.States.{LoadedModule, State, Embedding, find_module}
+use Rattle.ash_requests.specs.Requests.{Load, Call, Discard, Get, SequenceSpent, BadName, ModuleTaken, TooManyModules, NoModule, NoFunction, NotCallable, BadArguments, NoGlobal}
+use Rattle.ash_requests.specs.Tasks.{TaskResult, Invoke, Remove, Read, max_seq, max_modules, is_module_name, is_callable, arguments_of, numbered, require, require_some, initialize, tree_of, task_of, call_in, word_named}
 use Rattle.ash_plain_steps.specs.TaskViews.{word_among, TakesMemoryToFind}
 
 pub spent : {Fault : Type 0} (state : State) (next : TaskResult Fault) → max_seq ≤ state.seq → numbered state next ≡ Err SequenceSpent

@@ -6,7 +6,7 @@ use Rattle.std.proofs.lemmas.List.{map-set}
 use Rattle.std.proofs.lemmas.Option.{get_or_from_slice_get, slice_get_within, slice_get-map}
 use Rattle.std.proofs.lemmas.Slice.Eq.{bytes_eq-Decides}
 use Rattle.ash_host.specs.declared.word.Word.{Word}
-use Rattle.ash_steps.specs.States.{LoadedModule, Embedding, has_name, globals_of, update_globals, without_module, with_module}
+use Rattle.ash_requests.specs.States.{LoadedModule, Embedding, has_name, globals_of, update_globals, without_module, with_module}
 use Rattle.ash_plain_steps.specs.declared.state.LoadedModule as code_module
 use Rattle.ash_plain_steps.specs.StateViews.{loaded_seen, modules_seen}
 use Rattle.ash_plain_steps.specs.Consistency.{ModulesAscend, IsReadFromSource, AreConsistent, IsModuleInserted}

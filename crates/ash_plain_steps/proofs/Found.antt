@@ -4,8 +4,8 @@ use Rattle.std.specs.Prelude.{slice_get}
 use Rattle.std.specs.List.{AllByRecursion, find, position}
 use Rattle.std.proofs.lemmas.Option.{get_or_from_slice_get}
 use Rattle.ash_typed.specs.Modules.{module_of}
-use Rattle.ash_steps.specs.States.{Embedding, has_name}
-use Rattle.ash_steps.specs.Tasks.{tree_of}
+use Rattle.ash_requests.specs.States.{Embedding, has_name}
+use Rattle.ash_requests.specs.Tasks.{tree_of}
 use Rattle.ash_plain_steps.specs.declared.state.LoadedModule.{LoadedModule}
 use Rattle.ash_plain_steps.specs.StateViews.{loaded_seen, modules_seen}
 use Rattle.ash_plain_steps.specs.Consistency.{IsReadFromSource, AreConsistent}

@@ -7,11 +7,11 @@ use Rattle.std.proofs.lemmas.List.Quantifiers.{position-Some}
 use Rattle.std.proofs.lemmas.Option.{get_or_from_slice_get, slice_get-get_or}
 use Rattle.ash_host.specs.declared.word.Word.{Word}
 use Rattle.ash_typed.specs.Modules.{Module, module_of}
-use Rattle.ash_steps.specs.declared.argument.Argument.{Argument}
-use Rattle.ash_steps.specs.States.{LoadedModule, Embedding, has_name, find_module}
-use Rattle.ash_steps.specs.Requests.{Load, Call, Discard, Get, SequenceSpent, BadName, ModuleTaken, TooManyModules, NoModule, NoGlobal}
-use Rattle.ash_steps.specs.SourceViews.{TakesMemoryToRead}
-use Rattle.ash_steps.specs.Tasks.{TaskResult, Remove, Read, max_seq, max_modules, is_module_name, initialize, call_in, task_of}
+use Rattle.ash_requests.specs.declared.argument.Argument.{Argument}
+use Rattle.ash_requests.specs.States.{LoadedModule, Embedding, has_name, find_module}
+use Rattle.ash_requests.specs.Requests.{Load, Call, Discard, Get, SequenceSpent, BadName, ModuleTaken, TooManyModules, NoModule, NoGlobal}
+use Rattle.ash_requests.specs.SourceViews.{TakesMemoryToRead}
+use Rattle.ash_requests.specs.Tasks.{TaskResult, Remove, Read, max_seq, max_modules, is_module_name, initialize, call_in, task_of}
 use Rattle.ash_plain_steps.specs.declared.state.LoadedModule as code_module
 use Rattle.ash_plain_steps.specs.declared.state.PlainState.{PlainState}
 use Rattle.ash_plain_steps.specs.declared.task.Task.TheVariants as tasks

@@ -4,7 +4,7 @@ use Rattle.std.proofs.lemmas.List.Elements.{filter_map-append}
 use Rattle.std.proofs.lemmas.List.Sums.{sum_by-append}
 use Rattle.ash_host.specs.declared.word.Word.{Word}
 use Rattle.ash_host.specs.Objects.{handle, handles, is_handle_to, handles_to}
-use Rattle.ash_steps.specs.States.{globals_of}
+use Rattle.ash_requests.specs.States.{globals_of}
 use Rattle.ash_plain_steps.specs.declared.state.LoadedModule.{LoadedModule}
 use Rattle.ash_plain_steps.specs.StateViews.{modules_seen}
 use Rattle.ash_plain_steps.proofs.Drops.{at_place}

@@ -12,7 +12,7 @@ use Rattle.std.proofs.lemmas.List.Quantifiers.{position-Some}
 use Rattle.std.proofs.lemmas.List.Sums.{prefix_len-le-length}
 use Rattle.std.proofs.lemmas.Map.Text.{is_eq-slice_cmp}
 use Rattle.ash_host.specs.declared.word.Word.{Word}
-use Rattle.ash_steps.specs.States.{LoadedModule, compare_names, has_name, with_module, without_module, update_globals}
+use Rattle.ash_requests.specs.States.{LoadedModule, compare_names, has_name, with_module, without_module, update_globals}
 use Rattle.ash_plain_steps.specs.Consistency.{ModulesComeAfter, ModulesAscend}
 use Rattle.ash_plain_steps.proofs.Ascending.{later_differs, same_name}
 

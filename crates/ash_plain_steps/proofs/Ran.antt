@@ -5,15 +5,15 @@ use Rattle.std.specs.Option.{option_and_then}
 use Rattle.ash_host.specs.declared.word.Word.{Word}
 use Rattle.ash_host.specs.Objects.{handles}
 use Rattle.ash_typed.specs.Modules.{Module, module_of}
-use Rattle.ash_phrases.specs.Activity.{World}
-use Rattle.ash_phrases.specs.Releases.{sweep}
-use Rattle.ash_phrases.specs.Ends.{Finished, Outcome, call_function, load_module}
-use Rattle.ash_evaluator.specs.EndViews.{outcome_seen}
-use Rattle.ash_steps.specs.Requests.{Request, Load, Call, Discard, Get, Object, Seq, Snapshot, NoModule, NoGlobal, Refused}
-use Rattle.ash_steps.specs.States.{LoadedModule, State, Hosts, Embedding, find_module, globals_of, without_module, update_globals, world_of}
-use Rattle.ash_steps.specs.Tasks.{Task, TaskResult, Initialize, Invoke, Remove, Read, require_some, tree_of, word_named, task_of}
-use Rattle.ash_steps.specs.Steps.{Step, replied, answered, after_load, after_call, perform, unless_refused, step, TakesMemory, Steps, performed, put_off}
-use Rattle.ash_steps.specs.Steps as all_steps
+use Rattle.ash_meaning.specs.Activity.{World}
+use Rattle.ash_meaning.specs.Releases.{sweep}
+use Rattle.ash_meaning.specs.Ends.{Finished, Outcome, call_function, load_module}
+use Rattle.ash_plain_scripts.specs.EndViews.{outcome_seen}
+use Rattle.ash_requests.specs.Requests.{Request, Load, Call, Discard, Get, Object, Seq, Snapshot, NoModule, NoGlobal, Refused}
+use Rattle.ash_requests.specs.States.{LoadedModule, State, Hosts, Embedding, find_module, globals_of, without_module, update_globals, world_of}
+use Rattle.ash_requests.specs.Tasks.{Task, TaskResult, Initialize, Invoke, Remove, Read, require_some, tree_of, word_named, task_of}
+use Rattle.ash_requests.specs.Steps.{Step, replied, answered, after_load, after_call, perform, unless_refused, step, TakesMemory, Steps, performed, put_off}
+use Rattle.ash_requests.specs.Steps as all_steps
 use Rattle.ash_plain_steps.specs.declared.state.LoadedModule as code_module
 use Rattle.ash_plain_steps.specs.declared.request.StepError.{StepError}
 use Rattle.ash_plain_steps.specs.declared.request.StepError.TheVariants as errors

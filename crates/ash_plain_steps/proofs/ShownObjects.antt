@@ -12,10 +12,10 @@ use Rattle.std.proofs.lemmas.Slice.Eq.{bytes_eq-Decides}
 use Rattle.ash_host.specs.declared.word.Word.{Word}
 use Rattle.ash_host.specs.Objects.{Plain, Script, Array, Host, object_at}
 use Rattle.ash_typed.specs.Modules.{Class, Module, module_of}
-use Rattle.ash_phrases.specs.Classes.{dotted, places_of_classes, class_of}
-use Rattle.ash_steps.specs.Requests.{Object, NoObject, ObjectContents, Fields}
-use Rattle.ash_steps.specs.States.{Embedding, has_name}
-use Rattle.ash_steps.specs.Tasks.{TaskResult, Show, require_some, tree_in, tree_of, class_placed, shown_fields, described, shown, task_of}
+use Rattle.ash_meaning.specs.Classes.{dotted, places_of_classes, class_of}
+use Rattle.ash_requests.specs.Requests.{Object, NoObject, ObjectContents, Fields}
+use Rattle.ash_requests.specs.States.{Embedding, has_name}
+use Rattle.ash_requests.specs.Tasks.{TaskResult, Show, require_some, tree_in, tree_of, class_placed, shown_fields, described, shown, task_of}
 use Rattle.ash_plain_steps.specs.declared.state.LoadedModule.{LoadedModule}
 use Rattle.ash_plain_steps.specs.declared.state.PlainState.{PlainState}
 use Rattle.ash_plain_steps.specs.StateViews.{loaded_seen, modules_seen, state_seen}

@@ -3,7 +3,7 @@ use Rattle.std.specs.Prelude.{◌≡◌, ℕ, List, [], ◌∷◌, Ok}
 use Rattle.std.specs.List.{AllByRecursion, insert}
 use Rattle.std.specs.declared.cmp.Ordering.TheVariants.{Less}
 use Rattle.ash_typed.specs.Modules.{module_of}
-use Rattle.ash_steps.specs.States.{LoadedModule, Embedding, compare_names}
+use Rattle.ash_requests.specs.States.{LoadedModule, Embedding, compare_names}
 use Rattle.ash_plain_steps.specs.declared.state.LoadedModule as code_module
 use Rattle.ash_plain_steps.specs.StateViews.{modules_seen}
 

@@ -1,8 +1,8 @@
 -- The codes by which refusals are reported: the number and the name of each.
 use Rattle.std.specs.Prelude.{ℕ, List, Result, Ok, Err, codes}
 use Rattle.std.specs.Borrow.{Bor}
-use Rattle.ash_steps.specs.Requests.{Refusal}
-use Rattle.ash_steps.specs.Requests as refusals
+use Rattle.ash_requests.specs.Requests.{Refusal}
+use Rattle.ash_requests.specs.Requests as refusals
 
 -- the number and the name of a refusal; or the fault of the source that is refused, which has a code of its own
 abbrev pub code_of : {Fault : Type 0} → Refusal Fault → Result (List ℕ) Fault

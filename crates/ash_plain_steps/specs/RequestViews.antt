@@ -3,12 +3,12 @@ use Rattle.std.specs.Prelude.{ℕ, List, map, string_bytes}
 use Rattle.std.specs.declared.string.String.{String}
 use Rattle.std.specs.declared.alloc.Global.{Global as Memory}
 use Rattle.ash_host.specs.declared.word.Word.{Word}
-use Rattle.ash_evaluator.specs.EndViews.{end_seen}
-use Rattle.ash_steps.specs.Requests.{Request, Load, Call, Discard, Get, Object, Seq, Snapshot}
-use Rattle.ash_steps.specs.Requests.{ObjectContents, Fields, HostState, Elements, Shown}
-use Rattle.ash_steps.specs.Requests as steps
-use Rattle.ash_steps.specs.Requests.{Refusal, Reply, Answered, Value, ShownAs, Number, Done, Refused}
-use Rattle.ash_steps.specs.Steps.{Step}
+use Rattle.ash_plain_scripts.specs.EndViews.{end_seen}
+use Rattle.ash_requests.specs.Requests.{Request, Load, Call, Discard, Get, Object, Seq, Snapshot}
+use Rattle.ash_requests.specs.Requests.{ObjectContents, Fields, HostState, Elements, Shown}
+use Rattle.ash_requests.specs.Requests as steps
+use Rattle.ash_requests.specs.Requests.{Refusal, Reply, Answered, Value, ShownAs, Number, Done, Refused}
+use Rattle.ash_requests.specs.Steps.{Step}
 use Rattle.ash_plain_steps.specs.declared.request.Request as request
 use Rattle.ash_plain_steps.specs.declared.request.Request.TheVariants as requests
 use Rattle.ash_plain_steps.specs.declared.request.Refusal as refusal

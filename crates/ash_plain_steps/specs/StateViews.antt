@@ -1,8 +1,8 @@
 -- What the code's states and hosts represent.
 use Rattle.std.specs.Prelude.{List, map, string_bytes}
 use Rattle.ash_plain_data.specs.CallViews.{record_seen}
-use Rattle.ash_plain.specs.ActivityViews.{box_seen}
-use Rattle.ash_steps.specs.States.{LoadedModule, State, Hosts}
+use Rattle.ash_plain_world.specs.ActivityViews.{box_seen}
+use Rattle.ash_requests.specs.States.{LoadedModule, State, Hosts}
 use Rattle.ash_plain_steps.specs.declared.state.LoadedModule as code_module
 use Rattle.ash_plain_steps.specs.declared.state.PlainState.{PlainState}
 use Rattle.ash_plain_steps.specs.declared.state.Hosts as hosts

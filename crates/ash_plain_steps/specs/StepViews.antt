@@ -1,19 +1,19 @@
 -- What the steps of the code come to.
 use Rattle.std.specs.Prelude.{◌≡◌, ◌<◌, ◌⊎◌, ℕ, List, length, set, Option, Some, None, Result, Ok, Err}
 use Rattle.ash_typed.specs.Modules.{module_of}
-use Rattle.ash_steps.specs.States.{State, Hosts, Embedding, find_module}
-use Rattle.ash_steps.specs.Requests.{Request, NoMemory, Refused}
-use Rattle.ash_steps.specs.Tasks.{TaskResult, Initialize, Invoke, Remove, max_seq, task_of}
+use Rattle.ash_requests.specs.States.{State, Hosts, Embedding, find_module}
+use Rattle.ash_requests.specs.Requests.{Request, NoMemory, Refused}
+use Rattle.ash_requests.specs.Tasks.{TaskResult, Initialize, Invoke, Remove, max_seq, task_of}
 use Rattle.ash_plain_steps.specs.declared.state.PlainState.{PlainState}
 use Rattle.ash_plain_steps.specs.declared.request.StepError.{StepError}
 use Rattle.ash_plain_steps.specs.declared.request.StepError.TheVariants as errors
 use Rattle.ash_plain_steps.specs.declared.task.NewModule.{NewModule}
 use Rattle.ash_plain_steps.specs.declared.task.Task.{Task}
 use Rattle.ash_plain_steps.specs.declared.task.Task.TheVariants as tasks
-use Rattle.ash_plain.specs.ActivityViews.{world_seen}
-use Rattle.ash_evaluator.specs.declared.ends.Outcome as code_outcome
-use Rattle.ash_evaluator.specs.EndViews.{end_seen}
-use Rattle.ash_steps.specs.Steps.{answered, replied, step, TakesMemory}
+use Rattle.ash_plain_world.specs.ActivityViews.{world_seen}
+use Rattle.ash_plain_scripts.specs.declared.ends.Outcome as code_outcome
+use Rattle.ash_plain_scripts.specs.EndViews.{end_seen}
+use Rattle.ash_requests.specs.Steps.{answered, replied, step, TakesMemory}
 use Rattle.ash_plain_steps.specs.declared.state.LoadedModule.{LoadedModule}
 use Rattle.ash_plain_steps.specs.declared.request.Step as code_step
 use Rattle.ash_plain_steps.specs.StateViews.{modules_seen, state_seen}

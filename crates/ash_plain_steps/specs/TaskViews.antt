@@ -8,11 +8,11 @@ use Rattle.ash_host.specs.declared.word.Word.{Word}
 use Rattle.ash_host.specs.Objects.{Plain, Script, Array, Host}
 use Rattle.ash_typed.specs.Modules.{Variables, Class, Module, module_of}
 use Rattle.ash_typed.specs.SoundModules.{names_of_globals}
-use Rattle.ash_steps.specs.States.{has_name}
-use Rattle.ash_phrases.specs.Classes.{dotted}
-use Rattle.ash_steps.specs.Requests.{BadSource, ObjectContents, Fields, HostState, Elements}
-use Rattle.ash_steps.specs.Tasks.{Task, Initialize, Invoke, Remove, Read, Show, Count, Rewrite, TaskResult}
-use Rattle.ash_steps.specs.Tasks.{class_placed, shown_fields}
+use Rattle.ash_requests.specs.States.{has_name}
+use Rattle.ash_meaning.specs.Classes.{dotted}
+use Rattle.ash_requests.specs.Requests.{BadSource, ObjectContents, Fields, HostState, Elements}
+use Rattle.ash_requests.specs.Tasks.{Task, Initialize, Invoke, Remove, Read, Show, Count, Rewrite, TaskResult}
+use Rattle.ash_requests.specs.Tasks.{class_placed, shown_fields}
 use Rattle.ash_plain_steps.specs.declared.state.LoadedModule.{LoadedModule}
 use Rattle.ash_plain_steps.specs.declared.request.Refusal as refusal
 use Rattle.ash_plain_steps.specs.declared.request.Refusal.TheVariants as refusals

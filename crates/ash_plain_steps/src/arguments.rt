@@ -5,12 +5,12 @@ ghost use Rattle.std.specs.Option.{option_map_or};
 ghost use Rattle.std.specs.List.{list_all};
 ghost use Rattle.ash_typed.specs.declared.types.VarType.TheVariants as vars;
 ghost use Rattle.ash_typed.specs.Modules.{function_of};
-ghost use Rattle.ash_steps.specs.declared.argument.Argument.TheVariants as arguments;
-ghost use Rattle.ash_steps.specs.Tasks.{argument_of, arguments_of, is_primitive, is_callable};
+ghost use Rattle.ash_requests.specs.declared.argument.Argument.TheVariants as arguments;
+ghost use Rattle.ash_requests.specs.Tasks.{argument_of, arguments_of, is_primitive, is_callable};
 
 use ash_host::Word;
 use ash_integers::{IntType, number, word_from};
-use ash_steps::Argument;
+use ash_requests::Argument;
 use ash_typed::{Function, VarType};
 use std::alloc::{AllocError, Global};
 

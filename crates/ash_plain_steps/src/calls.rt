@@ -1,16 +1,16 @@
 //! What a call names in a module.
 
 ghost use Rattle.ash_typed.specs.Modules.{module_of};
-ghost use Rattle.ash_steps.specs.States.{LoadedModule};
-ghost use Rattle.ash_steps.specs.Tasks.{Invoke, call_in};
+ghost use Rattle.ash_requests.specs.States.{LoadedModule};
+ghost use Rattle.ash_requests.specs.Tasks.{Invoke, call_in};
 ghost use Rattle.ash_plain_steps.specs.TaskViews.{FindsFor};
 
 use crate::arguments::{arguments_of, is_callable};
 use crate::functions::place_of_function;
 use crate::request::Refusal;
 use ash_host::Word;
-use ash_steps::Argument;
-use ash_steps::sources::SourceReader;
+use ash_requests::Argument;
+use ash_requests::sources::SourceReader;
 use ash_typed::Module;
 use std::alloc::Global;
 

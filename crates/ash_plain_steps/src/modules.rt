@@ -4,7 +4,7 @@ ghost use Rattle.std.specs.Prelude.{◌≡◌, ◌++◌, IfOk, OnOk};
 ghost use Rattle.std.specs.List.{position};
 ghost use Rattle.std.specs.Ordering.{is_lt};
 ghost use Rattle.ash_host.specs.Objects.{handles};
-ghost use Rattle.ash_steps.specs.States.{compare_names, has_name, with_module, globals_of};
+ghost use Rattle.ash_requests.specs.States.{compare_names, has_name, with_module, globals_of};
 ghost use Rattle.ash_plain_steps.specs.StateViews.{loaded_seen, modules_seen};
 ghost use Rattle.ash_plain_steps.specs.Consistency.{IsModuleInserted};
 

@@ -2,7 +2,7 @@
 
 ghost use Rattle.std.specs.Prelude.{◌≡◌};
 ghost use Rattle.std.specs.List.{list_all};
-ghost use Rattle.ash_steps.specs.Tasks.{is_name_start, is_name_part, is_name, is_module_name};
+ghost use Rattle.ash_requests.specs.Tasks.{is_name_start, is_name_part, is_name, is_module_name};
 
 /// The most bytes of a module's name.
 const MAX_MODULE_NAME_BYTES: usize = 64;

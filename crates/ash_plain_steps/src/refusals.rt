@@ -1,9 +1,9 @@
 //! What each request asks for, or the first cause for which it is refused.
 
 ghost use Rattle.std.specs.Prelude.{IfOk};
-ghost use Rattle.ash_steps.specs.Requests.{Load, Call, Discard, Get, Object};
-ghost use Rattle.ash_steps.specs.States.{Embedding};
-ghost use Rattle.ash_steps.specs.Tasks.{task_of};
+ghost use Rattle.ash_requests.specs.Requests.{Load, Call, Discard, Get, Object};
+ghost use Rattle.ash_requests.specs.States.{Embedding};
+ghost use Rattle.ash_requests.specs.Tasks.{task_of};
 ghost use Rattle.ash_plain_steps.specs.StateViews.{state_seen};
 ghost use Rattle.ash_plain_steps.specs.RequestViews.{request_seen};
 ghost use Rattle.ash_plain_steps.specs.Consistency.{AreConsistent};
@@ -18,8 +18,8 @@ use crate::request::{Refusal, Request, Shown};
 use crate::shown::{count_of, described};
 use crate::state::PlainState;
 use crate::task::{Invocation, NewModule, Task};
-use ash_steps::Argument;
-use ash_steps::sources::SourceReader;
+use ash_requests::Argument;
+use ash_requests::sources::SourceReader;
 
 /// The most requests that are answered.
 const MAX_SEQ: u64 = u64::MAX;

@@ -4,9 +4,9 @@ ghost use Rattle.std.specs.Prelude.{◌≡◌};
 ghost use Rattle.ash_plain_steps.specs.declared.request.Refusal.TheVariants.{NoMemory};
 
 use crate::state::{Hosts, PlainState};
-use ash_evaluator::ends::End;
 use ash_host::{Event, Word};
-use ash_steps::Argument;
+use ash_plain_scripts::ends::End;
+use ash_requests::Argument;
 use std::alloc::{AllocError, AllocFailed};
 use std::fmt::Display;
 use thiserror::Error;

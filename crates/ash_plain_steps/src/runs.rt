@@ -2,13 +2,13 @@
 
 ghost use Rattle.std.specs.Prelude.{◌≡◌, ◌<◌, ℕ, [], set, Option, Some, slice_get, length, IfOk};
 ghost use Rattle.ash_typed.specs.Modules.{module_of};
-ghost use Rattle.ash_phrases.specs.Ends.{Outcome as OutcomeData, Finished};
-ghost use Rattle.ash_plain.specs.ActivityViews.{world_seen};
-ghost use Rattle.ash_evaluator.specs.EndViews.{end_seen, outcome_seen, EndsAs};
-ghost use Rattle.ash_steps.specs.States.{State, Embedding, world_of};
-ghost use Rattle.ash_steps.specs.Tasks.{max_seq, Initialize, Invoke, Remove};
-ghost use Rattle.ash_steps.specs.Steps.{answered, after_load_with, after_load, without_globals};
-ghost use Rattle.ash_steps.specs.Steps.{perform};
+ghost use Rattle.ash_meaning.specs.Ends.{Outcome as OutcomeData, Finished};
+ghost use Rattle.ash_plain_world.specs.ActivityViews.{world_seen};
+ghost use Rattle.ash_plain_scripts.specs.EndViews.{end_seen, outcome_seen, EndsAs};
+ghost use Rattle.ash_requests.specs.States.{State, Embedding, world_of};
+ghost use Rattle.ash_requests.specs.Tasks.{max_seq, Initialize, Invoke, Remove};
+ghost use Rattle.ash_requests.specs.Steps.{answered, after_load_with, after_load, without_globals};
+ghost use Rattle.ash_requests.specs.Steps.{perform};
 ghost use Rattle.ash_plain_steps.specs.StateViews.{loaded_seen, modules_seen, state_seen};
 ghost use Rattle.ash_plain_steps.specs.StateViews.{hosts_seen};
 ghost use Rattle.ash_plain_steps.specs.RequestViews.{step_seen};
@@ -19,12 +19,12 @@ use crate::modules::{handles_of, insert};
 use crate::request::{Answer, Reply, Step, StepError};
 use crate::state::{Hosts, LoadedModule, PlainState};
 use crate::task::{Invocation, NewModule};
-use ash_evaluator::ends::{End, Outcome, call_function, load_module};
 use ash_host::Word;
-use ash_plain::activity::World;
 use ash_plain_data::classes::Program;
 use ash_plain_data::run_error::{RunError, RunResult};
-use ash_steps::sources::SourceReader;
+use ash_plain_scripts::ends::{End, Outcome, call_function, load_module};
+use ash_plain_world::activity::World;
+use ash_requests::sources::SourceReader;
 use std::alloc::{AllocError, Global};
 use std::mem;
 

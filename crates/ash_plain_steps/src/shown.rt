@@ -6,11 +6,11 @@ ghost use Rattle.std.specs.List.{zip};
 ghost use Rattle.ash_host.specs.Objects.{handles_to, count_of};
 ghost use Rattle.ash_typed.specs.BodyViews.{value_of};
 ghost use Rattle.ash_typed.specs.Modules.{module_of, class_of as class_seen};
-ghost use Rattle.ash_phrases.specs.Classes.{dotted};
+ghost use Rattle.ash_meaning.specs.Classes.{dotted};
 ghost use Rattle.ash_plain_data.specs.ObjectViews.{object_seen};
-ghost use Rattle.ash_steps.specs.Requests.{Fields, HostState, Elements};
-ghost use Rattle.ash_steps.specs.States.{globals_of};
-ghost use Rattle.ash_steps.specs.Tasks.{name_of, shown_fields};
+ghost use Rattle.ash_requests.specs.Requests.{Fields, HostState, Elements};
+ghost use Rattle.ash_requests.specs.States.{globals_of};
+ghost use Rattle.ash_requests.specs.Tasks.{name_of, shown_fields};
 ghost use Rattle.ash_plain_steps.specs.StateViews.{modules_seen};
 ghost use Rattle.ash_plain_steps.specs.RequestViews.{field_seen, named_seen};
 ghost use Rattle.ash_plain_steps.specs.TaskViews.{tree_named, class_of_object, described_in};
@@ -18,10 +18,10 @@ ghost use Rattle.ash_plain_steps.specs.TaskViews.{tree_named, class_of_object, d
 use crate::request::ObjectContents;
 use crate::state::{LoadedModule, PlainState};
 use ash_host::Word;
-use ash_plain::objects::handles_to;
 use ash_plain_data::classes::Program;
 use ash_plain_data::object::Object;
-use ash_steps::sources::SourceReader;
+use ash_plain_world::objects::handles_to;
+use ash_requests::sources::SourceReader;
 use ash_typed::{Class, Initialization, Module};
 use std::alloc::{AllocError, Global};
 

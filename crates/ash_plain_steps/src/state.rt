@@ -1,13 +1,13 @@
 //! What outlives a request, and what hosts bring to one.
 
 ghost use Rattle.std.specs.Prelude.{◌≡◌, [], map};
-ghost use Rattle.ash_steps.specs.States.{empty};
+ghost use Rattle.ash_requests.specs.States.{empty};
 ghost use Rattle.ash_plain_steps.specs.StateViews.{state_seen};
 
 use ash_host::Word;
-use ash_plain::activity::FreeBox;
-use ash_plain::objects::ObjectMap;
 use ash_plain_data::host_call::HostRecord;
+use ash_plain_world::activity::FreeBox;
+use ash_plain_world::objects::ObjectMap;
 use ash_typed::Module;
 use std::alloc::Global;
 use std::collections::VecDeque;

@@ -1,9 +1,9 @@
 //! The step of one request.
 
 ghost use Rattle.std.specs.Prelude.{◌≡◌, Some, IfOk};
-ghost use Rattle.ash_steps.specs.States.{Embedding};
-ghost use Rattle.ash_steps.specs.Tasks.{Task as TaskData};
-ghost use Rattle.ash_steps.specs.Steps.{perform, Steps};
+ghost use Rattle.ash_requests.specs.States.{Embedding};
+ghost use Rattle.ash_requests.specs.Tasks.{Task as TaskData};
+ghost use Rattle.ash_requests.specs.Steps.{perform, Steps};
 ghost use Rattle.ash_plain_steps.specs.StateViews.{modules_seen, state_seen, hosts_seen};
 ghost use Rattle.ash_plain_steps.specs.RequestViews.{request_seen, step_seen};
 ghost use Rattle.ash_plain_steps.specs.Consistency.{AreConsistent};
@@ -16,7 +16,7 @@ use crate::request::{Reply, Request, Step, StepError};
 use crate::runs::{discard, initialize, invoke};
 use crate::state::{Hosts, PlainState};
 use crate::task::Task;
-use ash_steps::sources::SourceReader;
+use ash_requests::sources::SourceReader;
 
 /// A reply that leaves everything as it is.
 fn replied<F: Drop>(reply: Reply<F>, state: PlainState, hosts: Hosts) -> Step<F>

@@ -6,7 +6,7 @@ use Rattle.std.proofs.lemmas.Bool.Decides.{nat_tests}
 use Rattle.ash_lines.specs.Reading.{is_line}
 use Rattle.ash_lines.specs.Lines.{Line, HostRequest, BadRequest, LineTooLong, cut_line, parse_line, Complete}
 use Rattle.ash_lines.specs.Lines.{max_line_bytes, LoadHeader, Cut, Whole, next, on_line, after_line, after_source, is_unfinished}
-use Rattle.ash_steps.specs.Requests.{Load}
+use Rattle.ash_requests.specs.Requests.{Load}
 use Rattle.ash_serve.specs.Serving.{BeginsWithLine}
 
 -- a byte of a line, and the bytes after it

@@ -1,7 +1,7 @@
 -- What reading and handling a request did, by what was read.
 use Rattle.std.proofs.Common.{◌≡◌, ◌<◌, ◌≤◌, ℕ, true, List, [], ◌∷◌, ◌++◌, length, refl, sym, ap, ◌∙◌, subst, arith, Ok}
 use Rattle.std.proofs.Common.{Err}
-use Rattle.ash_steps.specs.Requests.{Load}
+use Rattle.ash_requests.specs.Requests.{Load}
 use Rattle.ash_plain_steps.specs.declared.request.Reply as steps
 use Rattle.ash_plain_steps.specs.RequestViews.{reply_seen}
 use Rattle.ash_sources.specs.declared.fault.SourceFault as code_fault

@@ -5,7 +5,7 @@ use Rattle.std.proofs.lemmas.List.{append-nil}
 use Rattle.std.specs.Option.{option_to_list}
 use Rattle.std.specs.Io.Buffered.{reader_remaining}
 use Rattle.std.specs.Io.KnownBytes.{Appends, Keeps, Consumes, IsAtEnd, prepend_known}
-use Rattle.ash_steps.specs.Requests.{Request, Reply}
+use Rattle.ash_requests.specs.Requests.{Request, Reply}
 use Rattle.ash_sources.specs.SourceFaults.{SourceFault}
 use Rattle.ash_lines.specs.Lines.{Line, HostRequest, Quit, BadRequest, LineTooLong, ConsistsOf}
 use Rattle.ash_lines.specs.ReplyText.{LineReply, HostReply, QuitReply, BadRequestReply, LineTooLongReply, reply_line}

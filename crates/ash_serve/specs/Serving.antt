@@ -1,7 +1,7 @@
 -- A run: requests are read and handled, and the replies are written, one after another.
 use Rattle.std.specs.Prelude.{◌≡◌, ◌⊎◌, ℕ, Bool, true, false, List, [], ◌∷◌, ◌++◌, Result, Ok, Err, Option, Some, None}
 use Rattle.std.specs.List.{AllByRecursion}
-use Rattle.ash_steps.specs.Requests.{Request, Load, Reply}
+use Rattle.ash_requests.specs.Requests.{Request, Load, Reply}
 use Rattle.ash_sources.specs.SourceFaults.{SourceFault}
 use Rattle.ash_lines.specs.Source.{Feed, Faults}
 use Rattle.ash_lines.specs.Reading.{source_prefix}

@@ -3,7 +3,7 @@ use Rattle.std.specs.Prelude.{◌≡◌, ◌<◌, ◌≤◌, ◌⊎◌, ℕ, tru
 use Rattle.std.specs.Prelude.{IfSome}
 use Rattle.std.specs.List.{AllByRecursion}
 use Rattle.std.specs.Io.KnownBytes.{Appends, Keeps}
-use Rattle.ash_steps.specs.Requests.{Request, Reply}
+use Rattle.ash_requests.specs.Requests.{Request, Reply}
 use Rattle.ash_sources.specs.SourceFaults.{SourceFault}
 use Rattle.ash_lines.specs.Lines.{Line, HostRequest, Quit, ContinuesRun, Cut, next, ConsistsOf, is_unfinished}
 use Rattle.ash_lines.specs.Reader.{max_input_bytes}

@@ -14,7 +14,7 @@ use ash_lines::reply::LineReply;
 use ash_lines::request_line::{LoadHeader, MAX_ARGUMENTS, ParsedLine, parse_line};
 use ash_lines::source::Source;
 use ash_plain_steps::request::Request;
-use ash_steps::Argument;
+use ash_requests::Argument;
 use std::alloc::{AllocError, Global};
 
 /// What a session handles requests with: the ticks that each may take, and buffers that are made before its first

@@ -5,7 +5,7 @@ use Rattle.ash_registry.specs.AcceptedRegistrations.{Registration}
 use Rattle.ash_typed.specs.Modules.{Module as Typed}
 use Rattle.ash_check.specs.declared.faults.ScriptError.{ScriptError}
 use Rattle.ash_check.specs.declared.faults.ScriptError.TheVariants as script_errors
-use Rattle.ash_classes.specs.ClassReferences.{classes_of}
+use Rattle.ash_class_cycles.specs.ClassReferences.{classes_of}
 use Rattle.ash_check.specs.ScriptFaults.{ScriptFault, Cyclic}
 use Rattle.ash_check.specs.Checks.{checked, names_of_cycle, ReportsFault}
 use Rattle.ash_check.proofs.ExactLaws.{cyclic_is, cycle_is}

@@ -20,9 +20,9 @@ use Rattle.ash_parse.proofs.ItemComplete.{module_read as parsed_again}
 use Rattle.ash_parse.proofs.WholeModules.{module_derived}
 use Rattle.ash_parse.proofs.FirstFaults.{module_stops_first, first_is_stop}
 use Rattle.ash_registry.specs.AcceptedRegistrations.{Registration}
-use Rattle.ash_typing.specs.declared.fault.Fault.{Fault}
+use Rattle.ash_type_rules.specs.declared.fault.Fault.{Fault}
 use Rattle.ash_typed.specs.Modules.{Module as Typed}
-use Rattle.ash_classes.specs.ClassReferences.{classes_of}
+use Rattle.ash_class_cycles.specs.ClassReferences.{classes_of}
 use Rattle.ash_check.specs.ScriptFaults.{ScriptFault, Broken, Cyclic}
 use Rattle.ash_check.specs.Checks.{checked, names_of_cycle}
 use Rattle.ash_check.proofs.ExactLaws.{accepted_is, cycle_is, broken_is}

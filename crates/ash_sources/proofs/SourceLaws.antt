@@ -6,9 +6,9 @@ use Rattle.ash_registry.specs.AcceptedRegistrations.{Registration}
 use Rattle.ash_typed.specs.declared.tree.items.Module as code_tree
 use Rattle.ash_typed.specs.Modules.{Module as Typed, module_of}
 use Rattle.ash_typed.specs.SoundModules.{IsSound}
-use Rattle.ash_typing.specs.Offered.{offered}
-use Rattle.ash_steps.specs.Premises.{ReadsSound}
-use Rattle.ash_steps.specs.SourceViews.{TakesMemoryToRead}
+use Rattle.ash_type_rules.specs.Offered.{offered}
+use Rattle.ash_requests.specs.Premises.{ReadsSound}
+use Rattle.ash_requests.specs.SourceViews.{TakesMemoryToRead}
 use Rattle.ash_sources.specs.Lexing.{IsText}
 use Rattle.ash_sources.specs.CheckedSource.{SourceResult, Checks, no_tokens, has_tokens, ChecksTokens, checked_source}
 use Rattle.ash_sources.specs.Scripts.{SpellsScript, HasNoScript}

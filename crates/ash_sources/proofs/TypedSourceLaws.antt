@@ -4,9 +4,9 @@ use Rattle.ash_tree.specs.Tree.{Item}
 use Rattle.ash_registry.specs.AcceptedRegistrations.{Registration}
 use Rattle.ash_typed.specs.Modules.{Module as Typed}
 use Rattle.ash_typed.specs.SoundModules.{IsSound}
-use Rattle.ash_typing.specs.Offered.{offered}
-use Rattle.ash_typing.proofs.SoundnessModules.{module_sound}
-use Rattle.ash_typing.proofs.SoundnessNesting.{derived_proper}
+use Rattle.ash_type_rules.specs.Offered.{offered}
+use Rattle.ash_type_rules.proofs.SoundnessModules.{module_sound}
+use Rattle.ash_type_rules.proofs.SoundnessNesting.{derived_proper}
 use Rattle.ash_check.specs.declared.faults.ScriptError.{ScriptError}
 use Rattle.ash_check.specs.declared.faults.ScriptError.TheVariants as script_errors
 use Rattle.ash_check.specs.ScriptFaults.{ScriptFault}

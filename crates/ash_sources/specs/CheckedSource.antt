@@ -18,12 +18,12 @@ use Rattle.ash_parse.specs.ItemReader.{module_at}
 use Rattle.ash_parse.specs.ParseFaults.{fault_of}
 use Rattle.ash_parse.specs.FirstFault.{FirstParseFault}
 use Rattle.ash_registry.specs.AcceptedRegistrations.{Registration}
-use Rattle.ash_typing.specs.declared.fault.Fault.{Fault}
-use Rattle.ash_typing.specs.ItemRules.{check_module}
-use Rattle.ash_typing.specs.TypedModules.{IsTyped}
+use Rattle.ash_type_rules.specs.declared.fault.Fault.{Fault}
+use Rattle.ash_type_rules.specs.ItemRules.{check_module}
+use Rattle.ash_type_rules.specs.TypedModules.{IsTyped}
 use Rattle.ash_typed.specs.Modules.{Module}
-use Rattle.ash_classes.specs.ClassReferences.{DeclaredClassRefers, classes_of}
-use Rattle.ash_classes.specs.Paths.{IsReportedCycle, Reaches}
+use Rattle.ash_class_cycles.specs.ClassReferences.{DeclaredClassRefers, classes_of}
+use Rattle.ash_class_cycles.specs.Paths.{IsReportedCycle, Reaches}
 use Rattle.ash_check.specs.ScriptFaults.{ScriptFault, Broken, Cyclic}
 use Rattle.ash_check.specs.Checks.{checked, names_of_cycle}
 use Rattle.ash_sources.specs.Lexing.{Lexes}

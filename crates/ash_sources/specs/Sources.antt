@@ -3,9 +3,9 @@ use Rattle.std.specs.Prelude.{ℕ, List, [], Ok, Err}
 use Rattle.ash_registry.specs.AcceptedRegistrations.{Registration}
 use Rattle.ash_registry.specs.RegistryViews.{registered}
 use Rattle.ash_typed.specs.Signatures.{HostSignatures}
-use Rattle.ash_typing.specs.Environment.{name_of_kind}
-use Rattle.ash_typing.specs.Offered.{offered}
-use Rattle.ash_steps.specs.States.{Embedding}
+use Rattle.ash_type_rules.specs.Environment.{name_of_kind}
+use Rattle.ash_type_rules.specs.Offered.{offered}
+use Rattle.ash_requests.specs.States.{Embedding}
 use Rattle.ash_sources.specs.declared.sources.AdmittedScripts.{AdmittedScripts}
 use Rattle.ash_sources.specs.declared.sources.AdmittedScripts.TheVariants as scripts
 use Rattle.ash_sources.specs.declared.sources.Sources as code

@@ -7,10 +7,10 @@ use Rattle.ash_lex.specs.Tokens.{Lexeme}
 use Rattle.ash_tree.specs.Tree.{Item}
 use Rattle.ash_tree.specs.Grammar.{Derives}
 use Rattle.ash_registry.specs.AcceptedRegistrations.{Registration}
-use Rattle.ash_typing.specs.TypedModules.{IsTyped}
+use Rattle.ash_type_rules.specs.TypedModules.{IsTyped}
 use Rattle.ash_typed.specs.Modules.{Module}
-use Rattle.ash_classes.specs.ClassReferences.{DeclaredClassRefers, classes_of}
-use Rattle.ash_classes.specs.Paths.{Reaches}
+use Rattle.ash_class_cycles.specs.ClassReferences.{DeclaredClassRefers, classes_of}
+use Rattle.ash_class_cycles.specs.Paths.{Reaches}
 use Rattle.ash_check.specs.ScriptFaults.{ScriptFault}
 use Rattle.ash_check.specs.Checks.{checked}
 use Rattle.ash_sources.specs.Lexing.{Lexes}

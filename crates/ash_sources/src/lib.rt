@@ -1,6 +1,6 @@
 //! Sources of modules: what each is read as. Its specs say which tokens, which script and which typed tree a source
 //! has, or which fault comes first. It builds on `ash_lex`, `ash_parse` and `ash_check`, which read and type; on
-//! `ash_registry`, whose names no module may declare; and on `ash_steps`, which says what reading sources is to steps.
+//! `ash_registry`, whose names no module may declare; and on `ash_requests`, which says what reading sources is to steps.
 //! It promises that a source has the typed tree that the rules give it, or the first fault of the layer that finds one.
 //!
 //! In reading order: `fault` (why a source has no typed tree), `lexing` (its tokens), `parsing` (its script), `typing`

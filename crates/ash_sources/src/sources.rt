@@ -6,9 +6,9 @@ ghost use Rattle.ash_registry.specs.AcceptedRegistrations.{Registration as Regis
 ghost use Rattle.ash_registry.specs.RegistryViews.{registered};
 ghost use Rattle.ash_typed.specs.Modules.{Module as Typed, module_of};
 ghost use Rattle.ash_typed.specs.SoundModules.{IsSound};
-ghost use Rattle.ash_typing.specs.Environment.{name_of_kind};
-ghost use Rattle.ash_typing.specs.Nesting.{ItemsDeclareInBlocks};
-ghost use Rattle.ash_steps.specs.Premises.{ReadsSound};
+ghost use Rattle.ash_type_rules.specs.Environment.{name_of_kind};
+ghost use Rattle.ash_type_rules.specs.Nesting.{ItemsDeclareInBlocks};
+ghost use Rattle.ash_requests.specs.Premises.{ReadsSound};
 ghost use Rattle.ash_sources.specs.SourceFaults.{SourceFault as Fault, NotYet, RefusesSource, fault_of};
 ghost use Rattle.ash_sources.specs.SourceFaults.{MayTakeMemory};
 ghost use Rattle.ash_sources.specs.TypedSource.{check_items, typed_source};
@@ -20,7 +20,7 @@ use crate::fault::{SourceError, SourceFault};
 use crate::parsing::script_of;
 use crate::typing::type_script;
 use ash_registry::{Registration, Registry};
-use ash_steps::sources::SourceReader;
+use ash_requests::sources::SourceReader;
 use ash_tree::Module;
 use ash_typed::Module as Tree;
 use std::alloc::{AllocError, Global};
@@ -95,7 +95,7 @@ impl Sources<'_> {
     }
 
     /// The name of the registered type of a kind. A kind that no type has has none.
-    #[tactic(auto, unfolding(ash_typing::specs::Environment::name_of_kind))]
+    #[tactic(auto, unfolding(ash_type_rules::specs::Environment::name_of_kind))]
     pub fn type_name(&self, kind: u16) -> &str
         ensures named { result.now ≡ name_of_kind (registered self.now.registry.now) kind }
     {

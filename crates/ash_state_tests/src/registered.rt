@@ -1,6 +1,6 @@
 //! What is registered: `Counter` and `Tally`, as the program registers them, and a kind that answers badly.
 
-use ash_plain::activity::FreeBox;
+use ash_plain_world::activity::FreeBox;
 use ash_registry::{Registry, RegistryFault};
 use std::alloc::{AllocError, Global};
 use std::test::Fail;

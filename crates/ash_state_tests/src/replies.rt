@@ -1,11 +1,11 @@
 //! Replies as the program writes them, and events.
 
 use ash_check::ScriptFault;
-use ash_evaluator::ends::End;
 use ash_host::{Event, Target, Word};
 use ash_lex::LexFault;
+use ash_meaning::Exception;
 use ash_parse::ParseFault;
-use ash_phrases::Exception;
+use ash_plain_scripts::ends::End;
 use ash_plain_steps::request::{Answer, ObjectContents, Refusal, Reply, Shown};
 use ash_sources::fault::SourceFault;
 use std::alloc::{AllocError, Global};

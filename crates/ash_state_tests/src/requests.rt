@@ -1,7 +1,7 @@
 //! Requests as lines.
 
 use ash_plain_steps::request::Request;
-use ash_steps::Argument;
+use ash_requests::Argument;
 use std::alloc::{AllocError, Global};
 
 /// What comes before a blank, and what after it.

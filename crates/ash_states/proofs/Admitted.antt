@@ -2,17 +2,17 @@
 use Rattle.std.proofs.Common.{◌≡◌, ℕ, List, [], Some, refl, sym, ap, subst, inl, inr}
 use Rattle.std.specs.Prelude.{IsSome}
 use Rattle.ash_registry.specs.AcceptedRegistrations.{Registration}
-use Rattle.ash_steps.specs.Requests.{Request, Reply}
-use Rattle.ash_steps.specs.Steps.{Step, performed}
-use Rattle.ash_steps.specs.Steps as steps
-use Rattle.ash_wellformed.specs.WellFormedLaws.{OffersNothing, a_function, a_construction, a_method, a_property}
-use Rattle.ash_wellformed.proofs.Values.{none_in}
-use Rattle.ash_wellformed.proofs.Entries.{mapped}
-use Rattle.ash_wellformed.proofs.Found.{some_mapped}
-use Rattle.ash_wellformed_states.specs.WellFormedStates.{AreHosts}
-use Rattle.ash_wellformed_states.proofs.Stepped.{steps_keep}
-use Rattle.ash_wellformed_states.proofs.Ended as ended
-use Rattle.ash_wellformed_states.proofs.First.{empty_well}
+use Rattle.ash_requests.specs.Requests.{Request, Reply}
+use Rattle.ash_requests.specs.Steps.{Step, performed}
+use Rattle.ash_requests.specs.Steps as steps
+use Rattle.ash_soundness.specs.WellFormedLaws.{OffersNothing, a_function, a_construction, a_method, a_property}
+use Rattle.ash_soundness.proofs.Values.{none_in}
+use Rattle.ash_soundness.proofs.Entries.{mapped}
+use Rattle.ash_soundness.proofs.Found.{some_mapped}
+use Rattle.ash_soundness.specs.WellFormedStates.{AreHosts}
+use Rattle.ash_soundness.proofs.Stepped.{steps_keep}
+use Rattle.ash_soundness.proofs.Ended as ended
+use Rattle.ash_soundness.proofs.First.{empty_well}
 use Rattle.ash_sources.specs.SourceFaults.{SourceFault}
 use Rattle.ash_sources.specs.Sources.{admitting_unregistered}
 use Rattle.ash_sources.proofs.SourceLaws.{read_sound}

@@ -9,12 +9,12 @@ use Rattle.ash_typed.specs.Modules.{Module}
 use Rattle.ash_sources.specs.Sources.{admitting_unregistered}
 use Rattle.ash_sources.proofs.SourceLaws.{read_sound, admitted_exact}
 use Rattle.ash_sources.proofs.TypedSourceLaws.{typed_rules}
-use Rattle.ash_state_image.specs.declared.version.Version.TheVariants.{Two}
-use Rattle.ash_state_image.specs.declared.parts.ModuleParts.{ModuleParts}
-use Rattle.ash_state_image.specs.declared.parts.ObjectParts.{ObjectParts}
-use Rattle.ash_state_image.specs.Snapshots.{Loaded, Snapshot}
-use Rattle.ash_state_image.specs.SnapshotViews.{modules_in, object_in, objects_in}
-use Rattle.ash_state_image.specs.Image.{FitsVersion, FitsText, image_of}
+use Rattle.ash_image.specs.declared.version.Version.TheVariants.{Two}
+use Rattle.ash_image.specs.declared.parts.ModuleParts.{ModuleParts}
+use Rattle.ash_image.specs.declared.parts.ObjectParts.{ObjectParts}
+use Rattle.ash_image.specs.Snapshots.{Loaded, Snapshot}
+use Rattle.ash_image.specs.SnapshotViews.{modules_in, object_in, objects_in}
+use Rattle.ash_image.specs.Image.{FitsVersion, FitsText, image_of}
 use Rattle.ash_states.specs.HostStates.{HostState, IsAdmitted, embedding_for, offered_to}
 use Rattle.ash_states.specs.Images.{IsDepicted, IsImageIn}
 use Rattle.ash_states.specs.Indexes.{index_in, plain_indexed, entry_indexed, snapshot_for, IsPlainIndexed, HasKind, HaveKinds, HaveImages}

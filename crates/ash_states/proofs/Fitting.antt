@@ -12,17 +12,17 @@ use Rattle.ash_typed.specs.Modules.{Class, Module}
 use Rattle.ash_typed.specs.Signatures as signatures
 use Rattle.ash_typed.specs.Signatures.{ModuleSignatures, signatures_of, type_declared, types_of_globals}
 use Rattle.ash_typed.specs.SoundModules.{IsSound, IsSoundClass, AreSoundClasses}
-use Rattle.ash_phrases.specs.Classes.{Program}
-use Rattle.ash_steps.specs.States.{LoadedModule, State, Embedding}
-use Rattle.ash_steps.specs.Premises.{ReadsSound}
-use Rattle.ash_wellformed.specs.WellFormed.{Shape, IsReference, to_nothing, to_object, IsInteger, int, uint, int64, uint64, IsValue, is_truth, is_integer, is_object, is_handle, AreValues, no_values, and_value, AllAre, none_are, and_is, IsScript, IsObject, is_script, is_array, is_host}
-use Rattle.ash_wellformed.proofs.Values.{shape_lives}
-use Rattle.ash_wellformed.proofs.Lists.{values_length}
-use Rattle.ash_wellformed_states.specs.WellFormedStates.{known_of, IsLoaded, HasValidName, IsWellFormedState}
-use Rattle.ash_state_image.specs.declared.version.Version.TheVariants.{Two}
-use Rattle.ash_state_image.specs.ImageWords.{FitsWord}
-use Rattle.ash_state_image.specs.ObjectBytes.{FitsElement, FitsScript, FitsPlain}
-use Rattle.ash_state_image.specs.Image.{max_source_bytes, do_rise, has_version, FitsModule, FitsObject, FitModules, FitObjects}
+use Rattle.ash_meaning.specs.Classes.{Program}
+use Rattle.ash_requests.specs.States.{LoadedModule, State, Embedding}
+use Rattle.ash_requests.specs.Premises.{ReadsSound}
+use Rattle.ash_soundness.specs.WellFormed.{Shape, IsReference, to_nothing, to_object, IsInteger, int, uint, int64, uint64, IsValue, is_truth, is_integer, is_object, is_handle, AreValues, no_values, and_value, AllAre, none_are, and_is, IsScript, IsObject, is_script, is_array, is_host}
+use Rattle.ash_soundness.proofs.Values.{shape_lives}
+use Rattle.ash_soundness.proofs.Lists.{values_length}
+use Rattle.ash_soundness.specs.WellFormedStates.{known_of, IsLoaded, HasValidName, IsWellFormedState}
+use Rattle.ash_image.specs.declared.version.Version.TheVariants.{Two}
+use Rattle.ash_image.specs.ImageWords.{FitsWord}
+use Rattle.ash_image.specs.ObjectBytes.{FitsElement, FitsScript, FitsPlain}
+use Rattle.ash_image.specs.Image.{max_source_bytes, do_rise, has_version, FitsModule, FitsObject, FitModules, FitObjects}
 use Rattle.ash_states.specs.Indexes.{index_in, element_indexed, plain_indexed, entry_indexed, stored_of, stored_modules_of, IsElementIndexed, IsPlainIndexed, HasElementKind, HasKind, HaveKinds}
 use Rattle.ash_states.proofs.Lists.{each_at, order_rises}
 use Rattle.ash_states.proofs.Names.{one_name, ascending_of}

@@ -7,13 +7,13 @@ use Rattle.ash_host.specs.declared.word.Word.{Word}
 use Rattle.ash_host.specs.Objects.{Plain, Script, Array, Host, LiveObjects, handles, fields_of, Lives}
 use Rattle.ash_host.specs.Reach.{ReachableIn}
 use Rattle.ash_typed.specs.Signatures as signatures
-use Rattle.ash_steps.specs.States.{LoadedModule, Embedding, globals_of}
-use Rattle.ash_wellformed.specs.WellFormed.{AreObjects, AreOffered, IsState}
-use Rattle.ash_wellformed_states.specs.WellFormedStates.{known_of, IsLoaded, IsWellFormedState}
-use Rattle.ash_state_image.specs.declared.version.Version.{Version}
-use Rattle.ash_state_image.specs.Snapshots.{Loaded, Snapshot}
-use Rattle.ash_state_image.specs.Image.{FitsVersion}
-use Rattle.ash_state_image.specs.Rules.{held_by, KeepsRules}
+use Rattle.ash_requests.specs.States.{LoadedModule, Embedding, globals_of}
+use Rattle.ash_soundness.specs.WellFormed.{AreObjects, AreOffered, IsState}
+use Rattle.ash_soundness.specs.WellFormedStates.{known_of, IsLoaded, IsWellFormedState}
+use Rattle.ash_image.specs.declared.version.Version.{Version}
+use Rattle.ash_image.specs.Snapshots.{Loaded, Snapshot}
+use Rattle.ash_image.specs.Image.{FitsVersion}
+use Rattle.ash_image.specs.Rules.{held_by, KeepsRules}
 use Rattle.ash_states.specs.Images.{name_at, plain_named, entry_named, loaded_of, loaded_modules_of, state_of}
 use Rattle.ash_states.proofs.Names.{valid_names, ascend_of}
 use Rattle.ash_states.proofs.Renamed.{lives_same, reached, numbered}

@@ -17,16 +17,16 @@ use Rattle.ash_typed.specs.Modules.{Interface, Module}
 use Rattle.ash_typed.specs.Signatures as signatures
 use Rattle.ash_typed.specs.Signatures.{signatures_of}
 use Rattle.ash_typed.specs.SoundModules.{IsSound, IsSoundInterface}
-use Rattle.ash_phrases.specs.Classes.{Program, place_of_class, place_of_interface, element_of}
-use Rattle.ash_steps.specs.States.{LoadedModule, State, Embedding, has_name}
-use Rattle.ash_steps.specs.Tasks.{tree_in, tree_of}
-use Rattle.ash_steps.specs.Premises.{ReadsSound}
-use Rattle.ash_wellformed.specs.WellFormed.{IsKnownFor, IsNamed, IsScript, IsObject, is_script, is_array, is_host}
-use Rattle.ash_wellformed.proofs.Entries.{chained}
-use Rattle.ash_wellformed.proofs.Hosts.{rec_at}
-use Rattle.ash_wellformed.proofs.Parts.{there_from}
-use Rattle.ash_wellformed_states.specs.WellFormedStates.{known_of, IsWellFormedState}
-use Rattle.ash_state_image.specs.Rules.{IsPlaced}
+use Rattle.ash_meaning.specs.Classes.{Program, place_of_class, place_of_interface, element_of}
+use Rattle.ash_requests.specs.States.{LoadedModule, State, Embedding, has_name}
+use Rattle.ash_requests.specs.Tasks.{tree_in, tree_of}
+use Rattle.ash_requests.specs.Premises.{ReadsSound}
+use Rattle.ash_soundness.specs.WellFormed.{IsKnownFor, IsNamed, IsScript, IsObject, is_script, is_array, is_host}
+use Rattle.ash_soundness.proofs.Entries.{chained}
+use Rattle.ash_soundness.proofs.Hosts.{rec_at}
+use Rattle.ash_soundness.proofs.Parts.{there_from}
+use Rattle.ash_soundness.specs.WellFormedStates.{known_of, IsWellFormedState}
+use Rattle.ash_image.specs.Rules.{IsPlaced}
 use Rattle.ash_states.specs.Images.{name_at, plain_named}
 use Rattle.ash_states.specs.Indexes.{index_in, plain_indexed, IsIndexed, IsPlainIndexed}
 

@@ -8,8 +8,8 @@ use Rattle.std.proofs.lemmas.Bool.{ltb-true}
 use Rattle.std.proofs.lemmas.Bool.Decides.{nat_tests}
 use Rattle.ash_host.specs.Objects.{Plain, LiveObjects, numbers, with_at}
 use Rattle.ash_host.proofs.Membership.{and_both}
-use Rattle.ash_state_image.specs.Image.{do_rise}
-use Rattle.ash_state_image.proofs.OrderLaws.{tail_rises}
+use Rattle.ash_image.specs.Image.{do_rise}
+use Rattle.ash_image.proofs.OrderLaws.{tail_rises}
 use Rattle.ash_states.specs.StateRestoring.{with_all}
 
 above : (x y : ℕ) → y < x → nat_cmp x y ≡ Greater

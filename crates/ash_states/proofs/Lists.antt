@@ -8,7 +8,7 @@ use Rattle.std.proofs.lemmas.Bool.Decides.{nat_tests}
 use Rattle.std.proofs.lemmas.Map.Keys.{sorted_from_strictly_increasing}
 use Rattle.ash_host.specs.Objects.{object_at, numbers, IsInOrder}
 use Rattle.ash_host.proofs.Membership.{both_and}
-use Rattle.ash_state_image.specs.Image.{do_rise}
+use Rattle.ash_image.specs.Image.{do_rise}
 use Rattle.ash_host.proofs.Order.{object_here, object_later, none_after, in_order_after}
 
 pub all_more : {A : Type 0} (P Q : A → Type 0) → ((x : A) → P x → Q x) → (xs : List A) → AllByRecursion P xs → AllByRecursion Q xs

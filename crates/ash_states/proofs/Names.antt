@@ -7,12 +7,12 @@ use Rattle.std.specs.Ordering.{is_lt}
 use Rattle.std.specs.Cmp.{IsTotalOrder}
 use Rattle.std.specs.Cmp.Lexicographic.{nat_list_cmp_total}
 use Rattle.ash_host.proofs.Membership.{and_both}
-use Rattle.ash_steps.specs.States.{LoadedModule, compare_names}
-use Rattle.ash_steps.specs.Tasks as tasks
-use Rattle.ash_wellformed_states.specs.WellFormedStates.{ComeAfter, Ascend, HasValidName}
+use Rattle.ash_requests.specs.States.{LoadedModule, compare_names}
+use Rattle.ash_requests.specs.Tasks as tasks
+use Rattle.ash_soundness.specs.WellFormedStates.{ComeAfter, Ascend, HasValidName}
 use Rattle.ash_plain_steps.specs.Consistency as code
-use Rattle.ash_state_image.specs.Snapshots.{Loaded}
-use Rattle.ash_state_image.specs.Image.{is_module_name, are_ascending, names_of, FitsModule}
+use Rattle.ash_image.specs.Snapshots.{Loaded}
+use Rattle.ash_image.specs.Image.{is_module_name, are_ascending, names_of, FitsModule}
 use Rattle.ash_states.specs.Images.{loaded_modules_of}
 use Rattle.ash_states.specs.Indexes.{stored_modules_of}
 

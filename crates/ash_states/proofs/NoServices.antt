@@ -5,20 +5,20 @@ use Rattle.ash_host.specs.declared.word.Word.{Word}
 use Rattle.ash_host.specs.declared.event.Target.{Target}
 use Rattle.ash_host.specs.declared.event.Target.TheVariants as targets
 use Rattle.ash_host.specs.Objects.{AreNumbered}
-use Rattle.ash_phrases.specs.Activity.{World, Frame, Activity}
-use Rattle.ash_phrases.specs.Releases.{sweep}
-use Rattle.ash_phrases.specs.Frames.{back_in}
-use Rattle.ash_phrases.specs.HostSteps.{with_state}
-use Rattle.ash_phrases.specs.Traces.{WorldTransition, WritesGlobal, WritesWords, Makes, Draws, TakesAnswer, Notes, Transition, TakesTick, InFrame, Enters, Leaves, InWorld, Releases, Trace, Here, Then}
-use Rattle.ash_phrases.specs.Classes.{Program}
-use Rattle.ash_phrases.specs.Ends.{End, Finished, Threw, Aborted, Outcome, call_function, load_module}
-use Rattle.ash_phrases.specs.MeaningLaws.{EffectsStay, first_of_load}
-use Rattle.ash_phrases.proofs.Endings.{runs_stay}
-use Rattle.ash_wellformed.proofs.Entries.{mapped}
-use Rattle.ash_steps.specs.States.{State, Hosts, Embedding, without_module, world_of}
-use Rattle.ash_steps.specs.Requests.{Request, Value, ShownAs, Number, Done, Refused}
-use Rattle.ash_steps.specs.Tasks.{Task, Initialize, Invoke, Remove, Read, Show, Count, Rewrite, TaskResult, task_of}
-use Rattle.ash_steps.specs.Steps.{Step, replied, after_load_with, after_load, after_call, after_discard, perform, unless_refused, Steps, performed, put_off}
+use Rattle.ash_meaning.specs.Activity.{World, Frame, Activity}
+use Rattle.ash_meaning.specs.Releases.{sweep}
+use Rattle.ash_meaning.specs.Frames.{back_in}
+use Rattle.ash_meaning.specs.HostSteps.{with_state}
+use Rattle.ash_meaning.specs.Traces.{WorldTransition, WritesGlobal, WritesWords, Makes, Draws, TakesAnswer, Notes, Transition, TakesTick, InFrame, Enters, Leaves, InWorld, Releases, Trace, Here, Then}
+use Rattle.ash_meaning.specs.Classes.{Program}
+use Rattle.ash_meaning.specs.Ends.{End, Finished, Threw, Aborted, Outcome, call_function, load_module}
+use Rattle.ash_meaning.specs.MeaningLaws.{EffectsStay, first_of_load}
+use Rattle.ash_meaning.proofs.Endings.{runs_stay}
+use Rattle.ash_soundness.proofs.Entries.{mapped}
+use Rattle.ash_requests.specs.States.{State, Hosts, Embedding, without_module, world_of}
+use Rattle.ash_requests.specs.Requests.{Request, Value, ShownAs, Number, Done, Refused}
+use Rattle.ash_requests.specs.Tasks.{Task, Initialize, Invoke, Remove, Read, Show, Count, Rewrite, TaskResult, task_of}
+use Rattle.ash_requests.specs.Steps.{Step, replied, after_load_with, after_load, after_call, after_discard, perform, unless_refused, Steps, performed, put_off}
 
 abbrev HasNone : World → Type 0
 HasNone world = world.services ≡ []

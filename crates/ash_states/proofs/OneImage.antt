@@ -1,8 +1,8 @@
 -- Bytes are the image of one state.
 use Rattle.std.proofs.Common.{◌≡◌, List, sym, ap, ◌∙◌}
 use Rattle.ash_registry.specs.AcceptedRegistrations.{Registration}
-use Rattle.ash_steps.specs.States.{State}
-use Rattle.ash_state_image.proofs.ImageLaws.{spelled_once}
+use Rattle.ash_requests.specs.States.{State}
+use Rattle.ash_image.proofs.ImageLaws.{spelled_once}
 use Rattle.ash_states.specs.HostStates.{HostState}
 use Rattle.ash_states.specs.Images.{state_of, IsImageOfOneState}
 

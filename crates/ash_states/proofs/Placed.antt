@@ -2,7 +2,7 @@
 use Rattle.std.proofs.Common.{◌≡◌, ℕ, ◌+◌, Bool, not, cond, List, [], ◌∷◌, map, length, nat_lt, unwrap_or, Option, Some, None, refl, sym, ap, ◌∙◌}
 use Rattle.std.specs.List.{position, position_or_len}
 use Rattle.std.proofs.lemmas.List.{length-map}
-use Rattle.ash_steps.specs.States.{has_name}
+use Rattle.ash_requests.specs.States.{has_name}
 use Rattle.ash_plain_steps.specs.declared.state.LoadedModule as code_module
 use Rattle.ash_plain_steps.specs.StateViews.{loaded_seen, modules_seen}
 use Rattle.ash_states.specs.Indexes.{index_in}

@@ -4,17 +4,17 @@ use Rattle.std.specs.Prelude.{Some, None}
 use Rattle.std.specs.List.{AllByRecursion}
 use Rattle.ash_host.specs.Objects.{LiveObjects}
 use Rattle.ash_registry.specs.AcceptedRegistrations.{Registration}
-use Rattle.ash_steps.specs.States.{LoadedModule, State, Embedding}
+use Rattle.ash_requests.specs.States.{LoadedModule, State, Embedding}
 use Rattle.ash_sources.specs.SourceFaults.{SourceFault}
-use Rattle.ash_wellformed.specs.WellFormed.{AreObjects, AreOffered}
-use Rattle.ash_wellformed_states.specs.WellFormedStates.{known_of, IsLoaded}
+use Rattle.ash_soundness.specs.WellFormed.{AreObjects, AreOffered}
+use Rattle.ash_soundness.specs.WellFormedStates.{known_of, IsLoaded}
 use Rattle.ash_plain_steps.specs.declared.state.LoadedModule as code_module
 use Rattle.ash_plain_steps.specs.declared.state.PlainState.{PlainState}
 use Rattle.ash_plain_steps.specs.StateViews.{state_seen}
 use Rattle.ash_plain_steps.specs.Consistency.{AreConsistent}
 use Rattle.ash_plain_steps.specs.Consistency as code
-use Rattle.ash_state_image.specs.Snapshots.{Loaded, Snapshot}
-use Rattle.ash_state_image.specs.Rules.{IsShaped}
+use Rattle.ash_image.specs.Snapshots.{Loaded, Snapshot}
+use Rattle.ash_image.specs.Rules.{IsShaped}
 use Rattle.ash_states.specs.HostStates.{HostState, IsAdmitted, embedding_for, offered_to}
 use Rattle.ash_states.specs.Images.{loaded_of, loaded_modules_of, state_of, IsImageRefused}
 use Rattle.ash_states.specs.Holding.{held_with}

@@ -13,14 +13,14 @@ use Rattle.ash_typed.specs.declared.types.Element as typed_element
 use Rattle.ash_typed.specs.declared.types.Element.TheVariants as elements
 use Rattle.ash_typed.specs.TypeOf.{type_of_element}
 use Rattle.ash_typed.specs.Signatures as signatures
-use Rattle.ash_phrases.specs.Classes.{Program, element_of}
-use Rattle.ash_steps.specs.States.{LoadedModule, State, Embedding, globals_of}
-use Rattle.ash_steps.specs.Premises.{ReadsSound}
-use Rattle.ash_wellformed.specs.WellFormed.{int, uint, int64, uint64, is_truth, is_integer, AllAre, none_are, and_is, IsObject, is_script, is_array, is_host}
-use Rattle.ash_wellformed.proofs.Values.{none_in, values_live, all_live}
-use Rattle.ash_wellformed_states.specs.WellFormedStates.{known_of, IsLoaded, IsWellFormedState}
-use Rattle.ash_wellformed_states.proofs.Named.{from_globals, rec_of}
-use Rattle.ash_state_image.specs.Rules.{held_by, IsPlaced, is_element, are_elements, KeepsRules}
+use Rattle.ash_meaning.specs.Classes.{Program, element_of}
+use Rattle.ash_requests.specs.States.{LoadedModule, State, Embedding, globals_of}
+use Rattle.ash_requests.specs.Premises.{ReadsSound}
+use Rattle.ash_soundness.specs.WellFormed.{int, uint, int64, uint64, is_truth, is_integer, AllAre, none_are, and_is, IsObject, is_script, is_array, is_host}
+use Rattle.ash_soundness.proofs.Values.{none_in, values_live, all_live}
+use Rattle.ash_soundness.specs.WellFormedStates.{known_of, IsLoaded, IsWellFormedState}
+use Rattle.ash_soundness.proofs.Named.{from_globals, rec_of}
+use Rattle.ash_image.specs.Rules.{held_by, IsPlaced, is_element, are_elements, KeepsRules}
 use Rattle.ash_states.specs.Images.{name_at, entry_named, loaded_modules_of, state_of}
 use Rattle.ash_states.specs.Indexes.{index_in, element_indexed, plain_indexed, entry_indexed, stored_of, stored_modules_of, snapshot_for}
 use Rattle.ash_states.proofs.Lists.{all_more, all_map, map_twice, map_same, each_at}

@@ -2,11 +2,11 @@
 use Rattle.std.proofs.Common.{◌≡◌, ℕ, List, [], None, Result, Ok, Err, option_map, sym, ap, subst, inl, inr}
 use Rattle.std.specs.Prelude.{Option, Some, IsSome, IfOk}
 use Rattle.ash_registry.specs.AcceptedRegistrations.{Registration}
-use Rattle.ash_steps.specs.States.{State, Hosts}
-use Rattle.ash_steps.specs.States as states
-use Rattle.ash_steps.specs.Requests.{Request, NoMemory}
-use Rattle.ash_steps.specs.Steps.{Step}
-use Rattle.ash_steps.specs.Steps as steps
+use Rattle.ash_requests.specs.States.{State, Hosts}
+use Rattle.ash_requests.specs.States as states
+use Rattle.ash_requests.specs.Requests.{Request, NoMemory}
+use Rattle.ash_requests.specs.Steps.{Step}
+use Rattle.ash_requests.specs.Steps as steps
 use Rattle.ash_plain_steps.specs.declared.request.Step as code_step
 use Rattle.ash_plain_steps.specs.declared.request.StepError.{StepError}
 use Rattle.ash_plain_steps.specs.declared.request.StepError.TheVariants as errors

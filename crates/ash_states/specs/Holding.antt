@@ -1,7 +1,7 @@
 -- What is known of the state that the code has.
 use Rattle.std.specs.Prelude.{ℕ, List, Result, Ok, Err}
 use Rattle.ash_registry.specs.AcceptedRegistrations.{Registration}
-use Rattle.ash_steps.specs.Requests.{Request}
+use Rattle.ash_requests.specs.Requests.{Request}
 use Rattle.ash_plain_steps.specs.declared.request.Step as code_step
 use Rattle.ash_plain_steps.specs.declared.request.StepError.{StepError}
 use Rattle.ash_plain_steps.specs.declared.state.PlainState.{PlainState}

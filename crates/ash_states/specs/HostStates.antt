@@ -2,9 +2,9 @@
 use Rattle.std.specs.Prelude.{◌≡◌, List, []}
 use Rattle.ash_registry.specs.AcceptedRegistrations.{Registration}
 use Rattle.ash_typed.specs.Signatures.{HostSignatures}
-use Rattle.ash_steps.specs.States.{State, Embedding}
-use Rattle.ash_steps.specs.States as steps
-use Rattle.ash_wellformed_states.specs.WellFormedStates.{IsWellFormedState}
+use Rattle.ash_requests.specs.States.{State, Embedding}
+use Rattle.ash_requests.specs.States as steps
+use Rattle.ash_soundness.specs.WellFormedStates.{IsWellFormedState}
 use Rattle.ash_sources.specs.SourceFaults.{SourceFault}
 use Rattle.ash_sources.specs.Sources.{embedding_of, host_for, admitting_unregistered}
 

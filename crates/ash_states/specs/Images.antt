@@ -5,10 +5,10 @@ use Rattle.ash_host.specs.Objects.{Elements, Bools, Ints, Uints, Int64s, Uint64s
 use Rattle.ash_host.specs.Objects.{Handles, Hosts, Plain, Script, Array, Host}
 use Rattle.ash_registry.specs.AcceptedRegistrations.{Registration}
 use Rattle.ash_registry.specs.RegistryText.{text_of}
-use Rattle.ash_steps.specs.States.{LoadedModule, State}
-use Rattle.ash_state_image.specs.declared.version.Version.{Version}
-use Rattle.ash_state_image.specs.Snapshots.{Loaded, Snapshot}
-use Rattle.ash_state_image.specs.Rules.{IsImage}
+use Rattle.ash_requests.specs.States.{LoadedModule, State}
+use Rattle.ash_image.specs.declared.version.Version.{Version}
+use Rattle.ash_image.specs.Snapshots.{Loaded, Snapshot}
+use Rattle.ash_image.specs.Rules.{IsImage}
 use Rattle.ash_states.specs.HostStates.{HostState, IsAdmitted}
 
 -- The state that a snapshot is of, whatever is registered.

@@ -4,10 +4,10 @@ use Rattle.std.specs.List.{AllByRecursion}
 use Rattle.ash_host.specs.Objects.{Elements, Bools, Ints, Uints, Int64s, Uint64s}
 use Rattle.ash_host.specs.Objects.{Handles, Hosts, Plain, Script, Array, Host}
 use Rattle.ash_registry.specs.RegistryText.{text_of}
-use Rattle.ash_steps.specs.States.{LoadedModule, has_name}
-use Rattle.ash_state_image.specs.Snapshots.{Loaded, Snapshot}
-use Rattle.ash_state_image.specs.declared.version.Version.TheVariants.{Two}
-use Rattle.ash_state_image.specs.Image.{FitsText}
+use Rattle.ash_requests.specs.States.{LoadedModule, has_name}
+use Rattle.ash_image.specs.Snapshots.{Loaded, Snapshot}
+use Rattle.ash_image.specs.declared.version.Version.TheVariants.{Two}
+use Rattle.ash_image.specs.Image.{FitsText}
 use Rattle.ash_states.specs.HostStates.{HostState, IsAdmitted}
 use Rattle.ash_states.specs.Images.{IsImageIn}
 

@@ -4,12 +4,12 @@ use Rattle.std.specs.List.{AllByRecursion}
 use Rattle.ash_host.specs.Objects.{LiveObjects, with_at}
 use Rattle.ash_registry.specs.AcceptedRegistrations.{Registration}
 use Rattle.ash_typed.specs.Modules.{Module}
-use Rattle.ash_steps.specs.States.{Embedding}
+use Rattle.ash_requests.specs.States.{Embedding}
 use Rattle.ash_plain_steps.specs.declared.state.LoadedModule as code_module
 use Rattle.ash_plain_steps.specs.declared.state.PlainState.{PlainState}
 use Rattle.ash_plain_steps.specs.StateViews.{loaded_seen, modules_seen, state_seen}
 use Rattle.ash_plain_steps.specs.Consistency.{IsReadFromSource}
-use Rattle.ash_state_image.specs.Snapshots.{Loaded, Snapshot}
+use Rattle.ash_image.specs.Snapshots.{Loaded, Snapshot}
 use Rattle.ash_states.specs.Images.{loaded_of, loaded_modules_of, state_of, IsImageRefused}
 use Rattle.ash_states.specs.Holding.{IsHeld}
 

@@ -1,12 +1,12 @@
 -- What a request does to the state of a host, and what is replied.
 use Rattle.std.specs.Prelude.{◌≡◌, ◌⊎◌, ℕ, List, [], Option, Some, option_map, IsSome, Result, Ok, Err}
 use Rattle.ash_registry.specs.AcceptedRegistrations.{Registration}
-use Rattle.ash_steps.specs.States.{Hosts}
-use Rattle.ash_steps.specs.Requests.{Request, Refusal, NoMemory, Reply, Refused}
-use Rattle.ash_steps.specs.Tasks.{TaskResult}
-use Rattle.ash_steps.specs.Tasks as tasks
-use Rattle.ash_steps.specs.Steps.{Step, TakesMemory}
-use Rattle.ash_steps.specs.Steps as steps
+use Rattle.ash_requests.specs.States.{Hosts}
+use Rattle.ash_requests.specs.Requests.{Request, Refusal, NoMemory, Reply, Refused}
+use Rattle.ash_requests.specs.Tasks.{TaskResult}
+use Rattle.ash_requests.specs.Tasks as tasks
+use Rattle.ash_requests.specs.Steps.{Step, TakesMemory}
+use Rattle.ash_requests.specs.Steps as steps
 use Rattle.ash_plain_steps.specs.declared.request.Reply as code_reply
 use Rattle.ash_plain_steps.specs.declared.request.StepError.{StepError}
 use Rattle.ash_plain_steps.specs.declared.request.StepError.TheVariants as errors

@@ -1,9 +1,9 @@
 -- The parts of a state that the code writes.
 use Rattle.std.specs.Prelude.{◌≡◌, List}
 use Rattle.std.specs.List.{AllByRecursion}
-use Rattle.ash_state_image.specs.declared.parts.ModuleParts.{ModuleParts}
-use Rattle.ash_state_image.specs.declared.parts.ObjectParts.{ObjectParts}
-use Rattle.ash_state_image.specs.SnapshotViews.{modules_in, object_in, objects_in}
+use Rattle.ash_image.specs.declared.parts.ModuleParts.{ModuleParts}
+use Rattle.ash_image.specs.declared.parts.ObjectParts.{ObjectParts}
+use Rattle.ash_image.specs.SnapshotViews.{modules_in, object_in, objects_in}
 use Rattle.ash_states.specs.HostStates.{HostState}
 use Rattle.ash_states.specs.Indexes.{snapshot_for, HasKind}
 

@@ -1,5 +1,5 @@
 //! What a host is in: what is registered with it, and what outlives a request. A state takes the steps of requests by
-//! the plain program of `ash_plain_steps`, is written as an image by `ash_state_image`, and is restored from one: each
+//! the plain program of `ash_plain_steps`, is written as an image by `ash_image`, and is restored from one: each
 //! source is read again, and a state is restored only where what is stored is of the types that the sources say.
 //!
 //! The definitions are in `specs/`: `HostStates` (which states a host may be in), `StateSteps` (what a request does)

@@ -2,12 +2,12 @@
 
 ghost use Rattle.std.specs.Prelude.{IfOk, option_map};
 ghost use Rattle.std.specs.Vec.{vec_items};
-ghost use Rattle.ash_state_image.specs.SnapshotViews.{module_of, modules_of};
+ghost use Rattle.ash_image.specs.SnapshotViews.{module_of, modules_of};
 ghost use Rattle.ash_states.specs.StateRestoring.{ReadsModule, ReadsModules};
 
+use ash_image::stored::StoredModule;
 use ash_plain_steps::state::LoadedModule;
-use ash_state_image::stored::StoredModule;
-use ash_steps::sources::SourceReader;
+use ash_requests::sources::SourceReader;
 use std::alloc::{AllocError, Global};
 
 /// A module that was stored, with the typed tree of its source, where it has one.

@@ -4,15 +4,15 @@ ghost use Rattle.std.specs.Prelude.{◌≡◌, map, IfOk, IsTrue};
 ghost use Rattle.ash_host.specs.Objects.{numbers};
 ghost use Rattle.ash_plain_data.specs.ObjectViews.{element_seen, object_seen};
 ghost use Rattle.ash_plain_steps.specs.StateViews.{modules_seen};
-ghost use Rattle.ash_state_image.specs.Image.{do_rise};
-ghost use Rattle.ash_state_image.specs.ImageObjectViews.{element_of, plain_of};
-ghost use Rattle.ash_state_image.specs.SnapshotViews.{objects_of};
+ghost use Rattle.ash_image.specs.Image.{do_rise};
+ghost use Rattle.ash_image.specs.ImageObjectViews.{element_of, plain_of};
+ghost use Rattle.ash_image.specs.SnapshotViews.{objects_of};
 ghost use Rattle.ash_states.specs.Images.{name_at, element_named, plain_named, entry_named};
 
-use ash_plain::objects::ObjectMap;
+use ash_image::stored::{ElementType, StoredBody, StoredObject};
 use ash_plain_data::object::{Elements, Object};
 use ash_plain_steps::state::LoadedModule;
-use ash_state_image::stored::{ElementType, StoredBody, StoredObject};
+use ash_plain_world::objects::ObjectMap;
 use std::alloc::{AllocError, Global};
 
 /// The name of the module at an index.

@@ -2,24 +2,22 @@
 
 ghost use Rattle.std.specs.Prelude.{◌≡◌, map, IfOk};
 ghost use Rattle.std.specs.List.{position, AllByRecursion};
-ghost use Rattle.ash_steps.specs.States.{has_name};
+ghost use Rattle.ash_requests.specs.States.{has_name};
 ghost use Rattle.ash_plain_data.specs.ObjectViews.{element_seen, object_seen};
 ghost use Rattle.ash_plain_steps.specs.StateViews.{loaded_seen, modules_seen};
-ghost use Rattle.ash_state_image.specs.ImageObjectViews.{element_of, plain_in};
-ghost use Rattle.ash_state_image.specs.SnapshotViews.{modules_in, objects_in};
+ghost use Rattle.ash_image.specs.ImageObjectViews.{element_of, plain_in};
+ghost use Rattle.ash_image.specs.SnapshotViews.{modules_in, objects_in};
 ghost use Rattle.ash_states.specs.Indexes.{index_in, element_indexed, plain_indexed};
 ghost use Rattle.ash_states.specs.Indexes.{entry_indexed, stored_modules_of};
 ghost use Rattle.ash_states.specs.Indexes.{IsElementIndexed, IsPlainIndexed};
 ghost use Rattle.ash_states.specs.Indexes.{HasElementKind, HasKind};
 ghost use Rattle.ash_states.specs.Writing.{HavePartKinds};
 
-use ash_plain::objects::ObjectMap;
+use ash_image::parts::{ArrayParts, BodyParts, HostParts, ModuleParts, ObjectParts, ScriptParts};
+use ash_image::stored::ElementType;
 use ash_plain_data::object::{Elements, Object};
 use ash_plain_steps::state::LoadedModule;
-use ash_state_image::parts::{
-    ArrayParts, BodyParts, HostParts, ModuleParts, ObjectParts, ScriptParts,
-};
-use ash_state_image::stored::ElementType;
+use ash_plain_world::objects::ObjectMap;
 use std::alloc::{AllocError, Global};
 
 /// The place of the module of a name.

@@ -3,17 +3,17 @@
 ghost use Rattle.std.specs.Prelude.{◌≡◌, IfOk};
 ghost use Rattle.ash_registry.specs.RegistryViews.{registered};
 ghost use Rattle.ash_sources.specs.Sources.{rules_of, admitting_unregistered};
-ghost use Rattle.ash_state_image.specs.Rules.{IsShaped};
-ghost use Rattle.ash_state_image.specs.SnapshotViews.{snapshot_of};
+ghost use Rattle.ash_image.specs.Rules.{IsShaped};
+ghost use Rattle.ash_image.specs.SnapshotViews.{snapshot_of};
 ghost use Rattle.ash_states.specs.StateRestoring.{RestoresHostState};
 
 use crate::modules::read_modules;
 use crate::objects::objects_of;
 use ash_admission::admission::is_well_typed;
+use ash_image::stored::StoredState;
 use ash_plain_steps::state::PlainState;
 use ash_registry::Registry;
 use ash_sources::sources::{AdmittedScripts, Sources};
-use ash_state_image::stored::StoredState;
 use std::alloc::{AllocError, Global};
 
 /// How a host with this registry reads sources: scripts are admitted that use nothing registered.

@@ -3,7 +3,7 @@
 ghost use Rattle.std.specs.Prelude.{◌≡◌, List, []};
 ghost use Rattle.ash_registry.specs.AcceptedRegistrations.{Registration};
 ghost use Rattle.ash_registry.specs.RegistryViews.{registered};
-ghost use Rattle.ash_steps.specs.States.{empty};
+ghost use Rattle.ash_requests.specs.States.{empty};
 ghost use Rattle.ash_plain_steps.specs.StateViews.{state_seen};
 ghost use Rattle.ash_plain_steps.specs.RequestViews.{request_seen};
 ghost use Rattle.ash_states.specs.Holding.{IsHeld, IsStepOf};

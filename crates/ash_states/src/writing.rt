@@ -2,19 +2,19 @@
 
 ghost use Rattle.std.specs.Prelude.{◌≡◌, ◌<◌, ◌^◌, length, IfOk};
 ghost use Rattle.ash_registry.specs.RegistryViews.{registered};
-ghost use Rattle.ash_state_image.specs.Image.{FitsVersion};
-ghost use Rattle.ash_state_image.specs.SnapshotViews.{snapshot_in};
-ghost use Rattle.ash_state_image.specs.declared.version.Version.TheVariants.{Two};
+ghost use Rattle.ash_image.specs.Image.{FitsVersion};
+ghost use Rattle.ash_image.specs.SnapshotViews.{snapshot_in};
+ghost use Rattle.ash_image.specs.declared.version.Version.TheVariants.{Two};
 ghost use Rattle.ash_states.specs.Images.{IsImageIn, IsBodyIn};
 ghost use Rattle.ash_states.specs.Holding.{IsHeld, held_with};
 ghost use Rattle.ash_states.specs.Indexes.{snapshot_for};
 ghost use Rattle.ash_states.specs.Writing.{AreWrittenIn};
 
 use crate::parts::{module_parts, object_parts};
+use ash_image::image::{write_body, write_image};
+use ash_image::parts::{ModuleParts, ObjectParts, StateParts};
 use ash_plain_steps::state::PlainState;
 use ash_registry::Registry;
-use ash_state_image::image::{write_body, write_image};
-use ash_state_image::parts::{ModuleParts, ObjectParts, StateParts};
 use std::alloc::AllocError;
 
 /// The parts of a state.

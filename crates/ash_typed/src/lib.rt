@@ -5,7 +5,7 @@
 //! conversion a node. What walks it looks no name up and meets no word of another type than it awaits:
 //! `specs/SoundModules.antt` says which trees are so, of the tree alone. `specs/` has the same trees without where
 //! their parts lie in memory, and `nodes` makes them. The rules of typing, which say which script has which typed tree,
-//! are in `ash_typing`, above this crate, with the proof that what they type is sound: what walks typed trees alone
+//! are in `ash_type_rules`, above this crate, with the proof that what they type is sound: what walks typed trees alone
 //! does not load them. The crate uses `ash_tree`, for the labels that a script writes, and `ash_integers`, for the
 //! integer types.
 //!

@@ -2,7 +2,7 @@
 
 use crate::compare::{check_number, expect_memory, expect_text};
 use crate::typing::sources::{Question, check_rows, printed, tree_of};
-use ash_classes::{Cycle, class_ranks};
+use ash_class_cycles::{Cycle, class_ranks};
 use std::alloc::{AllocError, Global};
 use std::fmt::Write;
 use std::process::Abort;

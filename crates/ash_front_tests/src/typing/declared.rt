@@ -1,9 +1,9 @@
 //! What is declared where expressions are checked by themselves.
 
 use crate::compare::NO_MEMORY;
-use ash_environment::{Binding, ClassSignature, FunctionSignature, InterfaceSignature, Signatures};
+use ash_check_names::{Binding, ClassSignature, FunctionSignature, InterfaceSignature, Signatures};
+use ash_type_rules::Ty;
 use ash_typed::{Element, IntType, ObjectType};
-use ash_typing::Ty;
 use std::alloc::{AllocError, Global};
 use std::panic::Expect;
 use std::process::Abort;

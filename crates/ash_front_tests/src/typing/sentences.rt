@@ -2,7 +2,7 @@
 
 use crate::compare::{NO_MEMORY, check_text, expect_text};
 use ash_check::{ClassNames, ScriptError, ScriptFault};
-use ash_typing::{Fault, Rule};
+use ash_type_rules::{Fault, Rule};
 use std::alloc::Global;
 use std::panic::Expect;
 use std::process::Abort;

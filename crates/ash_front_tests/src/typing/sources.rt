@@ -3,7 +3,7 @@
 
 ghost use Rattle.std.specs.Prelude.{IfOk};
 ghost use Rattle.ash_tree.specs.TreeViews.{module_of};
-ghost use Rattle.ash_typing.specs.Nesting.{ItemsDeclareInBlocks};
+ghost use Rattle.ash_type_rules.specs.Nesting.{ItemsDeclareInBlocks};
 
 use crate::compare::check_text;
 use crate::registrations::program;
@@ -73,7 +73,7 @@ fn registered(alloc: Global) -> Result<Box<Registry>, RegistryFault> {
 }
 
 /// The tree of a source, or its fault.
-#[tactic(auto, using(ash_typing::proofs::SoundnessNesting::derived_proper))]
+#[tactic(auto, using(ash_type_rules::proofs::SoundnessNesting::derived_proper))]
 pub(crate) fn tree_of(alloc: Global, source: &str) -> Result<Module, String>
     ensures nested { IfOk result (λ tree. ItemsDeclareInBlocks (module_of tree)) }
 {

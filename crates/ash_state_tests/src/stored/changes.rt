@@ -6,7 +6,7 @@ use crate::stored::encoding::encoded;
 use crate::stored::images::{
     NOTHING, ONE, ONE_MODULE, THREE_TAGS, TWO, TWO_TAGS, image, with_byte,
 };
-use ash_state_image::image::read_image;
+use ash_image::image::read_image;
 use std::alloc::Global;
 use std::process::Abort;
 use std::test::Fail;

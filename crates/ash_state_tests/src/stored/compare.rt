@@ -1,7 +1,7 @@
 //! Comparisons that say what was compared, each in one place, so that the tests that make them are proved quickly.
 
-use ash_state_image::image::{read_body, read_image};
-use ash_state_image::stored::StoredImage;
+use ash_image::image::{read_body, read_image};
+use ash_image::stored::StoredImage;
 use std::alloc::{AllocError, Global};
 use std::process::Abort;
 

@@ -1,11 +1,11 @@
 //! The image of what was read, written by the layout alone, without the code that is tested.
 
 use ash_host::Word;
-use ash_state_image::stored::{
+use ash_image::stored::{
     ElementType, StoredArray, StoredBody, StoredHost, StoredImage, StoredModule, StoredObject,
     StoredScript, StoredState,
 };
-use ash_state_image::version::Version;
+use ash_image::version::Version;
 use std::alloc::{AllocError, Global};
 
 /// A length in one byte.

@@ -6,8 +6,8 @@ use crate::stored::images::{
     EACH_WORD, LOADED, MODULE_A, MODULE_B, NOTHING, ONE, ONE_MODULE, ONE_SERVICE, THREE_TAGS, TWO,
     TWO_TAGS, image, modules, with_tag,
 };
-use ash_state_image::image::{read_body, read_image};
-use ash_state_image::stored::StoredImage;
+use ash_image::image::{read_body, read_image};
+use ash_image::stored::StoredImage;
 use std::alloc::{AllocError, Global};
 use std::process::Abort;
 use std::test::Fail;

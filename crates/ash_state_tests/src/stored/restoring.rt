@@ -1,17 +1,17 @@
 //! Images that are restored with what is registered, each byte of them changed to every other, and each cut: what is
 //! left is refused, or is the image of the host that is restored. `reads_as` asks in the order in which a store does.
 
-ghost use Rattle.ash_state_image.specs.Rules.{IsShaped};
-ghost use Rattle.ash_state_image.specs.SnapshotViews.{snapshot_of};
+ghost use Rattle.ash_image.specs.Rules.{IsShaped};
+ghost use Rattle.ash_image.specs.SnapshotViews.{snapshot_of};
 
 use crate::stored::compare::{ReadAs, check_bytes, check_count, check_read_as};
 use crate::stored::images::{
     DANGLING, EACH_WORD, NOTHING, OF_TWO_MODULES, ONE, ONE_MODULE, ONE_SERVICE, STORED, THREE_TAGS,
     TWO, TWO_TAGS, image, with_byte,
 };
+use ash_image::image::read_image;
+use ash_image::stored::StoredState;
 use ash_registry::{Registry, RegistryFault};
-use ash_state_image::image::read_image;
-use ash_state_image::stored::StoredState;
 use ash_states::state::HostState;
 use std::alloc::{AllocError, Global};
 use std::process::Abort;

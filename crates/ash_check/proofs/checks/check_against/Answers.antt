@@ -5,17 +5,17 @@ use Rattle.ash_registrations.specs.declared.registrations.Registrations.{Registr
 use Rattle.ash_registrations.specs.Registered.{registered}
 use Rattle.ash_tree.specs.TreeViews.{module_of as written_module}
 use Rattle.ash_typed.specs.Modules.{module_of}
-use Rattle.ash_classes.specs.declared.cycles.Cycle.{Cycle}
-use Rattle.ash_classes.specs.ClassReferences.{DeclaredClassRefers, classes_of}
-use Rattle.ash_classes.specs.ReportedCycle.{reported_cycle}
-use Rattle.ash_classes.specs.Paths.{IsReportedCycle, AreRanksAlong}
+use Rattle.ash_class_cycles.specs.declared.cycles.Cycle.{Cycle}
+use Rattle.ash_class_cycles.specs.ClassReferences.{DeclaredClassRefers, classes_of}
+use Rattle.ash_class_cycles.specs.ReportedCycle.{reported_cycle}
+use Rattle.ash_class_cycles.specs.Paths.{IsReportedCycle, AreRanksAlong}
 use Rattle.ash_check.specs.CheckedModules.{IsChecked}
 use Rattle.ash_check.specs.ScriptFaults.{Cyclic, script_error}
 use Rattle.ash_check.specs.Checks.{checked, IsNamedCycle}
 use Rattle.ash_check.proofs.CheckedLaws.{is_checked}
 use Rattle.ash_check.proofs.CheckLaws.{error_is_reported, reported_if_err, typed_is_checked, cycle_is_reported}
 use Rattle.ash_check.proofs.CheckLaws.{path_begins_within, path_is_within, named_cycle}
-use Rattle.ash_typing.proofs.ModuleLaws.{check_module-exact}
+use Rattle.ash_type_rules.proofs.ModuleLaws.{check_module-exact}
 use Rattle.ash_check.proofs.checks.check_against.Goals as goal
 
 pub returns-in_err-module-clause-answer : goal.returns-in_err-module-clause-answer

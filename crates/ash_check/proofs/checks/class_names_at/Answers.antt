@@ -1,8 +1,8 @@
 use Rattle.std.proofs.Common.{◌≡◌, ◌++◌, ◌+◌, ◌∙◌, ℕ, get_or, map, drop, ap, sym, string_bytes, Bor}
 use Rattle.ash_tree.specs.declared.tree.items.Class as code_class
 use Rattle.ash_tree.specs.TreeViews.{class_of}
-use Rattle.ash_classes.specs.ClassReferences.{borrowed_classes}
-use Rattle.ash_classes.proofs.ReferenceLaws.{borrowed_at}
+use Rattle.ash_class_cycles.specs.ClassReferences.{borrowed_classes}
+use Rattle.ash_class_cycles.proofs.ReferenceLaws.{borrowed_at}
 use Rattle.ash_check.specs.Checks.{name_at}
 use Rattle.ash_check.proofs.CheckLaws.{name_is, one_more_name}
 use Rattle.ash_check.proofs.checks.class_names_at.Goals as goal

@@ -1,6 +1,6 @@
 use Rattle.std.proofs.Common.{◌≡◌, ◌++◌, map, drop}
 use Rattle.std.specs.Prelude.{string_bytes}
-use Rattle.ash_classes.specs.ClassReferences.{borrowed_classes}
+use Rattle.ash_class_cycles.specs.ClassReferences.{borrowed_classes}
 use Rattle.ash_check.specs.Checks.{name_at}
 use Rattle.ash_check.proofs.checks.class_names_at.Given as goal
 

@@ -1,7 +1,7 @@
 use Rattle.std.proofs.Common.{List, map, ap, ◌∙◌}
 use Rattle.ash_tree.specs.declared.tree.items.Item.{Item}
 use Rattle.ash_tree.specs.TreeViews.{item_of, module_of}
-use Rattle.ash_classes.specs.ClassReferences.{borrowed_classes, classes_of}
+use Rattle.ash_class_cycles.specs.ClassReferences.{borrowed_classes, classes_of}
 use Rattle.ash_check.specs.Checks.{name_at}
 use Rattle.ash_check.proofs.checks.cycle_names.Goals as goal
 

@@ -1,5 +1,5 @@
 use Rattle.std.proofs.Common.{◌≡◌, drop}
-use Rattle.ash_typing.specs.Implementations as definition
+use Rattle.ash_type_rules.specs.Implementations as definition
 use Rattle.ash_check.proofs.implementations.are_same.Given as goal
 
 -- the outcome of what is left is that of the whole

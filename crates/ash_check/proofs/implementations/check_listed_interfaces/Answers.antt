@@ -2,9 +2,9 @@ use Rattle.std.proofs.Common.{◌≡◌, [], map, refl, sym, ap, ◌∙◌}
 use Rattle.std.proofs.lemmas.Result.{err_from_is_err_and}
 use Rattle.ash_tree.specs.TreeViews.{type_name_of}
 use Rattle.ash_typed.specs.Modules.{implementation_of}
-use Rattle.ash_typing.specs.ItemRules.{Listed, check_listed, all_listed, none_listed}
-use Rattle.ash_environment.specs.NameIndex.{texts}
-use Rattle.ash_environment.specs.EnvironmentViews.{environment_of}
+use Rattle.ash_type_rules.specs.ItemRules.{Listed, check_listed, all_listed, none_listed}
+use Rattle.ash_check_names.specs.NameIndex.{texts}
+use Rattle.ash_check_names.specs.EnvironmentViews.{environment_of}
 use Rattle.ash_check.specs.WalkViews.{listed_interfaces_of}
 use Rattle.ash_check.proofs.Walks.{walk_goes_on, walk_stops, walk_ends}
 use Rattle.ash_check.proofs.implementations.check_listed_interfaces.Goals as goal

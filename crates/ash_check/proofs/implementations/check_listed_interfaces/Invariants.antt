@@ -1,7 +1,7 @@
 use Rattle.std.proofs.Common.{◌≡◌, map, drop}
 use Rattle.ash_tree.specs.TreeViews.{type_name_of}
-use Rattle.ash_typing.specs.ItemRules as definition
-use Rattle.ash_environment.specs.EnvironmentViews.{environment_of}
+use Rattle.ash_type_rules.specs.ItemRules as definition
+use Rattle.ash_check_names.specs.EnvironmentViews.{environment_of}
 use Rattle.ash_check.specs.WalkViews.{listed_interfaces_of}
 use Rattle.ash_check.proofs.implementations.check_listed_interfaces.Given as goal
 

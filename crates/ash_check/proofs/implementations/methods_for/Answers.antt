@@ -1,8 +1,8 @@
 use Rattle.std.proofs.Common.{◌+◌, drop, List, Some, map, sym, ap, ◌∙◌, append-nil}
 use Rattle.std.proofs.lemmas.List.{at_drop_more, at_drop_all}
-use Rattle.ash_typing.specs.Implementations as definition
-use Rattle.ash_environment.specs.declared.signatures.FunctionSignature.{FunctionSignature}
-use Rattle.ash_environment.specs.EnvironmentViews.{function_signature_of}
+use Rattle.ash_type_rules.specs.Implementations as definition
+use Rattle.ash_check_names.specs.declared.signatures.FunctionSignature.{FunctionSignature}
+use Rattle.ash_check_names.specs.EnvironmentViews.{function_signature_of}
 use Rattle.ash_check.proofs.MethodLaws.{prepended, one_prepended}
 use Rattle.ash_check.proofs.implementations.methods_for.Goals as goal
 

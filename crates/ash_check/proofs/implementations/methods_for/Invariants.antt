@@ -1,6 +1,6 @@
 use Rattle.std.proofs.Common.{◌≡◌, map, drop}
-use Rattle.ash_typing.specs.Implementations as definition
-use Rattle.ash_environment.specs.EnvironmentViews.{function_signature_of}
+use Rattle.ash_type_rules.specs.Implementations as definition
+use Rattle.ash_check_names.specs.EnvironmentViews.{function_signature_of}
 use Rattle.ash_check.proofs.MethodLaws.{prepended}
 use Rattle.ash_check.proofs.implementations.methods_for.Given as goal
 

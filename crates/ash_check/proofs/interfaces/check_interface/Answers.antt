@@ -3,10 +3,10 @@ use Rattle.std.proofs.lemmas.Result.{err_from_is_err_and}
 use Rattle.ash_tree.specs.declared.tree.items.InterfaceMethod.{InterfaceMethod}
 use Rattle.ash_tree.specs.TreeViews.{interface_method_of, interface_of as written_interface}
 use Rattle.ash_typed.specs.Modules.{Interface, signature_of}
-use Rattle.ash_typing.specs.TypingResult.{TypingResult, ◌>>=◌}
-use Rattle.ash_typing.specs.ItemRules as definition
-use Rattle.ash_environment.specs.NameIndex.{texts}
-use Rattle.ash_environment.specs.EnvironmentViews.{environment_of}
+use Rattle.ash_type_rules.specs.TypingResult.{TypingResult, ◌>>=◌}
+use Rattle.ash_type_rules.specs.ItemRules as definition
+use Rattle.ash_check_names.specs.NameIndex.{texts}
+use Rattle.ash_check_names.specs.EnvironmentViews.{environment_of}
 use Rattle.ash_check.specs.WalkViews.{interface_parts_of}
 use Rattle.ash_check.proofs.Walks.{stops, walk_goes_on, walk_stops, walk_ends}
 use Rattle.ash_check.proofs.interfaces.check_interface.Goals as goal

@@ -1,7 +1,7 @@
 use Rattle.std.proofs.Common.{◌≡◌, map, drop}
 use Rattle.ash_tree.specs.TreeViews.{interface_method_of}
-use Rattle.ash_typing.specs.ItemRules.{check_signatures}
-use Rattle.ash_environment.specs.EnvironmentViews.{environment_of}
+use Rattle.ash_type_rules.specs.ItemRules.{check_signatures}
+use Rattle.ash_check_names.specs.EnvironmentViews.{environment_of}
 use Rattle.ash_check.specs.WalkViews.{interface_parts_of}
 use Rattle.ash_check.proofs.interfaces.check_interface.Given as goal
 

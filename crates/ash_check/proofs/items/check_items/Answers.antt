@@ -2,9 +2,9 @@ use Rattle.std.proofs.Common.{◌≡◌, map, subst}
 use Rattle.ash_registrations.specs.Registered.{registered}
 use Rattle.ash_tree.specs.TreeViews.{item_of}
 use Rattle.ash_typed.specs.Modules.{module_of}
-use Rattle.ash_typing.specs.ItemRules.{module_environment, nothing}
-use Rattle.ash_environment.specs.Agreement.{Agrees}
-use Rattle.ash_environment.specs.EnvironmentViews.{signatures_of}
+use Rattle.ash_type_rules.specs.ItemRules.{module_environment, nothing}
+use Rattle.ash_check_names.specs.Agreement.{Agrees}
+use Rattle.ash_check_names.specs.EnvironmentViews.{signatures_of}
 use Rattle.ash_check.specs.WalkViews.{names_of, walked_of, module_after}
 use Rattle.ash_check.proofs.items.check_items.Goals as goal
 

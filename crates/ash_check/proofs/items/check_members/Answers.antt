@@ -2,11 +2,11 @@ use Rattle.std.proofs.Common.{◌≡◌, List, [], map, subst}
 use Rattle.ash_tree.specs.TreeViews.{class_of as written_class, member_of}
 use Rattle.ash_tree.specs.declared.tree.items.Member.{Member}
 use Rattle.ash_typed.specs.Modules.{class_of, implementation_of}
-use Rattle.ash_typing.specs.Environment.{inside}
-use Rattle.ash_typing.specs.ItemRules.{Members, no_members}
-use Rattle.ash_environment.specs.Agreement.{Agrees}
-use Rattle.ash_environment.specs.NameIndex.{texts}
-use Rattle.ash_environment.specs.EnvironmentViews.{environment_of}
+use Rattle.ash_type_rules.specs.Environment.{inside}
+use Rattle.ash_type_rules.specs.ItemRules.{Members, no_members}
+use Rattle.ash_check_names.specs.Agreement.{Agrees}
+use Rattle.ash_check_names.specs.NameIndex.{texts}
+use Rattle.ash_check_names.specs.EnvironmentViews.{environment_of}
 use Rattle.ash_check.specs.WalkViews.{class_after}
 use Rattle.ash_check.proofs.items.check_members.Goals as goal
 

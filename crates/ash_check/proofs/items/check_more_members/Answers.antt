@@ -1,9 +1,9 @@
 use Rattle.std.proofs.Common.{map, refl, sym, ap, Ok}
 use Rattle.std.proofs.lemmas.Result.{err_from_is_err_and}
 use Rattle.ash_tree.specs.TreeViews.{member_of}
-use Rattle.ash_typing.specs.TypingResult.{◌>>=◌}
-use Rattle.ash_typing.specs.ItemRules.{check_member, check_members, class_of_members}
-use Rattle.ash_environment.specs.EnvironmentViews.{environment_of}
+use Rattle.ash_type_rules.specs.TypingResult.{◌>>=◌}
+use Rattle.ash_type_rules.specs.ItemRules.{check_member, check_members, class_of_members}
+use Rattle.ash_check_names.specs.EnvironmentViews.{environment_of}
 use Rattle.ash_check.specs.WalkViews.{names_of, members_of}
 use Rattle.ash_check.proofs.Walks.{stops, walk_goes_on, walk_stops, walk_ends}
 use Rattle.ash_check.proofs.items.check_more_members.Goals as goal

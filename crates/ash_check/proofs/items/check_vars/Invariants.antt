@@ -1,7 +1,7 @@
 use Rattle.std.proofs.Common.{◌≡◌, map, drop}
 use Rattle.ash_tree.specs.TreeViews.{decl_of}
-use Rattle.ash_typing.specs.ItemRules.{check_decls}
-use Rattle.ash_environment.specs.EnvironmentViews.{environment_of}
+use Rattle.ash_type_rules.specs.ItemRules.{check_decls}
+use Rattle.ash_check_names.specs.EnvironmentViews.{environment_of}
 use Rattle.ash_check.specs.WalkViews.{names_of, row_of}
 use Rattle.ash_check.proofs.items.check_vars.Given as goal
 

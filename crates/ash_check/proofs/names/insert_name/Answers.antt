@@ -4,7 +4,7 @@ use Rattle.std.specs.List.{list_any}
 use Rattle.std.specs.Str.{bytes_eq}
 use Rattle.std.proofs.lemmas.List.{map_push}
 use Rattle.ash_registrations.proofs.Mapped.{any_mapped}
-use Rattle.ash_environment.specs.NameIndex.{texts}
+use Rattle.ash_check_names.specs.NameIndex.{texts}
 use Rattle.ash_check.proofs.names.insert_name.Goals as goal
 
 added : (keys : List (Bor (List ℕ))) (name : Bor (List ℕ)) (any : Bool) → texts (cond any keys (keys ++ name ∷ [])) ≡ cond (not any) (texts keys ++ name.now ∷ []) (texts keys)

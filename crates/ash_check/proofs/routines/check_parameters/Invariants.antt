@@ -1,7 +1,7 @@
 use Rattle.std.proofs.Common.{◌≡◌, [], map, drop}
 use Rattle.ash_tree.specs.TreeViews.{parameter_of}
-use Rattle.ash_typing.specs.ItemRules as definition
-use Rattle.ash_environment.specs.EnvironmentViews.{binding_of, environment_of}
+use Rattle.ash_type_rules.specs.ItemRules as definition
+use Rattle.ash_check_names.specs.EnvironmentViews.{binding_of, environment_of}
 use Rattle.ash_check.proofs.routines.check_parameters.Given as goal
 
 -- the outcome of what is left is that of the whole

@@ -1,7 +1,7 @@
 use Rattle.std.proofs.Common.{◌+◌, List, [], ◌∷◌, map, drop, refl, sym, ap}
-use Rattle.ash_typing.specs.Environment.{type_declared}
-use Rattle.ash_environment.specs.declared.signatures.Binding.{Binding}
-use Rattle.ash_environment.specs.EnvironmentViews.{binding_of}
+use Rattle.ash_type_rules.specs.Environment.{type_declared}
+use Rattle.ash_check_names.specs.declared.signatures.Binding.{Binding}
+use Rattle.ash_check_names.specs.EnvironmentViews.{binding_of}
 use Rattle.ash_check.proofs.Rows.{further, whole}
 use Rattle.ash_check.proofs.routines.types_of.Goals as goal
 

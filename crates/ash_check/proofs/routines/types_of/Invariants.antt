@@ -1,6 +1,6 @@
 use Rattle.std.proofs.Common.{◌≡◌, ◌++◌, map, drop}
-use Rattle.ash_typing.specs.Environment.{type_declared}
-use Rattle.ash_environment.specs.EnvironmentViews.{binding_of}
+use Rattle.ash_type_rules.specs.Environment.{type_declared}
+use Rattle.ash_check_names.specs.EnvironmentViews.{binding_of}
 use Rattle.ash_check.proofs.routines.types_of.Given as goal
 
 abbrev pub invariant-loop-declared : goal.invariant-loop-declared

@@ -2,8 +2,8 @@ use Rattle.std.proofs.Common.{map, ap, ◌∙◌}
 use Rattle.ash_registrations.specs.Registered.{registered}
 use Rattle.ash_tree.specs.TreeViews.{member_of, type_name_of}
 use Rattle.ash_tree.specs.Items.{fields_of, methods_of, constructors_of}
-use Rattle.ash_typing.specs.ModuleDeclarations.{all_variables, constructed_by, function_declaration, listed_in}
-use Rattle.ash_environment.specs.EnvironmentViews.{signatures_of}
+use Rattle.ash_type_rules.specs.ModuleDeclarations.{all_variables, constructed_by, function_declaration, listed_in}
+use Rattle.ash_check_names.specs.EnvironmentViews.{signatures_of}
 use Rattle.ash_check.proofs.signatures.class_signature.Goals as goal
 
 pub returns : goal.returns

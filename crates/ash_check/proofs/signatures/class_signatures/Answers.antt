@@ -2,8 +2,8 @@ use Rattle.std.proofs.Common.{map, refl}
 use Rattle.ash_registrations.specs.Registered.{registered}
 use Rattle.ash_tree.specs.TreeViews.{item_of}
 use Rattle.ash_tree.specs.Items.{classes_of}
-use Rattle.ash_typing.specs.ModuleDeclarations.{class_declaration}
-use Rattle.ash_environment.specs.EnvironmentViews.{class_signature_of, signatures_of}
+use Rattle.ash_type_rules.specs.ModuleDeclarations.{class_declaration}
+use Rattle.ash_check_names.specs.EnvironmentViews.{class_signature_of, signatures_of}
 use Rattle.ash_check.proofs.Rows.{whole}
 use Rattle.ash_check.proofs.signatures.class_signatures.Goals as goal
 

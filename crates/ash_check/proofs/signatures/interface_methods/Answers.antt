@@ -3,8 +3,8 @@ use Rattle.ash_registrations.specs.Registered.{registered}
 use Rattle.std.proofs.lemmas.List.{map-append}
 use Rattle.ash_tree.specs.declared.tree.items.InterfaceMethod.{InterfaceMethod}
 use Rattle.ash_tree.specs.TreeViews.{interface_method_of}
-use Rattle.ash_typing.specs.ModuleDeclarations.{signature_declaration}
-use Rattle.ash_environment.specs.EnvironmentViews.{function_signature_of, signatures_of}
+use Rattle.ash_type_rules.specs.ModuleDeclarations.{signature_declaration}
+use Rattle.ash_check_names.specs.EnvironmentViews.{function_signature_of, signatures_of}
 use Rattle.ash_check.proofs.Rows.{further, whole}
 use Rattle.ash_check.proofs.signatures.interface_methods.Goals as goal
 

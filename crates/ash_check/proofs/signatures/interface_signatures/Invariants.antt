@@ -1,9 +1,9 @@
 use Rattle.std.proofs.Common.{◌≡◌, ◌++◌, map, drop}
 use Rattle.ash_registrations.specs.Registered.{registered}
 use Rattle.ash_tree.specs.TreeViews.{item_of}
-use Rattle.ash_typing.specs.ModuleDeclarations.{interface_declaration}
+use Rattle.ash_type_rules.specs.ModuleDeclarations.{interface_declaration}
 use Rattle.ash_tree.specs.Items.{interfaces_of}
-use Rattle.ash_environment.specs.EnvironmentViews.{interface_signature_of, signatures_of}
+use Rattle.ash_check_names.specs.EnvironmentViews.{interface_signature_of, signatures_of}
 use Rattle.ash_check.proofs.signatures.interface_signatures.Given as goal
 
 abbrev pub invariant-loop-item : goal.invariant-loop-item

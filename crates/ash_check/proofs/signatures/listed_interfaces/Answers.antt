@@ -1,8 +1,8 @@
 use Rattle.std.proofs.Common.{map, refl}
 use Rattle.ash_registrations.specs.Registered.{registered}
 use Rattle.ash_tree.specs.TreeViews.{type_name_of}
-use Rattle.ash_typing.specs.ModuleDeclarations.{listed_in}
-use Rattle.ash_environment.specs.EnvironmentViews.{signatures_of}
+use Rattle.ash_type_rules.specs.ModuleDeclarations.{listed_in}
+use Rattle.ash_check_names.specs.EnvironmentViews.{signatures_of}
 use Rattle.ash_check.proofs.Rows.{whole}
 use Rattle.ash_check.proofs.signatures.listed_interfaces.Goals as goal
 

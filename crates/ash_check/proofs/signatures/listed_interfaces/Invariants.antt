@@ -1,8 +1,8 @@
 use Rattle.std.proofs.Common.{◌≡◌, ◌++◌, map, drop}
 use Rattle.ash_registrations.specs.Registered.{registered}
 use Rattle.ash_tree.specs.TreeViews.{type_name_of}
-use Rattle.ash_typing.specs.ModuleDeclarations as definition
-use Rattle.ash_environment.specs.EnvironmentViews.{signatures_of}
+use Rattle.ash_type_rules.specs.ModuleDeclarations as definition
+use Rattle.ash_check_names.specs.EnvironmentViews.{signatures_of}
 use Rattle.ash_check.proofs.signatures.listed_interfaces.Given as goal
 
 abbrev pub invariant-loop-name : goal.invariant-loop-name

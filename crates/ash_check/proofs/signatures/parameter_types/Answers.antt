@@ -2,8 +2,8 @@ use Rattle.std.proofs.Common.{◌+◌, List, [], ◌∷◌, map, drop, refl, sym
 use Rattle.ash_registrations.specs.Registered.{registered}
 use Rattle.ash_tree.specs.declared.tree.items.Parameter.{Parameter}
 use Rattle.ash_tree.specs.TreeViews.{parameter_of}
-use Rattle.ash_typing.specs.ModuleDeclarations.{parameter_ty}
-use Rattle.ash_environment.specs.EnvironmentViews.{signatures_of}
+use Rattle.ash_type_rules.specs.ModuleDeclarations.{parameter_ty}
+use Rattle.ash_check_names.specs.EnvironmentViews.{signatures_of}
 use Rattle.ash_check.proofs.Rows.{further, whole}
 use Rattle.ash_check.proofs.signatures.parameter_types.Goals as goal
 

@@ -1,7 +1,7 @@
 use Rattle.std.proofs.Common.{◌≡◌, ◌++◌, map, drop}
 use Rattle.ash_tree.specs.TreeViews.{decl_of}
-use Rattle.ash_typing.specs.ModuleDeclarations.{declared}
-use Rattle.ash_environment.specs.EnvironmentViews.{binding_of}
+use Rattle.ash_type_rules.specs.ModuleDeclarations.{declared}
+use Rattle.ash_check_names.specs.EnvironmentViews.{binding_of}
 use Rattle.ash_check.proofs.signatures.push_bindings.Given as goal
 
 abbrev pub invariant-loop-decl : goal.invariant-loop-decl

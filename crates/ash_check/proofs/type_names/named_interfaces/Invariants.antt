@@ -1,8 +1,8 @@
 use Rattle.std.proofs.Common.{◌≡◌, ◌++◌, map, drop}
 use Rattle.ash_tree.specs.TreeViews.{item_of}
-use Rattle.ash_typing.specs.ModuleDeclarations.{named_interface}
+use Rattle.ash_type_rules.specs.ModuleDeclarations.{named_interface}
 use Rattle.ash_tree.specs.Items.{interfaces_of}
-use Rattle.ash_environment.specs.EnvironmentViews.{interface_signature_of}
+use Rattle.ash_check_names.specs.EnvironmentViews.{interface_signature_of}
 use Rattle.ash_check.proofs.type_names.named_interfaces.Given as goal
 
 abbrev pub invariant-loop-item : goal.invariant-loop-item

@@ -1,6 +1,6 @@
 use Rattle.std.proofs.Common.{map, ap, ◌∙◌}
-use Rattle.ash_environment.specs.EnvironmentViews.{binding_of, function_signature_of, interface_signature_of}
-use Rattle.ash_environment.specs.EnvironmentViews.{class_signature_of}
+use Rattle.ash_check_names.specs.EnvironmentViews.{binding_of, function_signature_of, interface_signature_of}
+use Rattle.ash_check_names.specs.EnvironmentViews.{class_signature_of}
 use Rattle.ash_check.proofs.type_names.type_names.Goals as goal
 
 pub returns : goal.returns

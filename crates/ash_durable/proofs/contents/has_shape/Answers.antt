@@ -1,4 +1,4 @@
-use Rattle.ash_state_image.specs.SnapshotViews.{snapshot_of}
+use Rattle.ash_image.specs.SnapshotViews.{snapshot_of}
 use Rattle.ash_durable.proofs.Reading.{has_body, no_body_with}
 use Rattle.ash_durable.proofs.contents.has_shape.Goals as goal
 

@@ -2,7 +2,7 @@ use Rattle.std.proofs.Common.{Result, drop}
 use Rattle.std.specs.List.{AllByRecursion}
 use Rattle.ash_journal.specs.declared.error.OpenFault.{OpenFault}
 use Rattle.ash_journal.specs.Reading.{bodies_of}
-use Rattle.ash_state_image.specs.declared.version.Version.{Version}
+use Rattle.ash_image.specs.declared.version.Version.{Version}
 use Rattle.ash_states.specs.HostStates.{HostState}
 use Rattle.ash_registry.specs.RegistryText.{text_of}
 use Rattle.ash_durable.specs.Contents.{IsBodyWith, LeadsThrough}

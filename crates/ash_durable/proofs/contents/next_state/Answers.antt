@@ -1,9 +1,9 @@
 use Rattle.std.proofs.Common.{◌≡◌, ◌∙◌, ℕ, List, true, false, ap, sym, subst}
 use Rattle.ash_registry.specs.RegistryViews.{registered}
 use Rattle.ash_registry.specs.RegistryText.{text_of}
-use Rattle.ash_state_image.specs.Rules.{IsImageBody}
-use Rattle.ash_state_image.specs.Snapshots.{Snapshot}
-use Rattle.ash_state_image.specs.SnapshotViews.{snapshot_of}
+use Rattle.ash_image.specs.Rules.{IsImageBody}
+use Rattle.ash_image.specs.Snapshots.{Snapshot}
+use Rattle.ash_image.specs.SnapshotViews.{snapshot_of}
 use Rattle.ash_durable.specs.Contents.{IsBodyWith}
 use Rattle.ash_durable.proofs.ContentsStates.{body_once}
 use Rattle.ash_durable.proofs.Reading.{image_shaped, leads_on, no_body_with}

@@ -6,7 +6,7 @@ use Rattle.ash_journal.proofs.ReadLaws.{differ}
 use Rattle.ash_registry.specs.RegistryViews.{registered}
 use Rattle.ash_registry.specs.AcceptedRegistrations.{Registration}
 use Rattle.ash_registry.specs.RegistryText.{text_of}
-use Rattle.ash_state_image.specs.SnapshotViews.{snapshot_of}
+use Rattle.ash_image.specs.SnapshotViews.{snapshot_of}
 use Rattle.ash_durable.specs.Contents.{IsBodyWith, IsNoImage}
 use Rattle.ash_durable.proofs.Reading.{no_failure, reads_damage, reads_misshapen, reads_unadmitted, image_shaped}
 use Rattle.ash_durable.proofs.Reading.{image_restored, reads_through, reads_none, through_registered}

@@ -1,6 +1,6 @@
 use Rattle.std.proofs.Common.{List, ℕ, Err, ap, sym, subst}
 use Rattle.ash_journal.specs.declared.error.AppendError.{AppendError}
-use Rattle.ash_state_image.specs.declared.version.Version.TheVariants.{Two}
+use Rattle.ash_image.specs.declared.version.Version.TheVariants.{Two}
 use Rattle.ash_states.specs.Images.{IsBodyIn}
 use Rattle.ash_durable.proofs.Committing.{adds, adds_not}
 use Rattle.ash_durable.proofs.Outcomes.{counts_as}

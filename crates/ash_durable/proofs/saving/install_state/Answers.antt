@@ -1,6 +1,6 @@
 use Rattle.std.proofs.Common.{List, ℕ, Err, ap, sym, subst}
 use Rattle.ash_journal.specs.declared.error.InstallError.{InstallError}
-use Rattle.ash_state_image.specs.declared.version.Version.TheVariants.{Two}
+use Rattle.ash_image.specs.declared.version.Version.TheVariants.{Two}
 use Rattle.ash_states.specs.Images.{IsImageIn}
 use Rattle.ash_durable.proofs.Committing.{installs, installs_not}
 use Rattle.ash_durable.proofs.Outcomes.{counts_as}

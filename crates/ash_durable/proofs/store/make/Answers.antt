@@ -1,5 +1,5 @@
 use Rattle.std.proofs.Common.{List, ℕ, sym, subst}
-use Rattle.ash_state_image.specs.declared.version.Version.TheVariants.{Two}
+use Rattle.ash_image.specs.declared.version.Version.TheVariants.{Two}
 use Rattle.ash_states.specs.Images.{IsImageIn}
 use Rattle.ash_durable.proofs.Making.{read_makes, made, not_made}
 use Rattle.ash_durable.proofs.store.make.Goals as goal

@@ -1,6 +1,6 @@
 use Rattle.std.proofs.Common.{Ok, Err, inl, subst}
 use Rattle.ash_registry.specs.RegistryViews.{registered}
-use Rattle.ash_state_image.specs.declared.version.Version.{Version}
+use Rattle.ash_image.specs.declared.version.Version.{Version}
 use Rattle.ash_durable.specs.OpenedStore.{contents_of}
 use Rattle.ash_durable.specs.StoredStates.{AreIn}
 use Rattle.ash_durable.proofs.OpenedJournals.{read_as, not_read, settles_one, settles_two}

@@ -1,6 +1,6 @@
 use Rattle.std.proofs.Common.{◌++◌}
 use Rattle.std.proofs.lemmas.Result.{err_from_is_err_and}
-use Rattle.ash_evaluator.specs.EndViews.{end_seen}
+use Rattle.ash_plain_scripts.specs.EndViews.{end_seen}
 use Rattle.ash_lines.specs.ReplyText.{end_text, seq_text, drops_text}
 use Rattle.ash_lines.proofs.SinkLemmas.{fails-more, accepts-fails, writes-then}
 use Rattle.ash_lines.proofs.answer.write_answer.Goals as goal

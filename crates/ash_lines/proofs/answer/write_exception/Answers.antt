@@ -1,5 +1,5 @@
 use Rattle.std.proofs.lemmas.Result.{err_from_is_err_and}
-use Rattle.ash_phrases.specs.Exceptions.{name_of}
+use Rattle.ash_meaning.specs.Exceptions.{name_of}
 use Rattle.ash_lines.specs.ReplyText.{raised_text}
 use Rattle.ash_lines.proofs.SinkLemmas.{fails-more, writes-then}
 use Rattle.ash_lines.proofs.answer.write_exception.Goals as goal

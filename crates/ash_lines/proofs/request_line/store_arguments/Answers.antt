@@ -1,5 +1,5 @@
 use Rattle.std.proofs.Common.{◌∙◌, ◌∷◌, [], List, length, sym, arith, length-append, ap}
-use Rattle.ash_steps.specs.declared.argument.Argument.{Argument}
+use Rattle.ash_requests.specs.declared.argument.Argument.{Argument}
 use Rattle.ash_lines.specs.Lines.{arguments_of}
 use Rattle.ash_lines.specs.LineWords.{words_left}
 use Rattle.ash_lines.proofs.WordLemmas.{prepend, arguments-more, arguments-bad, arguments-end}

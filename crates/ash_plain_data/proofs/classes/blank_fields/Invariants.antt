@@ -1,7 +1,7 @@
 use Rattle.std.proofs.Common.{◌≡◌, map, take}
 use Rattle.ash_typed.specs.BodyViews.{value_of}
 use Rattle.ash_typed.specs.StatementTree.{Initialization}
-use Rattle.ash_phrases.specs.OperatorMeaning.{zero_of}
+use Rattle.ash_meaning.specs.OperatorMeaning.{zero_of}
 use Rattle.ash_plain_data.proofs.classes.blank_fields.Given as goal
 
 abbrev pub invariant-loop-field : goal.invariant-loop-field

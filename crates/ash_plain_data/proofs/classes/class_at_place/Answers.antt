@@ -2,7 +2,7 @@ use Rattle.std.proofs.Common.{◌≡◌, ℕ, sym, ap, ◌∙◌, nat_eq, map, l
 use Rattle.std.proofs.lemmas.List.{length-map}
 use Rattle.std.specs.List.{position_from, range_with_len}
 use Rattle.ash_typed.specs.Modules.{module_of, class_of}
-use Rattle.ash_phrases.specs.Classes.{place_of_class, places_of_classes}
+use Rattle.ash_meaning.specs.Classes.{place_of_class, places_of_classes}
 use Rattle.ash_plain_data.proofs.Positions.{position_is}
 use Rattle.ash_plain_data.proofs.classes.class_at_place.Goals as goal
 

@@ -1,7 +1,7 @@
 use Rattle.std.proofs.Common.{◌≡◌, ◌-◌, nat_eq, map}
 use Rattle.std.specs.List.{position_from, range_with_len}
 use Rattle.ash_typed.specs.Modules.{module_of}
-use Rattle.ash_phrases.specs.Classes.{place_of_class}
+use Rattle.ash_meaning.specs.Classes.{place_of_class}
 use Rattle.ash_plain_data.proofs.classes.first_at.Given as goal
 
 abbrev pub invariant-loop-class : goal.invariant-loop-class

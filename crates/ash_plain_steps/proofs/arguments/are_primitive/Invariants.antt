@@ -1,6 +1,6 @@
 use Rattle.std.proofs.Common.{◌≡◌, drop}
 use Rattle.std.specs.List.{list_all}
-use Rattle.ash_steps.specs.Tasks.{is_primitive}
+use Rattle.ash_requests.specs.Tasks.{is_primitive}
 use Rattle.ash_plain_steps.proofs.arguments.are_primitive.Given as goal
 
 abbrev pub invariant-loop-of : goal.invariant-loop-of

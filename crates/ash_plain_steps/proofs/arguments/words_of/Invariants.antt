@@ -1,5 +1,5 @@
 use Rattle.std.proofs.Common.{◌≡◌, ◌++◌, drop, option_map}
-use Rattle.ash_steps.specs.Tasks.{arguments_of}
+use Rattle.ash_requests.specs.Tasks.{arguments_of}
 use Rattle.ash_plain_steps.proofs.arguments.words_of.Given as goal
 
 -- the words so far, and those of what is left

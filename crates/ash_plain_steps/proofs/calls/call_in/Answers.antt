@@ -5,7 +5,7 @@ use Rattle.std.specs.Str.{bytes_eq}
 use Rattle.std.proofs.lemmas.Result.{err_from_is_err_and}
 use Rattle.std.proofs.lemmas.Option.{slice_get-map, slice_get_past}
 use Rattle.ash_typed.specs.Modules.{Function, function_of, module_of}
-use Rattle.ash_steps.specs.Tasks.{is_callable, arguments_of}
+use Rattle.ash_requests.specs.Tasks.{is_callable, arguments_of}
 use Rattle.ash_plain_steps.proofs.Asked.{no_function, nothing_there, not_callable, bad_arguments, invoked, words_take}
 use Rattle.ash_plain_steps.proofs.Given.{got_item}
 use Rattle.ash_plain_steps.proofs.calls.call_in.Goals as goal

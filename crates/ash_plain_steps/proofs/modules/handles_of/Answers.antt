@@ -1,6 +1,6 @@
 use Rattle.std.proofs.Common.{◌++◌, List, drop, ◌+◌, ap, ◌∙◌}
 use Rattle.ash_host.specs.Objects.{handles}
-use Rattle.ash_steps.specs.States.{globals_of}
+use Rattle.ash_requests.specs.States.{globals_of}
 use Rattle.ash_plain_steps.specs.StateViews.{modules_seen}
 use Rattle.ash_plain_steps.proofs.Handles.{more_handles}
 use Rattle.ash_plain_steps.proofs.modules.handles_of.Goals as goal

@@ -1,7 +1,7 @@
 use Rattle.std.proofs.Common.{◌≡◌, ℕ, List, length, Option, unwrap_or, string_bytes, sym, ◌∙◌, ap}
 use Rattle.std.specs.List.{position}
 use Rattle.std.specs.Ordering.{is_lt}
-use Rattle.ash_steps.specs.States.{compare_names}
+use Rattle.ash_requests.specs.States.{compare_names}
 use Rattle.ash_plain_steps.specs.declared.state.LoadedModule.{LoadedModule}
 use Rattle.ash_plain_steps.specs.StateViews.{loaded_seen, modules_seen}
 use Rattle.ash_plain_steps.proofs.Places.{inserted_at}

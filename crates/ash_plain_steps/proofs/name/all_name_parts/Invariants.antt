@@ -1,6 +1,6 @@
 use Rattle.std.proofs.Common.{◌≡◌, drop}
 use Rattle.std.specs.List.{list_all}
-use Rattle.ash_steps.specs.Tasks.{is_name_part}
+use Rattle.ash_requests.specs.Tasks.{is_name_part}
 use Rattle.ash_plain_steps.proofs.name.all_name_parts.Given as goal
 
 abbrev pub invariant-loop-byte : goal.invariant-loop-byte

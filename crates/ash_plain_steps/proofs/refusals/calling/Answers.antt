@@ -2,7 +2,7 @@ use Rattle.std.proofs.Common.{◌≡◌, List, Some, Ok, sym, ◌∙◌, ap, sub
 use Rattle.std.specs.Prelude.{slice_get, option_map}
 use Rattle.std.proofs.lemmas.Result.{err_from_is_err_and}
 use Rattle.ash_typed.specs.Modules.{module_of}
-use Rattle.ash_steps.specs.Tasks.{Task, TaskResult, Invoke}
+use Rattle.ash_requests.specs.Tasks.{Task, TaskResult, Invoke}
 use Rattle.ash_plain_steps.specs.declared.state.LoadedModule.{LoadedModule}
 use Rattle.ash_plain_steps.specs.StateViews.{loaded_seen}
 use Rattle.ash_plain_steps.specs.TaskViews.{RefusesAs}

@@ -2,8 +2,8 @@ use Rattle.std.proofs.Common.{rules, ◌≡◌, ℕ, ◌<◌, ◌≤◌, true, f
 use Rattle.std.specs.Prelude.{is_some}
 use Rattle.std.proofs.lemmas.Result.{err_from_is_err_and}
 use Rattle.ash_typed.specs.declared.tree.items.Module as script
-use Rattle.ash_steps.specs.Tasks.{TaskResult, max_modules, is_module_name}
-use Rattle.ash_steps.specs.SourceViews.{read_seen}
+use Rattle.ash_requests.specs.Tasks.{TaskResult, max_modules, is_module_name}
+use Rattle.ash_requests.specs.SourceViews.{read_seen}
 use Rattle.ash_plain_steps.proofs.Given.{place_in, load_taken, load_many, load_read, load_absent, reading_takes}
 use Rattle.ash_plain_steps.proofs.refusals.loading.Goals as goal
 

@@ -1,7 +1,7 @@
 use Rattle.std.proofs.Common.{◌≡◌, List, map, Some, sym, ◌∙◌, ap}
 use Rattle.std.specs.Prelude.{slice_get}
 use Rattle.ash_typed.specs.Modules.{variables_of}
-use Rattle.ash_steps.specs.Tasks.{TaskResult}
+use Rattle.ash_requests.specs.Tasks.{TaskResult}
 use Rattle.ash_plain_steps.specs.TaskViews.{word_among}
 use Rattle.ash_plain_steps.proofs.Given.{place_in, got_item, read_nowhere, no_global_there, global_there}
 use Rattle.ash_plain_steps.proofs.refusals.reading.Goals as goal

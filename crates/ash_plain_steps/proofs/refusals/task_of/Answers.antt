@@ -1,5 +1,5 @@
 use Rattle.std.proofs.Common.{sym, subst}
-use Rattle.ash_steps.specs.Tasks.{task_of}
+use Rattle.ash_requests.specs.Tasks.{task_of}
 use Rattle.ash_plain_steps.specs.declared.request.Request as request
 use Rattle.ash_plain_steps.specs.StateViews.{state_seen}
 use Rattle.ash_plain_steps.specs.RequestViews.{request_seen}

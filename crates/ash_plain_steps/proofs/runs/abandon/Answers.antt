@@ -1,10 +1,10 @@
 use Rattle.std.proofs.Common.{List, [], ◌∙◌, ap}
 use Rattle.ash_host.specs.declared.word.Word.{Word}
-use Rattle.ash_phrases.specs.Activity.{World}
-use Rattle.ash_phrases.specs.Releases.{sweep}
-use Rattle.ash_plain.specs.ActivityViews.{world_seen}
-use Rattle.ash_evaluator.specs.EndViews.{end_seen}
-use Rattle.ash_steps.specs.Steps.{answered}
+use Rattle.ash_meaning.specs.Activity.{World}
+use Rattle.ash_meaning.specs.Releases.{sweep}
+use Rattle.ash_plain_world.specs.ActivityViews.{world_seen}
+use Rattle.ash_plain_scripts.specs.EndViews.{end_seen}
+use Rattle.ash_requests.specs.Steps.{answered}
 use Rattle.ash_plain_steps.specs.StateViews.{modules_seen}
 use Rattle.ash_plain_steps.proofs.runs.abandon.Goals as goal
 

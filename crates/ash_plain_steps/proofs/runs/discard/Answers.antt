@@ -1,10 +1,10 @@
 use Rattle.std.proofs.Common.{◌≡◌, List, [], ◌∙◌, ap, sym, subst}
 use Rattle.std.specs.List.{remove}
-use Rattle.ash_plain.specs.ActivityViews.{world_seen}
+use Rattle.ash_plain_world.specs.ActivityViews.{world_seen}
 use Rattle.std.proofs.lemmas.Option.{slice_get-get_or}
 use Rattle.std.specs.Prelude.{slice_get}
 use Rattle.std.proofs.Common.{get_or}
-use Rattle.ash_steps.specs.States.{LoadedModule, world_of}
+use Rattle.ash_requests.specs.States.{LoadedModule, world_of}
 use Rattle.ash_plain_steps.specs.declared.state.LoadedModule as code_module
 use Rattle.ash_plain_steps.specs.StateViews.{loaded_seen, modules_seen, state_seen, hosts_seen}
 use Rattle.ash_plain_steps.specs.RequestViews.{step_seen}

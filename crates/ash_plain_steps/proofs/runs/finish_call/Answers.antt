@@ -1,7 +1,7 @@
 use Rattle.std.proofs.Common.{◌∙◌, ap, set}
-use Rattle.ash_plain.specs.ActivityViews.{world_seen}
-use Rattle.ash_evaluator.specs.EndViews.{end_seen}
-use Rattle.ash_steps.specs.Steps.{answered}
+use Rattle.ash_plain_world.specs.ActivityViews.{world_seen}
+use Rattle.ash_plain_scripts.specs.EndViews.{end_seen}
+use Rattle.ash_requests.specs.Steps.{answered}
 use Rattle.ash_plain_steps.specs.declared.state.LoadedModule.{LoadedModule}
 use Rattle.ash_plain_steps.specs.StateViews.{modules_seen}
 use Rattle.std.proofs.Common.{sym}

@@ -1,11 +1,11 @@
 use Rattle.std.proofs.Common.{◌≡◌, List, sym, subst}
 use Rattle.std.specs.Prelude.{IfOk}
-use Rattle.ash_evaluator.specs.declared.ends.End as end
-use Rattle.ash_evaluator.specs.declared.ends.End.TheVariants as ends
-use Rattle.ash_plain.specs.ActivityViews.{world_seen}
-use Rattle.ash_evaluator.specs.EndViews.{end_seen}
-use Rattle.ash_steps.specs.Steps.{answered, after_load_with, without_globals}
-use Rattle.ash_steps.specs.States.{LoadedModule}
+use Rattle.ash_plain_scripts.specs.declared.ends.End as end
+use Rattle.ash_plain_scripts.specs.declared.ends.End.TheVariants as ends
+use Rattle.ash_plain_world.specs.ActivityViews.{world_seen}
+use Rattle.ash_plain_scripts.specs.EndViews.{end_seen}
+use Rattle.ash_requests.specs.Steps.{answered, after_load_with, without_globals}
+use Rattle.ash_requests.specs.States.{LoadedModule}
 use Rattle.ash_plain_steps.specs.RequestViews.{step_seen}
 use Rattle.ash_plain_steps.proofs.runs.finish_load.Goals as goal
 

@@ -2,11 +2,11 @@ use Rattle.std.proofs.Common.{rules, ◌≡◌, ◌<◌, List, length, set, get_
 use Rattle.std.specs.Prelude.{slice_get, option_map, string_bytes}
 use Rattle.std.proofs.lemmas.Option.{get_or_from_slice_get, slice_get-get_or}
 use Rattle.ash_typed.specs.Modules.{module_of}
-use Rattle.ash_phrases.specs.Ends.{Outcome, call_function}
-use Rattle.ash_plain.specs.ActivityViews.{world_seen}
-use Rattle.ash_evaluator.specs.EndViews.{end_seen, outcome_seen}
-use Rattle.ash_steps.specs.States.{LoadedModule, without_module, update_globals, world_of}
-use Rattle.ash_steps.specs.Steps.{Step, answered, after_call}
+use Rattle.ash_meaning.specs.Ends.{Outcome, call_function}
+use Rattle.ash_plain_world.specs.ActivityViews.{world_seen}
+use Rattle.ash_plain_scripts.specs.EndViews.{end_seen, outcome_seen}
+use Rattle.ash_requests.specs.States.{LoadedModule, without_module, update_globals, world_of}
+use Rattle.ash_requests.specs.Steps.{Step, answered, after_call}
 use Rattle.ash_plain_steps.specs.declared.state.LoadedModule as code_module
 use Rattle.ash_plain_steps.specs.declared.request.StepError.{StepError}
 use Rattle.ash_plain_steps.specs.declared.request.Step as code_step

@@ -1,9 +1,9 @@
 use Rattle.std.proofs.Common.{List, ◌∙◌, ap, sym, subst}
 use Rattle.std.specs.List.{find}
-use Rattle.ash_phrases.specs.Ends.{Finished}
-use Rattle.ash_plain.specs.ActivityViews.{world_seen}
-use Rattle.ash_steps.specs.States.{LoadedModule, has_name, with_module}
-use Rattle.ash_steps.specs.Steps.{answered}
+use Rattle.ash_meaning.specs.Ends.{Finished}
+use Rattle.ash_plain_world.specs.ActivityViews.{world_seen}
+use Rattle.ash_requests.specs.States.{LoadedModule, has_name, with_module}
+use Rattle.ash_requests.specs.Steps.{answered}
 use Rattle.ash_plain_steps.specs.declared.state.LoadedModule as code_module
 use Rattle.ash_plain_steps.specs.StateViews.{modules_seen}
 use Rattle.ash_plain_steps.specs.Consistency.{AreConsistent, IsReadFromSource}

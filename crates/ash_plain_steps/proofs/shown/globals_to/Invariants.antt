@@ -1,6 +1,6 @@
 use Rattle.std.proofs.Common.{◌≡◌, ◌+◌, drop}
 use Rattle.ash_host.specs.Objects.{handles_to}
-use Rattle.ash_steps.specs.States.{globals_of}
+use Rattle.ash_requests.specs.States.{globals_of}
 use Rattle.ash_plain_steps.specs.StateViews.{modules_seen}
 use Rattle.ash_plain_steps.proofs.shown.globals_to.Given as goal
 

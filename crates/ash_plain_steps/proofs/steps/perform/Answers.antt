@@ -1,6 +1,6 @@
 use Rattle.std.proofs.Common.{◌∙◌, ap, sym, subst}
 use Rattle.std.specs.Prelude.{slice_get}
-use Rattle.ash_steps.specs.Tasks.{Remove}
+use Rattle.ash_requests.specs.Tasks.{Remove}
 use Rattle.ash_plain_steps.specs.declared.state.LoadedModule.{LoadedModule}
 use Rattle.ash_plain_steps.specs.declared.task.Task as task
 use Rattle.ash_plain_steps.specs.declared.task.Task.TheVariants as tasks

@@ -1,4 +1,4 @@
-use Rattle.ash_steps.specs.Tasks.{task_of}
+use Rattle.ash_requests.specs.Tasks.{task_of}
 use Rattle.ash_plain_steps.specs.StateViews.{state_seen, hosts_seen}
 use Rattle.ash_plain_steps.specs.RequestViews.{request_seen, step_seen}
 use Rattle.ash_plain_steps.specs.TaskViews.{task_seen}

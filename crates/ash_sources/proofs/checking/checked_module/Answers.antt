@@ -1,7 +1,7 @@
 use Rattle.std.proofs.lemmas.Result.{err_from_is_err_and}
 use Rattle.ash_registry.specs.RegistryViews.{registered}
 use Rattle.ash_tree.specs.TreeViews.{module_of as items_of}
-use Rattle.ash_typing.proofs.SoundnessNesting.{derived_proper}
+use Rattle.ash_type_rules.proofs.SoundnessNesting.{derived_proper}
 use Rattle.ash_sources.specs.CheckedSource.{items_checked, checked_source}
 use Rattle.ash_sources.proofs.CheckedAnswers.{spelled_checked, source_refused}
 use Rattle.ash_sources.proofs.Outcomes.{found_as, refused_as}

@@ -3,9 +3,9 @@ use Rattle.std.specs.Prelude.{Ok}
 use Rattle.std.specs.List.{AllByRecursion}
 use Rattle.std.specs.Vec.Iter.{into_iter_items}
 use Rattle.ash_typed.specs.Modules.{Module}
-use Rattle.ash_steps.specs.States.{LoadedModule}
+use Rattle.ash_requests.specs.States.{LoadedModule}
 use Rattle.ash_plain_steps.specs.StateViews.{modules_seen}
-use Rattle.ash_state_image.specs.SnapshotViews.{module_of, modules_of}
+use Rattle.ash_image.specs.SnapshotViews.{module_of, modules_of}
 use Rattle.ash_states.specs.Images.{loaded_of, loaded_modules_of}
 use Rattle.ash_states.specs.StateRestoring.{HasTree}
 use Rattle.ash_states.proofs.Lists.{all_map}

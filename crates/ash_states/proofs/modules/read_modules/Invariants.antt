@@ -3,7 +3,7 @@ use Rattle.std.specs.List.{AllByRecursion}
 use Rattle.std.specs.Vec.Iter.{into_iter_items}
 use Rattle.ash_plain_steps.specs.StateViews.{modules_seen}
 use Rattle.ash_plain_steps.specs.Consistency.{IsReadFromSource}
-use Rattle.ash_state_image.specs.SnapshotViews.{modules_of}
+use Rattle.ash_image.specs.SnapshotViews.{modules_of}
 use Rattle.ash_states.specs.Images.{loaded_modules_of}
 use Rattle.ash_states.proofs.modules.read_modules.Given as goal
 

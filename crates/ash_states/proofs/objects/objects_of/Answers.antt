@@ -2,8 +2,8 @@ use Rattle.std.proofs.Common.{◌≡◌, ◌≤◌, ℕ, true, List, [], ◌∷�
 use Rattle.std.specs.Vec.Iter.{into_iter_items}
 use Rattle.ash_host.specs.Objects.{numbers}
 use Rattle.ash_plain_steps.specs.StateViews.{modules_seen}
-use Rattle.ash_state_image.specs.Image.{do_rise}
-use Rattle.ash_state_image.specs.SnapshotViews.{objects_of}
+use Rattle.ash_image.specs.Image.{do_rise}
+use Rattle.ash_image.specs.SnapshotViews.{objects_of}
 use Rattle.ash_states.specs.Images.{name_at, plain_named, entry_named}
 use Rattle.ash_states.specs.StateRestoring.{with_all}
 use Rattle.ash_states.proofs.Renamed.{numbers_same}

@@ -1,7 +1,7 @@
 use Rattle.std.proofs.Common.{◌≡◌, [], map}
 use Rattle.std.specs.Vec.Iter.{into_iter_items}
 use Rattle.ash_plain_steps.specs.StateViews.{modules_seen}
-use Rattle.ash_state_image.specs.SnapshotViews.{objects_of}
+use Rattle.ash_image.specs.SnapshotViews.{objects_of}
 use Rattle.ash_states.specs.Images.{name_at, entry_named}
 use Rattle.ash_states.specs.StateRestoring.{with_all}
 use Rattle.ash_states.proofs.objects.objects_of.Given as goal

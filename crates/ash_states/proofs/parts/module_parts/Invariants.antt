@@ -1,6 +1,6 @@
 use Rattle.std.proofs.Common.{◌≡◌, take}
 use Rattle.ash_plain_steps.specs.StateViews.{modules_seen}
-use Rattle.ash_state_image.specs.SnapshotViews.{modules_in}
+use Rattle.ash_image.specs.SnapshotViews.{modules_in}
 use Rattle.ash_states.specs.Indexes.{stored_modules_of}
 use Rattle.ash_states.proofs.parts.module_parts.Given as goal
 

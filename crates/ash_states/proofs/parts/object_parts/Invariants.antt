@@ -3,7 +3,7 @@ use Rattle.std.specs.List.{AllByRecursion}
 use Rattle.ash_host.specs.Objects.{Plain}
 use Rattle.ash_plain_data.specs.ObjectViews.{entry_seen}
 use Rattle.ash_plain_steps.specs.StateViews.{modules_seen}
-use Rattle.ash_state_image.specs.SnapshotViews.{objects_in}
+use Rattle.ash_image.specs.SnapshotViews.{objects_in}
 use Rattle.ash_states.specs.Indexes.{index_in, entry_indexed, IsPlainIndexed}
 use Rattle.ash_states.specs.Writing.{HavePartKinds}
 use Rattle.ash_states.proofs.parts.object_parts.Given as goal

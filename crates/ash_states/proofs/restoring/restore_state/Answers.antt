@@ -5,15 +5,15 @@ use Rattle.std.specs.Vec.{vec_items}
 use Rattle.ash_registry.specs.AcceptedRegistrations.{Registration}
 use Rattle.ash_registry.specs.RegistryViews.{registered}
 use Rattle.ash_typed.specs.Signatures.{HostSignatures}
-use Rattle.ash_steps.specs.States.{LoadedModule}
+use Rattle.ash_requests.specs.States.{LoadedModule}
 use Rattle.ash_plain_steps.specs.declared.state.LoadedModule as code_module
 use Rattle.ash_plain_steps.specs.declared.state.PlainState.{PlainState}
 use Rattle.ash_plain_steps.specs.StateViews.{modules_seen, state_seen}
 use Rattle.ash_sources.specs.Sources.{SourceRules, embedding_of}
 use Rattle.ash_admission.specs.Admission.{ConstructsNothing, AreWellTypedObjects}
-use Rattle.ash_state_image.specs.Snapshots.{Snapshot}
-use Rattle.ash_state_image.specs.ImageObjectViews.{service_of}
-use Rattle.ash_state_image.specs.SnapshotViews.{services_of, modules_of, objects_of, snapshot_of}
+use Rattle.ash_image.specs.Snapshots.{Snapshot}
+use Rattle.ash_image.specs.ImageObjectViews.{service_of}
+use Rattle.ash_image.specs.SnapshotViews.{services_of, modules_of, objects_of, snapshot_of}
 use Rattle.ash_states.specs.HostStates.{embedding_for}
 use Rattle.ash_states.specs.Images.{name_at, entry_named, state_of}
 use Rattle.ash_states.specs.StateRestoring.{ReadsModules}

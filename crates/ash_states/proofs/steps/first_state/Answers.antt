@@ -1,5 +1,5 @@
 use Rattle.std.proofs.Common.{rules, ◌≡◌, []}
-use Rattle.ash_steps.specs.States.{empty}
+use Rattle.ash_requests.specs.States.{empty}
 use Rattle.ash_plain_steps.specs.StateViews.{state_seen}
 use Rattle.ash_states.proofs.StepsTaken.{first_held}
 use Rattle.ash_states.proofs.steps.first_state.Goals as goal

@@ -1,8 +1,8 @@
 use Rattle.std.proofs.Common.{refl}
 use Rattle.std.proofs.lemmas.Result.{IfOk-weaker}
 use Rattle.ash_registry.specs.RegistryViews.{registered}
-use Rattle.ash_state_image.specs.Image.{image_of}
-use Rattle.ash_state_image.specs.SnapshotViews.{snapshot_in}
+use Rattle.ash_image.specs.Image.{image_of}
+use Rattle.ash_image.specs.SnapshotViews.{snapshot_in}
 use Rattle.ash_states.specs.HostStates.{HostState}
 use Rattle.ash_states.specs.Holding.{held_with}
 use Rattle.ash_states.proofs.Depicted.{image_by_parts}

@@ -1,4 +1,4 @@
-use Rattle.ash_steps.specs.Requests.{Get}
+use Rattle.ash_requests.specs.Requests.{Get}
 use Rattle.ash_plain_steps.specs.RequestViews.{reply_seen}
 use Rattle.ash_sources.specs.SourceFaults.{fault_of}
 use Rattle.ash_durable.proofs.Changing.{handles_at, reads_only}

@@ -1,6 +1,6 @@
 use Rattle.std.proofs.Common.{◌≡◌, List, ◌≤◌, length, drop, map, ◌++◌, vec_len}
 use Rattle.std.specs.Vec.{vec_capacity}
-use Rattle.ash_steps.specs.Requests.{Reply}
+use Rattle.ash_requests.specs.Requests.{Reply}
 use Rattle.ash_plain_steps.specs.RequestViews.{request_seen, reply_seen}
 use Rattle.ash_sources.specs.SourceFaults.{SourceFault, fault_of}
 use Rattle.ash_durable.specs.Hosting.{Hosted, HandlesAll}

@@ -1,5 +1,5 @@
 use Rattle.std.proofs.Common.{rules, ◌≡◌, ℕ, unwrap_or, subst}
-use Rattle.ash_steps.specs.Requests.{Seq, Number}
+use Rattle.ash_requests.specs.Requests.{Seq, Number}
 use Rattle.ash_durable.specs.Hosting.{Hosted, Handles}
 use Rattle.ash_durable.proofs.HandledRequests.{seen_host}
 use Rattle.ash_durable.proofs.Handling.{handles_seq}

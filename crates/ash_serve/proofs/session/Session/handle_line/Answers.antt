@@ -1,7 +1,7 @@
 use Rattle.std.proofs.Common.{◌∙◌, List, refl, sym, ap}
 use Rattle.ash_plain_steps.specs.RequestViews.{request_seen}
-use Rattle.ash_steps.specs.Requests.{Call}
-use Rattle.ash_steps.specs.declared.argument.Argument.{Argument}
+use Rattle.ash_requests.specs.Requests.{Call}
+use Rattle.ash_requests.specs.declared.argument.Argument.{Argument}
 use Rattle.ash_lines.specs.Lines.{HostRequest, Quit, BadRequest, Complete, parse_line}
 use Rattle.ash_lines.specs.declared.reply.LineReply.TheVariants as code_replies
 use Rattle.ash_serve.specs.Serving.{handling_with}

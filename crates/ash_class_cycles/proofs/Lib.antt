@@ -1,0 +1,10 @@
+pub mod Markings
+pub mod Rounds
+pub mod PathsBack
+pub mod Ranked
+pub mod Searches
+pub mod ReferenceLaws
+pub mod CycleLaws
+pub mod Shortcuts
+pub mod CycleSearches
+pub mod RankLaws

@@ -1,9 +1,0 @@
-pub mod Markings
-pub mod Rounds
-pub mod PathsBack
-pub mod Ranked
-pub mod Searches
-pub mod ReferenceLaws
-pub mod CycleLaws
-pub mod Shortcuts
-pub mod CycleSearches

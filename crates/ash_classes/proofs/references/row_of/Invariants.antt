@@ -1,7 +1,0 @@
-use Rattle.ash_tree.specs.TreeViews.{class_of}
-use Rattle.ash_classes.specs.ClassReferences.{borrowed_classes}
-use Rattle.ash_classes.proofs.ReferenceLaws.{IsRowBefore}
-use Rattle.ash_classes.proofs.references.row_of.Given as goal
-
-abbrev pub invariant-loop-place : goal.invariant-loop-place
-invariant-loop-place l = IsRowBefore (borrowed_classes l.classes) (class_of l.to) l.place l.row.items

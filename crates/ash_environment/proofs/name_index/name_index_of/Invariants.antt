@@ -1,8 +1,0 @@
-use Rattle.std.proofs.Common.{drop}
-use Rattle.ash_environment.specs.NameIndex.{texts}
-use Rattle.ash_environment.proofs.IndexLaws.{ArePlacesFrom}
-use Rattle.ash_environment.proofs.name_index.name_index_of.Given as goal
-
--- the names from here on have their places
-abbrev pub invariant-loop-place : goal.invariant-loop-place
-invariant-loop-place l = ArePlacesFrom l.place l.places (texts (drop l.place l.names))

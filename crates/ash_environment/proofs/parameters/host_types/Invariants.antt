@@ -1,6 +1,0 @@
-use Rattle.std.proofs.Common.{◌≡◌, ◌++◌, map, drop}
-use Rattle.ash_typing.specs.TypeRules.{var_type, ty_of}
-use Rattle.ash_environment.proofs.parameters.host_types.Given as goal
-
-abbrev pub invariant-loop-primitive : goal.invariant-loop-primitive
-invariant-loop-primitive l = l.types.items ++ map var_type (map ty_of (drop l.primitive-index l.primitives)) ≡ map var_type (map ty_of l.primitives)

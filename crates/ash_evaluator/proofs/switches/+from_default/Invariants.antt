@@ -1,5 +1,0 @@
-use Rattle.std.proofs.Common.{length}
-use Rattle.ash_evaluator.proofs.switches.+from_default.Given as goal
-
-abbrev pub decreases-from_default : goal.decreases-from_default
-decreases-from_default l = length l.all.now

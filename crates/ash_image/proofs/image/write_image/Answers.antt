@@ -1,0 +1,19 @@
+use Rattle.std.proofs.Common.{◌≡◌, ℕ, List, ◌<◌, ◌^◌, length, ◌++◌, sym, ap, subst, ◌∙◌, arith}
+use Rattle.ash_image.specs.Image.{image_of}
+use Rattle.ash_image.specs.SnapshotViews.{snapshot_in}
+use Rattle.ash_image.specs.declared.version.Version.TheVariants.{Two}
+use Rattle.ash_image.proofs.ImageLengths.{image_short}
+use Rattle.ash_image.proofs.image.write_image.Goals as goal
+
+pub returns-clause-read : goal.returns-clause-read
+returns-clause-read c = λ keeps.
+    let s = snapshot_in c.args.state in
+    let written = c.in_ok-write_image_into.ensures.value ∙ ap (λ (bytes : List ℕ). bytes ++ image_of s) c.in_ok-image.ensures.items in
+    ((c.requires.fits, written), keeps)
+
+pub returns-clause-short : goal.returns-clause-short
+returns-clause-short c =
+    let s = snapshot_in c.args.state in
+    let written = c.in_ok-write_image_into.ensures.value ∙ ap (λ (bytes : List ℕ). bytes ++ image_of s) c.in_ok-image.ensures.items in
+    let short : length (image_of s) < 2 ^ 28 = omega (arith, image_short Two s c.requires.fits) in
+    subst (λ (bytes : List ℕ). length bytes < 2 ^ 28) (sym written) short

@@ -1,5 +1,0 @@
-use Rattle.ash_phrases.proofs.Depth as depth
-use Rattle.ash_phrases.proofs.laws.depth_is_no_part.Goals as goal
-
-pub returns : goal.returns
-returns c = record { same = depth.depth_is_no_part }

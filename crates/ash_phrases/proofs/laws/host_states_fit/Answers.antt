@@ -1,5 +1,0 @@
-use Rattle.ash_phrases.proofs.Fits as fits
-use Rattle.ash_phrases.proofs.laws.host_states_fit.Goals as goal
-
-pub returns : goal.returns
-returns g c = record { fit = fits.host_states_fit _ }

@@ -1,5 +1,0 @@
-use Rattle.ash_phrases.proofs.Numbers as numbers
-use Rattle.ash_phrases.proofs.laws.numbers_live_once.Goals as goal
-
-pub returns : goal.returns
-returns c = record { once = λ first last t numbered. numbers.along t numbered }

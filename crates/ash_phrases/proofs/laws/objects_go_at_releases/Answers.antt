@@ -1,5 +1,0 @@
-use Rattle.ash_phrases.proofs.Departures as departures
-use Rattle.ash_phrases.proofs.laws.objects_go_at_releases.Goals as goal
-
-pub returns : goal.returns
-returns c = record { at_releases = departures.go_at_releases }

@@ -1,5 +1,0 @@
-use Rattle.ash_phrases.proofs.Depth as depth
-use Rattle.ash_phrases.proofs.laws.phrases_are_traces.Goals as goal
-
-pub returns : goal.returns
-returns c = record { traces = depth.phrases_are_traces }

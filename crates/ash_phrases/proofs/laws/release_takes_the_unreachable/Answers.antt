@@ -1,5 +1,0 @@
-use Rattle.ash_phrases.proofs.Released as released
-use Rattle.ash_phrases.proofs.laws.release_takes_the_unreachable.Goals as goal
-
-pub returns : goal.returns
-returns c = record { exact = released.released }

@@ -1,7 +1,0 @@
-use Rattle.std.proofs.Common.{refl}
-use Rattle.ash_phrases.proofs.Computing.{computing}
-use Rattle.ash_phrases.proofs.tables.worked_jump_ticks.Goals as goal
-
-pub returns : goal.returns
-unfolding computing
-returns c = record { lines = refl }

@@ -1,8 +1,0 @@
-use Rattle.ash_ranks.proofs.RankLaws.{typed_refers, typed_ranks}
-use Rattle.ash_ranks.proofs.typed_ranks_fall.Goals as goal
-
-pub returns-clause-refers : goal.returns-clause-refers
-returns-clause-refers c = typed_refers
-
-pub returns-clause-ranks : goal.returns-clause-ranks
-returns-clause-ranks c = typed_ranks

@@ -1,0 +1,4 @@
+pub mod WellFormed
+pub mod WellFormedLaws
+pub mod WellFormedStates
+pub mod ModuleExample

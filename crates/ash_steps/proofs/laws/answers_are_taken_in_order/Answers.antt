@@ -1,5 +1,0 @@
-use Rattle.ash_steps.proofs.AnswersInOrder as lemmas
-use Rattle.ash_steps.proofs.laws.answers_are_taken_in_order.Goals as goal
-
-pub returns : goal.returns
-returns g c = record { in_order = lemmas.runs_take }

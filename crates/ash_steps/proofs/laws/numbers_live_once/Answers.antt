@@ -1,5 +1,0 @@
-use Rattle.ash_steps.proofs.Numbers as numbers
-use Rattle.ash_steps.proofs.laws.numbers_live_once.Goals as goal
-
-pub returns : goal.returns
-returns g c = record { once = numbers.runs_live }

@@ -1,5 +1,0 @@
-use Rattle.ash_typing.proofs.FaultLaws.{fault_broken}
-use Rattle.ash_typing.proofs.modules.faults_are_what_they_say.Goals as goal
-
-pub returns : goal.returns
-returns c = record { broken_there = fault_broken }

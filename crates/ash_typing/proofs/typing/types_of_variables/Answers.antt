@@ -1,8 +1,0 @@
-use Rattle.ash_typing.proofs.TypingCallees.{variable_written, variable_read_back}
-use Rattle.ash_typing.proofs.typing.types_of_variables.Goals as goal
-
-pub returns-clause-written : goal.returns-clause-written
-returns-clause-written c = variable_written
-
-pub returns-clause-read : goal.returns-clause-read
-returns-clause-read c = variable_read_back

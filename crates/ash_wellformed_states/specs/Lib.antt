@@ -1,2 +1,0 @@
-pub mod WellFormedStates
-pub mod ModuleExample
