@@ -9,7 +9,7 @@ use Rattle.ash_host.specs.Objects.{object_at}
 use Rattle.ash_typed.specs.Modules.{Function, Module}
 use Rattle.ash_meaning.specs.Activity.{World}
 use Rattle.ash_meaning.specs.Ends.{End, Finished, Threw, Aborted}
-use Rattle.ash_requests.specs.declared.argument.Argument.{Argument}
+use Rattle.ash_requests.specs.declared.argument.Arg.{Arg}
 use Rattle.ash_requests.specs.States.{LoadedModule, State, Hosts, Embedding, find_module}
 use Rattle.ash_requests.specs.Requests.{Request, Load, Call, Discard, Get, Object, Seq, Snapshot, Refusal, Reply, Value}
 use Rattle.ash_requests.specs.Requests.{ShownAs}
@@ -22,7 +22,7 @@ use Rattle.ash_requests.specs.Tasks.{is_callable, arguments_of, max_modules, max
 use Rattle.ash_requests.specs.Tasks as tasks
 use Rattle.ash_requests.specs.Steps.{Step, perform, unless_refused, after_load, after_load_with, after_call, after_discard}
 use Rattle.ash_requests.specs.Steps as steps
-use Rattle.ash_plain_steps.specs.StepViews.{TaskChangesState}
+use Rattle.ash_requests.specs.TaskResults.{TaskChangesState}
 use Rattle.ash_sources.specs.SourceFaults.{SourceFault}
 use Rattle.ash_states.specs.HostStates.{HostState, embedding_for}
 use Rattle.ash_states.specs.StateSteps.{StateSteps, task_of, step, outcome_of, no_hosts}
@@ -125,7 +125,7 @@ initializes : (name source : List ℕ) (reading : Result Module SourceFault)
 initializes name source (Ok tree) = tt
 initializes name source (Err fault) = tt
 
-call_in_fine : (loaded : LoadedModule) (tree : Module) (name : List ℕ) (args : List Argument)
+call_in_fine : (loaded : LoadedModule) (tree : Module) (name : List ℕ) (args : List Arg)
     → NotForDevice (call_in loaded tree name args)
 call_in_fine loaded tree name args =
     required_some NotForDevice (position (λ (f : Function). bytes_eq f.name name) tree.functions) NoFunction _ tt

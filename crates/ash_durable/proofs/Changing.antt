@@ -12,7 +12,7 @@ use Rattle.ash_requests.specs.Tasks.{word_named}
 use Rattle.ash_requests.specs.Tasks.{described, max_seq}
 use Rattle.ash_requests.specs.Tasks as tasks
 use Rattle.ash_requests.specs.Steps.{Step, unless_refused}
-use Rattle.ash_plain_steps.specs.StepViews.{TaskChangesState}
+use Rattle.ash_requests.specs.TaskResults.{TaskChangesState}
 use Rattle.ash_sources.specs.SourceFaults.{SourceFault}
 use Rattle.ash_states.specs.HostStates.{HostState, embedding_for}
 use Rattle.ash_states.specs.StateSteps.{StateSteps, step, task_of, outcome_of, no_hosts}

@@ -7,7 +7,7 @@ use Rattle.ash_journal.specs.JournalFailures.{CountsFailures}
 use Rattle.ash_journal.specs.Journal.{first_disk, second_disk, generation, record_bytes, HasFailed, IsReady, Holds}
 use Rattle.ash_journal.specs.SettledSince.{HoldsSince, Extends}
 use Rattle.ash_states.specs.HostStates.{HostState}
-use Rattle.ash_plain_steps.specs.declared.request.Refusal.TheVariants as the
+use Rattle.ash_requests.specs.declared.refusal.Refusal.TheVariants as the
 use Rattle.ash_durable.specs.Contents.{record_header_size}
 use Rattle.ash_durable.specs.Saving.{Adds, Installs, last_generation}
 use Rattle.ash_image.specs.declared.version.Version.TheVariants.{Two}

@@ -6,8 +6,8 @@ use Rattle.ash_disk.specs.Device.{Device}
 use Rattle.ash_journal.specs.declared.journal.Journal.{Journal}
 use Rattle.ash_journal.specs.JournalFailures.{CountsFailures}
 use Rattle.ash_requests.specs.Requests.{Request, Seq, Reply, Refused, NoMemory}
-use Rattle.ash_plain_steps.specs.declared.request.Refusal.TheVariants as the
-use Rattle.ash_plain_steps.specs.StepViews.{TaskChangesState}
+use Rattle.ash_requests.specs.declared.refusal.Refusal.TheVariants as the
+use Rattle.ash_requests.specs.TaskResults.{TaskChangesState}
 use Rattle.ash_sources.specs.SourceFaults.{SourceFault}
 use Rattle.ash_states.specs.HostStates.{HostState}
 use Rattle.ash_states.specs.StateSteps.{StateSteps, task_of}

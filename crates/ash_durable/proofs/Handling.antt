@@ -5,10 +5,10 @@ use Rattle.ash_disk.specs.Device.{Device}
 use Rattle.ash_journal.specs.declared.journal.Journal.{Journal}
 use Rattle.ash_requests.specs.Requests.{Request, Seq, Snapshot, Refusal, Reply, Number, Done, Refused}
 use Rattle.ash_requests.specs.Requests.{DeviceFailed, NoMemory, GenerationSpent}
-use Rattle.ash_plain_steps.specs.declared.request.StepError.{StepError}
-use Rattle.ash_plain_steps.specs.declared.request.StepError.TheVariants as errors
-use Rattle.ash_plain_steps.specs.RequestViews.{refusal_seen}
-use Rattle.ash_plain_steps.specs.StepViews.{TaskChangesState}
+use Rattle.ash_requests.specs.declared.step_error.StepError.{StepError}
+use Rattle.ash_requests.specs.declared.step_error.StepError.TheVariants as errors
+use Rattle.ash_requests.specs.RequestViews.{refusal_seen}
+use Rattle.ash_requests.specs.TaskResults.{TaskChangesState}
 use Rattle.ash_sources.specs.SourceFaults.{SourceFault, fault_of}
 use Rattle.ash_states.specs.HostStates.{HostState}
 use Rattle.ash_states.specs.StateSteps.{StateSteps, task_of, FailsInChange, Handled}

@@ -6,7 +6,7 @@ use Rattle.ash_disk.specs.Device.{Device}
 use Rattle.ash_journal.specs.declared.journal.Journal.{Journal}
 use Rattle.ash_journal.specs.Journal.{record_bytes}
 use Rattle.ash_requests.specs.Requests.{Request, Load, Call, Discard, Get, Object, Seq, Snapshot}
-use Rattle.ash_plain_steps.specs.declared.request.Refusal.TheVariants as the
+use Rattle.ash_requests.specs.declared.refusal.Refusal.TheVariants as the
 use Rattle.ash_states.specs.HostStates.{HostState}
 use Rattle.ash_durable.specs.StoredStates.{HoldsState, ExtendsHistory}
 use Rattle.ash_durable.specs.Saving.{HostRefusal, AddsWith, Adds, InstallsWith, Installs}

@@ -5,7 +5,7 @@ use Rattle.ash_journal.specs.declared.journal.Journal.{Journal}
 use Rattle.ash_requests.specs.Requests.{Request, Get, Object, Seq, Refusal, Reply, Refused, DeviceFailed, NoMemory}
 use Rattle.ash_requests.specs.Requests.{GenerationSpent}
 use Rattle.ash_requests.specs.Steps.{WritesStore}
-use Rattle.ash_plain_steps.specs.StepViews.{TaskChangesState}
+use Rattle.ash_requests.specs.TaskResults.{TaskChangesState}
 use Rattle.ash_sources.specs.SourceFaults.{SourceFault}
 use Rattle.ash_states.specs.HostStates.{HostState}
 use Rattle.ash_states.specs.StateSteps.{task_of}

@@ -1,8 +1,8 @@
 -- What the code's replies to a host's requests are to the definitions.
 use Rattle.std.specs.Prelude.{Result, Ok, Err}
 use Rattle.ash_requests.specs.Requests.{Reply, Done, Refused}
-use Rattle.ash_plain_steps.specs.declared.request.Reply as code_reply
-use Rattle.ash_plain_steps.specs.RequestViews.{refusal_seen, reply_seen}
+use Rattle.ash_requests.specs.declared.reply.Reply as code_reply
+use Rattle.ash_requests.specs.RequestViews.{refusal_seen, reply_seen}
 use Rattle.ash_sources.specs.declared.fault.SourceFault.{SourceFault as CodeFault}
 use Rattle.ash_sources.specs.SourceFaults.{SourceFault, fault_of}
 use Rattle.ash_durable.specs.Saving.{HostRefusal}

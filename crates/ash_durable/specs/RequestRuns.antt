@@ -2,7 +2,7 @@
 use Rattle.std.specs.Prelude.{◌≡◌, ◌⊎◌, ℕ, List, [], ◌∷◌, ◌++◌, map, None}
 use Rattle.ash_requests.specs.Requests.{Request, Reply, Refused, DeviceFailed, NoMemory, GenerationSpent}
 use Rattle.ash_requests.specs.Steps.{WritesStore}
-use Rattle.ash_plain_steps.specs.StepViews.{TaskChangesState}
+use Rattle.ash_requests.specs.TaskResults.{TaskChangesState}
 use Rattle.ash_sources.specs.SourceFaults.{SourceFault}
 use Rattle.ash_states.specs.HostStates.{HostState}
 use Rattle.ash_states.specs.StateSteps.{StateSteps, task_of}

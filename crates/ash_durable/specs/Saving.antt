@@ -5,8 +5,8 @@ use Rattle.ash_journal.specs.declared.journal.Journal.{Journal}
 use Rattle.ash_journal.specs.JournalFailures.{CountsFailures}
 use Rattle.ash_journal.specs.Journal.{first_disk, second_disk, generation, record_bytes, HasFailed, IsReady}
 use Rattle.ash_sources.specs.declared.fault.SourceFault.{SourceFault as CodeFault}
-use Rattle.ash_plain_steps.specs.declared.request.Refusal.{Refusal}
-use Rattle.ash_plain_steps.specs.declared.request.Refusal.TheVariants as the
+use Rattle.ash_requests.specs.declared.refusal.Refusal.{Refusal}
+use Rattle.ash_requests.specs.declared.refusal.Refusal.TheVariants as the
 use Rattle.ash_image.specs.declared.version.Version.TheVariants.{Two}
 use Rattle.ash_states.specs.HostStates.{HostState}
 use Rattle.ash_states.specs.Images.{IsBodyIn}

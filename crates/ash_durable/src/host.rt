@@ -3,7 +3,7 @@
 ghost use Rattle.std.specs.Prelude.{◌≡◌, ◌↔◌, ℕ, map, Some, IfOk, IsSome, IsTrue, OnOk, OnErr};
 ghost use Rattle.ash_registry.specs.RegistryViews.{registered};
 ghost use Rattle.ash_requests.specs.Requests.{Call, Discard, Get, Load, Number, Object, Seq, Snapshot};
-ghost use Rattle.ash_plain_steps.specs.RequestViews.{request_seen, reply_seen};
+ghost use Rattle.ash_requests.specs.RequestViews.{request_seen, reply_seen};
 ghost use Rattle.ash_sources.specs.SourceFaults.{fault_of};
 ghost use Rattle.ash_states.specs.HostStates.{HostState};
 ghost use Rattle.ash_durable.specs.Hosting.{first, second, Handles, HandlesAll, IsAnswer, IsFull};
@@ -21,9 +21,8 @@ use crate::saving::{add_state, install_state};
 use crate::store::{find, make};
 use ash_disk::Disk;
 use ash_journal::Journal;
-use ash_plain_steps::request::{Refusal, Reply, Request};
 use ash_registry::Registry;
-use ash_requests::Argument;
+use ash_requests::{Arg, Refusal, Reply, Request};
 use ash_states::state::{HostRefusal, HostReply, HostState};
 use std::alloc::{AllocError, Global};
 use std::marker::Model;
@@ -182,7 +181,7 @@ impl<D: Disk> Host<D> {
         match *request {
             Request::Snapshot => true,
             Request::Load { .. } | Request::Call { .. } | Request::Discard { .. } => is_full,
-            Request::Get { .. } | Request::Object { .. } | Request::Seq => false,
+            Request::Global { .. } | Request::Object { .. } | Request::Seq => false,
         }
     }
 
@@ -284,7 +283,7 @@ impl<D: Disk> Host<D> {
         &mut self,
         module: &str,
         function: &str,
-        arguments: &[Argument],
+        arguments: &[Arg],
         budget: u64,
     ) -> HostReply
         ensures handled { Handles D.Disk budget (Call module.now function.now arguments.now)
@@ -318,7 +317,7 @@ impl<D: Disk> Host<D> {
             (reply_seen fault_of result) self.new }
         ensures unchanged { self.new ≡ self.old }
     {
-        self.handle(&Request::Get { module, name }, 0)
+        self.handle(&Request::Global { module, name }, 0)
     }
 
     /// The object of a number: its type, how many handles there are to it, and what is in it. It touches no disk.
@@ -384,7 +383,7 @@ impl<D: Disk> Host<D> {
 fn is_answer(reply: &HostReply) -> bool
     ensures exact { IsTrue result ↔ IsAnswer (reply_seen fault_of reply.now) }
 {
-    matches!(reply, Reply::Answered(_))
+    matches!(reply, Reply::Answer(_))
 }
 
 /// The reply of a host that must be reopened. `seq` is the number of the last answer.
@@ -392,7 +391,7 @@ fn reply_of_stopped(request: &Request<'_>, seq: u64) -> HostReply
     ensures value { reply_seen fault_of result ≡ reply_stopped (request_seen request.now) seq }
 {
     match *request {
-        Request::Seq => Reply::Number(seq),
+        Request::Seq => Reply::Seq(seq),
         _ => Reply::Refused(Refusal::Reopen),
     }
 }

@@ -6,7 +6,7 @@ ghost use Rattle.ash_durable.specs.Saving.{Adds, Installs};
 
 use ash_disk::Disk;
 use ash_journal::{AppendError, InstallError, Journal};
-use ash_plain_steps::request::Refusal;
+use ash_requests::Refusal;
 use ash_states::state::{HostRefusal, HostState};
 
 /// Adds a state to a journal that is ready, as one record more. At `Ok` every crash leaves it.

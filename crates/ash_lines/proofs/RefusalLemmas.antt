@@ -1,9 +1,9 @@
 -- The text of a refusal, by what the code returns for it.
 use Rattle.std.proofs.Common.{◌≡◌, ◌∙◌, ℕ, List, Result, Ok, Err, refl, sym, ap}
-use Rattle.ash_plain_steps.specs.RefusalCodes.{code_of}
-use Rattle.ash_plain_steps.specs.RequestViews.{refusal_seen}
-use Rattle.ash_plain_steps.specs.declared.request.Refusal.{Refusal}
-use Rattle.ash_plain_steps.specs.declared.request.Refusal.TheVariants as refusals
+use Rattle.ash_requests.specs.RefusalCodes.{code_of}
+use Rattle.ash_requests.specs.RequestViews.{refusal_seen}
+use Rattle.ash_requests.specs.declared.refusal.Refusal.{Refusal}
+use Rattle.ash_requests.specs.declared.refusal.Refusal.TheVariants as refusals
 use Rattle.ash_sources.specs.SourceFaults.{fault_of}
 use Rattle.ash_sources.specs.declared.fault.SourceFault.{SourceFault as CodeFault}
 use Rattle.ash_lines.specs.RefusalTexts.{label_text, fault_text, refusal_text}

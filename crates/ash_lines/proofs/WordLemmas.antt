@@ -9,7 +9,7 @@ use Rattle.std.proofs.lemmas.Str.{IsUtf8-from_ascii}
 use Rattle.std.specs.List.{list_all}
 use Rattle.std.specs.Str.{IsUtf8}
 use Rattle.std.specs.Borrow.{Bor}
-use Rattle.ash_requests.specs.declared.argument.Argument.{Argument}
+use Rattle.ash_requests.specs.declared.argument.Arg.{Arg}
 use Rattle.ash_lines.specs.Lines.{pieces, onto, is_visible, is_word, both, argument_of, arguments_of, Complete}
 use Rattle.ash_lines.specs.Lines.{BadRequest, call_request, parse_call, parse_line, parse_words}
 use Rattle.ash_lines.specs.LineWords.{is_none_left, words_left}
@@ -75,27 +75,27 @@ unfolding arguments_of
 arguments-nil = refl
 
 -- arguments that were read, and then those of the words that are left
-abbrev pub prepend : List Argument → Option (List Argument) → Option (List Argument)
+abbrev pub prepend : List Arg → Option (List Arg) → Option (List Arg)
 prepend arguments more = option_map (λ others. arguments ++ others) more
 
-prepend-both : (arguments : List Argument) (argument : Argument) (more : Option (List Argument)) → prepend arguments (both (Some argument) more) ≡ prepend (arguments ++ argument ∷ []) more
+prepend-both : (arguments : List Arg) (argument : Arg) (more : Option (List Arg)) → prepend arguments (both (Some argument) more) ≡ prepend (arguments ++ argument ∷ []) more
 prepend-both arguments argument None = refl
-prepend-both arguments argument (Some others) = ap (λ (x : List Argument). Some x) (sym (append_assoc arguments (argument ∷ []) others))
+prepend-both arguments argument (Some others) = ap (λ (x : List Arg). Some x) (sym (append_assoc arguments (argument ∷ []) others))
 
 -- one more argument
-pub arguments-more : (arguments : List Argument) (left more : List (List ℕ)) (word : List ℕ) (argument : Argument) → left ≡ word ∷ more → Some argument ≡ argument_of word → prepend arguments (arguments_of left) ≡ prepend (arguments ++ argument ∷ []) (arguments_of more)
+pub arguments-more : (arguments : List Arg) (left more : List (List ℕ)) (word : List ℕ) (argument : Arg) → left ≡ word ∷ more → Some argument ≡ argument_of word → prepend arguments (arguments_of left) ≡ prepend (arguments ++ argument ∷ []) (arguments_of more)
 arguments-more arguments left more word argument e f = rw (e, arguments-cons word more, ← f) (prepend-both arguments argument (arguments_of more))
 
 -- a word that is none
-pub arguments-bad : (arguments : List Argument) (left more : List (List ℕ)) (word : List ℕ) → left ≡ word ∷ more → None ≡ argument_of word → prepend arguments (arguments_of left) ≡ None
+pub arguments-bad : (arguments : List Arg) (left more : List (List ℕ)) (word : List ℕ) → left ≡ word ∷ more → None ≡ argument_of word → prepend arguments (arguments_of left) ≡ None
 arguments-bad arguments left more word e f = rw (e, arguments-cons word more, ← f) refl
 
-pub arguments-end : (arguments : List Argument) (left : List (List ℕ)) → left ≡ [] → prepend arguments (arguments_of left) ≡ Some arguments
-arguments-end arguments left e = rw (e, arguments-nil) (ap (λ (x : List Argument). Some x) (append-nil arguments))
+pub arguments-end : (arguments : List Arg) (left : List (List ℕ)) → left ≡ [] → prepend arguments (arguments_of left) ≡ Some arguments
+arguments-end arguments left e = rw (e, arguments-nil) (ap (λ (x : List Arg). Some x) (append-nil arguments))
 
 -- a call, with what its arguments are
 
-pub call_parsed : (words left rest : List (List ℕ)) (module_name function : List ℕ) (stored : Option (List Argument))
+pub call_parsed : (words left rest : List (List ℕ)) (module_name function : List ℕ) (stored : Option (List Arg))
     → words ≡ module_name ∷ left → left ≡ function ∷ rest → arguments_of rest ≡ stored
     → call_request module_name function stored ≡ parse_call words
 call_parsed words left rest module_name function stored e f g =

@@ -3,8 +3,8 @@ use Rattle.std.specs.Prelude.{◌≡◌, ℕ, ◌+◌, ◌*◌, ◌-◌, ◌^◌
 use Rattle.std.specs.Prelude.{List, [], ◌∷◌, length, take, drop, codes, Option, Some, None, option_map, pos, neg_ℤ}
 use Rattle.std.specs.List.{list_all}
 use Rattle.std.specs.Str.{bytes_eq}
-use Rattle.ash_requests.specs.declared.argument.Argument.{Argument}
-use Rattle.ash_requests.specs.declared.argument.Argument.TheVariants.{Truth, Number}
+use Rattle.ash_requests.specs.declared.argument.Arg.{Arg}
+use Rattle.ash_requests.specs.declared.argument.Arg.TheVariants.{Truth, Number}
 use Rattle.ash_requests.specs.Requests.{Request, Load, Call, Discard, Get, Object, Seq, Snapshot}
 
 -- What one request asks: something of the host, or to end the run. Or it is no request, or its line is too long.
@@ -86,23 +86,23 @@ unfoldable pub object_number_of : List ℕ → Option ℕ
 object_number_of word = number_below (2 ^ 64) (number_of word)
 
 -- an argument that is no truth value: a number, with a sign or without one
-abbrev pub signed_of : List ℕ → Option Argument
+abbrev pub signed_of : List ℕ → Option Arg
 signed_of [] = None
 signed_of (byte ∷ more) =
     if byte == 45 then option_map (λ number. Number (neg_ℤ (pos number))) (number_of more)
     else option_map (λ number. Number (pos number)) (number_of (byte ∷ more))
 
-unfoldable pub argument_of : List ℕ → Option Argument
+unfoldable pub argument_of : List ℕ → Option Arg
 argument_of word =
     if bytes_eq word (codes "true") then Some (Truth true)
     else if bytes_eq word (codes "false") then Some (Truth false)
     else signed_of word
 
-abbrev pub both : Option Argument → Option (List Argument) → Option (List Argument)
+abbrev pub both : Option Arg → Option (List Arg) → Option (List Arg)
 both (Some argument) (Some arguments) = Some (argument ∷ arguments)
 both _ _ = None
 
-unfoldable pub arguments_of : List (List ℕ) → Option (List Argument)
+unfoldable pub arguments_of : List (List ℕ) → Option (List Arg)
 arguments_of [] = Some []
 arguments_of (word ∷ words) = both (argument_of word) (arguments_of words)
 
@@ -128,7 +128,7 @@ parse_load (name ∷ length ∷ []) = load_header name (length_of length)
 parse_load _ = Complete BadRequest
 
 -- a call, if its arguments are all such
-abbrev pub call_request : List ℕ → List ℕ → Option (List Argument) → ParsedLine
+abbrev pub call_request : List ℕ → List ℕ → Option (List Arg) → ParsedLine
 call_request module_name function None = Complete BadRequest
 call_request module_name function (Some arguments) = Complete (HostRequest (Call module_name function arguments))
 

@@ -1,14 +1,14 @@
 -- What the code's parse of a line represents.
 use Rattle.std.specs.Prelude.{ℕ, List, [], ◌∷◌}
-use Rattle.ash_requests.specs.declared.argument.Argument.{Argument}
+use Rattle.ash_requests.specs.declared.argument.Arg.{Arg}
 use Rattle.ash_requests.specs.Requests.{Call}
-use Rattle.ash_plain_steps.specs.RequestViews.{request_seen}
+use Rattle.ash_requests.specs.RequestViews.{request_seen}
 use Rattle.ash_lines.specs.Lines.{HostRequest, Quit, BadRequest, ParsedLine, Complete, LoadHeader}
 use Rattle.ash_lines.specs.declared.request_line.ParsedLine as code
 use Rattle.ash_lines.specs.declared.request_line.ParsedLine.TheVariants as lines
 
 -- what a line asks, with the arguments that are stored where it is a call
-abbrev pub parsed_of : List Argument → code.ParsedLine → ParsedLine
+abbrev pub parsed_of : List Arg → code.ParsedLine → ParsedLine
 parsed_of arguments (lines.Request request) = Complete (HostRequest (request_seen request))
 parsed_of arguments (lines.Call header) = Complete (HostRequest (Call header.module.now header.function.now arguments))
 parsed_of arguments (lines.Load header) = LoadHeader header.name.now header.length

@@ -3,7 +3,7 @@ use Rattle.std.specs.Prelude.{ℕ, List, [], ◌++◌, codes, decimal, Result, O
 use Rattle.std.specs.List.{flat_map}
 use Rattle.ash_parse.specs.ParseFaults.{part_text}
 use Rattle.ash_requests.specs.Requests.{Refusal}
-use Rattle.ash_plain_steps.specs.RefusalCodes.{code_of}
+use Rattle.ash_requests.specs.RefusalCodes.{code_of}
 use Rattle.ash_sources.specs.SourceFaults.{SourceFault}
 use Rattle.ash_sources.specs.SourceFaults as sources
 use Rattle.ash_lines.specs.FaultDetails.{Details, Nothing, At, WordAt, Names, source_details}

@@ -10,7 +10,7 @@ use Rattle.ash_meaning.specs.declared.exception.Exception.TheVariants.{Raised}
 use Rattle.ash_meaning.specs.Exceptions.{name_of}
 use Rattle.ash_meaning.specs.Ends.{End, Finished, Threw, Aborted}
 use Rattle.ash_requests.specs.Requests.{Reply, Answered, Value, ShownAs, Number, Done, Refused}
-use Rattle.ash_plain_steps.specs.RequestViews.{reply_seen}
+use Rattle.ash_requests.specs.RequestViews.{reply_seen}
 use Rattle.ash_sources.specs.SourceFaults.{SourceFault, fault_of}
 use Rattle.ash_lines.specs.ObjectTexts.{word_text, shown_text}
 use Rattle.ash_lines.specs.RefusalTexts.{refusal_text}

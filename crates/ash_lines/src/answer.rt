@@ -2,7 +2,7 @@
 
 ghost use Rattle.std.specs.Prelude.{◌≡◌, ◌++◌, codes};
 ghost use Rattle.std.specs.List.{flat_map, list_any};
-ghost use Rattle.ash_plain_scripts.specs.EndViews.{end_seen};
+ghost use Rattle.ash_requests.specs.OutcomeViews.{end_seen};
 ghost use Rattle.ash_lines.specs.Sink.{Writes};
 ghost use Rattle.ash_lines.specs.ReplyText.{answer_text, end_text, finished_text, exception_text};
 ghost use Rattle.ash_lines.specs.ReplyText.{raised_text, place_text, seq_text, is_drop, drop_text};
@@ -12,34 +12,32 @@ use crate::object::write_ok;
 use crate::pieces::write_all;
 use crate::sink::{Sink, WriteFault};
 use ash_host::{Event, Word};
-use ash_meaning::Exception;
-use ash_plain_scripts::ends::End;
-use ash_plain_steps::request::Answer;
+use ash_requests::{Answer, Exception, Outcome};
 use itoa::Buffer;
 
 /// Writes an answer: how the run ended, how many requests have been answered, and which host objects were dropped.
 pub(crate) fn write_answer<K: Sink>(output: &mut K, answer: &Answer) -> Result<(), WriteFault>
     ensures text { Writes K.outlet output.old
-        (answer_text (end_seen answer.now.end) answer.now.seq answer.now.events.items)
+        (answer_text (end_seen answer.now.outcome) answer.now.seq answer.now.events.items)
         result output.new }
 {
-    write_end(output, &answer.end)?;
+    write_outcome(output, &answer.outcome)?;
     write_seq(output, answer.seq)?;
     write_drops(output, answer.events.as_slice())
 }
 
 /// Writes how a run ended.
-fn write_end<K: Sink>(output: &mut K, end: &End) -> Result<(), WriteFault>
-    ensures text { Writes K.outlet output.old (end_text (end_seen end.now)) result output.new }
+fn write_outcome<K: Sink>(output: &mut K, outcome: &Outcome) -> Result<(), WriteFault>
+    ensures text { Writes K.outlet output.old (end_text (end_seen outcome.now)) result output.new }
 {
-    match end {
-        End::Finished(value) => write_finished(output, *value),
-        End::Threw {
-            exception,
+    match outcome {
+        Outcome::Finished(value) => write_finished(output, *value),
+        Outcome::Exception {
+            code,
             function,
             line,
-        } => write_exception_at(output, *exception, function.as_str(), *line),
-        End::Aborted { function, line } => {
+        } => write_exception_at(output, *code, function.as_str(), *line),
+        Outcome::Aborted { function, line } => {
             output.write(b"aborted")?;
             write_place(output, function.as_str(), *line)
         }

@@ -6,7 +6,7 @@ ghost use Rattle.std.specs.Str.{bytes_eq};
 ghost use Rattle.ash_lines.specs.Lines.{is_digit, is_number, number_of, length_of};
 ghost use Rattle.ash_lines.specs.Lines.{object_number_of, signed_of, argument_of};
 
-use ash_requests::Argument;
+use ash_requests::Arg;
 
 /// The most digits of a number below 2^64.
 pub const MAX_DIGITS: usize = 20;
@@ -46,30 +46,30 @@ pub(crate) fn parse_object_number(word: &[u8]) -> Option<u64>
 
 /// `true`, `false`, or a number with a sign or without one.
 #[tactic(auto, unfolding(crate::specs::Lines::argument_of))]
-pub(crate) fn parse_argument(word: &[u8]) -> Option<Argument>
+pub(crate) fn parse_argument(word: &[u8]) -> Option<Arg>
     ensures value { result ≡ argument_of word.now }
 {
     if is_same(word, b"true") {
-        Some(Argument::Truth(true))
+        Some(Arg::Truth(true))
     } else if is_same(word, b"false") {
-        Some(Argument::Truth(false))
+        Some(Arg::Truth(false))
     } else {
         parse_signed(word)
     }
 }
 
-fn parse_signed(word: &[u8]) -> Option<Argument>
+fn parse_signed(word: &[u8]) -> Option<Arg>
     ensures value { result ≡ signed_of word.now }
 {
     match word {
         [] => None,
         [b'-', digits @ ..] => {
             let size = parse_number(digits)?;
-            Some(Argument::Number(-(size as i128)))
+            Some(Arg::Number(-(size as i128)))
         }
         _ => {
             let size = parse_number(word)?;
-            Some(Argument::Number(size as i128))
+            Some(Arg::Number(size as i128))
         }
     }
 }

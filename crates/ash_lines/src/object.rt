@@ -3,7 +3,7 @@
 ghost use Rattle.std.specs.Prelude.{◌++◌, ◌∷◌, [], codes, map};
 ghost use Rattle.std.specs.List.{flat_map};
 ghost use Rattle.hex.specs.Hex.{encode_lower};
-ghost use Rattle.ash_plain_steps.specs.RequestViews.{field_seen, contents_seen, shown_seen};
+ghost use Rattle.ash_requests.specs.RequestViews.{field_seen, contents_seen, shown_seen};
 ghost use Rattle.ash_lines.specs.Sink.{Writes};
 ghost use Rattle.ash_lines.specs.ObjectTexts.{word_text, field_name_text, field_text, element_text};
 ghost use Rattle.ash_lines.specs.ObjectTexts.{byte_text, state_text};
@@ -12,7 +12,7 @@ ghost use Rattle.ash_lines.specs.ObjectTexts.{contents_text, object_text, shown_
 use crate::pieces::write_all;
 use crate::sink::{Sink, WriteFault};
 use ash_host::Word;
-use ash_plain_steps::request::{ObjectContents, Shown};
+use ash_requests::{ObjectContents, Shown};
 use hex::encode_to_slice;
 use itoa::Buffer;
 

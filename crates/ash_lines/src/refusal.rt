@@ -1,7 +1,7 @@
 //! Writing a refusal.
 
 ghost use Rattle.std.specs.Prelude.{map, string_bytes};
-ghost use Rattle.ash_plain_steps.specs.RequestViews.{refusal_seen};
+ghost use Rattle.ash_requests.specs.RequestViews.{refusal_seen};
 ghost use Rattle.ash_sources.specs.SourceFaults.{fault_of};
 ghost use Rattle.ash_lines.specs.Sink.{Writes};
 ghost use Rattle.ash_lines.specs.FaultDetails.{details_of};
@@ -12,7 +12,7 @@ use crate::details::Details;
 use crate::faults::source_details;
 use crate::pieces::write_all;
 use crate::sink::{Sink, WriteFault};
-use ash_plain_steps::request::Refusal;
+use ash_requests::Refusal;
 use ash_sources::fault::SourceFault;
 use itoa::Buffer;
 

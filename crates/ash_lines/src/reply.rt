@@ -1,7 +1,7 @@
 //! Writing a reply as a line of text.
 
 ghost use Rattle.std.specs.Prelude.{◌≡◌, ◌∷◌, [], ◌++◌};
-ghost use Rattle.ash_plain_steps.specs.RequestViews.{reply_seen};
+ghost use Rattle.ash_requests.specs.RequestViews.{reply_seen};
 ghost use Rattle.ash_sources.specs.SourceFaults.{fault_of};
 ghost use Rattle.ash_lines.specs.Sink.{Writes, WritesAndFlushes};
 ghost use Rattle.ash_lines.specs.RefusalTexts.{fault_text};
@@ -12,7 +12,7 @@ use crate::object::{write_ok, write_shown};
 use crate::pieces::write_all;
 use crate::refusal::{write_fault, write_refusal};
 use crate::sink::{Sink, WriteFault};
-use ash_plain_steps::request::Reply;
+use ash_requests::Reply;
 use ash_sources::fault::SourceFault;
 use itoa::Buffer;
 
@@ -81,10 +81,10 @@ fn write_reply<K: Sink>(output: &mut K, reply: &Reply<SourceFault>) -> Result<()
         result output.new }
 {
     match reply {
-        Reply::Answered(answer) => write_answer(output, answer),
+        Reply::Answer(answer) => write_answer(output, answer),
         Reply::Value(word) => write_ok(output, *word),
         Reply::Shown(shown) => write_shown(output, shown),
-        Reply::Number(seq) => {
+        Reply::Seq(seq) => {
             let mut digits = Buffer::new();
             write_all(output, &[b"ok ".as_slice(), digits.format(*seq).as_bytes()])
         }

@@ -3,7 +3,7 @@
 ghost use Rattle.std.specs.Prelude.{◌≡◌, ◌≤◌, ◌∷◌, [], List, true, Some, None, length, MatchOption};
 ghost use Rattle.std.specs.Prelude.{vec_capacity, if◌then◌else◌};
 ghost use Rattle.std.specs.List.{list_all};
-ghost use Rattle.ash_requests.specs.declared.argument.Argument.{Argument};
+ghost use Rattle.ash_requests.specs.declared.argument.Arg.{Arg};
 ghost use Rattle.ash_lines.specs.Lines.{Line, Complete, is_word, arguments_of, max_line_bytes};
 ghost use Rattle.ash_lines.specs.Lines.{max_arguments, parse_line, parse_verb, parse_load};
 ghost use Rattle.ash_lines.specs.Lines.{parse_call, parse_discard, parse_get, parse_object};
@@ -14,8 +14,7 @@ ghost use Rattle.ash_lines.specs.ParsedLines.{parsed_of, IsNotOneWord, IsNotTwoW
 use crate::line::MAX_LINE_BYTES;
 use crate::number::{is_same, parse_argument, parse_length, parse_object_number};
 use crate::words::{Words, is_all_words};
-use ash_plain_steps::request::Request;
-use ash_requests::Argument;
+use ash_requests::{Arg, Request};
 use std::str;
 
 /// More arguments than a line has room for.
@@ -50,7 +49,7 @@ pub struct LoadHeader<'a> {
 }
 
 /// What a line asks. The arguments of a call are stored in place of what the buffer had.
-pub fn parse_line<'a>(line: &'a [u8], arguments: &mut Vec<Argument>) -> ParsedLine<'a>
+pub fn parse_line<'a>(line: &'a [u8], arguments: &mut Vec<Arg>) -> ParsedLine<'a>
     requires short { length line.now ≤ max_line_bytes }
     requires room { max_arguments ≤ vec_capacity arguments.old }
     ensures parsed { parsed_of arguments.new.items result ≡ parse_line line.now }
@@ -66,7 +65,7 @@ pub fn parse_line<'a>(line: &'a [u8], arguments: &mut Vec<Argument>) -> ParsedLi
     }
 }
 
-fn parse_verb<'a>(verb: &[u8], words: Words<'a>, arguments: &mut Vec<Argument>) -> ParsedLine<'a>
+fn parse_verb<'a>(verb: &[u8], words: Words<'a>, arguments: &mut Vec<Arg>) -> ParsedLine<'a>
     requires words { list_all is_word (words_left words.rest) ≡ true }
     requires short { length (words_left words.rest) ≤ max_arguments }
     requires room { max_arguments ≤ vec_capacity arguments.old }
@@ -97,7 +96,7 @@ fn parse_verb<'a>(verb: &[u8], words: Words<'a>, arguments: &mut Vec<Argument>) 
 
 /// A request of one word, if that is all of the line.
 fn parse_lone<'a>(request: ParsedLine<'a>, words: Words<'_>) -> ParsedLine<'a>
-    ensures parsed { (arguments : List Argument) (line : Line)
+    ensures parsed { (arguments : List Arg) (line : Line)
         → parsed_of arguments request.entry ≡ Complete line
         → parsed_of arguments result ≡ parse_lone line (words_left words.entry.rest) }
 {
@@ -110,7 +109,7 @@ fn parse_lone<'a>(request: ParsedLine<'a>, words: Words<'_>) -> ParsedLine<'a>
 
 fn parse_load<'a>(words: Words<'a>) -> ParsedLine<'a>
     requires words { list_all is_word (words_left words.rest) ≡ true }
-    ensures parsed { (arguments : List Argument)
+    ensures parsed { (arguments : List Arg)
         → parsed_of arguments result ≡ parse_load (words_left words.entry.rest) }
 {
     match two_words(words) {
@@ -122,7 +121,7 @@ fn parse_load<'a>(words: Words<'a>) -> ParsedLine<'a>
     }
 }
 
-fn parse_call<'a>(mut words: Words<'a>, arguments: &mut Vec<Argument>) -> ParsedLine<'a>
+fn parse_call<'a>(mut words: Words<'a>, arguments: &mut Vec<Arg>) -> ParsedLine<'a>
     requires words { list_all is_word (words_left words.rest) ≡ true }
     requires short { length (words_left words.rest) ≤ max_arguments }
     requires room { max_arguments ≤ vec_capacity arguments.old }
@@ -147,7 +146,7 @@ fn parse_call<'a>(mut words: Words<'a>, arguments: &mut Vec<Argument>) -> Parsed
 
 fn parse_discard<'a>(words: Words<'a>) -> ParsedLine<'a>
     requires words { list_all is_word (words_left words.rest) ≡ true }
-    ensures parsed { (arguments : List Argument)
+    ensures parsed { (arguments : List Arg)
         → parsed_of arguments result ≡ parse_discard (words_left words.entry.rest) }
 {
     match one_word(words) {
@@ -158,18 +157,18 @@ fn parse_discard<'a>(words: Words<'a>) -> ParsedLine<'a>
 
 fn parse_get<'a>(words: Words<'a>) -> ParsedLine<'a>
     requires words { list_all is_word (words_left words.rest) ≡ true }
-    ensures parsed { (arguments : List Argument)
+    ensures parsed { (arguments : List Arg)
         → parsed_of arguments result ≡ parse_get (words_left words.entry.rest) }
 {
     match two_words(words) {
         None => ParsedLine::BadRequest,
-        Some((module, name)) => ParsedLine::Request(Request::Get { module, name }),
+        Some((module, name)) => ParsedLine::Request(Request::Global { module, name }),
     }
 }
 
 fn parse_object<'a>(words: Words<'a>) -> ParsedLine<'a>
     requires words { list_all is_word (words_left words.rest) ≡ true }
-    ensures parsed { (arguments : List Argument)
+    ensures parsed { (arguments : List Arg)
         → parsed_of arguments result ≡ parse_object (words_left words.entry.rest) }
 {
     match one_word(words) {
@@ -183,7 +182,7 @@ fn parse_object<'a>(words: Words<'a>) -> ParsedLine<'a>
 
 /// Stores arguments, which are the words, in place of what the buffer had, up to a word that is none. Whether each word
 /// is an argument.
-fn store_arguments(mut words: Words<'_>, arguments: &mut Vec<Argument>) -> bool
+fn store_arguments(mut words: Words<'_>, arguments: &mut Vec<Arg>) -> bool
     requires short { length (words_left words.rest) ≤ max_arguments }
     requires room { max_arguments ≤ vec_capacity arguments.old }
     ensures stored { arguments_of (words_left words.entry.rest)

@@ -17,54 +17,35 @@ ghost use Rattle.ash_plain_scripts.specs.EndViews.{HasEnd, EndsAs};
 
 use crate::functions::{body, initialize};
 use ash_host::Word;
-use ash_meaning::Exception;
 use ash_plain_data::classes::{ModuleCallee, Program, entry_of};
 use ash_plain_data::operators::zero_of;
 use ash_plain_data::run_error::{RunError, RunResult};
 use ash_plain_world::activity::{Activity, Frame, World};
+use ash_requests::Outcome;
 use ash_typed::{Initialization, Variables};
 use std::alloc::{AllocError, Global};
 
-/// How a run ends: at its end, or by an exception or a refused tick, with the function and the line of the innermost
-/// frame.
-#[derive(Drop)]
-pub enum End {
-    /// At its end, with the value of the function.
-    Finished(Option<Word>),
-    /// By an exception.
-    Threw {
-        exception: Exception,
-        function: String,
-        line: usize,
-    },
-    /// By a refused tick.
-    Aborted {
-        function: String,
-        line: usize,
-    },
-}
-
 /// How a run ends, and the world that it leaves.
 #[derive(Drop)]
-pub struct Outcome {
-    pub end: End,
+pub struct RunEnd {
+    pub outcome: Outcome,
     pub world: World,
 }
 
 /// How a run ends whose innermost frame is this one.
-fn end_of(frame: Frame, value: RunResult<Option<Word>>) -> RunResult<End>
+fn outcome_of(frame: Frame, value: RunResult<Option<Word>>) -> RunResult<Outcome>
     ensures outcome { (p : Progress (Option WordData)) (activity : ActivityData) → frame_seen frame
         ≡ activity.frame
         → RunsAs (λ v. v) value activity p → HasEnd result activity.world (outcome_of p) }
 {
     match value {
-        Ok(value) => Ok(End::Finished(value)),
-        Err(RunError::Raising(exception)) => Ok(End::Threw {
-            exception,
+        Ok(value) => Ok(Outcome::Finished(value)),
+        Err(RunError::Raising(exception)) => Ok(Outcome::Exception {
+            code: exception,
             function: frame.function,
             line: frame.line,
         }),
-        Err(RunError::OutOfTicks) => Ok(End::Aborted {
+        Err(RunError::OutOfTicks) => Ok(Outcome::Aborted {
             function: frame.function,
             line: frame.line,
         }),
@@ -75,7 +56,7 @@ fn end_of(frame: Frame, value: RunResult<Option<Word>>) -> RunResult<End>
 
 /// How a run ends that came so far, and the world that it leaves. What was done before stays.
 #[tactic(auto, unfolding(ash_plain_world::specs::ActivityViews::activity_seen))]
-fn finish(activity: Activity, value: RunResult<Option<Word>>) -> RunResult<Outcome>
+fn finish(activity: Activity, value: RunResult<Option<Word>>) -> RunResult<RunEnd>
     ensures outcome { (p : Progress (Option WordData))
         → RunsAs (λ v. v) value (activity_seen activity) p
         → EndsAs result (outcome_of p) }
@@ -87,9 +68,9 @@ fn finish(activity: Activity, value: RunResult<Option<Word>>) -> RunResult<Outco
         frame,
         callers: _,
     } = activity;
-    let end = end_of(frame, value)?;
+    let outcome = outcome_of(frame, value)?;
     world.give_up_frames(alloc)?;
-    Ok(Outcome { end, world })
+    Ok(RunEnd { outcome, world })
 }
 
 /// One frame, and no callers.
@@ -131,7 +112,7 @@ pub fn call_function(
     args: Vec<Word>,
     budget: u64,
     world: World,
-) -> RunResult<Outcome>
+) -> RunResult<RunEnd>
     ensures outcome { EndsAs result
         (call_function (program_seen program.now) place args.items budget (world_seen world)) }
 {
@@ -176,7 +157,7 @@ fn push_zeros(words: &mut Vec<Word>, globals: &[Initialization]) -> Result<(), A
 
 /// Runs the initializers of a module, and gives how that ends and the world that it leaves, with the globals of the
 /// module.
-pub fn load_module(program: &Program<'_>, budget: u64, world: World) -> RunResult<Outcome>
+pub fn load_module(program: &Program<'_>, budget: u64, world: World) -> RunResult<RunEnd>
     ensures outcome { EndsAs result
         (load_module (program_seen program.now) budget (world_seen world)) }
 {

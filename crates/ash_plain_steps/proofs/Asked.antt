@@ -8,11 +8,12 @@ use Rattle.ash_host.specs.declared.word.Word.{Word}
 use Rattle.ash_typed.specs.Modules.{Function, Module}
 use Rattle.ash_typed.specs.SoundModules.{names_of_globals}
 use Rattle.ash_plain_data.proofs.Positions.{position_is}
-use Rattle.ash_requests.specs.declared.argument.Argument.{Argument}
+use Rattle.ash_requests.specs.declared.argument.Arg.{Arg}
 use Rattle.ash_requests.specs.States.{LoadedModule, State, Embedding, find_module}
 use Rattle.ash_requests.specs.Requests.{Load, Call, Discard, Get, SequenceSpent, BadName, ModuleTaken, TooManyModules, NoModule, NoFunction, NotCallable, BadArguments, NoGlobal}
 use Rattle.ash_requests.specs.Tasks.{TaskResult, Invoke, Remove, Read, max_seq, max_modules, is_module_name, is_callable, arguments_of, numbered, require, require_some, initialize, tree_of, task_of, call_in, word_named}
-use Rattle.ash_plain_steps.specs.TaskViews.{word_among, TakesMemoryToFind}
+use Rattle.ash_plain_steps.specs.TaskViews.{word_among}
+use Rattle.ash_requests.specs.TaskResults.{TakesMemoryToFind}
 
 pub spent : {Fault : Type 0} (state : State) (next : TaskResult Fault) → max_seq ≤ state.seq → numbered state next ≡ Err SequenceSpent
 spent state next h = let none : nat_lt state.seq max_seq ≡ false = le-ltb _ _ h in ap (λ (b : Bool). require b SequenceSpent next) none
@@ -22,7 +23,7 @@ unspent state next h = let some : nat_lt state.seq max_seq ≡ true = lt-ltb _ _
 
 -- functions of a module
 
-module _ {Fault : Type 0} (m : LoadedModule) (tree : Module) (name : List ℕ) (args : List Argument) where
+module _ {Fault : Type 0} (m : LoadedModule) (tree : Module) (name : List ℕ) (args : List Arg) where
   abbrev by_place : Option ℕ → TaskResult Fault
   by_place found = require_some found NoFunction
       (λ place. require_some (slice_get tree.functions place) NoFunction
@@ -63,7 +64,7 @@ found_words takes m tree place (Some words) e = tt
 found_words takes m tree place None e = absurd (cc)
 
 -- The words of arguments take memory, once the function is found and may be called with them.
-pub words_take : {Fault : Type 0} (takes : Fault → Type 0) (m : LoadedModule) (tree : Module) (name : List ℕ) (args : List Argument) (place : ℕ) (f : Function) → Some place ≡ position_from (λ (f : Function). bytes_eq f.name name) 0 tree.functions → slice_get tree.functions place ≡ Some f → is_callable f ≡ true → is_some (arguments_of f.parameters args) ≡ true → TakesMemoryToFind takes (call_in m tree name args)
+pub words_take : {Fault : Type 0} (takes : Fault → Type 0) (m : LoadedModule) (tree : Module) (name : List ℕ) (args : List Arg) (place : ℕ) (f : Function) → Some place ≡ position_from (λ (f : Function). bytes_eq f.name name) 0 tree.functions → slice_get tree.functions place ≡ Some f → is_callable f ≡ true → is_some (arguments_of f.parameters args) ≡ true → TakesMemoryToFind takes (call_in m tree name args)
 words_take {Fault} takes m tree name args place f e g so held = subst (λ (r : TaskResult Fault). TakesMemoryToFind takes r) (sym (callable_with m tree name args place f (arguments_of f.parameters args) e g so refl)) (found_words takes m tree place (arguments_of f.parameters args) held)
 
 pub word_named_is : (name : List ℕ) (tree : Module) (globals : List Word) → word_named name tree globals ≡ word_among name tree.globals globals
@@ -72,10 +73,10 @@ word_named_is name tree globals = ap (option_and_then (λ place. slice_get globa
 -- requests
 
 module _ {Fault : Type 0} (embedding : Embedding Fault) (state : State) (name : List ℕ) where
-  pub call_of_none : (f : List ℕ) (args : List Argument) → state.seq < max_seq → find_module name state ≡ None → task_of embedding (Call name f args) state ≡ Err NoModule
+  pub call_of_none : (f : List ℕ) (args : List Arg) → state.seq < max_seq → find_module name state ≡ None → task_of embedding (Call name f args) state ≡ Err NoModule
   call_of_none f args h e = unspent state _ h ∙ ap (λ (o : Option LoadedModule). require_some o NoModule (λ m. require_some (tree_of embedding m) NoModule (λ tree. call_in m tree f args))) e
 
-  pub call_of_one : (f : List ℕ) (args : List Argument) (m : LoadedModule) (tree : Module) → state.seq < max_seq → find_module name state ≡ Some m → tree_of embedding m ≡ Some tree → task_of embedding (Call name f args) state ≡ call_in m tree f args
+  pub call_of_one : (f : List ℕ) (args : List Arg) (m : LoadedModule) (tree : Module) → state.seq < max_seq → find_module name state ≡ Some m → tree_of embedding m ≡ Some tree → task_of embedding (Call name f args) state ≡ call_in m tree f args
   call_of_one f args m tree h e is = unspent state _ h
       ∙ ap (λ (o : Option LoadedModule). require_some o NoModule (λ m. require_some (tree_of embedding m) NoModule (λ tree. call_in m tree f args))) e
       ∙ ap (λ (o : Option Module). require_some o NoModule (λ tree. call_in m tree f args)) is

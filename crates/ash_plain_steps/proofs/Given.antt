@@ -7,7 +7,7 @@ use Rattle.std.proofs.lemmas.List.Quantifiers.{position-Some}
 use Rattle.std.proofs.lemmas.Option.{get_or_from_slice_get, slice_get-get_or}
 use Rattle.ash_host.specs.declared.word.Word.{Word}
 use Rattle.ash_typed.specs.Modules.{Module, module_of}
-use Rattle.ash_requests.specs.declared.argument.Argument.{Argument}
+use Rattle.ash_requests.specs.declared.argument.Arg.{Arg}
 use Rattle.ash_requests.specs.States.{LoadedModule, Embedding, has_name, find_module}
 use Rattle.ash_requests.specs.Requests.{Load, Call, Discard, Get, SequenceSpent, BadName, ModuleTaken, TooManyModules, NoModule, NoGlobal}
 use Rattle.ash_requests.specs.SourceViews.{TakesMemoryToRead}
@@ -17,7 +17,8 @@ use Rattle.ash_plain_steps.specs.declared.state.PlainState.{PlainState}
 use Rattle.ash_plain_steps.specs.declared.task.Task.TheVariants as tasks
 use Rattle.ash_plain_steps.specs.StateViews.{loaded_seen, modules_seen, state_seen}
 use Rattle.ash_plain_steps.specs.Consistency.{AreConsistent}
-use Rattle.ash_plain_steps.specs.TaskViews.{task_seen, word_among, TakesMemoryToFind}
+use Rattle.ash_plain_steps.specs.TaskViews.{task_seen, word_among}
+use Rattle.ash_requests.specs.TaskResults.{TakesMemoryToFind}
 use Rattle.ash_plain_steps.proofs.Ascending.{same_name}
 use Rattle.ash_plain_steps.proofs.Places.{found_nowhere}
 use Rattle.ash_plain_steps.proofs.Found.{found_got, found_some, tree_got}
@@ -86,7 +87,7 @@ module _ {Fault : Type 0} (embedding : Embedding Fault) (s : PlainState) (name :
       by (Some one) e = absurd (cc)
       by None e = refl
 
-  pub call_nowhere : (f : List ℕ) (args : List Argument) → s.seq < max_seq → place_in name s.modules.items ≡ None → task_of embedding (Call name f args) (state_seen s) ≡ Err NoModule
+  pub call_nowhere : (f : List ℕ) (args : List Arg) → s.seq < max_seq → place_in name s.modules.items ≡ None → task_of embedding (Call name f args) (state_seen s) ≡ Err NoModule
   call_nowhere f args h e = call_of_none embedding (state_seen s) name f args h (found_nowhere loaded_seen name s.modules.items e)
 
   pub discard_nowhere : s.seq < max_seq → place_in name s.modules.items ≡ None → task_of embedding (Discard name) (state_seen s) ≡ Err NoModule
@@ -97,7 +98,7 @@ module _ {Fault : Type 0} (embedding : Embedding Fault) (s : PlainState) (name :
 
   -- a module has it
 
-  pub call_there : (f : List ℕ) (args : List Argument) (place : ℕ) (m : code_module.LoadedModule) → s.seq < max_seq → AreConsistent embedding s.modules.items → place_in name s.modules.items ≡ Some place → slice_get s.modules.items place ≡ Some m → task_of embedding (Call name f args) (state_seen s) ≡ call_in (loaded_seen m) (module_of m.tree) f args
+  pub call_there : (f : List ℕ) (args : List Arg) (place : ℕ) (m : code_module.LoadedModule) → s.seq < max_seq → AreConsistent embedding s.modules.items → place_in name s.modules.items ≡ Some place → slice_get s.modules.items place ≡ Some m → task_of embedding (Call name f args) (state_seen s) ≡ call_in (loaded_seen m) (module_of m.tree) f args
   call_there f args place m h known e g = call_of_one embedding (state_seen s) name f args (loaded_seen m) (module_of m.tree) h (found_got name s.modules.items place m e g) (tree_got embedding s.modules.items place m known g)
 
   pub no_global_there : (global : List ℕ) (place : ℕ) (m : code_module.LoadedModule) → AreConsistent embedding s.modules.items → place_in name s.modules.items ≡ Some place → slice_get s.modules.items place ≡ Some m → None ≡ word_among global (module_of m.tree).globals m.globals.items → task_of embedding (Get name global) (state_seen s) ≡ Err NoGlobal

@@ -15,18 +15,21 @@ use Rattle.ash_requests.specs.Tasks.{Task, TaskResult, Initialize, Invoke, Remov
 use Rattle.ash_requests.specs.Steps.{Step, replied, answered, after_load, after_call, perform, unless_refused, step, TakesMemory, Steps, performed, put_off}
 use Rattle.ash_requests.specs.Steps as all_steps
 use Rattle.ash_plain_steps.specs.declared.state.LoadedModule as code_module
-use Rattle.ash_plain_steps.specs.declared.request.StepError.{StepError}
-use Rattle.ash_plain_steps.specs.declared.request.StepError.TheVariants as errors
-use Rattle.ash_plain_steps.specs.declared.request.Step as code_step
-use Rattle.ash_plain_steps.specs.declared.request.Refusal as refusal
-use Rattle.ash_plain_steps.specs.declared.request.Refusal.TheVariants as refusals
+use Rattle.ash_requests.specs.declared.step_error.StepError.{StepError}
+use Rattle.ash_requests.specs.declared.step_error.StepError.TheVariants as errors
+use Rattle.ash_plain_steps.specs.declared.step.Step as code_step
+use Rattle.ash_requests.specs.declared.refusal.Refusal as refusal
+use Rattle.ash_requests.specs.declared.refusal.Refusal.TheVariants as refusals
 use Rattle.ash_plain_steps.specs.declared.task.Task as task
 use Rattle.ash_plain_steps.specs.declared.task.Task.TheVariants as tasks
 use Rattle.ash_plain_steps.specs.StateViews.{loaded_seen, modules_seen}
-use Rattle.ash_plain_steps.specs.RequestViews.{step_seen, refusal_seen}
+use Rattle.ash_plain_steps.specs.StepViews.{step_seen}
+use Rattle.ash_requests.specs.RequestViews.{refusal_seen}
 use Rattle.ash_plain_steps.specs.Consistency.{ModulesAscend}
-use Rattle.ash_plain_steps.specs.TaskViews.{task_seen, TakesMemoryToFind, RefusesAs}
-use Rattle.ash_plain_steps.specs.StepViews.{ComesTo, ChangesState, TaskChangesState, LosesMemory, IsStep}
+use Rattle.ash_plain_steps.specs.TaskViews.{task_seen, RefusesAs}
+use Rattle.ash_requests.specs.TaskResults.{TakesMemoryToFind}
+use Rattle.ash_plain_steps.specs.StepViews.{ComesTo, ChangesState, LosesMemory, IsStep}
+use Rattle.ash_requests.specs.TaskResults.{TaskChangesState}
 use Rattle.std.proofs.lemmas.List.{length-set}
 use Rattle.ash_plain_steps.proofs.Found.{within_got}
 use Rattle.ash_plain_steps.proofs.Changed.{lent, set_again, seen_set}

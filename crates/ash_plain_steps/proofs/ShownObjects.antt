@@ -20,7 +20,8 @@ use Rattle.ash_plain_steps.specs.declared.state.LoadedModule.{LoadedModule}
 use Rattle.ash_plain_steps.specs.declared.state.PlainState.{PlainState}
 use Rattle.ash_plain_steps.specs.StateViews.{loaded_seen, modules_seen, state_seen}
 use Rattle.ash_plain_steps.specs.Consistency.{IsReadFromSource, AreConsistent}
-use Rattle.ash_plain_steps.specs.TaskViews.{tree_named, class_in, class_of_object, described_in, TakesMemoryToFind}
+use Rattle.ash_plain_steps.specs.TaskViews.{tree_named, class_in, class_of_object, described_in}
+use Rattle.ash_requests.specs.TaskResults.{TakesMemoryToFind}
 use Rattle.ash_plain_steps.proofs.Given.{got_item}
 
 -- what `get` gives, as the definitions see it

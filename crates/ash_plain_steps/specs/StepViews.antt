@@ -5,20 +5,24 @@ use Rattle.ash_requests.specs.States.{State, Hosts, Embedding, find_module}
 use Rattle.ash_requests.specs.Requests.{Request, NoMemory, Refused}
 use Rattle.ash_requests.specs.Tasks.{TaskResult, Initialize, Invoke, Remove, max_seq, task_of}
 use Rattle.ash_plain_steps.specs.declared.state.PlainState.{PlainState}
-use Rattle.ash_plain_steps.specs.declared.request.StepError.{StepError}
-use Rattle.ash_plain_steps.specs.declared.request.StepError.TheVariants as errors
+use Rattle.ash_requests.specs.declared.step_error.StepError.{StepError}
+use Rattle.ash_requests.specs.declared.step_error.StepError.TheVariants as errors
 use Rattle.ash_plain_steps.specs.declared.task.NewModule.{NewModule}
 use Rattle.ash_plain_steps.specs.declared.task.Task.{Task}
 use Rattle.ash_plain_steps.specs.declared.task.Task.TheVariants as tasks
 use Rattle.ash_plain_world.specs.ActivityViews.{world_seen}
-use Rattle.ash_plain_scripts.specs.declared.ends.Outcome as code_outcome
-use Rattle.ash_plain_scripts.specs.EndViews.{end_seen}
-use Rattle.ash_requests.specs.Steps.{answered, replied, step, TakesMemory}
+use Rattle.ash_plain_scripts.specs.declared.ends.RunEnd.{RunEnd}
+use Rattle.ash_requests.specs.OutcomeViews.{end_seen}
+use Rattle.ash_requests.specs.RequestViews.{reply_seen}
+use Rattle.ash_requests.specs.Steps.{Step, answered, replied, step, TakesMemory}
 use Rattle.ash_plain_steps.specs.declared.state.LoadedModule.{LoadedModule}
-use Rattle.ash_plain_steps.specs.declared.request.Step as code_step
-use Rattle.ash_plain_steps.specs.StateViews.{modules_seen, state_seen}
-use Rattle.ash_plain_steps.specs.RequestViews.{step_seen}
-use Rattle.ash_plain_steps.specs.TaskViews.{TakesMemoryToFind}
+use Rattle.ash_plain_steps.specs.declared.step.Step as code_step
+use Rattle.ash_plain_steps.specs.StateViews.{modules_seen, state_seen, hosts_seen}
+use Rattle.ash_requests.specs.TaskResults.{TakesMemoryToFind}
+
+-- a step with what it leaves
+abbrev pub step_seen : {Code Fault : Type 0} → (Code → Fault) → code_step.Step Code → Step Fault
+step_seen fault s = record { reply = reply_seen fault s.reply; state = state_seen s.state; hosts = hosts_seen s.hosts }
 
 -- The code gives what the definitions give, or says that they give nothing. Where memory was refused, nothing is said.
 abbrev pub ComesTo : {X A : Type 0} → (X → A) → Result X StepError → Option A → Type 0
@@ -32,13 +36,6 @@ ChangesState (tasks.Initialize new) = Unit {0}
 ChangesState (tasks.Invoke call) = Unit {0}
 ChangesState (tasks.Remove place) = Unit {0}
 ChangesState _ = ⊥
-
--- the request is not refused, and its task changes the state
-abbrev pub TaskChangesState : {Fault : Type 0} → TaskResult Fault → Type 0
-TaskChangesState (Ok (Initialize name source tree)) = Unit {0}
-TaskChangesState (Ok (Invoke loaded tree function args)) = Unit {0}
-TaskChangesState (Ok (Remove name)) = Unit {0}
-TaskChangesState _ = ⊥
 
 -- memory was refused while the state changed
 abbrev pub LosesMemory : {X : Type 0} → Result X StepError → Type 0 → Type 0
@@ -80,7 +77,7 @@ IsPerformable embedding state _ = Unit {0}
 
 -- What is left of a call of the module at a place, which had lent its globals: they are what the run left in them.
 pub record IsAfterCall {Code Fault : Type 0} (fault : Code → Fault) (ms : List LoadedModule) (place : ℕ)
-    (m : LoadedModule) (outcome : code_outcome.Outcome) (old : State) (new : code_step.Step Code) : Type 0 where
-  pub globals : new.state.modules.items ≡ set ms place (record m { globals = outcome.world.globals })
+    (m : LoadedModule) (end : RunEnd) (old : State) (new : code_step.Step Code) : Type 0 where
+  pub globals : new.state.modules.items ≡ set ms place (record m { globals = end.world.globals })
   pub stepped : step_seen fault new
-      ≡ answered (end_seen outcome.end) (modules_seen new.state.modules.items) (world_seen outcome.world) old
+      ≡ answered (end_seen end.outcome) (modules_seen new.state.modules.items) (world_seen end.world) old

@@ -14,12 +14,12 @@ use Rattle.ash_requests.specs.Requests.{BadSource, ObjectContents, Fields, HostS
 use Rattle.ash_requests.specs.Tasks.{Task, Initialize, Invoke, Remove, Read, Show, Count, Rewrite, TaskResult}
 use Rattle.ash_requests.specs.Tasks.{class_placed, shown_fields}
 use Rattle.ash_plain_steps.specs.declared.state.LoadedModule.{LoadedModule}
-use Rattle.ash_plain_steps.specs.declared.request.Refusal as refusal
-use Rattle.ash_plain_steps.specs.declared.request.Refusal.TheVariants as refusals
+use Rattle.ash_requests.specs.declared.refusal.Refusal as refusal
+use Rattle.ash_requests.specs.declared.refusal.Refusal.TheVariants as refusals
 use Rattle.ash_plain_steps.specs.declared.task.Task as task
 use Rattle.ash_plain_steps.specs.declared.task.Task.TheVariants as tasks
 use Rattle.ash_plain_steps.specs.StateViews.{loaded_seen}
-use Rattle.ash_plain_steps.specs.RequestViews.{refusal_seen, shown_seen}
+use Rattle.ash_requests.specs.RequestViews.{refusal_seen, shown_seen}
 
 -- a task, whose module goes by its place among these
 abbrev pub task_seen : List LoadedModule → task.Task → Option Task
@@ -32,15 +32,6 @@ task_seen ms (tasks.Read word) = Some (Read word)
 task_seen ms (tasks.Show shown) = Some (Show (shown_seen shown))
 task_seen ms tasks.Count = Some Count
 task_seen ms tasks.Rewrite = Some Rewrite
-
--- What is found with memory: the tree of a source, or its fault where `takes` holds of that; the words of arguments;
--- and an object as it is shown.
-abbrev pub TakesMemoryToFind : {Fault : Type 0} → (Fault → Type 0) → TaskResult Fault → Type 0
-TakesMemoryToFind takes (Ok (Initialize name source tree)) = Unit {0}
-TakesMemoryToFind takes (Ok (Invoke loaded tree function args)) = Unit {0}
-TakesMemoryToFind takes (Ok (Show shown)) = Unit {0}
-TakesMemoryToFind takes (Err (BadSource fault)) = takes fault
-TakesMemoryToFind takes _ = ⊥
 
 -- The code refuses for the cause for which the definitions refuse, or since memory was refused where it takes some to
 -- find it.

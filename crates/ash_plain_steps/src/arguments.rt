@@ -5,12 +5,12 @@ ghost use Rattle.std.specs.Option.{option_map_or};
 ghost use Rattle.std.specs.List.{list_all};
 ghost use Rattle.ash_typed.specs.declared.types.VarType.TheVariants as vars;
 ghost use Rattle.ash_typed.specs.Modules.{function_of};
-ghost use Rattle.ash_requests.specs.declared.argument.Argument.TheVariants as arguments;
+ghost use Rattle.ash_requests.specs.declared.argument.Arg.TheVariants as arguments;
 ghost use Rattle.ash_requests.specs.Tasks.{argument_of, arguments_of, is_primitive, is_callable};
 
 use ash_host::Word;
 use ash_integers::{IntType, number, word_from};
-use ash_requests::Argument;
+use ash_requests::Arg;
 use ash_typed::{Function, VarType};
 use std::alloc::{AllocError, Global};
 
@@ -28,18 +28,18 @@ fn number_of(int_type: IntType, value: i128) -> Option<Word>
 }
 
 /// An argument as a word of a parameter's type, where the type holds it.
-fn argument_of(of: VarType, argument: Argument) -> Option<Word>
+fn argument_of(of: VarType, argument: Arg) -> Option<Word>
     ensures value { result ≡ argument_of of argument }
 {
     match (of, argument) {
-        (VarType::Bool, Argument::Truth(value)) => Some(Word::Bool(value)),
-        (VarType::Integer(int_type), Argument::Number(value)) => number_of(int_type, value),
+        (VarType::Bool, Arg::Truth(value)) => Some(Word::Bool(value)),
+        (VarType::Integer(int_type), Arg::Number(value)) => number_of(int_type, value),
         _ => None,
     }
 }
 
 /// Whether the type of a parameter holds an argument.
-fn is_held(of: VarType, argument: Argument) -> bool
+fn is_held(of: VarType, argument: Arg) -> bool
     ensures value { result ≡ is_some (argument_of of argument) }
 {
     argument_of(of, argument).is_some()
@@ -47,7 +47,7 @@ fn is_held(of: VarType, argument: Argument) -> bool
 
 /// Whether there are as many arguments as parameters, each held by its type.
 #[tactic(auto, using(crate::proofs::ArgumentLists::one_held, crate::proofs::ArgumentLists::not_held))]
-fn are_held(parameters: &[VarType], arguments: &[Argument]) -> bool
+fn are_held(parameters: &[VarType], arguments: &[Arg]) -> bool
     ensures value { result ≡ is_some (arguments_of parameters.now arguments.now) }
 {
     for (place, argument) in arguments.iter().enumerate() {
@@ -66,7 +66,7 @@ fn are_held(parameters: &[VarType], arguments: &[Argument]) -> bool
 fn words_of(
     alloc: Global,
     parameters: &[VarType],
-    arguments: &[Argument],
+    arguments: &[Arg],
 ) -> Result<Option<Vec<Word>>, AllocError>
     ensures value { IfOk result (λ words. option_map (λ v. v.items) words
         ≡ arguments_of parameters.now arguments.now) }
@@ -93,7 +93,7 @@ fn words_of(
 pub(crate) fn arguments_of(
     alloc: Global,
     parameters: &[VarType],
-    arguments: &[Argument],
+    arguments: &[Arg],
 ) -> Result<Option<Vec<Word>>, AllocError>
     ensures words { IfOk result (λ words. option_map (λ v. v.items) words
         ≡ arguments_of parameters.now arguments.now) }

@@ -7,10 +7,9 @@ ghost use Rattle.ash_plain_steps.specs.TaskViews.{FindsFor};
 
 use crate::arguments::{arguments_of, is_callable};
 use crate::functions::place_of_function;
-use crate::request::Refusal;
 use ash_host::Word;
-use ash_requests::Argument;
 use ash_requests::sources::SourceReader;
+use ash_requests::{Arg, Refusal};
 use ash_typed::Module;
 use std::alloc::Global;
 
@@ -21,7 +20,7 @@ pub(crate) fn call_in<S: SourceReader>(
     alloc: Global,
     tree: &Module,
     name: &str,
-    arguments: &[Argument],
+    arguments: &[Arg],
 ) -> Result<(usize, Vec<Word>), Refusal<S::Fault>>
     ensures outcome { (m : LoadedModule) → FindsFor S.fault_seen S.TakesMemory
         (λ found. Invoke m (module_of tree.now) found.0 found.1.items) result

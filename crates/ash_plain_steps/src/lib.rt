@@ -8,8 +8,8 @@
 //! state. Where memory is refused before the state changes, a request is refused and all is as it was. Where it is
 //! refused later, in a load, a call or a removal, there is neither a step nor a state.
 //!
-//! In reading order: `request` (what is asked and replied), `state`, `task` (what a request asks for); `name`,
-//! `arguments`, `modules`, `functions` (what a request names, and is handed), `shown` (objects as replies show them);
+//! In reading order: `state`, `step` (what a request comes to), `task` (what a request asks for); `name`, `arguments`,
+//! `modules`, `functions` (what a request names, and is handed), `shown` (objects as replies show them);
 //! `calls` and `refusals` (what each request asks for, or why it is refused); `runs` (what the tasks do that change the
 //! state), `steps`.
 #![tactic(auto)]
@@ -20,9 +20,9 @@ mod functions;
 mod modules;
 mod name;
 mod refusals;
-pub mod request;
 mod runs;
 mod shown;
 pub mod state;
+pub mod step;
 pub mod steps;
 mod task;

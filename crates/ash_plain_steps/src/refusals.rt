@@ -5,7 +5,7 @@ ghost use Rattle.ash_requests.specs.Requests.{Load, Call, Discard, Get, Object};
 ghost use Rattle.ash_requests.specs.States.{Embedding};
 ghost use Rattle.ash_requests.specs.Tasks.{task_of};
 ghost use Rattle.ash_plain_steps.specs.StateViews.{state_seen};
-ghost use Rattle.ash_plain_steps.specs.RequestViews.{request_seen};
+ghost use Rattle.ash_requests.specs.RequestViews.{request_seen};
 ghost use Rattle.ash_plain_steps.specs.Consistency.{AreConsistent};
 ghost use Rattle.ash_plain_steps.specs.TaskViews.{GivesTask};
 ghost use Rattle.ash_plain_steps.specs.StepViews.{IsPerformable};
@@ -14,12 +14,11 @@ use crate::calls::call_in;
 use crate::functions::word_named;
 use crate::modules::{MAX_MODULES, place_of};
 use crate::name::is_module_name;
-use crate::request::{Refusal, Request, Shown};
 use crate::shown::{count_of, described};
 use crate::state::PlainState;
 use crate::task::{Invocation, NewModule, Task};
-use ash_requests::Argument;
 use ash_requests::sources::SourceReader;
+use ash_requests::{Arg, Refusal, Request, Shown};
 
 /// The most requests that are answered.
 const MAX_SEQ: u64 = u64::MAX;
@@ -59,7 +58,7 @@ fn loading<'a, S: SourceReader>(
 fn calling<S: SourceReader>(
     module: &str,
     function: &str,
-    arguments: &[Argument],
+    arguments: &[Arg],
     state: &PlainState,
 ) -> Result<Task<'static>, Refusal<S::Fault>>
     ensures performable { (embedding : Embedding S.FaultSeen)
@@ -180,7 +179,7 @@ pub(crate) fn task_of<'a, S: SourceReader>(
             arguments,
         } => calling::<S>(module, function, arguments, state),
         Request::Discard { module } => discarding::<S>(module, state),
-        Request::Get { module, name } => reading::<S>(module, name, state),
+        Request::Global { module, name } => reading::<S>(module, name, state),
         Request::Object { number } => showing(sources, number, state),
         Request::Seq => Ok(Task::Count),
         Request::Snapshot => Ok(Task::Rewrite),

@@ -4,27 +4,29 @@ ghost use Rattle.std.specs.Prelude.{◌≡◌, ◌<◌, ℕ, [], set, Option, So
 ghost use Rattle.ash_typed.specs.Modules.{module_of};
 ghost use Rattle.ash_meaning.specs.Ends.{Outcome as OutcomeData, Finished};
 ghost use Rattle.ash_plain_world.specs.ActivityViews.{world_seen};
-ghost use Rattle.ash_plain_scripts.specs.EndViews.{end_seen, outcome_seen, EndsAs};
+ghost use Rattle.ash_requests.specs.OutcomeViews.{end_seen};
+ghost use Rattle.ash_plain_scripts.specs.EndViews.{outcome_seen, EndsAs};
 ghost use Rattle.ash_requests.specs.States.{State, Embedding, world_of};
 ghost use Rattle.ash_requests.specs.Tasks.{max_seq, Initialize, Invoke, Remove};
 ghost use Rattle.ash_requests.specs.Steps.{answered, after_load_with, after_load, without_globals};
 ghost use Rattle.ash_requests.specs.Steps.{perform};
 ghost use Rattle.ash_plain_steps.specs.StateViews.{loaded_seen, modules_seen, state_seen};
 ghost use Rattle.ash_plain_steps.specs.StateViews.{hosts_seen};
-ghost use Rattle.ash_plain_steps.specs.RequestViews.{step_seen};
+ghost use Rattle.ash_plain_steps.specs.StepViews.{step_seen};
 ghost use Rattle.ash_plain_steps.specs.Consistency.{ModulesAscend, AreConsistent, IsReadFromSource};
 ghost use Rattle.ash_plain_steps.specs.StepViews.{ComesTo, IsLoadable, IsThere, IsAfterCall};
 
 use crate::modules::{handles_of, insert};
-use crate::request::{Answer, Reply, Step, StepError};
 use crate::state::{Hosts, LoadedModule, PlainState};
+use crate::step::Step;
 use crate::task::{Invocation, NewModule};
 use ash_host::Word;
 use ash_plain_data::classes::Program;
 use ash_plain_data::run_error::{RunError, RunResult};
-use ash_plain_scripts::ends::{End, Outcome, call_function, load_module};
+use ash_plain_scripts::ends::{RunEnd, call_function, load_module};
 use ash_plain_world::activity::World;
 use ash_requests::sources::SourceReader;
+use ash_requests::{Answer, Outcome, Reply, StepError};
 use std::alloc::{AllocError, Global};
 use std::mem;
 
@@ -73,10 +75,10 @@ fn begin(state: PlainState, hosts: Hosts, globals: Vec<Word>) -> Result<(Rest, W
 }
 
 /// The step of a request that is answered so, with this world.
-fn answered<S: SourceReader>(rest: Rest, end: End, world: World) -> Step<S::Fault>
+fn answered<S: SourceReader>(rest: Rest, outcome: Outcome, world: World) -> Step<S::Fault>
     requires numbered { rest.seq < max_seq }
     ensures stepped { (old : State) → old.seq ≡ rest.seq → step_seen S.fault_seen result
-        ≡ answered (end_seen end) (modules_seen rest.modules.items) (world_seen world) old }
+        ≡ answered (end_seen outcome) (modules_seen rest.modules.items) (world_seen world) old }
     ensures modules { result.state.modules ≡ rest.modules }
 {
     let Rest {
@@ -95,7 +97,11 @@ fn answered<S: SourceReader>(rest: Rest, end: End, world: World) -> Step<S::Faul
     } = world;
     let seq = seq + 1;
     Step {
-        reply: Reply::Answered(Answer { end, seq, events }),
+        reply: Reply::Answer(Answer {
+            outcome,
+            seq,
+            events,
+        }),
         state: PlainState {
             alloc,
             modules,
@@ -109,11 +115,11 @@ fn answered<S: SourceReader>(rest: Rest, end: End, world: World) -> Step<S::Faul
 }
 
 /// How a run ended, or why it has no end.
-fn outcome_of(run: RunResult<Outcome>) -> Result<Outcome, StepError>
+fn end_of(run: RunResult<RunEnd>) -> Result<RunEnd, StepError>
     ensures outcome { (o : Option OutcomeData) → EndsAs run o → ComesTo outcome_seen result o }
 {
     match run {
-        Ok(outcome) => Ok(outcome),
+        Ok(end) => Ok(end),
         Err(RunError::NoMemory) => Err(StepError::NoMemory),
         Err(RunError::NoStep) => Err(StepError::NoStep),
         // These are ends of a run, which its outcome has.
@@ -149,61 +155,61 @@ fn keep<S: SourceReader>(
         globals: mem::replace(&mut world.globals, Vec::new(rest.alloc)),
     };
     insert(&mut rest.modules, loaded)?;
-    Ok(answered::<S>(rest, End::Finished(value), world))
+    Ok(answered::<S>(rest, Outcome::Finished(value), world))
 }
 
 /// The state goes on without a module whose initializers did not come to their end.
 fn abandon<S: SourceReader>(
     rest: Rest,
-    end: End,
+    outcome: Outcome,
     world: World,
 ) -> Result<Step<S::Fault>, AllocError>
     requires numbered { rest.seq < max_seq }
     ensures stepped { (old : State) → old.seq ≡ rest.seq
         → IfOk result (λ s. step_seen S.fault_seen s
-        ≡ answered (end_seen end) (modules_seen rest.modules.items)
+        ≡ answered (end_seen outcome) (modules_seen rest.modules.items)
         (without_globals (world_seen world)) old) }
     ensures modules { IfOk result (λ s. s.state.modules ≡ rest.modules) }
 {
     let mut world = world;
     world.globals = Vec::new(rest.alloc);
     world.give_up_frames(rest.alloc)?;
-    Ok(answered::<S>(rest, end, world))
+    Ok(answered::<S>(rest, outcome, world))
 }
 
 /// What is left of a load.
 fn finish_load<S: SourceReader>(
     rest: Rest,
     new: NewModule<'_>,
-    outcome: Outcome,
+    end: RunEnd,
 ) -> Result<Step<S::Fault>, AllocError>
     requires numbered { rest.seq < max_seq }
     ensures stepped { (old : State) → old.seq ≡ rest.seq
         → old.modules ≡ modules_seen rest.modules.items
         → IfOk result (λ s. step_seen S.fault_seen s
-        ≡ after_load new.entry.name.now new.entry.source.now old (outcome_seen outcome)) }
+        ≡ after_load new.entry.name.now new.entry.source.now old (outcome_seen end)) }
     ensures consistent { (embedding : Embedding S.FaultSeen) (old : PlainState)
         → old.modules ≡ rest.modules → AreConsistent embedding old.modules.items
         → IsLoadable embedding old new.entry
         → IfOk result (λ s. AreConsistent embedding s.state.modules.items) }
 {
-    let Outcome { end, world } = outcome;
-    match end {
-        End::Finished(value) => keep::<S>(rest, new, value, world),
-        End::Threw {
-            exception,
+    let RunEnd { outcome, world } = end;
+    match outcome {
+        Outcome::Finished(value) => keep::<S>(rest, new, value, world),
+        Outcome::Exception {
+            code,
             function,
             line,
         } => {
-            let end = End::Threw {
-                exception,
+            let outcome = Outcome::Exception {
+                code,
                 function,
                 line,
             };
-            abandon::<S>(rest, end, world)
+            abandon::<S>(rest, outcome, world)
         }
-        End::Aborted { function, line } => {
-            abandon::<S>(rest, End::Aborted { function, line }, world)
+        Outcome::Aborted { function, line } => {
+            abandon::<S>(rest, Outcome::Aborted { function, line }, world)
         }
     }
 }
@@ -230,8 +236,8 @@ pub(crate) fn initialize<S: SourceReader>(
         name: new.name,
         tree: &new.tree,
     };
-    let outcome = outcome_of(load_module(&program, budget, world))?;
-    Ok(finish_load::<S>(rest, new, outcome)?)
+    let end = end_of(load_module(&program, budget, world))?;
+    Ok(finish_load::<S>(rest, new, end)?)
 }
 
 /// Gives the module at a place other globals, and returns what it had.
@@ -245,18 +251,18 @@ fn replace_globals(modules: &mut Vec<LoadedModule>, place: usize, globals: Vec<W
 }
 
 /// What is left of a call.
-fn finish_call<S: SourceReader>(rest: Rest, place: usize, outcome: Outcome) -> Step<S::Fault>
+fn finish_call<S: SourceReader>(rest: Rest, place: usize, end: RunEnd) -> Step<S::Fault>
     requires numbered { rest.seq < max_seq }
     requires within { place < length rest.modules.items }
     ensures value { (m : LoadedModule) (old : State)
         → slice_get rest.modules.items place ≡ Some m → old.seq ≡ rest.seq
-        → IsAfterCall S.fault_seen rest.modules.items place m outcome old result }
+        → IsAfterCall S.fault_seen rest.modules.items place m end old result }
 {
     let mut rest = rest;
-    let Outcome { end, mut world } = outcome;
+    let RunEnd { outcome, mut world } = end;
     let globals = mem::replace(&mut world.globals, Vec::new(rest.alloc));
     replace_globals(&mut rest.modules, place, globals);
-    answered::<S>(rest, end, world)
+    answered::<S>(rest, outcome, world)
 }
 
 /// Runs a function of a module.
@@ -286,8 +292,8 @@ pub(crate) fn invoke<S: SourceReader>(
         name: m.name.as_str(),
         tree: &m.tree,
     };
-    let outcome = outcome_of(call_function(&program, call.function, call.args, budget, world))?;
-    Ok(finish_call::<S>(rest, call.module, outcome))
+    let end = end_of(call_function(&program, call.function, call.args, budget, world))?;
+    Ok(finish_call::<S>(rest, call.module, end))
 }
 
 /// Removes the module at a place: a release point without it.
@@ -312,5 +318,5 @@ pub(crate) fn discard<S: SourceReader>(
     let (rest, world) = begin(state, hosts, Vec::new(alloc))?;
     let mut world = world;
     world.give_up_frames(alloc)?;
-    Ok(answered::<S>(rest, End::Finished(None), world))
+    Ok(answered::<S>(rest, Outcome::Finished(None), world))
 }

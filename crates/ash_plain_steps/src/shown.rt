@@ -12,15 +12,15 @@ ghost use Rattle.ash_requests.specs.Requests.{Fields, HostState, Elements};
 ghost use Rattle.ash_requests.specs.States.{globals_of};
 ghost use Rattle.ash_requests.specs.Tasks.{name_of, shown_fields};
 ghost use Rattle.ash_plain_steps.specs.StateViews.{modules_seen};
-ghost use Rattle.ash_plain_steps.specs.RequestViews.{field_seen, named_seen};
+ghost use Rattle.ash_requests.specs.RequestViews.{field_seen, named_seen};
 ghost use Rattle.ash_plain_steps.specs.TaskViews.{tree_named, class_of_object, described_in};
 
-use crate::request::ObjectContents;
 use crate::state::{LoadedModule, PlainState};
 use ash_host::Word;
 use ash_plain_data::classes::Program;
 use ash_plain_data::object::Object;
 use ash_plain_world::objects::handles_to;
+use ash_requests::ObjectContents;
 use ash_requests::sources::SourceReader;
 use ash_typed::{Class, Initialization, Module};
 use std::alloc::{AllocError, Global};

@@ -5,18 +5,20 @@ ghost use Rattle.ash_requests.specs.States.{Embedding};
 ghost use Rattle.ash_requests.specs.Tasks.{Task as TaskData};
 ghost use Rattle.ash_requests.specs.Steps.{perform, Steps};
 ghost use Rattle.ash_plain_steps.specs.StateViews.{modules_seen, state_seen, hosts_seen};
-ghost use Rattle.ash_plain_steps.specs.RequestViews.{request_seen, step_seen};
+ghost use Rattle.ash_requests.specs.RequestViews.{request_seen};
+ghost use Rattle.ash_plain_steps.specs.StepViews.{step_seen};
 ghost use Rattle.ash_plain_steps.specs.Consistency.{AreConsistent};
 ghost use Rattle.ash_plain_steps.specs.TaskViews.{task_seen};
 ghost use Rattle.ash_plain_steps.specs.StepViews.{ComesTo, IsPerformable, ChangesState};
 ghost use Rattle.ash_plain_steps.specs.StepViews.{LosesMemory, IsStep};
 
 use crate::refusals::task_of;
-use crate::request::{Reply, Request, Step, StepError};
 use crate::runs::{discard, initialize, invoke};
 use crate::state::{Hosts, PlainState};
+use crate::step::Step;
 use crate::task::Task;
 use ash_requests::sources::SourceReader;
+use ash_requests::{Reply, Request, StepError};
 
 /// A reply that leaves everything as it is.
 fn replied<F: Drop>(reply: Reply<F>, state: PlainState, hosts: Hosts) -> Step<F>
@@ -54,7 +56,7 @@ fn perform<S: SourceReader>(
         Task::Show(shown) => Ok(replied(Reply::Shown(shown), state, hosts)),
         Task::Count => {
             let seq = state.seq;
-            Ok(replied(Reply::Number(seq), state, hosts))
+            Ok(replied(Reply::Seq(seq), state, hosts))
         }
         Task::Rewrite => Ok(replied(Reply::Done, state, hosts)),
     }

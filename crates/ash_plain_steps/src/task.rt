@@ -1,7 +1,7 @@
 //! What a request asks for, once all that it names is found.
 
-use crate::request::Shown;
 use ash_host::Word;
+use ash_requests::Shown;
 use ash_typed::Module;
 
 /// A module that is to be loaded, with the typed tree of its source.

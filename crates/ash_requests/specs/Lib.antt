@@ -3,7 +3,11 @@ pub mod Requests
 pub mod Tasks
 pub mod Steps
 pub mod Premises
+pub mod TaskResults
 pub mod SourceViews
+pub mod OutcomeViews
+pub mod RequestViews
+pub mod RefusalCodes
 pub mod StepLaws
 pub mod StepExamples
 pub mod RunExamples

@@ -3,11 +3,11 @@ use Rattle.std.specs.Prelude.{ℕ, List}
 use Rattle.ash_host.specs.declared.word.Word.{Word}
 use Rattle.ash_host.specs.declared.event.Event.{Event}
 use Rattle.ash_meaning.specs.Ends.{End}
-use Rattle.ash_requests.specs.declared.argument.Argument.{Argument}
+use Rattle.ash_requests.specs.declared.argument.Arg.{Arg}
 
 pub data Request : Type 0 where
   Load : (module_name source : List ℕ) → Request
-  Call : (module_name function : List ℕ) (arguments : List Argument) → Request
+  Call : (module_name function : List ℕ) (arguments : List Arg) → Request
   Discard : (module_name : List ℕ) → Request
   Get : (module_name name : List ℕ) → Request
   Object : (number : ℕ) → Request

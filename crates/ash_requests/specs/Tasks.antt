@@ -18,8 +18,8 @@ use Rattle.ash_typed.specs.Modules.{Function, Class, Module}
 use Rattle.ash_typed.specs.SoundModules.{names_of_globals}
 use Rattle.ash_meaning.specs.OperatorMeaning.{word_at}
 use Rattle.ash_meaning.specs.Classes.{places_of_classes, dotted}
-use Rattle.ash_requests.specs.declared.argument.Argument.{Argument}
-use Rattle.ash_requests.specs.declared.argument.Argument.TheVariants as arguments
+use Rattle.ash_requests.specs.declared.argument.Arg.{Arg}
+use Rattle.ash_requests.specs.declared.argument.Arg.TheVariants as arguments
 use Rattle.ash_requests.specs.States.{LoadedModule, State, Embedding, find_module, globals_of}
 use Rattle.ash_requests.specs.Requests.{Request, Load, Call, Discard, Get, Object, Seq, Snapshot, Refusal}
 use Rattle.ash_requests.specs.Requests.{SequenceSpent, BadName, ModuleTaken, TooManyModules, BadSource}
@@ -62,14 +62,14 @@ option_cons (Some one) (Some more) = Some (one ∷ more)
 option_cons _ _ = None
 
 -- an argument as a word of a parameter's type, where the type holds it
-abbrev pub argument_of : VarType → Argument → Option Word
+abbrev pub argument_of : VarType → Arg → Option Word
 argument_of vars.Bool (arguments.Truth b) = Some (words.Bool b)
 argument_of (vars.Integer int_type) (arguments.Number z) =
     if int_eq (reduced int_type z) z then Some (word_at int_type z) else None
 argument_of _ _ = None
 
 -- as many arguments as parameters, each of its type
-abbrev pub arguments_of : List VarType → List Argument → Option (List Word)
+abbrev pub arguments_of : List VarType → List Arg → Option (List Word)
 arguments_of [] [] = Some []
 arguments_of (of ∷ parameters) (argument ∷ more) = option_cons (argument_of of argument) (arguments_of parameters more)
 arguments_of _ _ = None
@@ -122,7 +122,7 @@ module _ {Fault : Type 0} where
   initialize name source (Ok tree) = Ok (Initialize name source tree)
   initialize name source (Err fault) = Err (BadSource fault)
 
-  abbrev pub call_in : LoadedModule → Module → List ℕ → List Argument → TaskResult Fault
+  abbrev pub call_in : LoadedModule → Module → List ℕ → List Arg → TaskResult Fault
   call_in m tree name args =
       require_some (position (λ (f : Function). bytes_eq f.name name) tree.functions) NoFunction
       (λ place. require_some (slice_get tree.functions place) NoFunction
@@ -166,7 +166,7 @@ module _ {Fault : Type 0} (embedding : Embedding Fault) where
       (require (nat_lt (length state.modules) max_modules) TooManyModules
       (initialize name source (embedding.read source))))
 
-  abbrev pub calling : List ℕ → List ℕ → List Argument → State → TaskResult Fault
+  abbrev pub calling : List ℕ → List ℕ → List Arg → State → TaskResult Fault
   calling name function args state =
       require_some (find_module name state) NoModule
       (λ m. require_some (tree_of m) NoModule (λ tree. call_in m tree function args))

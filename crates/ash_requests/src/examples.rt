@@ -12,7 +12,7 @@ ghost use Rattle.ash_meaning.specs.Examples as phrases;
 ghost use Rattle.ash_meaning.specs.ObjectExamples as phrase_objects;
 ghost use Rattle.ash_meaning.specs.ReleaseExamples.{value_read};
 ghost use Rattle.ash_meaning.specs.PointExamples as points;
-ghost use Rattle.ash_requests.specs.declared.argument.Argument.{Argument};
+ghost use Rattle.ash_requests.specs.declared.argument.Arg.{Arg};
 ghost use Rattle.ash_requests.specs.Requests.{Load, Call, Discard, Get, Object, Seq, Snapshot};
 ghost use Rattle.ash_requests.specs.Requests.{Answered, Value, ShownAs, Number, Done, Refused};
 ghost use Rattle.ash_requests.specs.Requests.{BadName, BadSource, ModuleTaken, NoModule};
@@ -29,8 +29,8 @@ ghost use Rattle.ash_requests.specs.ObjectRuns.{class_shown, array_shown, number
 /// What a few runs over requests reply.
 pub fn worked_runs()
     ensures loaded_and_called { RepliesInTurn
-        (Load m (4 ∷ []) ∷ Call m (codes "f") (Argument.Number (pos 5) ∷ []) ∷ Get m (codes "n")
-        ∷ Call m (codes "f") [] ∷ Call m (codes "f") (Argument.Number (pos (2 ^ 31)) ∷ []) ∷ Seq
+        (Load m (4 ∷ []) ∷ Call m (codes "f") (Arg.Number (pos 5) ∷ []) ∷ Get m (codes "n")
+        ∷ Call m (codes "f") [] ∷ Call m (codes "f") (Arg.Number (pos (2 ^ 31)) ∷ []) ∷ Seq
         ∷ []) 0 []
         (Answered (Finished None) 1 [] ∷ Answered (Finished (Some (Word.Int (pos 7)))) 2 []
         ∷ Value (Word.Int (pos 7)) ∷ Refused BadArguments ∷ Refused BadArguments ∷ Number 2 ∷ []) }
@@ -64,16 +64,16 @@ pub fn worked_integer_runs()
         ∷ Answered (Finished (Some (Word.Int (negsuc (2 ^ 31 - 1))))) 2 [] ∷ []) }
     ensures quotients { RepliesOf (integers.dividing ∷ [])
         (Load m (0 ∷ []) ∷ Call m (codes "q")
-        (Argument.Number (negsuc 6) ∷ Argument.Number (pos 2) ∷ [])
-        ∷ Call m (codes "r") (Argument.Number (negsuc 6) ∷ Argument.Number (pos 2) ∷ []) ∷ []) 0 []
+        (Arg.Number (negsuc 6) ∷ Arg.Number (pos 2) ∷ [])
+        ∷ Call m (codes "r") (Arg.Number (negsuc 6) ∷ Arg.Number (pos 2) ∷ []) ∷ []) 0 []
         (Answered (Finished None) 1 [] ∷ Answered (Finished (Some (Word.Int (negsuc 2)))) 2 []
         ∷ Answered (Finished (Some (Word.Int (negsuc 0)))) 3 [] ∷ []) }
     ensures least_by_minus_one { RepliesOf (integers.dividing ∷ [])
         (Load m (0 ∷ []) ∷ Call m (codes "q")
-        (Argument.Number (negsuc (2 ^ 31 - 1)) ∷ Argument.Number (negsuc 0) ∷ [])
-        ∷ Call m (codes "r") (Argument.Number (negsuc (2 ^ 31 - 1)) ∷ Argument.Number (negsuc 0)
+        (Arg.Number (negsuc (2 ^ 31 - 1)) ∷ Arg.Number (negsuc 0) ∷ [])
+        ∷ Call m (codes "r") (Arg.Number (negsuc (2 ^ 31 - 1)) ∷ Arg.Number (negsuc 0)
         ∷ [])
-        ∷ Call m (codes "q") (Argument.Number (pos 5) ∷ Argument.Number (pos 0) ∷ []) ∷ []) 0 []
+        ∷ Call m (codes "q") (Arg.Number (pos 5) ∷ Arg.Number (pos 0) ∷ []) ∷ []) 0 []
         (Answered (Finished None) 1 []
         ∷ Answered (Threw Exception.DivideOverflow (codes "q") 1) 2 []
         ∷ Answered (Threw Exception.DivideOverflow (codes "r") 1) 3 []
@@ -82,7 +82,7 @@ pub fn worked_integer_runs()
         (Load m (0 ∷ []) ∷ Call m (codes "p") [] ∷ []) 0 []
         (Answered (Finished None) 1 [] ∷ Answered (Finished (Some (Word.Bool false))) 2 [] ∷ []) }
     ensures effects_stay { RepliesOf (integers.failing_late ∷ [])
-        (Load m (0 ∷ []) ∷ Call m f (Argument.Number (pos 0) ∷ []) ∷ Get m (codes "n")
+        (Load m (0 ∷ []) ∷ Call m f (Arg.Number (pos 0) ∷ []) ∷ Get m (codes "n")
         ∷ Call m (codes "t") [] ∷ [])
         0 (tallied_by 4 0 4 ∷ totalled 4 ∷ [])
         (Answered (Finished None) 1 []
@@ -100,8 +100,8 @@ pub fn worked_integer_runs()
         (Answered (Finished None) 1 [] ∷ []) }
     ensures refusals { RepliesOf (adding ∷ [])
         (Load m (0 ∷ []) ∷ Call m (codes "nope") []
-        ∷ Call m f (Argument.Number (pos 1) ∷ Argument.Number (pos 2) ∷ [])
-        ∷ Call m f (Argument.Number (pos (2 ^ 31)) ∷ []) ∷ Call (codes "z") f []
+        ∷ Call m f (Arg.Number (pos 1) ∷ Arg.Number (pos 2) ∷ [])
+        ∷ Call m f (Arg.Number (pos (2 ^ 31)) ∷ []) ∷ Call (codes "z") f []
         ∷ Discard (codes "z")
         ∷ Get m (codes "q") ∷ Object 9 ∷ Load m (0 ∷ []) ∷ Load (codes "9x") (0 ∷ []) ∷ Seq
         ∷ Snapshot ∷ []) 0 []
@@ -123,9 +123,9 @@ pub fn worked_number_runs()
         ∷ Answered (Finished (Some (Word.Bool false))) 3 []
         ∷ Answered (Finished (Some (Word.Int64 (negsuc (2 ^ 31 - 1))))) 4 [] ∷ []) }
     ensures shifts { RepliesOf (integers.shifting ∷ [])
-        (Load m (0 ∷ []) ∷ Call m (codes "a") (Argument.Number (negsuc 0) ∷ [])
-        ∷ Call m (codes "b") (Argument.Number (negsuc 0) ∷ [])
-        ∷ Call m (codes "c") (Argument.Number (pos 1) ∷ []) ∷ [])
+        (Load m (0 ∷ []) ∷ Call m (codes "a") (Arg.Number (negsuc 0) ∷ [])
+        ∷ Call m (codes "b") (Arg.Number (negsuc 0) ∷ [])
+        ∷ Call m (codes "c") (Arg.Number (pos 1) ∷ []) ∷ [])
         0 []
         (Answered (Finished None) 1 [] ∷ Answered (Finished (Some (Word.Int (pos 15)))) 2 []
         ∷ Answered (Finished (Some (Word.Int (negsuc 0)))) 3 []
@@ -167,7 +167,7 @@ pub fn worked_object_runs()
         ∷ []))
         ∷ ShownAs (class_shown 2 (codes "m.Q") 2 ((codes "w", Word.Int (pos 1)) ∷ [])) ∷ []) }
     ensures two_modules { RepliesOf (adding ∷ [])
-        (Load m (0 ∷ []) ∷ Load k (0 ∷ []) ∷ Call m f (Argument.Number (pos 5) ∷ [])
+        (Load m (0 ∷ []) ∷ Load k (0 ∷ []) ∷ Call m f (Arg.Number (pos 5) ∷ [])
         ∷ Get k (codes "n")
         ∷ Discard m ∷ Get m (codes "n") ∷ []) 0 []
         (Answered (Finished None) 1 [] ∷ Answered (Finished None) 2 []
@@ -193,9 +193,9 @@ pub fn worked_interface_and_array_runs()
         ∷ Answered (Finished (Some (Word.Int (pos 7)))) 5 []
         ∷ Answered (Finished (Some (Word.Bool true))) 6 [] ∷ []) }
     ensures in_an_array { RepliesOf (phrase_objects.in_an_array.tree ∷ [])
-        (Load m (0 ∷ []) ∷ Call m f (Argument.Number (pos 5) ∷ []) ∷ Object 1
-        ∷ Call m (codes "h") (Argument.Number (pos 0) ∷ [])
-        ∷ Call m (codes "h") (Argument.Number (pos 1) ∷ [])
+        (Load m (0 ∷ []) ∷ Call m f (Arg.Number (pos 5) ∷ []) ∷ Object 1
+        ∷ Call m (codes "h") (Arg.Number (pos 0) ∷ [])
+        ∷ Call m (codes "h") (Arg.Number (pos 1) ∷ [])
         ∷ Call m (codes "g") [] ∷ Call m (codes "g") [] ∷ []) 1 (started 2 5 ∷ value_read 2 5 ∷ [])
         (Answered (Finished None) 1 []
         ∷ Answered (Finished (Some (Word.Int (pos 1)))) 2 (Drew 2 ∷ [])
@@ -228,8 +228,8 @@ pub fn worked_limit_runs()
         (Refused SequenceSpent ∷ Refused SequenceSpent ∷ Refused SequenceSpent ∷ Refused NoModule
         ∷ Number (2 ^ 64 - 1) ∷ []) }
     ensures longest_array { RepliesOf (objects.resizing ∷ [])
-        (Load m (0 ∷ []) ∷ Call m f (Argument.Number (pos 4096) ∷ [])
-        ∷ Call m f (Argument.Number (pos 4097) ∷ [])
+        (Load m (0 ∷ []) ∷ Call m f (Arg.Number (pos 4096) ∷ [])
+        ∷ Call m f (Arg.Number (pos 4097) ∷ [])
         ∷ Object 1 ∷ []) 0 []
         (Answered (Finished None) 1 [] ∷ Answered (Finished None) 2 []
         ∷ Answered (Threw Exception.ArrayLimit f 1) 3 []

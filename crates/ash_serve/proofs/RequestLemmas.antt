@@ -2,8 +2,8 @@
 use Rattle.std.proofs.Common.{◌≡◌, ◌<◌, ◌≤◌, ℕ, true, List, [], ◌∷◌, ◌++◌, length, refl, sym, ap, ◌∙◌, subst, arith, Ok}
 use Rattle.std.proofs.Common.{Err}
 use Rattle.ash_requests.specs.Requests.{Load}
-use Rattle.ash_plain_steps.specs.declared.request.Reply as steps
-use Rattle.ash_plain_steps.specs.RequestViews.{reply_seen}
+use Rattle.ash_requests.specs.declared.reply.Reply as steps
+use Rattle.ash_requests.specs.RequestViews.{reply_seen}
 use Rattle.ash_sources.specs.declared.fault.SourceFault as code_fault
 use Rattle.ash_sources.specs.SourceFaults.{fault_of}
 use Rattle.ash_lines.specs.Source.{IsFeed, Faults}

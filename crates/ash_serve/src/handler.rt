@@ -2,14 +2,14 @@
 
 ghost use Rattle.std.specs.Prelude.{ℕ};
 ghost use Rattle.ash_durable.specs.Hosting.{Handles};
-ghost use Rattle.ash_plain_steps.specs.RequestViews.{request_seen, reply_seen};
+ghost use Rattle.ash_requests.specs.RequestViews.{request_seen, reply_seen};
 ghost use Rattle.ash_sources.specs.SourceFaults.{fault_of};
 ghost use Rattle.ash_serve.specs.Serving.{RequestRelation, DependsOnPrefix};
 ghost use Rattle.ash_serve.specs.LongSources.{handles_by_prefix};
 
 use ash_disk::Disk;
 use ash_durable::Host;
-use ash_plain_steps::request::{Reply, Request};
+use ash_requests::{Reply, Request};
 use ash_sources::fault::SourceFault;
 
 /// A host, as the loop uses it.

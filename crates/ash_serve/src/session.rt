@@ -13,8 +13,7 @@ use ash_lines::line::{LineRead, LineRest, MAX_LINE_BYTES, read_line, skip_line};
 use ash_lines::reply::LineReply;
 use ash_lines::request_line::{LoadHeader, MAX_ARGUMENTS, ParsedLine, parse_line};
 use ash_lines::source::Source;
-use ash_plain_steps::request::Request;
-use ash_requests::Argument;
+use ash_requests::{Arg, Request};
 use std::alloc::{AllocError, Global};
 
 /// What a session handles requests with: the ticks that each may take, and buffers that are made before its first
@@ -24,7 +23,7 @@ pub(crate) struct Session {
     budget: u64,
     line: Vec<u8>,
     /// The arguments of a call.
-    arguments: Vec<Argument>,
+    arguments: Vec<Arg>,
     /// The prefix of a source.
     prefix: Vec<u8>,
 }

@@ -6,7 +6,7 @@ use Rattle.std.proofs.lemmas.Bool.Decides.{nat_tests}
 use Rattle.ash_host.specs.declared.word.Word.{Word}
 use Rattle.ash_host.specs.Objects.{object_at}
 use Rattle.ash_typed.specs.Modules.{Function, Module}
-use Rattle.ash_requests.specs.declared.argument.Argument.{Argument}
+use Rattle.ash_requests.specs.declared.argument.Arg.{Arg}
 use Rattle.ash_requests.specs.States.{LoadedModule, State, Embedding, find_module}
 use Rattle.ash_requests.specs.Requests.{Request, Load, Call, Discard, Get, Object, Seq, Snapshot, Refusal, NoGlobal, NoObject}
 use Rattle.ash_requests.specs.Requests as requests
@@ -31,7 +31,7 @@ module _ {Fault : Type 0} where
         → length s.modules < max_modules
         → s.seq < max_seq
         → IsTask embedding s (Initialize name source tree)
-    calls : {m : LoadedModule} {tree : Module} {place : ℕ} {args : List Word} {f : Function} (asked : List Argument)
+    calls : {m : LoadedModule} {tree : Module} {place : ℕ} {args : List Word} {f : Function} (asked : List Arg)
         → find_module m.name s ≡ Some m
         → embedding.read m.source ≡ Ok tree
         → slice_get tree.functions place ≡ Some f
@@ -64,7 +64,7 @@ module _ {Fault : Type 0} where
     initialize_is name source (Ok tree) t good is none few left e = subst (IsTask embedding s) (same_task (Initialize name source tree) t e) (initializes good is none few left)
     initialize_is name source (Err fault) t good is none few left e = absurd (cc)
 
-    call_is : (m : LoadedModule) (tree : Module) (name : List ℕ) (asked : List Argument) (t : Task) → find_module m.name s ≡ Some m → embedding.read m.source ≡ Ok tree → s.seq < max_seq → ◌≡◌ {A = TaskResult Fault} (call_in m tree name asked) (Ok t) → IsTask embedding s t
+    call_is : (m : LoadedModule) (tree : Module) (name : List ℕ) (asked : List Arg) (t : Task) → find_module m.name s ≡ Some m → embedding.read m.source ≡ Ok tree → s.seq < max_seq → ◌≡◌ {A = TaskResult Fault} (call_in m tree name asked) (Ok t) → IsTask embedding s t
     call_is m tree name asked t found is left e =
         let (place, at, e1) = required_some (position _ tree.functions) _ _ t e in
         let (f, there, e2) = required_some (slice_get tree.functions place) _ _ t e1 in

@@ -17,8 +17,8 @@ use Rattle.ash_soundness.specs.WellFormed.{IsValue, is_truth, is_integer, AreVal
 use Rattle.ash_soundness.specs.WellFormedLaws.{IsBetweenRequests}
 use Rattle.ash_soundness.proofs.Integers.{integer_word}
 use Rattle.ash_soundness.proofs.Entries.{mapped}
-use Rattle.ash_requests.specs.declared.argument.Argument.{Argument}
-use Rattle.ash_requests.specs.declared.argument.Argument.TheVariants as arguments
+use Rattle.ash_requests.specs.declared.argument.Arg.{Arg}
+use Rattle.ash_requests.specs.declared.argument.Arg.TheVariants as arguments
 use Rattle.ash_requests.specs.States.{State, Hosts, Embedding, without_module, world_of}
 use Rattle.ash_requests.specs.Requests.{Refused, Value, ShownAs, Number, Done}
 use Rattle.ash_requests.specs.Tasks.{option_cons, argument_of, arguments_of, Task, Initialize, Invoke, Remove, Read, Show, Count, Rewrite, TaskResult, task_of}
@@ -35,7 +35,7 @@ number_from : {p : Program} {all : LiveObjects (List ℕ)} (int_type : _) (z : _
 number_from {p} {all} int_type z w true e = subst (IsValue p all (vars.Integer int_type)) (same_Some (word_at int_type z) w e) (is_integer (integer_word int_type z))
 number_from int_type z w false e = absurd (cc)
 
-argument_value : {p : Program} {all : LiveObjects (List ℕ)} (of : VarType) (a : Argument) (w : Word) → argument_of of a ≡ Some w → IsValue p all of w
+argument_value : {p : Program} {all : LiveObjects (List ℕ)} (of : VarType) (a : Arg) (w : Word) → argument_of of a ≡ Some w → IsValue p all of w
 argument_value {p} {all} vars.Bool (arguments.Truth b) w e = subst (IsValue p all vars.Bool) (same_Some _ w e) is_truth
 argument_value vars.Bool (arguments.Number z) w e = absurd (cc)
 argument_value (vars.Integer int_type) (arguments.Truth b) w e = absurd (cc)
@@ -48,7 +48,7 @@ both_some (Some w) (Some rest) ws e = (w, rest, refl, refl, same_Some (w ∷ res
 both_some (Some w) None ws e = absurd (cc)
 both_some None os ws e = absurd (cc)
 
-pub arguments_values : {p : Program} {all : LiveObjects (List ℕ)} (types : List VarType) (asked : List Argument) (ws : List Word) → arguments_of types asked ≡ Some ws → AreValues p all types ws
+pub arguments_values : {p : Program} {all : LiveObjects (List ℕ)} (types : List VarType) (asked : List Arg) (ws : List Word) → arguments_of types asked ≡ Some ws → AreValues p all types ws
 arguments_values {p} {all} [] [] ws e = subst (AreValues p all []) (same_Some [] ws e) no_values
 arguments_values [] (a ∷ asked) ws e = absurd (cc)
 arguments_values (t ∷ types) [] ws e = absurd (cc)

@@ -3,10 +3,8 @@
 use ash_check::ScriptFault;
 use ash_host::{Event, Target, Word};
 use ash_lex::LexFault;
-use ash_meaning::Exception;
 use ash_parse::ParseFault;
-use ash_plain_scripts::ends::End;
-use ash_plain_steps::request::{Answer, ObjectContents, Refusal, Reply, Shown};
+use ash_requests::{Answer, Exception, ObjectContents, Outcome, Refusal, Reply, Shown};
 use ash_sources::fault::SourceFault;
 use std::alloc::{AllocError, Global};
 use std::fmt::Write;
@@ -40,22 +38,22 @@ fn write_exception(out: &mut String, exception: Exception) -> Result<(), AllocEr
     }
 }
 
-fn write_end(out: &mut String, end: &End) -> Result<(), AllocError> {
-    match end {
-        End::Finished(None) => write!(out, "ok"),
-        End::Finished(Some(word)) => {
+fn write_outcome(out: &mut String, outcome: &Outcome) -> Result<(), AllocError> {
+    match outcome {
+        Outcome::Finished(None) => write!(out, "ok"),
+        Outcome::Finished(Some(word)) => {
             write!(out, "ok ")?;
             write_word(out, *word)
         }
-        End::Threw {
-            exception,
+        Outcome::Exception {
+            code,
             function,
             line,
         } => {
-            write_exception(out, *exception)?;
+            write_exception(out, *code)?;
             write!(out, " {function} {line}")
         }
-        End::Aborted { function, line } => write!(out, "aborted {function} {line}"),
+        Outcome::Aborted { function, line } => write!(out, "aborted {function} {line}"),
     }
 }
 
@@ -72,7 +70,7 @@ fn write_dropped(out: &mut String, events: &[Event]) -> Result<(), AllocError> {
 }
 
 fn write_answer(out: &mut String, answer: &Answer) -> Result<(), AllocError> {
-    write_end(out, &answer.end)?;
+    write_outcome(out, &answer.outcome)?;
     write!(out, " seq {}", answer.seq)?;
     write_dropped(out, &answer.events)
 }
@@ -185,13 +183,13 @@ fn write_refusal(out: &mut String, refusal: &Refusal<SourceFault>) -> Result<(),
 
 fn write_reply(out: &mut String, reply: &Reply<SourceFault>) -> Result<(), AllocError> {
     match reply {
-        Reply::Answered(answer) => write_answer(out, answer),
+        Reply::Answer(answer) => write_answer(out, answer),
         Reply::Value(word) => {
             write!(out, "ok ")?;
             write_word(out, *word)
         }
         Reply::Shown(shown) => write_shown(out, shown),
-        Reply::Number(seq) => write!(out, "ok {seq}"),
+        Reply::Seq(seq) => write!(out, "ok {seq}"),
         Reply::Done => write!(out, "ok"),
         Reply::Refused(refusal) => write_refusal(out, refusal),
     }
@@ -227,7 +225,7 @@ fn write_event(out: &mut String, event: Event) -> Result<(), AllocError> {
 /// The events of a reply; one that is no answer has none.
 pub fn events_text(alloc: Global, reply: &Reply<SourceFault>) -> Result<String, AllocError> {
     let mut out = String::new(alloc);
-    if let Reply::Answered(answer) = reply {
+    if let Reply::Answer(answer) = reply {
         for event in &answer.events {
             write_event(&mut out, *event)?;
         }

@@ -1,7 +1,6 @@
 //! Requests as lines.
 
-use ash_plain_steps::request::Request;
-use ash_requests::Argument;
+use ash_requests::{Arg, Request};
 use std::alloc::{AllocError, Global};
 
 /// What comes before a blank, and what after it.
@@ -10,21 +9,21 @@ fn parted(text: &str) -> (&str, &str) {
 }
 
 /// What a call is handed: numbers and truth values, after the function's name. Anything else is left out.
-pub fn arguments_of(alloc: Global, line: &str) -> Result<Vec<Argument>, AllocError> {
+pub fn arguments_of(alloc: Global, line: &str) -> Result<Vec<Arg>, AllocError> {
     let mut arguments = Vec::new(alloc);
     if !line.starts_with("call ") {
         return Ok(arguments);
     }
     for word in line.split(' ') {
         if let Ok(number) = word.parse::<i64>() {
-            arguments.push(Argument::Number(i128::from(number)))?;
+            arguments.push(Arg::Number(i128::from(number)))?;
         }
     }
     Ok(arguments)
 }
 
 /// The request of a line. A line that is none asks for the number of answers.
-pub fn request_of<'a>(line: &'a str, arguments: &'a [Argument]) -> Request<'a> {
+pub fn request_of<'a>(line: &'a str, arguments: &'a [Arg]) -> Request<'a> {
     let (verb, rest) = parted(line);
     let (name, more) = parted(rest);
     match verb {
@@ -37,7 +36,7 @@ pub fn request_of<'a>(line: &'a str, arguments: &'a [Argument]) -> Request<'a> {
             function: parted(more).0,
             arguments,
         },
-        "get" => Request::Get {
+        "get" => Request::Global {
             module: name,
             name: more,
         },

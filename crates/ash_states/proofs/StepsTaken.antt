@@ -7,15 +7,16 @@ use Rattle.ash_requests.specs.States as states
 use Rattle.ash_requests.specs.Requests.{Request, NoMemory}
 use Rattle.ash_requests.specs.Steps.{Step}
 use Rattle.ash_requests.specs.Steps as steps
-use Rattle.ash_plain_steps.specs.declared.request.Step as code_step
-use Rattle.ash_plain_steps.specs.declared.request.StepError.{StepError}
-use Rattle.ash_plain_steps.specs.declared.request.StepError.TheVariants as errors
+use Rattle.ash_plain_steps.specs.declared.step.Step as code_step
+use Rattle.ash_requests.specs.declared.step_error.StepError.{StepError}
+use Rattle.ash_requests.specs.declared.step_error.StepError.TheVariants as errors
 use Rattle.ash_plain_steps.specs.declared.state.LoadedModule as code_module
 use Rattle.ash_plain_steps.specs.declared.state.PlainState.{PlainState}
 use Rattle.ash_plain_steps.specs.StateViews.{state_seen}
-use Rattle.ash_plain_steps.specs.RequestViews.{reply_seen, step_seen}
+use Rattle.ash_requests.specs.RequestViews.{reply_seen}
+use Rattle.ash_plain_steps.specs.StepViews.{step_seen}
 use Rattle.ash_plain_steps.specs.Consistency.{AreConsistent}
-use Rattle.ash_plain_steps.specs.TaskViews.{TakesMemoryToFind}
+use Rattle.ash_requests.specs.TaskResults.{TakesMemoryToFind}
 use Rattle.ash_plain_steps.specs.StepViews.{IsStep}
 use Rattle.ash_sources.specs.declared.fault.SourceFault as code_fault
 use Rattle.ash_sources.specs.SourceFaults.{SourceFault, fault_of}

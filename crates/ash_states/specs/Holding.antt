@@ -2,10 +2,10 @@
 use Rattle.std.specs.Prelude.{ℕ, List, Result, Ok, Err}
 use Rattle.ash_registry.specs.AcceptedRegistrations.{Registration}
 use Rattle.ash_requests.specs.Requests.{Request}
-use Rattle.ash_plain_steps.specs.declared.request.Step as code_step
-use Rattle.ash_plain_steps.specs.declared.request.StepError.{StepError}
+use Rattle.ash_plain_steps.specs.declared.step.Step as code_step
+use Rattle.ash_requests.specs.declared.step_error.StepError.{StepError}
 use Rattle.ash_plain_steps.specs.declared.state.PlainState.{PlainState}
-use Rattle.ash_plain_steps.specs.RequestViews.{reply_seen}
+use Rattle.ash_requests.specs.RequestViews.{reply_seen}
 use Rattle.ash_plain_steps.specs.StateViews.{state_seen}
 use Rattle.ash_plain_steps.specs.Consistency.{AreConsistent}
 use Rattle.ash_sources.specs.declared.fault.SourceFault as code_fault

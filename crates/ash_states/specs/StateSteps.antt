@@ -7,12 +7,12 @@ use Rattle.ash_requests.specs.Tasks.{TaskResult}
 use Rattle.ash_requests.specs.Tasks as tasks
 use Rattle.ash_requests.specs.Steps.{Step, TakesMemory}
 use Rattle.ash_requests.specs.Steps as steps
-use Rattle.ash_plain_steps.specs.declared.request.Reply as code_reply
-use Rattle.ash_plain_steps.specs.declared.request.StepError.{StepError}
-use Rattle.ash_plain_steps.specs.declared.request.StepError.TheVariants as errors
-use Rattle.ash_plain_steps.specs.RequestViews.{reply_seen}
-use Rattle.ash_plain_steps.specs.TaskViews.{TakesMemoryToFind}
-use Rattle.ash_plain_steps.specs.StepViews.{TaskChangesState}
+use Rattle.ash_requests.specs.declared.reply.Reply as code_reply
+use Rattle.ash_requests.specs.declared.step_error.StepError.{StepError}
+use Rattle.ash_requests.specs.declared.step_error.StepError.TheVariants as errors
+use Rattle.ash_requests.specs.RequestViews.{reply_seen}
+use Rattle.ash_requests.specs.TaskResults.{TakesMemoryToFind}
+use Rattle.ash_requests.specs.TaskResults.{TaskChangesState}
 use Rattle.ash_sources.specs.declared.fault.SourceFault as code_fault
 use Rattle.ash_sources.specs.SourceFaults.{SourceFault, fault_of}
 use Rattle.ash_sources.specs.SourceFaults as faults

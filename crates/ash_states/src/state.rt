@@ -2,7 +2,7 @@
 
 ghost use Rattle.std.specs.Prelude.{◌≡◌, ◌<◌, ◌^◌, length, IfOk};
 ghost use Rattle.ash_registry.specs.RegistryViews.{registered};
-ghost use Rattle.ash_plain_steps.specs.RequestViews.{request_seen};
+ghost use Rattle.ash_requests.specs.RequestViews.{request_seen};
 ghost use Rattle.ash_image.specs.Rules.{IsShaped};
 ghost use Rattle.ash_image.specs.SnapshotViews.{snapshot_of};
 ghost use Rattle.ash_image.specs.declared.version.Version.TheVariants.{Two};
@@ -14,19 +14,19 @@ use crate::restoring::restore_state;
 use crate::steps::{first_state, step_of};
 use crate::writing::{body_of, image_of};
 use ash_image::stored::StoredState;
-use ash_plain_steps::request::{Reply, Request, StepError};
 use ash_plain_steps::state::PlainState;
 use ash_registry::Registry;
+use ash_requests::{Reply, Request, StepError};
 use ash_sources::fault::SourceFault;
 use std::alloc::{AllocError, Global};
 use std::marker::Model;
 use std::mem;
 
 /// Why a request to a host is refused.
-pub type HostRefusal = ash_plain_steps::request::Refusal<SourceFault>;
+pub type HostRefusal = ash_requests::Refusal<SourceFault>;
 
 /// What a request to a host is replied.
-pub type HostReply = ash_plain_steps::request::Reply<SourceFault>;
+pub type HostReply = ash_requests::Reply<SourceFault>;
 
 /// What is registered with a host, and what outlives a request.
 #[derive(Drop)]

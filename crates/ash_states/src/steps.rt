@@ -5,14 +5,15 @@ ghost use Rattle.ash_registry.specs.AcceptedRegistrations.{Registration};
 ghost use Rattle.ash_registry.specs.RegistryViews.{registered};
 ghost use Rattle.ash_requests.specs.States.{empty};
 ghost use Rattle.ash_plain_steps.specs.StateViews.{state_seen};
-ghost use Rattle.ash_plain_steps.specs.RequestViews.{request_seen};
+ghost use Rattle.ash_requests.specs.RequestViews.{request_seen};
 ghost use Rattle.ash_states.specs.Holding.{IsHeld, IsStepOf};
 
 use crate::restoring::sources_for;
-use ash_plain_steps::request::{Request, Step, StepError};
 use ash_plain_steps::state::{Hosts, PlainState};
+use ash_plain_steps::step::Step;
 use ash_plain_steps::steps::plain_step;
 use ash_registry::Registry;
+use ash_requests::{Request, StepError};
 use ash_sources::fault::SourceFault;
 use std::alloc::Global;
 use std::collections::VecDeque;

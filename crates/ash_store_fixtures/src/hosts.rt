@@ -8,9 +8,8 @@ use ash_host::Word;
 use ash_lines::reply::{LineReply, write_line_reply};
 use ash_lines::sink::WriteFault;
 use ash_lines::writer::Writer;
-use ash_plain_steps::request::{Reply, Request};
 use ash_registry::Registry;
-use ash_requests::Argument;
+use ash_requests::{Arg, Reply, Request};
 use ash_states::state::HostReply;
 use std::alloc::{AllocError, Global};
 use std::fmt::Debug;
@@ -158,18 +157,18 @@ pub fn load<D: Disk>(host: &mut Host<D>, source: &[u8]) -> HostReply {
 }
 
 /// Calls the function `f` of a module.
-pub fn call_in<D: Disk>(host: &mut Host<D>, module: &str, arguments: &[Argument]) -> HostReply {
+pub fn call_in<D: Disk>(host: &mut Host<D>, module: &str, arguments: &[Arg]) -> HostReply {
     host.call(module, "f", arguments, BUDGET)
 }
 
 /// Calls the function `f` of the module `m`.
-pub fn call<D: Disk>(host: &mut Host<D>, arguments: &[Argument]) -> HostReply {
+pub fn call<D: Disk>(host: &mut Host<D>, arguments: &[Arg]) -> HostReply {
     call_in(host, "m", arguments)
 }
 
 /// Calls it with a number.
 pub fn add<D: Disk>(host: &mut Host<D>, number: i128) -> HostReply {
-    call(host, &[Argument::Number(number)])
+    call(host, &[Arg::Number(number)])
 }
 
 /// Removes a module.

@@ -5,9 +5,8 @@ use crate::hosts::{Disks, Refused, boxed_disks, refused_with_disks, state_after_
 use crate::stores::fuses::{Failing, FusedHost, answers_on_fuses, fused_host, fuses};
 use ash_disk::Survives;
 use ash_durable::{CreateFault, Host, OpenFault, StoreFault};
-use ash_plain_steps::request::Request;
 use ash_registry::Registry;
-use ash_requests::Argument;
+use ash_requests::{Arg, Request};
 use ash_store_fixtures::hosts::{
     EMPTY, SOURCE, State, add, closed, created, disk, found, is_done, lines_for, load, opened, seq,
     used,
@@ -285,9 +284,9 @@ fn seven_requests<'a>() -> [Request<'a>; 7] {
     let call = Request::Call {
         module: "m",
         function: "f",
-        arguments: &[Argument::Number(5)],
+        arguments: &[Arg::Number(5)],
     };
-    let get = Request::Get {
+    let get = Request::Global {
         module: "m",
         name: "n",
     };

@@ -3,8 +3,7 @@
 use crate::checks::{check, check_text};
 use crate::hosts::{BoxedHost, unregistered_host, with_module};
 use crate::stores::runs::{RunSeries, check_life};
-use ash_plain_steps::request::Request;
-use ash_requests::Argument;
+use ash_requests::{Arg, Request};
 use ash_store_fixtures::hosts::{SOURCE, call, line_for, line_of, lines_for, seq, shown};
 use ash_store_fixtures::lives::{File, HostStep, Run, Start};
 use std::alloc::Global;
@@ -54,9 +53,9 @@ static REQUESTS: [Request; 9] = [
     Request::Call {
         module: "m",
         function: "f",
-        arguments: &[Argument::Number(-2)],
+        arguments: &[Arg::Number(-2)],
     },
-    Request::Get {
+    Request::Global {
         module: "m",
         name: "n",
     },
@@ -65,7 +64,7 @@ static REQUESTS: [Request; 9] = [
     Request::Discard { module: "m" },
     Request::Discard { module: "m" },
     Request::Seq,
-    Request::Get {
+    Request::Global {
         module: "m",
         name: "n",
     },
@@ -85,10 +84,10 @@ fn each_request(rt: HostRuntime) -> Result<(), Fail> {
     Ok(())
 }
 
-static MISFITS: [Argument; 3] = [
-    Argument::Truth(true),
-    Argument::Number(2_147_483_648),
-    Argument::Number(-2_147_483_649),
+static MISFITS: [Arg; 3] = [
+    Arg::Truth(true),
+    Arg::Number(2_147_483_648),
+    Arg::Number(-2_147_483_649),
 ];
 
 /// Compares how a call with this argument is refused.
@@ -96,7 +95,7 @@ fn check_refused(
     rt: &impl Abort,
     alloc: Global,
     host: &mut BoxedHost,
-    argument: Argument,
+    argument: Arg,
 ) -> Result<(), Fail> {
     let found = line_of(alloc, call(host, &[argument]))?;
     let what = shown(alloc, &argument)?;

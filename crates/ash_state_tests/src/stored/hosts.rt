@@ -5,8 +5,8 @@ use crate::stored::images::{
     AFTER_THREE, CONSTRUCTED, LOADED, MODULE_A, MODULE_B, NOTHING, OF_TWO_MODULES, ONE_SERVICE,
     TWO, image, modules, with_tag,
 };
-use ash_plain_steps::request::{Reply, Request};
 use ash_registry::{Registry, RegistryFault};
+use ash_requests::{Reply, Request};
 use ash_states::state::HostState;
 use std::alloc::{AllocError, Global};
 use std::process::Abort;
@@ -18,7 +18,7 @@ const BUDGET: u64 = 1000;
 /// Handles a request that is answered.
 fn handle(state: &mut HostState, request: &Request) -> Result<(), Fail> {
     match state.handle(request, BUDGET)? {
-        Reply::Answered(_) => Ok(()),
+        Reply::Answer(_) => Ok(()),
         _ => Err(Fail::new("no answer")),
     }
 }

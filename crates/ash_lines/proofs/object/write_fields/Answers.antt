@@ -1,6 +1,6 @@
 use Rattle.std.proofs.Common.{sym}
 use Rattle.std.proofs.lemmas.Result.{err_from_is_err_and}
-use Rattle.ash_plain_steps.specs.RequestViews.{field_seen}
+use Rattle.ash_requests.specs.RequestViews.{field_seen}
 use Rattle.ash_lines.specs.ObjectTexts.{field_text}
 use Rattle.ash_lines.proofs.ItemLemmas.{wrote-none, wrote-more, wrote-failed, wrote-all, seen-text}
 use Rattle.ash_lines.proofs.object.write_fields.Goals as goal

@@ -1,4 +1,4 @@
-use Rattle.ash_plain_steps.specs.RequestViews.{field_seen}
+use Rattle.ash_requests.specs.RequestViews.{field_seen}
 use Rattle.ash_lines.specs.ObjectTexts.{field_text}
 use Rattle.ash_lines.proofs.ItemLemmas.{WroteUpTo}
 use Rattle.ash_lines.proofs.object.write_fields.Given as goal

@@ -1,6 +1,6 @@
 use Rattle.std.proofs.Common.{string_bytes}
 use Rattle.std.proofs.lemmas.Result.{err_from_is_err_and}
-use Rattle.ash_plain_steps.specs.RequestViews.{contents_seen}
+use Rattle.ash_requests.specs.RequestViews.{contents_seen}
 use Rattle.ash_lines.specs.ObjectTexts.{object_text, contents_text}
 use Rattle.ash_lines.proofs.SinkLemmas.{fails-more, writes-then}
 use Rattle.ash_lines.proofs.object.write_shown.Goals as goal

@@ -1,6 +1,6 @@
 use Rattle.std.proofs.Common.{◌∷◌, []}
 use Rattle.std.proofs.lemmas.Result.{err_from_is_err_and}
-use Rattle.ash_plain_steps.specs.RequestViews.{reply_seen}
+use Rattle.ash_requests.specs.RequestViews.{reply_seen}
 use Rattle.ash_sources.specs.SourceFaults.{fault_of}
 use Rattle.ash_lines.specs.ReplyText.{reply_text}
 use Rattle.ash_lines.proofs.SinkLemmas.{fails-more, writes_line-then}

@@ -3,7 +3,7 @@ use Rattle.std.specs.Prelude.{is_some, option_map}
 use Rattle.std.proofs.lemmas.Result.{err_from_is_err_and}
 use Rattle.ash_plain_data.specs.ObjectViews.{object_seen}
 use Rattle.ash_requests.specs.Tasks.{TaskResult, Show}
-use Rattle.ash_plain_steps.specs.RequestViews.{named_seen, shown_seen}
+use Rattle.ash_requests.specs.RequestViews.{named_seen, shown_seen}
 use Rattle.ash_plain_steps.specs.TaskViews.{described_in}
 use Rattle.ash_plain_steps.proofs.ShownObjects.{shown_takes, shown_there}
 use Rattle.ash_plain_steps.proofs.refusals.showing.Goals as goal

@@ -1,8 +1,8 @@
 use Rattle.std.proofs.Common.{sym, subst}
 use Rattle.ash_requests.specs.Tasks.{task_of}
-use Rattle.ash_plain_steps.specs.declared.request.Request as request
+use Rattle.ash_requests.specs.declared.request.Request as request
 use Rattle.ash_plain_steps.specs.StateViews.{state_seen}
-use Rattle.ash_plain_steps.specs.RequestViews.{request_seen}
+use Rattle.ash_requests.specs.RequestViews.{request_seen}
 use Rattle.ash_plain_steps.specs.TaskViews.{GivesTask}
 use Rattle.ash_plain_steps.proofs.refusals.task_of.Goals as goal
 

@@ -7,7 +7,7 @@ use Rattle.std.proofs.Common.{get_or}
 use Rattle.ash_requests.specs.States.{LoadedModule, world_of}
 use Rattle.ash_plain_steps.specs.declared.state.LoadedModule as code_module
 use Rattle.ash_plain_steps.specs.StateViews.{loaded_seen, modules_seen, state_seen, hosts_seen}
-use Rattle.ash_plain_steps.specs.RequestViews.{step_seen}
+use Rattle.ash_plain_steps.specs.StepViews.{step_seen}
 use Rattle.ash_plain_steps.specs.Consistency.{AreConsistent}
 use Rattle.ash_plain_steps.proofs.Changed.{removed_there, consistent_remove}
 use Rattle.ash_plain_steps.proofs.Ran.{discarded}

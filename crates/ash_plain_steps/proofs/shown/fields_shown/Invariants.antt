@@ -2,7 +2,7 @@ use Rattle.std.proofs.Common.{◌≡◌, ◌++◌, drop, map}
 use Rattle.std.specs.List.{zip}
 use Rattle.ash_typed.specs.BodyViews.{value_of}
 use Rattle.ash_requests.specs.Tasks.{name_of}
-use Rattle.ash_plain_steps.specs.RequestViews.{field_seen}
+use Rattle.ash_requests.specs.RequestViews.{field_seen}
 use Rattle.ash_plain_steps.proofs.shown.fields_shown.Given as goal
 
 -- the fields so far, and those of what is left

@@ -1,6 +1,7 @@
 use Rattle.ash_requests.specs.Tasks.{task_of}
 use Rattle.ash_plain_steps.specs.StateViews.{state_seen, hosts_seen}
-use Rattle.ash_plain_steps.specs.RequestViews.{request_seen, step_seen}
+use Rattle.ash_requests.specs.RequestViews.{request_seen}
+use Rattle.ash_plain_steps.specs.StepViews.{step_seen}
 use Rattle.ash_plain_steps.specs.TaskViews.{task_seen}
 use Rattle.std.proofs.Common.{ap, Ok}
 use Rattle.ash_plain_steps.proofs.Ran.{steps_so, is_step, is_refusal, steps_of}

@@ -1,7 +1,7 @@
 use Rattle.std.proofs.Common.{rules, sym, subst}
 use Rattle.ash_registry.specs.RegistryViews.{registered}
 use Rattle.ash_plain_steps.specs.Consistency.{AreConsistent}
-use Rattle.ash_plain_steps.specs.RequestViews.{request_seen}
+use Rattle.ash_requests.specs.RequestViews.{request_seen}
 use Rattle.ash_sources.specs.Sources.{SourceRules, rules_of, embedding_of}
 use Rattle.ash_states.proofs.StepsTaken.{step_by}
 use Rattle.ash_states.proofs.steps.step_of.Goals as goal

@@ -1,5 +1,5 @@
 use Rattle.ash_requests.specs.Requests.{Discard}
-use Rattle.ash_plain_steps.specs.RequestViews.{reply_seen}
+use Rattle.ash_requests.specs.RequestViews.{reply_seen}
 use Rattle.ash_sources.specs.SourceFaults.{fault_of}
 use Rattle.ash_durable.proofs.Changing.{handles_at}
 use Rattle.ash_durable.proofs.host.Host.discard.Goals as goal

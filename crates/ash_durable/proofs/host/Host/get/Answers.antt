@@ -1,5 +1,5 @@
 use Rattle.ash_requests.specs.Requests.{Get}
-use Rattle.ash_plain_steps.specs.RequestViews.{reply_seen}
+use Rattle.ash_requests.specs.RequestViews.{reply_seen}
 use Rattle.ash_sources.specs.SourceFaults.{fault_of}
 use Rattle.ash_durable.proofs.Changing.{handles_at, reads_only}
 use Rattle.ash_durable.proofs.host.Host.get.Goals as goal

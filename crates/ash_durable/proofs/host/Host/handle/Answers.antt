@@ -1,4 +1,4 @@
-use Rattle.ash_plain_steps.specs.RequestViews.{request_seen, reply_seen}
+use Rattle.ash_requests.specs.RequestViews.{request_seen, reply_seen}
 use Rattle.ash_sources.specs.SourceFaults.{fault_of}
 use Rattle.ash_durable.specs.HostReplies.{refused_by}
 use Rattle.ash_durable.proofs.HandledRequests.{handles_seen_stopped}

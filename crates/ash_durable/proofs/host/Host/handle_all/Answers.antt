@@ -1,5 +1,5 @@
 use Rattle.std.proofs.Common.{rules, ◌≡◌, ◌++◌, ◌∷◌, [], arith}
-use Rattle.ash_plain_steps.specs.RequestViews.{request_seen, reply_seen}
+use Rattle.ash_requests.specs.RequestViews.{request_seen, reply_seen}
 use Rattle.ash_sources.specs.SourceFaults.{fault_of}
 use Rattle.ash_durable.proofs.GoingOn.{one_more, nothing_left}
 use Rattle.ash_durable.proofs.LivesOn.{lives_on}

@@ -1,7 +1,7 @@
 use Rattle.std.proofs.Common.{◌≡◌, List, ◌≤◌, length, drop, map, ◌++◌, vec_len}
 use Rattle.std.specs.Vec.{vec_capacity}
 use Rattle.ash_requests.specs.Requests.{Reply}
-use Rattle.ash_plain_steps.specs.RequestViews.{request_seen, reply_seen}
+use Rattle.ash_requests.specs.RequestViews.{request_seen, reply_seen}
 use Rattle.ash_sources.specs.SourceFaults.{SourceFault, fault_of}
 use Rattle.ash_durable.specs.Hosting.{Hosted, HandlesAll}
 use Rattle.ash_durable.proofs.host.Host.handle_all.Given as goal

@@ -1,7 +1,7 @@
 use Rattle.std.proofs.Common.{Ok, Err}
 use Rattle.std.proofs.lemmas.Bool.{iff_false}
 use Rattle.std.proofs.lemmas.Result.{err_from_is_err_and}
-use Rattle.ash_plain_steps.specs.RequestViews.{request_seen, reply_seen}
+use Rattle.ash_requests.specs.RequestViews.{request_seen, reply_seen}
 use Rattle.ash_sources.specs.SourceFaults.{fault_of}
 use Rattle.ash_durable.proofs.Handling.{handled_runs, handled_room, handled_other, handled_answer, handled_lost}
 use Rattle.ash_durable.proofs.Handling.{handles_no_room}

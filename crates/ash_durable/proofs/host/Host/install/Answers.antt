@@ -1,5 +1,5 @@
 use Rattle.std.proofs.Common.{Some, IsSome, Ok, Err, sym, subst}
-use Rattle.ash_plain_steps.specs.declared.request.Refusal.TheVariants as the
+use Rattle.ash_requests.specs.declared.refusal.Refusal.TheVariants as the
 use Rattle.ash_durable.specs.Hosting.{Hosted, state_unless}
 use Rattle.ash_durable.specs.HostRequests.{TriesInstall}
 use Rattle.ash_durable.proofs.HandledRequests.{seen_host}

@@ -1,5 +1,5 @@
 use Rattle.std.proofs.lemmas.Bool.{iff_false}
-use Rattle.ash_plain_steps.specs.RequestViews.{request_seen}
+use Rattle.ash_requests.specs.RequestViews.{request_seen}
 use Rattle.ash_durable.proofs.Requesting.{room_enough, room_wanted}
 use Rattle.ash_durable.proofs.host.Host.make_room.Goals as goal
 

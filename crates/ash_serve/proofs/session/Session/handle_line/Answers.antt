@@ -1,7 +1,7 @@
 use Rattle.std.proofs.Common.{◌∙◌, List, refl, sym, ap}
-use Rattle.ash_plain_steps.specs.RequestViews.{request_seen}
+use Rattle.ash_requests.specs.RequestViews.{request_seen}
 use Rattle.ash_requests.specs.Requests.{Call}
-use Rattle.ash_requests.specs.declared.argument.Argument.{Argument}
+use Rattle.ash_requests.specs.declared.argument.Arg.{Arg}
 use Rattle.ash_lines.specs.Lines.{HostRequest, Quit, BadRequest, Complete, parse_line}
 use Rattle.ash_lines.specs.declared.reply.LineReply.TheVariants as code_replies
 use Rattle.ash_serve.specs.Serving.{handling_with}
@@ -20,7 +20,7 @@ returns-in-Call-clause-handled g c start w =
     line_replied (handling_with g.S.Source.feed (g.H.RequestHandler.handles c.args.self.now.budget)) start c.args.input.now c.args.host.now c.handle-in-Call.new.self c.args.self.now.line.items
     (HostRequest (Call module_name function c.as_slice.result.now)) (code_replies.Host c.handle-in-Call.result)
     w c.requires.short
-    (ap (λ (arguments : List Argument). Complete (HostRequest (Call module_name function arguments))) c.as_slice.ensures.value
+    (ap (λ (arguments : List Arg). Complete (HostRequest (Call module_name function arguments))) c.as_slice.ensures.value
     ∙ c.in-Call.ensures.parsed ∙ ap parse_line c.as_slice-line.ensures.value) c.handle-in-Call.ensures.handled
 
 pub returns-in-Load-clause-handled : goal.returns-in-Load-clause-handled

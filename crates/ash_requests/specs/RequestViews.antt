@@ -3,29 +3,26 @@ use Rattle.std.specs.Prelude.{ℕ, List, map, string_bytes}
 use Rattle.std.specs.declared.string.String.{String}
 use Rattle.std.specs.declared.alloc.Global.{Global as Memory}
 use Rattle.ash_host.specs.declared.word.Word.{Word}
-use Rattle.ash_plain_scripts.specs.EndViews.{end_seen}
+use Rattle.ash_requests.specs.OutcomeViews.{end_seen}
 use Rattle.ash_requests.specs.Requests.{Request, Load, Call, Discard, Get, Object, Seq, Snapshot}
 use Rattle.ash_requests.specs.Requests.{ObjectContents, Fields, HostState, Elements, Shown}
 use Rattle.ash_requests.specs.Requests as steps
 use Rattle.ash_requests.specs.Requests.{Refusal, Reply, Answered, Value, ShownAs, Number, Done, Refused}
-use Rattle.ash_requests.specs.Steps.{Step}
-use Rattle.ash_plain_steps.specs.declared.request.Request as request
-use Rattle.ash_plain_steps.specs.declared.request.Request.TheVariants as requests
-use Rattle.ash_plain_steps.specs.declared.request.Refusal as refusal
-use Rattle.ash_plain_steps.specs.declared.request.Refusal.TheVariants as refusals
-use Rattle.ash_plain_steps.specs.declared.request.ObjectContents as contents
-use Rattle.ash_plain_steps.specs.declared.request.ObjectContents.TheVariants as all_contents
-use Rattle.ash_plain_steps.specs.declared.request.Shown as shown
-use Rattle.ash_plain_steps.specs.declared.request.Reply as reply
-use Rattle.ash_plain_steps.specs.declared.request.Reply.TheVariants as replies
-use Rattle.ash_plain_steps.specs.declared.request.Step as step
-use Rattle.ash_plain_steps.specs.StateViews.{state_seen, hosts_seen}
+use Rattle.ash_requests.specs.declared.request.Request as request
+use Rattle.ash_requests.specs.declared.request.Request.TheVariants as requests
+use Rattle.ash_requests.specs.declared.refusal.Refusal as refusal
+use Rattle.ash_requests.specs.declared.refusal.Refusal.TheVariants as refusals
+use Rattle.ash_requests.specs.declared.shown.ObjectContents as contents
+use Rattle.ash_requests.specs.declared.shown.ObjectContents.TheVariants as all_contents
+use Rattle.ash_requests.specs.declared.shown.Shown as shown
+use Rattle.ash_requests.specs.declared.reply.Reply as reply
+use Rattle.ash_requests.specs.declared.reply.Reply.TheVariants as replies
 
 abbrev pub request_seen : request.Request → Request
 request_seen (requests.Load module_name source) = Load module_name.now source.now
 request_seen (requests.Call module_name function arguments) = Call module_name.now function.now arguments.now
 request_seen (requests.Discard module_name) = Discard module_name.now
-request_seen (requests.Get module_name name) = Get module_name.now name.now
+request_seen (requests.Global module_name name) = Get module_name.now name.now
 request_seen (requests.Object number) = Object number
 request_seen requests.Seq = Seq
 request_seen requests.Snapshot = Snapshot
@@ -70,12 +67,9 @@ module _ {Code Fault : Type 0} (fault : Code → Fault) where
   refusal_seen refusals.GenerationSpent = steps.GenerationSpent
 
   abbrev pub reply_seen : reply.Reply Code → Reply Fault
-  reply_seen (replies.Answered a) = Answered (end_seen a.end) a.seq a.events.items
+  reply_seen (replies.Answer a) = Answered (end_seen a.outcome) a.seq a.events.items
   reply_seen (replies.Value word) = Value word
   reply_seen (replies.Shown s) = ShownAs (shown_seen s)
-  reply_seen (replies.Number seq) = Number seq
+  reply_seen (replies.Seq seq) = Number seq
   reply_seen replies.Done = Done
   reply_seen (replies.Refused r) = Refused (refusal_seen r)
-
-  abbrev pub step_seen : step.Step Code → Step Fault
-  step_seen s = record { reply = reply_seen s.reply; state = state_seen s.state; hosts = hosts_seen s.hosts }

@@ -2,7 +2,7 @@ use Rattle.std.proofs.Common.{codes, string_bytes}
 use Rattle.std.proofs.lemmas.Result.{err_from_is_err_and}
 use Rattle.ash_lines.specs.ReplyText.{place_text}
 use Rattle.ash_lines.proofs.SinkLemmas.{fails-more, writes-then}
-use Rattle.ash_lines.proofs.answer.write_end.Goals as goal
+use Rattle.ash_lines.proofs.answer.write_outcome.Goals as goal
 
 pub returns-in_err-write-in-Aborted : goal.returns-in_err-write-in-Aborted
 returns-in_err-write-in-Aborted g c =
