@@ -3,7 +3,7 @@
 //! any moment may leave, and of every disk that `DeviceFailed` is reported only where the device has failed.
 //!
 //! In reading order: `failure` (the one error and its count), `disk` (the trait), `durably` (a write and its sync),
-//! `file` (a file of the system), `failing` (a disk that fails from a chosen call on), `memory` (a disk in memory, with
+//! `file` (a file of the system), `fuse` (a disk that fails from a chosen call on), `memory` (a disk in memory, with
 //! `call` and `bytes`, what it records and how it writes), `crash` (what a crash may leave of it, for tests). The words
 //! of the clauses are in `specs/DiskImage` (files and torn writes), `specs/Moments` (times) and `specs/Device` (a disk
 //! during calls, for the crates above, which pass `D.Disk`), and the laws about them in `proofs/TornLaws`,
@@ -15,15 +15,15 @@ mod call;
 mod crash;
 mod disk;
 mod durably;
-mod failing;
 mod failure;
 mod file;
+mod fuse;
 mod memory;
 
 pub use crash::Survives;
 pub use disk::Disk;
 pub use durably::write_durably;
-pub use failing::FailingDisk;
 pub use failure::DeviceFailed;
 pub use file::FileDisk;
+pub use fuse::FuseDisk;
 pub use memory::MemoryDisk;

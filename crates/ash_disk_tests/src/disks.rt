@@ -2,7 +2,7 @@
 //! calls are data, so that each is proved once and not in each test.
 
 use crate::compare::{check_bytes, check_number};
-use ash_disk::{Disk, FailingDisk, FileDisk, MemoryDisk, Survives, write_durably};
+use ash_disk::{Disk, FileDisk, FuseDisk, MemoryDisk, Survives, write_durably};
 use std::alloc::{AllocError, Global};
 use std::path::PathBuf;
 use std::process::Abort;
@@ -182,7 +182,7 @@ static FUSES: [FuseRow; 8] = [
 // Makes the calls of the commit over a disk that fails after so many calls.
 fn check_fuse(rt: &impl Abort, alloc: Global, calls: u64, row: &FuseRow) -> Result<(), Fail> {
     let (what, bytes, memory_calls, steps) = *row;
-    let mut fuse = FailingDisk::new(MemoryDisk::with_bytes(alloc, b"0")?, calls);
+    let mut fuse = FuseDisk::new(MemoryDisk::with_bytes(alloc, b"0")?, calls);
     let passed = count_passed(&mut fuse, &COMMIT);
     check_number(rt, passed, steps, what, "the calls that succeed");
     check_disk(rt, &fuse.into_inner(), bytes, memory_calls, what);

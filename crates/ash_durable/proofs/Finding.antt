@@ -25,7 +25,7 @@ use Rattle.ash_durable.specs.OpenedStore.{UnsettledFor}
 use Rattle.ash_durable.specs.Saving.{last_generation}
 use Rattle.ash_durable.specs.StoredStates.{AreHonest}
 use Rattle.ash_durable.specs.Store.{HandsBack, WereOnlyRead}
-use Rattle.ash_durable.specs.declared.fault.HostRefused.{HostRefused}
+use Rattle.ash_durable.specs.declared.fault.OpenRefused.{OpenRefused}
 use Rattle.ash_durable.specs.declared.fault.StoreFault.{StoreFault}
 use Rattle.ash_durable.specs.declared.fault.StoreFault.TheVariants as faults
 use Rattle.ash_durable.specs.declared.store.Found.{Found}
@@ -166,7 +166,7 @@ module _ {D : Type 0} (device : Device D) where
         (second_disk journal) (opened_back a b opened is) settled.settled.disks;
   }
 
-  not_found : (registered : List Registration) (a b : D) (opened : OpenedJournal D) (refused : HostRefused D)
+  not_found : (registered : List Registration) (a b : D) (opened : OpenedJournal D) (refused : OpenRefused D)
       → IsOpened a b opened
       → WasNotSettled device registered opened refused → WasNotFound device registered a b refused
   not_found registered a b opened refused is settled = record {
@@ -198,7 +198,7 @@ module _ {D : Type 0} (device : Device D) where
   }
 
   pub finds : (registered : List Registration) (a b : D) (opened : OpenedJournal D)
-      (result : Result (Found D) (HostRefused D))
+      (result : Result (Found D) (OpenRefused D))
       → IsOpened a b opened → Settled device registered opened result → OpensState device registered a b result
   finds registered a b opened (Ok one) is settled = record {
     version = settled.version;

@@ -19,7 +19,7 @@ use Rattle.ash_durable.specs.Store.{WereOnlyRead, IsClosedOrHasState, MakesOrNot
 use Rattle.ash_durable.specs.Lives.{StoreEvent, Acknowledged, InDoubt, Found, LeadsTo, LeadTo}
 use Rattle.ash_durable.specs.Lives.{Crashed, AreFresh, IsOneOpen, first_of, second_of, StoreLocation, UnderHost}
 use Rattle.ash_durable.specs.Lives.{OnDisks, first_at, second_at, IsWholeHistory, Outlives}
-use Rattle.ash_durable.specs.declared.fault.HostRefused.{HostRefused}
+use Rattle.ash_durable.specs.declared.fault.OpenRefused.{OpenRefused}
 use Rattle.ash_durable.proofs.Settling.{settle_on_more, settle_now, settle_still}
 use Rattle.ash_durable.proofs.Answering.{leaves}
 use Rattle.ash_durable.proofs.Opened.{kept_back}
@@ -242,7 +242,7 @@ module _ {D : Type 0} (device : Device D) (registered : List Registration) where
       (same_honesty device a b (first host) (second host) before.honest back.honesty_first back.honesty_second)
       (was.saved before.honest) was.running (was.state, led, (refl, refl))
 
-  pub not_found : (events : List StoreEvent) (others : List Registration) (a b : D) (r : HostRefused D) → Rested events a b
+  pub not_found : (events : List StoreEvent) (others : List Registration) (a b : D) (r : OpenRefused D) → Rested events a b
       → WasNotFound device others a b r → Rested events r.a r.b
   not_found events others a b r before was =
       rests_on events r.a r.b (same_honesty device a b r.a r.b before.honest was.disks.honesty_first
@@ -252,7 +252,7 @@ module _ {D : Type 0} (device : Device D) (registered : List Registration) where
       (settle_still device (device.clock a) (device.clock b) a b r.a r.b (IsEither before.whole.s before.whole.t)
       (was.moments before.honest) before.whole.settled)))
 
-  opening_adds_nothing : (others : List Registration) (a b : D) (result : Result (Hosted D) (HostRefused D))
+  opening_adds_nothing : (others : List Registration) (a b : D) (result : Result (Hosted D) (OpenRefused D))
       (opens : Opens device others a b result)
       → AddNothing device a b (first_found device others a b result opens)
       (second_found device others a b result opens)
@@ -261,7 +261,7 @@ module _ {D : Type 0} (device : Device D) (registered : List Registration) where
   opening_adds_nothing others a b (Err r) (LeftThere was) = was.found.moments
 
   pub crashed_opening : (events : List StoreEvent) (others : List Registration) (a b : D)
-      (result : Result (Hosted D) (HostRefused D)) (a' b' : D) → Rested events a b
+      (result : Result (Hosted D) (OpenRefused D)) (a' b' : D) → Rested events a b
       → (opens : Opens device others a b result)
       → Crashed device (device.clock a) (device.clock b) (first_found device others a b result opens)
       (second_found device others a b result opens) a' b' → Rested events a' b'
@@ -301,13 +301,13 @@ module _ {D : Type 0} (device : Device D) (registered : List Registration) where
       honest was.made.disks.honesty_first was.made.disks.honesty_second)
       was.saved was.running refl
 
-  makes_or_not : (others : List Registration) (a b : D) (result : Result (Hosted D) (HostRefused D))
+  makes_or_not : (others : List Registration) (a b : D) (result : Result (Hosted D) (OpenRefused D))
       → Creates device others a b result → MakesOrNot device (empty others) a b (first_of result) (second_of result)
   makes_or_not others a b (Ok host) was = was.made.moments
   makes_or_not others a b (Err r) was = was.moments
 
   -- of every two images that a crash then may leave now, none is open, or they settle on the state before any request
-  pub begun : (a b : D) (result : Result (Hosted D) (HostRefused D)) (a' b' : D) (x y : List ℕ) → AreFresh device a b
+  pub begun : (a b : D) (result : Result (Hosted D) (OpenRefused D)) (a' b' : D) (x y : List ℕ) → AreFresh device a b
       → Creates device registered a b result → Crashed device (device.clock a) (device.clock b) (first_of result)
       (second_of result) a' b' → device.leaves a' (device.clock a') x → device.leaves b' (device.clock b') y
       → IsClosedOrHasState (empty registered) x y
@@ -324,7 +324,7 @@ module _ {D : Type 0} (device : Device D) (registered : List Registration) where
   open_settles x y (inl is_open) (inl closed) = absurd (open_closed x is_open closed.0)
   open_settles x y (inr is_open) (inl closed) = absurd (open_closed y is_open closed.1)
 
-  pub crashed_creating : (a b : D) (result : Result (Hosted D) (HostRefused D)) (a' b' : D) → AreFresh device a b
+  pub crashed_creating : (a b : D) (result : Result (Hosted D) (OpenRefused D)) (a' b' : D) → AreFresh device a b
       → Creates device registered a b result → Crashed device (device.clock a) (device.clock b) (first_of result)
       (second_of result) a' b' → IsOneOpen device a' b' → Rested [] a' b'
   crashed_creating a b result a' b' fresh creates crash is_open = rests_on [] a' b' crash.honest (record {

@@ -22,7 +22,7 @@ use Rattle.ash_durable.specs.Lives as lives
 use Rattle.ash_durable.specs.Lives.{StoreEvent, Found, LeadTo, LeadBy}
 use Rattle.ash_durable.specs.Lives.{Crashed, AreFresh, first_of, second_of, StoreLocation, UnderHost}
 use Rattle.ash_durable.specs.Lives.{OnDisks, first_at, second_at, Life, Outlives}
-use Rattle.ash_durable.specs.declared.fault.HostRefused.{HostRefused}
+use Rattle.ash_durable.specs.declared.fault.OpenRefused.{OpenRefused}
 use Rattle.ash_durable.specs.declared.fault.StoreFault.{StoreFault}
 use Rattle.ash_durable.specs.declared.fault.StoreFault.TheVariants as faults
 use Rattle.ash_durable.proofs.Faultless.{represent_open}
@@ -66,7 +66,7 @@ module _ {D : Type 0} (device : Device D) (stays : (disk : D) → IsTrue (device
   only_read (faults.Create creating.NoMemory) a b a' b' cause honest not_closed = (cause honest).0
   only_read _ a b a' b' cause honest not_closed = absurd cause
 
-  not_created : (events : List StoreEvent) (others : List Registration) (a b : D) (r : HostRefused D)
+  not_created : (events : List StoreEvent) (others : List Registration) (a b : D) (r : OpenRefused D)
       → Rested device registered events a b → WasNotMade device (empty others) a b r
       → Rested device registered events r.a r.b
   not_created events others a b r before was =
@@ -75,7 +75,7 @@ module _ {D : Type 0} (device : Device D) (stays : (disk : D) → IsTrue (device
       (never_closed a b (IsEither before.whole.s before.whole.t) before.honest before.whole.settled))
 
   still_there : (others : List Registration) (a b : D) (P : HostState → Type 0)
-      (result : Result (Hosted D) (HostRefused D))
+      (result : Result (Hosted D) (OpenRefused D))
       → AreHonest device a b → SettleNow device a b P → Creates device others a b result
       → SettleSince device (device.clock a) (device.clock b) (first_of result) (second_of result) P
   still_there others a b P (Ok host) honest run was = absurd (never_closed a b P honest run (was.made.closed honest))
@@ -84,7 +84,7 @@ module _ {D : Type 0} (device : Device D) (stays : (disk : D) → IsTrue (device
       (never_closed a b P honest run)) run
 
   crashed_not_creating : (events : List StoreEvent) (others : List Registration) (a b : D)
-      (result : Result (Hosted D) (HostRefused D)) (a' b' : D) → Rested device registered events a b
+      (result : Result (Hosted D) (OpenRefused D)) (a' b' : D) → Rested device registered events a b
       → Creates device others a b result → Crashed device (device.clock a) (device.clock b) (first_of result)
       (second_of result) a' b' → Rested device registered events a' b'
   crashed_not_creating events others a b result a' b' before creates crash =
@@ -106,7 +106,7 @@ module _ {D : Type 0} (device : Device D) (stays : (disk : D) → IsTrue (device
       state_of_one state (empty registered) contents with_it is_state
       (subst (λ (s : HostState). IsStateOf s contents) one.1.1 other)
 
-  opened_creating : (a b : D) (result : Result (Hosted D) (HostRefused D)) (a' b' : D) (host : Hosted D)
+  opened_creating : (a b : D) (result : Result (Hosted D) (OpenRefused D)) (a' b' : D) (host : Hosted D)
       → AreFresh device a b → Creates device registered a b result
       → Crashed device (device.clock a) (device.clock b) (first_of result) (second_of result) a' b'
       → (was : WasOpened device registered a' b' host)
@@ -165,7 +165,7 @@ module _ {D : Type 0} (device : Device D) (stays : (disk : D) → IsTrue (device
       (settle_now device (device.clock a) (device.clock b) x y P
       (settle_still device (device.clock a) (device.clock b) a b x y P (found.moments honest) settle))
 
-  left_on : (others : List Registration) (a b : D) (P : HostState → Type 0) (r : HostRefused D)
+  left_on : (others : List Registration) (a b : D) (P : HostState → Type 0) (r : OpenRefused D)
       → AreHonest device a b → SettleNow device a b P → (left : WasLeft device others a b r)
       → SettleSince device (device.clock (first_disk left.old)) (device.clock (second_disk left.old)) r.a r.b P
   left_on others a b P r honest settle left =
@@ -176,7 +176,7 @@ module _ {D : Type 0} (device : Device D) (stays : (disk : D) → IsTrue (device
       (moved_on others a b P left.state left.old left.left.new left.left.image honest settle left.found
       left.left.is_image left.left.moments))
 
-  refused : (events : List StoreEvent) (others : List Registration) (a b : D) (r : HostRefused D)
+  refused : (events : List StoreEvent) (others : List Registration) (a b : D) (r : OpenRefused D)
       → Rested device registered events a b → WasRefused device others a b r → Rested device registered events r.a r.b
   refused events others a b r before (NotFound none) = not_found device registered events others a b r before none
   refused events others a b r before (LeftThere left) =
@@ -190,7 +190,7 @@ module _ {D : Type 0} (device : Device D) (stays : (disk : D) → IsTrue (device
       (left_on others a b (IsEither before.whole.s before.whole.t) r before.honest before.whole.settled left)))
 
   moving_settles : (others : List Registration) (a b : D) (P : HostState → Type 0)
-      (result : Result (Hosted D) (HostRefused D)) → AreHonest device a b → SettleNow device a b P
+      (result : Result (Hosted D) (OpenRefused D)) → AreHonest device a b → SettleNow device a b P
       → (opens : Opens device others a b result)
       → SettleSince device (device.clock (first_found device others a b result opens))
       (device.clock (second_found device others a b result opens)) (first_of result) (second_of result) P
@@ -203,7 +203,7 @@ module _ {D : Type 0} (device : Device D) (stays : (disk : D) → IsTrue (device
   moving_settles others a b P (Err r) honest settle (LeftThere left) = left_on others a b P r honest settle left
 
   crashed_moving : (events : List StoreEvent) (others : List Registration) (a b : D)
-      (result : Result (Hosted D) (HostRefused D)) (a' b' : D) → Rested device registered events a b
+      (result : Result (Hosted D) (OpenRefused D)) (a' b' : D) → Rested device registered events a b
       → (opens : Opens device others a b result)
       → Crashed device (device.clock (first_found device others a b result opens))
       (device.clock (second_found device others a b result opens)) (first_of result) (second_of result) a' b'
@@ -273,7 +273,7 @@ module _ {D : Type 0} (device : Device D) (stays : (disk : D) → IsTrue (device
       ])
 
   -- no opening of a store is refused but because memory ran out, a disk failed or its version 1 has no more generations
-  pub opens : (events : List StoreEvent) (a b : D) (r : HostRefused D) → Life device registered events (OnDisks a b)
+  pub opens : (events : List StoreEvent) (a b : D) (r : OpenRefused D) → Life device registered events (OnDisks a b)
       → WasRefused device registered a b r → MayRefuse r.fault
   opens events a b r life (NotFound was) =
       let before = outlives events (OnDisks a b) life in

@@ -12,8 +12,7 @@ use Rattle.ash_requests.specs.States.{State, find_module}
 use Rattle.ash_requests.specs.Requests.{Load, Reply, BadName, ModuleTaken, TooManyModules}
 use Rattle.ash_requests.specs.Tasks.{TaskResult, numbered, require, initialize, is_module_name, max_modules}
 use Rattle.ash_requests.specs.Steps.{unless_refused}
-use Rattle.ash_requests.specs.TaskResults.{TakesMemoryToFind}
-use Rattle.ash_requests.specs.TaskResults.{TaskChangesState}
+use Rattle.ash_requests.specs.TaskResults.{TakesMemoryToFind, TaskChangesState}
 use Rattle.ash_sources.specs.SourceFaults.{SourceFault, Lexical}
 use Rattle.ash_sources.specs.SourceFaults as sources
 use Rattle.ash_sources.specs.TypedSource.{TypedResult, typed_if_checked, typed_source}

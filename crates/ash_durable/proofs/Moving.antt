@@ -14,7 +14,7 @@ use Rattle.ash_states.specs.HostStates.{HostState}
 use Rattle.ash_states.specs.Images.{IsImageIn}
 use Rattle.ash_durable.specs.OpenedStore.{Prepares, NotBegun, MayNotMove, WasMoved, WasNotMoved}
 use Rattle.ash_durable.specs.Store.{HandsBack}
-use Rattle.ash_durable.specs.declared.fault.HostRefused.{HostRefused}
+use Rattle.ash_durable.specs.declared.fault.OpenRefused.{OpenRefused}
 use Rattle.ash_durable.specs.declared.fault.StoreFault.{StoreFault}
 use Rattle.ash_durable.specs.declared.fault.StoreFault.TheVariants as faults
 use Rattle.ash_durable.proofs.OpenedJournals.{counted_none}
@@ -30,7 +30,7 @@ next_settled was journal image next same is = record {
 }
 
 -- why no generation is prepared is why the state is not moved
-pub not_prepared : {D : Type 0} (state : HostState) (was : Journal D) (fault : StoreFault) (refused : HostRefused D)
+pub not_prepared : {D : Type 0} (state : HostState) (was : Journal D) (fault : StoreFault) (refused : OpenRefused D)
     → refused.fault ≡ fault → refused.a ≡ first_disk was → refused.b ≡ second_disk was
     → Prepares state was (Err fault) → NotBegun was refused
 not_prepared state was fault refused fault_is a_is b_is why = record {
@@ -75,7 +75,7 @@ module _ {D : Type 0} (device : Device D) (state : HostState) (old new : Journal
   }
 
   -- or a device failed
-  pub was_not_moved : (refused : HostRefused D) (failed : Type 0) → failed
+  pub was_not_moved : (refused : OpenRefused D) (failed : Type 0) → failed
       → refused.fault ≡ faults.Open opening.DeviceFailed → refused.a ≡ first_disk new → refused.b ≡ second_disk new
       → LeavesCurrent old new
       → ((was : List ℕ) (bodies : List (List ℕ)) → Holds device old was bodies

@@ -14,7 +14,7 @@ use Rattle.ash_durable.specs.Hosting.{Hosted, first, second, IsRunning}
 use Rattle.ash_durable.specs.OpenedStore.{WasFound, Keeps, WasKept, WasOpened, Opens, OpensAgain, NotFound, LeftThere}
 use Rattle.ash_durable.specs.StoredStates.{AreHonest, HoldsState, SettleNow, IsOne, IsEither}
 use Rattle.ash_durable.specs.Store.{HandsBack, WasMade, WasCreated}
-use Rattle.ash_durable.specs.declared.fault.HostRefused.{HostRefused}
+use Rattle.ash_durable.specs.declared.fault.OpenRefused.{OpenRefused}
 use Rattle.ash_durable.proofs.ContentsStates.{alone_in, state_of_alone}
 use Rattle.ash_durable.proofs.OpenedJournals.{handed_on}
 use Rattle.ash_durable.proofs.Mishaps.{only_mishaps, mishap}
@@ -126,7 +126,7 @@ module _ {D : Type 0} (device : Device D) (stays : (disk : D) → IsTrue (device
       (stays other honest.honest_second) zero (device.seen one) (device.seen other) (refl, refl) in
       subst (λ (c : Contents). Represent c (device.seen one) (device.seen other)) now.1 now.2
 
-  pub opens_again : (host : Hosted D) (result : Result (Hosted D) (HostRefused D))
+  pub opens_again : (host : Hosted D) (result : Result (Hosted D) (OpenRefused D))
       → Opens device host.registered (first host) (second host) result → OpensAgain device host result
   opens_again host (Ok new) opens = (
     opens.running.registered_is ∙ opens.kept.found.registered_is,

@@ -21,7 +21,7 @@ use Rattle.ash_durable.specs.OpenedStore.{FailedToSettle, Repairs, Moves, MayNot
 use Rattle.ash_durable.specs.StoredStates.{AreIn, IsStateOf}
 use Rattle.ash_durable.specs.Store.{HandsBack}
 use Rattle.ash_durable.specs.declared.contents.StateRead.{StateRead}
-use Rattle.ash_durable.specs.declared.fault.HostRefused.{HostRefused}
+use Rattle.ash_durable.specs.declared.fault.OpenRefused.{OpenRefused}
 use Rattle.ash_durable.specs.declared.fault.StoreFault.{StoreFault}
 use Rattle.ash_durable.specs.declared.fault.StoreFault.TheVariants as faults
 use Rattle.ash_durable.specs.declared.store.Found.{Found}
@@ -111,7 +111,7 @@ module _ {D : Type 0} (device : Device D) where
   }
 
   -- or a device failed
-  pub failed_to_settle : (was journal : Journal D) (refused : HostRefused D) (failed : Type 0) → failed
+  pub failed_to_settle : (was journal : Journal D) (refused : OpenRefused D) (failed : Type 0) → failed
       → refused.fault ≡ faults.Open opening.DeviceFailed → refused.a ≡ first_disk journal
       → refused.b ≡ second_disk journal
       → OnlySettled device was journal
@@ -144,7 +144,7 @@ module _ {D : Type 0} (device : Device D) where
   -- ---- what an opened journal holds is read
 
   -- disks that are handed back with this refusal
-  handed : (refused : HostRefused D) (failed : Type 0) (a b a' b' : D) → (IsFailed refused.fault → failed)
+  handed : (refused : OpenRefused D) (failed : Type 0) (a b a' b' : D) → (IsFailed refused.fault → failed)
       → (failed → IsFailed refused.fault)
       → refused.a ≡ a' → refused.b ≡ b' → HandsBack device failed a b a' b'
       → HandsBack device (IsFailed refused.fault) a b refused.a refused.b
@@ -162,14 +162,14 @@ module _ {D : Type 0} (device : Device D) where
         honesty_second = back.honesty_second;
       }))
 
-  extends_to : (a b a' b' : D) (refused : HostRefused D) → refused.a ≡ a' → refused.b ≡ b'
+  extends_to : (a b a' b' : D) (refused : OpenRefused D) → refused.a ≡ a' → refused.b ≡ b'
       → Extends device a b a' b' NoContents → Extends device a b refused.a refused.b NoContents
   extends_to a b a' b' refused a_is b_is extends =
       subst (λ (x : D). Extends device a b x refused.b NoContents) (sym a_is)
       (subst (λ (y : D). Extends device a b a' y NoContents) (sym b_is) extends)
 
   -- nothing was written
-  unwritten : (registered : List Registration) (opened : OpenedJournal D) (refused : HostRefused D)
+  unwritten : (registered : List Registration) (opened : OpenedJournal D) (refused : OpenRefused D)
       → refused.a ≡ first_disk opened.journal → refused.b ≡ second_disk opened.journal
       → (IsFailed refused.fault → ⊥) → (AreInPlace opened → UnsettledFor registered opened refused.fault)
       → WasNotSettled device registered opened refused
@@ -190,7 +190,7 @@ module _ {D : Type 0} (device : Device D) where
 
   -- it is read as no state
   pub not_read : (registered : List Registration) (opened : OpenedJournal D) (fault : StoreFault)
-      (refused : HostRefused D)
+      (refused : OpenRefused D)
       → refused.fault ≡ fault → refused.a ≡ first_disk opened.journal → refused.b ≡ second_disk opened.journal
       → (IsFailed fault → ⊥) → (AreInPlace opened → ReadsAs registered (contents_of opened) (Err fault))
       → WasNotSettled device registered opened refused
@@ -201,7 +201,7 @@ module _ {D : Type 0} (device : Device D) where
       (read_unsettled registered opened fault (reads placed)))
 
   -- as a state, and a device failed then
-  unsettled : (registered : List Registration) (opened : OpenedJournal D) (refused : HostRefused D)
+  unsettled : (registered : List Registration) (opened : OpenedJournal D) (refused : OpenRefused D)
       → FailedToSettle device opened.journal refused → WasNotSettled device registered opened refused
   unsettled registered opened refused failed =
       let a = first_disk opened.journal in
@@ -238,7 +238,7 @@ module _ {D : Type 0} (device : Device D) where
 
   -- in version 2, and it is kept
   pub settles_two : (registered : List Registration) (opened : OpenedJournal D) (state : HostState)
-      (result : Result (Found D) (HostRefused D)) → state.registered ≡ registered
+      (result : Result (Found D) (OpenRefused D)) → state.registered ≡ registered
       → (AreInPlace opened → IsStateOf state (contents_of opened) × AreIn Two (contents_of opened))
       → Repairs device state opened.journal result → Settled device registered opened result
   settles_two registered opened state (Ok one) with_it reads repairs =
@@ -253,7 +253,7 @@ module _ {D : Type 0} (device : Device D) where
 
   -- in version 1, and it is moved
   pub settles_one : (registered : List Registration) (opened : OpenedJournal D) (state : HostState)
-      (result : Result (Found D) (HostRefused D)) → state.registered ≡ registered
+      (result : Result (Found D) (OpenRefused D)) → state.registered ≡ registered
       → (AreInPlace opened → IsStateOf state (contents_of opened) × AreIn One (contents_of opened))
       → Moves device state opened.journal result → Settled device registered opened result
   settles_one registered opened state (Ok one) with_it reads moves =

@@ -5,8 +5,7 @@ use Rattle.ash_disk.specs.Device.{Device}
 use Rattle.ash_requests.specs.Requests.{Request, Refusal, Reply, Refused}
 use Rattle.ash_requests.specs.Tasks.{TaskResult}
 use Rattle.ash_requests.specs.Steps.{unless_refused}
-use Rattle.ash_requests.specs.TaskResults.{TakesMemoryToFind}
-use Rattle.ash_requests.specs.TaskResults.{TaskChangesState}
+use Rattle.ash_requests.specs.TaskResults.{TakesMemoryToFind, TaskChangesState}
 use Rattle.ash_sources.specs.SourceFaults.{SourceFault}
 use Rattle.ash_sources.specs.SourceFaults as sources
 use Rattle.ash_states.specs.HostStates.{HostState}

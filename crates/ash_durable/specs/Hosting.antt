@@ -7,8 +7,7 @@ use Rattle.ash_journal.specs.Journal.{first_disk, second_disk, generation, recor
 use Rattle.ash_registry.specs.AcceptedRegistrations.{Registration}
 use Rattle.ash_requests.specs.Requests.{Request, Load, Call, Discard, Get, Object, Seq, Snapshot, Refusal, Reply, Answered}
 use Rattle.ash_requests.specs.Requests.{Number, Refused, Reopen, DeviceFailed, NoMemory, GenerationSpent}
-use Rattle.ash_requests.specs.TaskResults.{TakesMemoryToFind}
-use Rattle.ash_requests.specs.TaskResults.{TaskChangesState}
+use Rattle.ash_requests.specs.TaskResults.{TakesMemoryToFind, TaskChangesState}
 use Rattle.ash_sources.specs.SourceFaults.{SourceFault}
 use Rattle.ash_sources.specs.SourceFaults as sources
 use Rattle.ash_states.specs.HostStates.{HostState}

@@ -17,7 +17,7 @@ use Rattle.ash_durable.specs.OpenedStore.{WasOpened, WasRefused, Opens, first_fo
 use Rattle.ash_durable.specs.RequestRuns.{LosesAnswer}
 use Rattle.ash_durable.specs.StoredStates.{AreHonest, SettleNow, IsOne, IsEither}
 use Rattle.ash_durable.specs.Store.{WereOnlyRead, WasCreated, WasNotMade, Creates}
-use Rattle.ash_durable.specs.declared.fault.HostRefused.{HostRefused}
+use Rattle.ash_durable.specs.declared.fault.OpenRefused.{OpenRefused}
 
 -- ---- events
 
@@ -106,11 +106,11 @@ IsOneOpen device one other =
     ⊎ IsOpen y
 
 -- the disks that are left of creating a host, or opening one, be it refused
-abbrev pub first_of : {D : Type 0} → Result (Hosted D) (HostRefused D) → D
+abbrev pub first_of : {D : Type 0} → Result (Hosted D) (OpenRefused D) → D
 first_of (Ok host) = first host
 first_of (Err refused) = refused.a
 
-abbrev pub second_of : {D : Type 0} → Result (Hosted D) (HostRefused D) → D
+abbrev pub second_of : {D : Type 0} → Result (Hosted D) (OpenRefused D) → D
 second_of (Ok host) = second host
 second_of (Err refused) = refused.b
 
@@ -139,11 +139,11 @@ pub data Life {D : Type 0} (device : Device D) (registered : List Registration) 
   Created : (a b : D) (host : Hosted D) → AreHonest device a b → WasCreated device registered a b host
       → Life device registered [] (UnderHost host)
   -- a crash while it is, or after that was refused, leaves a file open
-  CrashedCreating : (a b : D) (result : Result (Hosted D) (HostRefused D)) (a' b' : D) → AreFresh device a b
+  CrashedCreating : (a b : D) (result : Result (Hosted D) (OpenRefused D)) (a' b' : D) → AreFresh device a b
       → Creates device registered a b result → Crashed device (device.clock a) (device.clock b) (first_of result)
       (second_of result) a' b' → IsOneOpen device a' b' → Life device registered [] (OnDisks a' b')
   -- after such a crash, or a refusal, a host is opened at once
-  OpenedCreating : (a b : D) (result : Result (Hosted D) (HostRefused D)) (a' b' : D) (host : Hosted D)
+  OpenedCreating : (a b : D) (result : Result (Hosted D) (OpenRefused D)) (a' b' : D) (host : Hosted D)
       → AreFresh device a b → Creates device registered a b result
       → Crashed device (device.clock a) (device.clock b) (first_of result) (second_of result) a' b'
       → (opened : WasOpened device registered a' b' host)
@@ -184,29 +184,29 @@ pub data Life {D : Type 0} (device : Device D) (registered : List Registration) 
       → (opened : WasOpened device registered a b host)
       → Life device registered (Found opened.state ∷ events) (UnderHost host)
   -- that is refused, whatever is registered with the host
-  Refused : (events : List StoreEvent) (others : List Registration) (a b : D) (refused : HostRefused D)
+  Refused : (events : List StoreEvent) (others : List Registration) (a b : D) (refused : OpenRefused D)
       → Life device registered events (OnDisks a b) → WasRefused device others a b refused
       → Life device registered events (OnDisks refused.a refused.b)
   -- a crash while a host is opened, be it refused, until the generation that is found is repaired
   CrashedOpening : (events : List StoreEvent) (others : List Registration) (a b : D)
-      (result : Result (Hosted D) (HostRefused D)) (a' b' : D) → Life device registered events (OnDisks a b)
+      (result : Result (Hosted D) (OpenRefused D)) (a' b' : D) → Life device registered events (OnDisks a b)
       → (opens : Opens device others a b result)
       → Crashed device (device.clock a) (device.clock b) (first_found device others a b result opens)
       (second_found device others a b result opens) a' b' → Life device registered events (OnDisks a' b')
   -- a crash from then on, while that generation is moved to version 2
   CrashedMoving : (events : List StoreEvent) (others : List Registration) (a b : D)
-      (result : Result (Hosted D) (HostRefused D)) (a' b' : D) → Life device registered events (OnDisks a b)
+      (result : Result (Hosted D) (OpenRefused D)) (a' b' : D) → Life device registered events (OnDisks a b)
       → (opens : Opens device others a b result)
       → Crashed device (device.clock (first_found device others a b result opens))
       (device.clock (second_found device others a b result opens)) (first_of result) (second_of result) a' b'
       → Life device registered events (OnDisks a' b')
   -- a host is to be created where the store is, and is refused
-  NotCreated : (events : List StoreEvent) (others : List Registration) (a b : D) (refused : HostRefused D)
+  NotCreated : (events : List StoreEvent) (others : List Registration) (a b : D) (refused : OpenRefused D)
       → Life device registered events (OnDisks a b) → WasNotMade device (empty others) a b refused
       → Life device registered events (OnDisks refused.a refused.b)
   -- a crash while a host is to be created there
   CrashedNotCreating : (events : List StoreEvent) (others : List Registration) (a b : D)
-      (result : Result (Hosted D) (HostRefused D)) (a' b' : D) → Life device registered events (OnDisks a b)
+      (result : Result (Hosted D) (OpenRefused D)) (a' b' : D) → Life device registered events (OnDisks a b)
       → Creates device others a b result → Crashed device (device.clock a) (device.clock b) (first_of result)
       (second_of result) a' b' → Life device registered events (OnDisks a' b')
   -- the disks are read or synced by somebody else

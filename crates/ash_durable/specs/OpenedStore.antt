@@ -26,7 +26,7 @@ use Rattle.ash_durable.specs.Hosting.{Hosted, IsRunning, IsSaved, IsHonest}
 use Rattle.ash_durable.specs.Saving.{last_generation}
 use Rattle.ash_durable.specs.StoredStates.{AreHonest, AreIn, SettleNow, IsEither, IsStateOf}
 use Rattle.ash_durable.specs.Store.{HandsBack, WereOnlyRead}
-use Rattle.ash_durable.specs.declared.fault.HostRefused.{HostRefused}
+use Rattle.ash_durable.specs.declared.fault.OpenRefused.{OpenRefused}
 use Rattle.ash_durable.specs.declared.fault.StoreFault.{StoreFault}
 use Rattle.ash_durable.specs.declared.fault.StoreFault.TheVariants as faults
 use Rattle.ash_durable.specs.declared.store.Found.{Found}
@@ -129,7 +129,7 @@ pub record WasMoved {D : Type 0} (device : Device D) (state : HostState) (old ne
 
 -- A generation of version 1 with this state was to be moved, and a device failed: the disk with it was not touched.
 pub record WasNotMoved {D : Type 0} (device : Device D) (state : HostState) (old : Journal D)
-    (refused : HostRefused D) : Type 0 where
+    (refused : OpenRefused D) : Type 0 where
   pub new : Journal D
   pub first_is : refused.a ≡ first_disk new
   pub second_is : refused.b ≡ second_disk new
@@ -155,7 +155,7 @@ pub record WasKept {D : Type 0} (device : Device D) (registered : List Registrat
 
 -- A state was found in version 1, and a device failed while it was moved.
 pub record WasLeft {D : Type 0} (device : Device D) (registered : List Registration) (a b : D)
-    (refused : HostRefused D) : Type 0 where
+    (refused : OpenRefused D) : Type 0 where
   pub state : HostState
   pub old : Journal D
   pub found : WasFound device registered a b One state old
@@ -163,7 +163,7 @@ pub record WasLeft {D : Type 0} (device : Device D) (registered : List Registrat
 
 -- No state was found, or a device failed before its files held it.
 pub record WasNotFound {D : Type 0} (device : Device D) (registered : List Registration) (a b : D)
-    (refused : HostRefused D) : Type 0 where
+    (refused : OpenRefused D) : Type 0 where
   pub cause : AreHonest device a b → StoreFaultIs registered refused.fault (device.seen a) (device.seen b)
   pub read : (IsFailed refused.fault → ⊥) → WereOnlyRead device a b refused.a refused.b
   pub moments : AddNothing device a b refused.a refused.b
@@ -174,12 +174,12 @@ pub record WasNotFound {D : Type 0} (device : Device D) (registered : List Regis
 -- No host is opened, and both disks are handed back: no state was found, or it was found in version 1 and is left
 -- there.
 pub data WasRefused {D : Type 0} (device : Device D) (registered : List Registration) (a b : D)
-    (refused : HostRefused D) : Type 0 where
+    (refused : OpenRefused D) : Type 0 where
   NotFound : WasNotFound device registered a b refused → WasRefused device registered a b refused
   LeftThere : WasLeft device registered a b refused → WasRefused device registered a b refused
 
 -- The state of a store is found on two disks and kept, or both are handed back.
-abbrev pub OpensState : {D : Type 0} → Device D → List Registration → D → D → Result (Found D) (HostRefused D) → Type 0
+abbrev pub OpensState : {D : Type 0} → Device D → List Registration → D → D → Result (Found D) (OpenRefused D) → Type 0
 OpensState device registered a b (Ok found) = WasKept device registered a b found.state found.journal
 OpensState device registered a b (Err refused) = WasRefused device registered a b refused
 
@@ -206,7 +206,7 @@ pub record HasSettled {D : Type 0} (device : Device D) (was journal : Journal D)
   pub disks : HandsBack device ⊥ (first_disk was) (second_disk was) (first_disk journal) (second_disk journal)
 
 -- A device failed while they were.
-pub record FailedToSettle {D : Type 0} (device : Device D) (was : Journal D) (refused : HostRefused D) : Type 0 where
+pub record FailedToSettle {D : Type 0} (device : Device D) (was : Journal D) (refused : OpenRefused D) : Type 0 where
   pub fault_is : refused.fault ≡ faults.Open opening.DeviceFailed
   pub journal : Journal D
   pub first_is : refused.a ≡ first_disk journal
@@ -217,7 +217,7 @@ pub record FailedToSettle {D : Type 0} (device : Device D) (was : Journal D) (re
   pub disks : HandsBack device (Unit {0}) (first_disk was) (second_disk was) (first_disk journal) (second_disk journal)
 
 -- a state that was read of a journal, and what became of the gates
-abbrev pub Repairs : {D : Type 0} → Device D → HostState → Journal D → Result (Found D) (HostRefused D) → Type 0
+abbrev pub Repairs : {D : Type 0} → Device D → HostState → Journal D → Result (Found D) (OpenRefused D) → Type 0
 Repairs device state was (Ok found) = (found.state ≡ state) × HasSettled device was found.journal
 Repairs device state was (Err refused) = FailedToSettle device was refused
 
@@ -236,13 +236,13 @@ MayNotMove was (faults.Open opening.NoMemory) = generation was ≡ last_generati
 MayNotMove was _ = ⊥
 
 -- No state is moved, and nothing was written.
-pub record NotBegun {D : Type 0} (was : Journal D) (refused : HostRefused D) : Type 0 where
+pub record NotBegun {D : Type 0} (was : Journal D) (refused : OpenRefused D) : Type 0 where
   pub cause : MayNotMove was refused.fault
   pub first_same : refused.a ≡ first_disk was
   pub second_same : refused.b ≡ second_disk was
 
 -- a state that was read of a journal in version 1, and what became of it
-abbrev pub Moves : {D : Type 0} → Device D → HostState → Journal D → Result (Found D) (HostRefused D) → Type 0
+abbrev pub Moves : {D : Type 0} → Device D → HostState → Journal D → Result (Found D) (OpenRefused D) → Type 0
 Moves {D} device state was (Ok found) = (found.state ≡ state) × (old : Journal D) × HasSettled device was old
     × WasMoved device state old found.journal
 Moves {D} device state was (Err refused) = NotBegun was refused ⊎ (FailedToSettle device was refused
@@ -272,7 +272,7 @@ UnsettledFor registered opened fault = ReadsAs registered (contents_of opened) (
 
 -- No state was read, or none is moved, and nothing is written; or a device failed once it was read.
 pub record WasNotSettled {D : Type 0} (device : Device D) (registered : List Registration) (opened : OpenedJournal D)
-    (refused : HostRefused D) : Type 0 where
+    (refused : OpenRefused D) : Type 0 where
   pub cause : AreInPlace opened → UnsettledFor registered opened refused.fault
   pub read : (IsFailed refused.fault → ⊥) → (refused.a ≡ first_disk opened.journal)
       × (refused.b ≡ second_disk opened.journal)
@@ -293,14 +293,14 @@ pub record WasSettledIn {D : Type 0} (device : Device D) (registered : List Regi
 
 -- The state of a journal that was opened was read in version 1, and a device failed while it was moved.
 pub record WasSettledAndLeft {D : Type 0} (device : Device D) (registered : List Registration)
-    (opened : OpenedJournal D) (refused : HostRefused D) : Type 0 where
+    (opened : OpenedJournal D) (refused : OpenRefused D) : Type 0 where
   pub state : HostState
   pub old : Journal D
   pub settled : WasSettled device registered opened One state old
   pub left : WasNotMoved device state old refused
 
 -- A journal that was opened holds a state in version 2, or its disks are handed back.
-abbrev pub Settled : {D : Type 0} → Device D → List Registration → OpenedJournal D → Result (Found D) (HostRefused D)
+abbrev pub Settled : {D : Type 0} → Device D → List Registration → OpenedJournal D → Result (Found D) (OpenRefused D)
     → Type 0
 Settled device registered opened (Ok found) = WasSettledIn device registered opened found.state found.journal
 Settled device registered opened (Err refused) = WasNotSettled device registered opened refused
@@ -318,20 +318,20 @@ pub record WasOpened {D : Type 0} (device : Device D) (registered : List Registr
   pub saved : AreHonest device a b → IsSaved device host
 
 -- A host is opened on two disks, or both are handed back.
-abbrev pub Opens : {D : Type 0} → Device D → List Registration → D → D → Result (Hosted D) (HostRefused D) → Type 0
+abbrev pub Opens : {D : Type 0} → Device D → List Registration → D → D → Result (Hosted D) (OpenRefused D) → Type 0
 Opens device registered a b (Ok host) = WasOpened device registered a b host
 Opens device registered a b (Err refused) = WasRefused device registered a b refused
 
 -- The disks of an opening when its first phase has ended: those of the journal in which the state was found, before it
 -- is moved, where it is; else those that the opening leaves.
 abbrev pub first_found : {D : Type 0} (device : Device D) (registered : List Registration) (a b : D)
-    (result : Result (Hosted D) (HostRefused D)) → Opens device registered a b result → D
+    (result : Result (Hosted D) (OpenRefused D)) → Opens device registered a b result → D
 first_found device registered a b (Ok host) opens = first_disk opens.kept.old
 first_found device registered a b (Err refused) (NotFound none) = refused.a
 first_found device registered a b (Err refused) (LeftThere left) = first_disk left.old
 
 abbrev pub second_found : {D : Type 0} (device : Device D) (registered : List Registration) (a b : D)
-    (result : Result (Hosted D) (HostRefused D)) → Opens device registered a b result → D
+    (result : Result (Hosted D) (OpenRefused D)) → Opens device registered a b result → D
 second_found device registered a b (Ok host) opens = second_disk opens.kept.old
 second_found device registered a b (Err refused) (NotFound none) = refused.b
 second_found device registered a b (Err refused) (LeftThere left) = second_disk left.old
@@ -340,7 +340,7 @@ second_found device registered a b (Err refused) (LeftThere left) = second_disk 
 
 -- A host that was saved is opened with what was registered, in the state in which it was closed, unless memory is
 -- refused or a disk fails.
-abbrev pub OpensAgain : {D : Type 0} → Device D → Hosted D → Result (Hosted D) (HostRefused D) → Type 0
+abbrev pub OpensAgain : {D : Type 0} → Device D → Hosted D → Result (Hosted D) (OpenRefused D) → Type 0
 OpensAgain device host (Ok opened) =
     (opened.registered ≡ host.registered)
     × ((state : HostState) → IsHonest device host → IsRunning state host → IsSaved device host → IsRunning state opened

@@ -17,7 +17,7 @@ use Rattle.ash_registry.specs.AcceptedRegistrations.{Registration}
 use Rattle.ash_durable.specs.StoreFaults.{IsFailed}
 use Rattle.ash_durable.specs.Hosting.{Hosted, IsRunning, IsSaved}
 use Rattle.ash_durable.specs.StoredStates.{AreHonest, HoldsState, IsOne, HaveState}
-use Rattle.ash_durable.specs.declared.fault.HostRefused.{HostRefused}
+use Rattle.ash_durable.specs.declared.fault.OpenRefused.{OpenRefused}
 use Rattle.ash_durable.specs.declared.fault.StoreFault.{StoreFault}
 use Rattle.ash_durable.specs.declared.fault.StoreFault.TheVariants as faults
 use Rattle.ash_durable.specs.declared.header.Header.{Header}
@@ -78,13 +78,13 @@ NotMadeFor device a b _ a' b' = ⊥
 
 -- No store was made, and both disks are handed back.
 pub record WasNotMade {D : Type 0} (device : Device D) (state : HostState) (a b : D)
-    (refused : HostRefused D) : Type 0 where
+    (refused : OpenRefused D) : Type 0 where
   pub cause : NotMadeFor device a b refused.fault refused.a refused.b
   pub moments : MakesOrNot device state a b refused.a refused.b
   pub disks : HandsBack device (IsFailed refused.fault) a b refused.a refused.b
 
 -- A store of a state is made on two disks, or both are handed back.
-abbrev pub Makes : {D : Type 0} → Device D → HostState → D → D → Result (Journal D) (HostRefused D) → Type 0
+abbrev pub Makes : {D : Type 0} → Device D → HostState → D → D → Result (Journal D) (OpenRefused D) → Type 0
 Makes device state a b (Ok journal) = WasMade device state a b journal
 Makes device state a b (Err refused) = WasNotMade device state a b refused
 
@@ -96,7 +96,7 @@ pub record WasCreated {D : Type 0} (device : Device D) (registered : List Regist
   pub saved : IsSaved device host
 
 -- A host is made on two disks, or both are handed back.
-abbrev pub Creates : {D : Type 0} → Device D → List Registration → D → D → Result (Hosted D) (HostRefused D) → Type 0
+abbrev pub Creates : {D : Type 0} → Device D → List Registration → D → D → Result (Hosted D) (OpenRefused D) → Type 0
 Creates device registered a b (Ok host) = WasCreated device registered a b host
 Creates device registered a b (Err refused) = WasNotMade device (empty registered) a b refused
 

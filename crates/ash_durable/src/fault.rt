@@ -66,7 +66,7 @@ impl From<OpenFault> for StoreFault {
 
 /// A refused `create` or `open`, which hands both disks back. The registry is dropped.
 #[derive(Drop)]
-pub struct HostRefused<D> {
+pub struct OpenRefused<D> {
     pub fault: StoreFault,
     pub a: D,
     pub b: D,

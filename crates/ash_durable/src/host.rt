@@ -16,7 +16,7 @@ ghost use Rattle.ash_durable.specs.HostRequests.{Commits, MakesRoom, TriesInstal
 ghost use Rattle.ash_durable.specs.RequestRuns.{RunsToFailure};
 ghost use Rattle.ash_durable.specs.Store.{Creates};
 
-use crate::fault::HostRefused;
+use crate::fault::OpenRefused;
 use crate::saving::{add_state, install_state};
 use crate::store::{find, make};
 use ash_disk::Disk;
@@ -75,7 +75,7 @@ impl<D: Disk> Host<D> {
     /// `NoMemory`. Nothing is written where one of the last two is returned. A crash on the way leaves no file open, or
     /// the store of a host that has answered nothing, where each file had one byte at the most before, or 0 for its
     /// first.
-    pub fn create(alloc: Global, a: D, b: D, registry: Registry) -> Result<Host<D>, HostRefused<D>>
+    pub fn create(alloc: Global, a: D, b: D, registry: Registry) -> Result<Host<D>, OpenRefused<D>>
         ensures created { Creates D.Disk (registered registry) a b result }
     {
         let state = HostState::new(alloc, registry);
@@ -100,7 +100,7 @@ impl<D: Disk> Host<D> {
     /// registry of another text; `Damaged` where no host with the registry may be in a state; `GenerationSpent` where
     /// the generation is of version 1, and its number is 2^64 - 1. `NoMemory` where there is none to read into, or none
     /// for the generation of version 2. But for `DeviceFailed` in the last steps, both disks read as before.
-    pub fn open(alloc: Global, a: D, b: D, registry: Registry) -> Result<Host<D>, HostRefused<D>>
+    pub fn open(alloc: Global, a: D, b: D, registry: Registry) -> Result<Host<D>, OpenRefused<D>>
         ensures opened { Opens D.Disk (registered registry) a b result }
     {
         let found = find(alloc, registry, a, b)?;
@@ -136,7 +136,7 @@ impl<D: Disk> Host<D> {
     /// It is what `open` gives of the disks that are handed back, whether the host ran or not.
     ///
     /// Faults are those of `open`.
-    pub fn reopen(self) -> Result<Host<D>, HostRefused<D>>
+    pub fn reopen(self) -> Result<Host<D>, OpenRefused<D>>
         ensures opens { Opens D.Disk self.registered (first self) (second self) result }
         ensures again { OpensAgain D.Disk self result }
     {
@@ -249,9 +249,9 @@ impl<D: Disk> Host<D> {
     /// `GenerationSpent`, `NoMemory` and `DeviceFailed` where a new generation is installed first; `SequenceSpent`; of
     /// a `load` then `BadName`, `ModuleTaken`, `TooManyModules` and `BadSource`; of a `call` `NoModule`, `NoFunction`,
     /// `NotCallable` and `BadArguments`; of a `discard` `NoModule`; `NoMemory` where finding these, the run or the
-    /// record finds no memory; `DeviceFailed` where the answer could not be stored. A `get`: `NoModule`, `NoGlobal`. An
-    /// `object`: `NoObject`, `NoMemory`. A snapshot: `GenerationSpent`, `NoMemory`, `DeviceFailed`. At `DeviceFailed`,
-    /// and at `NoMemory` where the state was changed, the host must be reopened from then on.
+    /// record finds no memory; `DeviceFailed` where the answer could not be stored. A `global`: `NoModule`, `NoGlobal`.
+    /// An `object`: `NoObject`, `NoMemory`. A snapshot: `GenerationSpent`, `NoMemory`, `DeviceFailed`. At
+    /// `DeviceFailed`, and at `NoMemory` where the state was changed, the host must be reopened from then on.
     pub fn handle(&mut self, request: &Request<'_>, budget: u64) -> HostReply
         ensures handled { Handles D.Disk budget (request_seen request.now) self.old
             (reply_seen fault_of result) self.new }
@@ -312,7 +312,7 @@ impl<D: Disk> Host<D> {
     }
 
     /// What a global of a module holds. It takes no memory, and touches no disk. Refusals are those of `handle`.
-    pub fn get(&mut self, module: &str, name: &str) -> HostReply
+    pub fn global(&mut self, module: &str, name: &str) -> HostReply
         ensures handled { (budget : ℕ) → Handles D.Disk budget (Get module.now name.now) self.old
             (reply_seen fault_of result) self.new }
         ensures unchanged { self.new ≡ self.old }

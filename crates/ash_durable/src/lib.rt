@@ -27,5 +27,6 @@ mod saving;
 mod store;
 
 pub use ash_journal::{CreateFault, OpenFault};
-pub use fault::{HostRefused, StoreFault};
+pub use ash_sources::checking::check_source;
+pub use fault::{OpenRefused, StoreFault};
 pub use host::{FULL_RECORD_BYTES, Host};

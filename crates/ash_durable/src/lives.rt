@@ -6,7 +6,7 @@ ghost use Rattle.ash_durable.specs.Lives.{AreLeft, BeginWith, Crashed, StoreEven
 ghost use Rattle.ash_durable.specs.Lives.{Life, OnDisks, Outlives, StoreLocation, first_at, second_at};
 ghost use Rattle.ash_durable.specs.OpenedStore.{WasRefused};
 ghost use Rattle.ash_durable.specs.StoredStates.{AreHonest, SettleNow};
-ghost use Rattle.ash_durable.specs.declared.fault.HostRefused.{HostRefused};
+ghost use Rattle.ash_durable.specs.declared.fault.OpenRefused.{OpenRefused};
 ghost use Rattle.ash_registry.specs.AcceptedRegistrations.{Registration};
 ghost use Rattle.ash_states.specs.HostStates.{empty};
 
@@ -43,7 +43,7 @@ pub fn nothing_acknowledged_is_lost<D: Disk>()
         (place : StoreLocation D)
         → Life D.Disk registered events place → IsPrefixAt events place }
     ensures opens { (registered : List Registration) (events : List StoreEvent) (a b : D)
-        (refused : HostRefused D)
+        (refused : OpenRefused D)
         → Life D.Disk registered events (OnDisks a b) → WasRefused D.Disk registered a b refused
         → MayRefuse refused.fault }
 {}

@@ -7,7 +7,7 @@ ghost use Rattle.ash_durable.specs.Store.{LooksFor, Makes};
 ghost use Rattle.ash_registry.specs.RegistryViews.{registered};
 
 use crate::contents::state_in;
-use crate::fault::{HostRefused, StoreFault};
+use crate::fault::{OpenRefused, StoreFault};
 use crate::header::read_header;
 use ash_disk::Disk;
 use ash_image::version::Version;
@@ -37,7 +37,7 @@ pub fn make<D: Disk>(
     state: &HostState,
     a: D,
     b: D,
-) -> Result<Journal<D>, HostRefused<D>>
+) -> Result<Journal<D>, OpenRefused<D>>
     ensures makes { Makes D.Disk state.now a b result }
 {
     let mut a = a;
@@ -45,7 +45,7 @@ pub fn make<D: Disk>(
     let image = match first_image(state, &mut a, &mut b) {
         Ok(image) => image,
         Err(fault) => {
-            return Err(HostRefused {
+            return Err(OpenRefused {
                 fault: fault.into(),
                 a,
                 b,
@@ -54,7 +54,7 @@ pub fn make<D: Disk>(
     };
     match Journal::create(alloc, a, b, &image) {
         Ok(journal) => Ok(journal),
-        Err(refused) => Err(HostRefused {
+        Err(refused) => Err(OpenRefused {
             fault: refused.fault.into(),
             a: refused.first,
             b: refused.second,
@@ -70,17 +70,17 @@ pub struct Found<D> {
 }
 
 /// Why a journal that was opened is of no use, and its disks.
-fn refusal_of<D: Disk>(journal: Journal<D>, fault: StoreFault) -> HostRefused<D>
+fn refusal_of<D: Disk>(journal: Journal<D>, fault: StoreFault) -> OpenRefused<D>
     ensures fault { result.fault ≡ fault }
     ensures a { result.a ≡ first_disk journal }
     ensures b { result.b ≡ second_disk journal }
 {
     let (a, b) = journal.close();
-    HostRefused { fault, a, b }
+    OpenRefused { fault, a, b }
 }
 
 /// A state that was read of a journal, and the journal once its gates are written over that a crash left.
-fn repair<D: Disk>(state: HostState, journal: Journal<D>) -> Result<Found<D>, HostRefused<D>>
+fn repair<D: Disk>(state: HostState, journal: Journal<D>) -> Result<Found<D>, OpenRefused<D>>
     ensures repairs { Repairs D.Disk state journal result }
 {
     let mut journal = journal;
@@ -111,7 +111,7 @@ fn next_generation<D: Disk>(
 
 /// A state that was read of a journal in version 1, and the journal once it is repaired, and holds the state in a new
 /// generation of version 2. All memory is taken before anything is written.
-fn upgrade<D: Disk>(state: HostState, journal: Journal<D>) -> Result<Found<D>, HostRefused<D>>
+fn upgrade<D: Disk>(state: HostState, journal: Journal<D>) -> Result<Found<D>, OpenRefused<D>>
     requires not_failed { HasFailed journal → ⊥ }
     ensures moves { Moves D.Disk state journal result }
 {
@@ -132,7 +132,7 @@ fn settle<D: Disk>(
     alloc: Global,
     registry: Registry,
     opened: OpenedJournal<D>,
-) -> Result<Found<D>, HostRefused<D>>
+) -> Result<Found<D>, OpenRefused<D>>
     requires not_failed { HasFailed opened.journal → ⊥ }
     ensures settled { Settled D.Disk (registered registry) opened result }
 {
@@ -162,12 +162,12 @@ pub fn find<D: Disk>(
     registry: Registry,
     a: D,
     b: D,
-) -> Result<Found<D>, HostRefused<D>>
+) -> Result<Found<D>, OpenRefused<D>>
     ensures opens_state { OpensState D.Disk (registered registry) a b result }
 {
     match Journal::open(alloc, a, b) {
         Ok(opened) => settle(alloc, registry, opened),
-        Err(refused) => Err(HostRefused {
+        Err(refused) => Err(OpenRefused {
             fault: refused.fault.into(),
             a: refused.first,
             b: refused.second,

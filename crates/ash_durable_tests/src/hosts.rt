@@ -3,7 +3,7 @@
 
 use crate::checks::check_text;
 use ash_disk::{Disk, MemoryDisk, Survives};
-use ash_durable::{Host, HostRefused, StoreFault};
+use ash_durable::{Host, OpenRefused, StoreFault};
 use ash_registry::Registry;
 use ash_serve::RunFault;
 use ash_serve::program::registrations::registrations;
@@ -56,9 +56,9 @@ pub type Refused = (StoreFault, Disks);
 /// What is refused, with the disks in boxes.
 pub fn refused_with_disks(
     alloc: Global,
-    refused: HostRefused<MemoryDisk>,
+    refused: OpenRefused<MemoryDisk>,
 ) -> Result<Refused, AllocError> {
-    let HostRefused { fault, a, b } = refused;
+    let OpenRefused { fault, a, b } = refused;
     Ok((fault, boxed_disks(alloc, (a, b))?))
 }
 

@@ -2,7 +2,7 @@
 use Rattle.std.proofs.Common.{◌≡◌, ℕ, Result, Ok, Err, refl, sym, subst}
 use Rattle.ash_disk.specs.Device.{Device}
 use Rattle.ash_durable.specs.Hosting.{Hosted}
-use Rattle.ash_durable.specs.declared.fault.HostRefused.{HostRefused}
+use Rattle.ash_durable.specs.declared.fault.OpenRefused.{OpenRefused}
 use Rattle.ash_serve.specs.StreamRuns.{KnownState}
 use Rattle.ash_serve.specs.Service.{ServiceStart, ServiceRemains, HostRun, ServesHost, ServesFrom}
 use Rattle.ash_serve.specs.Serving.{run_state}
@@ -32,6 +32,6 @@ serves_from device budget start host (Err Usage) after b w = absurd w
 serves_from device budget start host (Err NoMemory) after b w = absurd w
 
 -- a refusal, by what is returned of it
-pub serves_refused : {D : Type 0} (device : Device D) (budget : ℕ) (start : ServiceStart D) (refused : HostRefused D) (r : Result (Unit {0}) ProgramFault) (after : ServiceRemains D) → r ≡ Err (Store refused.fault) → after.a ≡ refused.a → after.b ≡ refused.b → after.output ≡ start.output → start.begins (Err refused) → ServesFrom device budget start r after
+pub serves_refused : {D : Type 0} (device : Device D) (budget : ℕ) (start : ServiceStart D) (refused : OpenRefused D) (r : Result (Unit {0}) ProgramFault) (after : ServiceRemains D) → r ≡ Err (Store refused.fault) → after.a ≡ refused.a → after.b ≡ refused.b → after.output ≡ start.output → start.begins (Err refused) → ServesFrom device budget start r after
 serves_refused device budget start refused r after r_is a_is b_is output_is begun =
     subst (λ (end : Result (Unit {0}) ProgramFault). ServesFrom device budget start end after) (sym r_is) (refused, begun, refl, a_is, b_is, output_is)

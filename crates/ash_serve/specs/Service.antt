@@ -4,7 +4,7 @@ use Rattle.ash_disk.specs.Device.{Device}
 use Rattle.ash_durable.specs.Hosting.{Hosted, first, second, IsSaved, Handles}
 use Rattle.ash_durable.specs.Lives.{LivesOn}
 use Rattle.ash_durable.specs.RequestRuns.{RunsToFailure}
-use Rattle.ash_durable.specs.declared.fault.HostRefused.{HostRefused}
+use Rattle.ash_durable.specs.declared.fault.OpenRefused.{OpenRefused}
 use Rattle.ash_lines.specs.Lines.{Line}
 use Rattle.ash_lines.specs.ReplyText.{LineReply}
 use Rattle.ash_serve.specs.StreamRuns.{KnownState, RunEnds, host_requests, host_replies}
@@ -16,7 +16,7 @@ use Rattle.ash_serve.specs.declared.program.fault.ProgramFault.TheVariants.{Stor
 -- what serving begins with: how a host begins on the disks; the bytes that are left to read and
 -- those that are written, where these are known
 pub record ServiceStart (D : Type 0) : Type 1 where
-  pub begins : Result (Hosted D) (HostRefused D) → Type 0
+  pub begins : Result (Hosted D) (OpenRefused D) → Type 0
   pub input : Option (List ℕ)
   pub output : Option (List ℕ)
 
@@ -28,7 +28,7 @@ pub record ServiceRemains (D : Type 0) : Type 0 where
   pub output : Option (List ℕ)
 
 -- a host that begins so, this input and this output
-abbrev pub service_start : {D : Type 0} → (Result (Hosted D) (HostRefused D) → Type 0)
+abbrev pub service_start : {D : Type 0} → (Result (Hosted D) (OpenRefused D) → Type 0)
     → Option (List ℕ) → Option (List ℕ) → ServiceStart D
 service_start begins input output = record { begins = begins; input = input; output = output }
 
@@ -67,7 +67,7 @@ ServesHost device budget before (Err _) after = ⊥
 abbrev pub ServesFrom : {D : Type 0} → Device D → ℕ → ServiceStart D → Result (Unit {0}) ProgramFault
     → ServiceRemains D → Type 0
 ServesFrom {D} device budget start (Err (Store fault)) after =
-    (refused : HostRefused D) × start.begins (Err refused) × (refused.fault ≡ fault)
+    (refused : OpenRefused D) × start.begins (Err refused) × (refused.fault ≡ fault)
     × (after.a ≡ refused.a) × (after.b ≡ refused.b) × (after.output ≡ start.output)
 ServesFrom {D} device budget start result after =
     (host : Hosted D) × start.begins (Ok host)

@@ -11,8 +11,7 @@ use Rattle.ash_requests.specs.declared.reply.Reply as code_reply
 use Rattle.ash_requests.specs.declared.step_error.StepError.{StepError}
 use Rattle.ash_requests.specs.declared.step_error.StepError.TheVariants as errors
 use Rattle.ash_requests.specs.RequestViews.{reply_seen}
-use Rattle.ash_requests.specs.TaskResults.{TakesMemoryToFind}
-use Rattle.ash_requests.specs.TaskResults.{TaskChangesState}
+use Rattle.ash_requests.specs.TaskResults.{TakesMemoryToFind, TaskChangesState}
 use Rattle.ash_sources.specs.declared.fault.SourceFault as code_fault
 use Rattle.ash_sources.specs.SourceFaults.{SourceFault, fault_of}
 use Rattle.ash_sources.specs.SourceFaults as faults

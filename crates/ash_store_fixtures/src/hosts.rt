@@ -2,7 +2,7 @@
 //! nothing: so its contract is seen once, and not in every test. What a host replies is compared as the line that is
 //! written of it.
 
-use ash_disk::{Disk, FailingDisk, MemoryDisk, Survives};
+use ash_disk::{Disk, FuseDisk, MemoryDisk, Survives};
 use ash_durable::{Host, StoreFault};
 use ash_host::Word;
 use ash_lines::reply::{LineReply, write_line_reply};
@@ -61,12 +61,12 @@ pub fn disk(alloc: Global, bytes: &[u8]) -> Result<MemoryDisk, AllocError> {
 }
 
 /// An empty disk that fails after so many calls.
-pub fn fuse(alloc: Global, calls: u64) -> FailingDisk<MemoryDisk> {
-    FailingDisk::new(MemoryDisk::new(alloc), calls)
+pub fn fuse(alloc: Global, calls: u64) -> FuseDisk<MemoryDisk> {
+    FuseDisk::new(MemoryDisk::new(alloc), calls)
 }
 
 /// The disk in a failing one.
-pub fn inner(disk: FailingDisk<MemoryDisk>) -> MemoryDisk {
+pub fn inner(disk: FuseDisk<MemoryDisk>) -> MemoryDisk {
     disk.into_inner()
 }
 
@@ -191,7 +191,7 @@ pub fn snapshot<D: Disk>(host: &mut Host<D>) -> HostReply {
 
 /// What a global of a module holds.
 pub fn get<D: Disk>(host: &mut Host<D>, module: &str, name: &str) -> HostReply {
-    host.get(module, name)
+    host.global(module, name)
 }
 
 /// What a global of the module `m` holds.

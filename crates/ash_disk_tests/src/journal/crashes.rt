@@ -3,7 +3,7 @@
 use super::{PlacedRecord, Step, append, count_passed, has_contents, open_bytes};
 use crate::compare::check_number;
 use crate::disks::image;
-use ash_disk::{Disk, FailingDisk, MemoryDisk, Survives};
+use ash_disk::{Disk, FuseDisk, MemoryDisk, Survives};
 use ash_journal::{AppendError, Journal, OpenFault, OpenedJournal};
 use std::alloc::{AllocError, Global};
 use std::process::Abort;
@@ -74,8 +74,8 @@ fn run<D: Disk>(alloc: Global, first: D, second: D) -> (usize, D, D) {
 
 // A run over two disks that fail after so many calls.
 fn stop_run(alloc: Global, first_calls: u64, second_calls: u64) -> StoppedRun {
-    let first = FailingDisk::new(MemoryDisk::new(alloc), first_calls);
-    let second = FailingDisk::new(MemoryDisk::new(alloc), second_calls);
+    let first = FuseDisk::new(MemoryDisk::new(alloc), first_calls);
+    let second = FuseDisk::new(MemoryDisk::new(alloc), second_calls);
     let (acknowledged, first, second) = run(alloc, first, second);
     StoppedRun {
         acknowledged,

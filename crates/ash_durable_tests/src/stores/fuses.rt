@@ -1,8 +1,8 @@
 //! Disks of which one fails first, and hosts over disks that fail.
 
 use crate::hosts::{Disks, boxed_disks};
-use ash_disk::{FailingDisk, MemoryDisk};
-use ash_durable::{Host, HostRefused, StoreFault};
+use ash_disk::{FuseDisk, MemoryDisk};
+use ash_durable::{Host, OpenRefused, StoreFault};
 use ash_registry::Registry;
 use ash_store_fixtures::hosts::{closed, created, fuse, inner};
 use ash_store_fixtures::lives::{HostStep, lived_on_fuses};
@@ -25,7 +25,7 @@ pub(crate) fn fuses(failing: Failing, calls: u64, others: u64) -> (u64, u64) {
 }
 
 /// A disk in memory that fails.
-pub(crate) type Fused = FailingDisk<MemoryDisk>;
+pub(crate) type Fused = FuseDisk<MemoryDisk>;
 
 /// The two disks of a store, which fail. They are in a box, since they are large, and held by many tests.
 pub(crate) type FusedDisks = Box<(Fused, Fused)>;
@@ -52,9 +52,9 @@ fn boxed_host(alloc: Global, host: Host<Fused>) -> Result<FusedHost, AllocError>
 /// What is refused, with the disks in a box.
 fn refused_with_disks(
     alloc: Global,
-    refused: HostRefused<Fused>,
+    refused: OpenRefused<Fused>,
 ) -> Result<FusedRefused, AllocError> {
-    let HostRefused { fault, a, b } = refused;
+    let OpenRefused { fault, a, b } = refused;
     Ok((fault, boxed_fused(alloc, (a, b))?))
 }
 
@@ -64,8 +64,8 @@ pub(crate) fn fused_disks(
     disks: (MemoryDisk, MemoryDisk),
     calls: (u64, u64),
 ) -> Result<FusedDisks, AllocError> {
-    let first = FailingDisk::new(disks.0, calls.0);
-    let second = FailingDisk::new(disks.1, calls.1);
+    let first = FuseDisk::new(disks.0, calls.0);
+    let second = FuseDisk::new(disks.1, calls.1);
     boxed_fused(alloc, (first, second))
 }
 
@@ -78,7 +78,7 @@ pub(crate) fn inner_disks(alloc: Global, disks: FusedDisks) -> Result<Disks, All
 /// What was begun, in a box.
 fn boxed(
     alloc: Global,
-    begun: Result<Host<Fused>, HostRefused<Fused>>,
+    begun: Result<Host<Fused>, OpenRefused<Fused>>,
 ) -> Result<Begun, AllocError> {
     match begun {
         Ok(host) => Ok(Ok(boxed_host(alloc, host)?)),

@@ -4,7 +4,7 @@ ghost use Rattle.std.specs.Prelude.{◌≡◌};
 ghost use Rattle.ash_serve.specs.Program.{code_of, status_of};
 
 use crate::fault::RunFault;
-use ash_durable::{HostRefused, StoreFault};
+use ash_durable::{OpenRefused, StoreFault};
 use ash_lines::sink::WriteFault;
 use ash_lines::source::ReadFault;
 use ash_registry::RegistryFault;
@@ -100,8 +100,8 @@ impl From<RegistryFault> for ProgramFault {
     }
 }
 
-impl<D: Drop> From<HostRefused<D>> for ProgramFault {
-    fn from(refused: HostRefused<D>) -> Self {
+impl<D: Drop> From<OpenRefused<D>> for ProgramFault {
+    fn from(refused: OpenRefused<D>) -> Self {
         ProgramFault::Store(refused.fault)
     }
 }

@@ -11,7 +11,7 @@ ghost use Rattle.ash_serve.specs.declared.program.fault.ProgramFault.TheVariants
 use super::fault::ProgramFault;
 use crate::run::run;
 use ash_disk::Disk;
-use ash_durable::{Host, HostRefused};
+use ash_durable::{Host, OpenRefused};
 use ash_registry::Registry;
 use std::alloc::Global;
 use std::io::{Read, Write};
@@ -102,12 +102,12 @@ fn serve_host<D: Disk, R: Read + Drop, W: Write>(
 }
 
 /// Why there is no host, and the disks that it was to have.
-fn end_without_host<D>(refused: HostRefused<D>) -> ServiceEnd<D>
+fn end_without_host<D>(refused: OpenRefused<D>) -> ServiceEnd<D>
     ensures end { result.end ≡ Err (faults.Store refused.fault) }
     ensures a { result.a ≡ refused.a }
     ensures b { result.b ≡ refused.b }
 {
-    let HostRefused { fault, a, b } = refused;
+    let OpenRefused { fault, a, b } = refused;
     ServiceEnd {
         end: Err(ProgramFault::Store(fault)),
         a,

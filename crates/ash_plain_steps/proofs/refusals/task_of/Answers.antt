@@ -17,5 +17,5 @@ returns-in-Discard-clause-task g c known =
     subst (λ (r : request.Request). GivesTask g.S.SourceReader.fault_seen g.S.SourceReader.TakesMemory c.args.state.now.modules.items c.discarding.result (task_of (g.S.SourceReader.embedding c.args.sources.now) (request_seen r) (state_seen c.args.state.now))) (sym c.in-Discard.is)
     (c.discarding.ensures.task (g.S.SourceReader.embedding c.args.sources.now))
 
-pub returns-in-Get-clause-performable : goal.returns-in-Get-clause-performable
-returns-in-Get-clause-performable g c = c.reading.ensures.performable (g.S.SourceReader.embedding c.args.sources.now)
+pub returns-in-Global-clause-performable : goal.returns-in-Global-clause-performable
+returns-in-Global-clause-performable g c = c.reading.ensures.performable (g.S.SourceReader.embedding c.args.sources.now)

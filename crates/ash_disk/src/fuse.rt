@@ -10,23 +10,23 @@ use crate::{DeviceFailed, Disk};
 
 /// Passes a number of calls on to a disk, and then fails each without passing it on. It is as honest as that disk.
 #[derive(Drop)]
-pub struct FailingDisk<D: Disk> {
+pub struct FuseDisk<D: Disk> {
     disk: D,
     calls_left: u64,
     /// The calls that were not passed on.
     stopped: u64,
 }
 
-impl<D: Disk> FailingDisk<D> {
-    ghost use Rattle.ash_disk.specs.Failing.{inner, calls_left, all_failures};
+impl<D: Disk> FuseDisk<D> {
+    ghost use Rattle.ash_disk.specs.Fuse.{inner, calls_left, all_failures};
 
     /// A disk that passes the first `k` calls on to `disk`.
-    pub fn new(disk: D, k: u64) -> FailingDisk<D>
+    pub fn new(disk: D, k: u64) -> FuseDisk<D>
         ensures around { inner result ≡ disk }
         ensures calls { calls_left result ≡ k }
         ensures failures { all_failures D.failures result ≡ D.failures disk }
     {
-        FailingDisk {
+        FuseDisk {
             disk,
             calls_left: k,
             stopped: 0,
@@ -54,8 +54,8 @@ fn count_call(calls_left: &mut u64, stopped: &mut u64) -> Result<(), DeviceFaile
     Ok(())
 }
 
-impl<D: Disk> Disk for FailingDisk<D> {
-    ghost use Rattle.ash_disk.specs.Failing.{inner, all_failures, CountsCall};
+impl<D: Disk> Disk for FuseDisk<D> {
+    ghost use Rattle.ash_disk.specs.Fuse.{inner, all_failures, CountsCall};
 
     ghost honest = { λ f. D.honest f.disk };
 

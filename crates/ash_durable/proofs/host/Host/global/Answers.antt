@@ -2,7 +2,7 @@ use Rattle.ash_requests.specs.Requests.{Get}
 use Rattle.ash_requests.specs.RequestViews.{reply_seen}
 use Rattle.ash_sources.specs.SourceFaults.{fault_of}
 use Rattle.ash_durable.proofs.Changing.{handles_at, reads_only}
-use Rattle.ash_durable.proofs.host.Host.get.Goals as goal
+use Rattle.ash_durable.proofs.host.Host.global.Goals as goal
 
 pub returns-clause-handled : goal.returns-clause-handled
 returns-clause-handled g c budget =
