@@ -171,7 +171,7 @@ module _ {B : Type 0} where
         go true p (Some x) is at = let mine = ap (λ (v : Option (SlotEntry B)). option_map_or (λ object. (object.item).count) v 0) is in (omega (arith, at, mine), omega (arith, at, mine), λ no. absurd (cc))
         go false p v is at = let mine = ap (λ (v : Option (SlotEntry B)). option_map_or (λ object. (object.item).count) v 0) is in (omega (arith, at, mine), omega (arith, at, mine), λ no. omega (arith, at, mine))
 
-    pub sound_more : counted n l < 2 ^ 127 → AreCounted (change_at n incremented l)
+    pub sound_more : counted n l < fields_in n l + 2 ^ 127 → AreCounted (change_at n incremented l)
     sound_more below = record {
       covered = λ m. omega (arith, more_fields m, (more_counts m).0, s.covered m);
       bounded = λ m. bound m (nat_eq n m) refl;
@@ -186,7 +186,8 @@ module _ {B : Type 0} where
             → counted m (change_at n incremented l) ≤ fields_in m (change_at n incremented l) + 2 ^ 127
         bound m true p =
             let same = ap (λ (k : ℕ). counted k l) (eqb-true n m p) in
-            omega (arith, same, more_fields m, (more_counts m).1, below)
+            let fields = ap (λ (k : ℕ). fields_in k l) (eqb-true n m p) in
+            omega (arith, same, fields, more_fields m, (more_counts m).1, below)
         bound m false p = omega (arith, more_fields m, (more_counts m).2 p, s.bounded m)
 
     less_counts : (m : ℕ) → (counted m (change_at n decremented l) ≤ counted m l)

@@ -2,6 +2,7 @@ pub mod Counts
 pub mod Handles
 pub mod Fields
 pub mod Views
+pub mod Sound
 pub mod Boxes
 pub mod Referring
 pub mod Releasing

@@ -7,11 +7,11 @@ use Rattle.ash_host.specs.Objects.{object_at, Lives, handle}
 use Rattle.ash_slots.specs.declared.entry.Occupant.{Occupant}
 use Rattle.ash_slots.specs.Bodies.{words_of}
 use Rattle.ash_slots.specs.Store.{SlotEntry, IsIn, change_at}
-use Rattle.ash_objects.specs.Table.{Living, fields_holding}
+use Rattle.ash_objects.specs.Table.{Living}
 use Rattle.ash_objects.specs.Counting.{fields_in, living, living_in, AreGiven, IsTable}
 use Rattle.ash_slots.specs.SlotCounting.{counted, incremented, decremented, change_handle, written}
 use Rattle.ash_slots.proofs.Changing.{in_order-change}
-use Rattle.ash_objects.proofs.Counts.{object_at-living, count_is, counted_fits, sound_more, sound_less, given-change}
+use Rattle.ash_objects.proofs.Counts.{object_at-living, fields-living, count_is, counted_fits, sound_more, sound_less, given-change}
 use Rattle.ash_objects.proofs.Fields.{after_all, sound_field, order_write, handle_order}
 use Rattle.ash_slots.proofs.Steps.{is_in_from}
 
@@ -121,11 +121,11 @@ module _ {B : Type 0} where
     pub fits_view : (n : ℕ) → counted n l < 2 ^ 128 - 1
     fits_view n = let small = counted_fits n l t.in_order t.counted in omega (arith, small)
 
-    pub few_view : (n : ℕ) → option_map_or (λ object. object.holds) (object_at n (living_in l)) 0
-        + fields_holding n (living_in l) < 2 ^ 127 → counted n l < 2 ^ 127
-    few_view n h = let same = count_is n l t.counted in omega (arith, same, h)
+    pub few_view : (n : ℕ) → option_map_or (λ object. object.holds) (object_at n (living_in l)) 0 < 2 ^ 127
+        → counted n l < fields_in n l + 2 ^ 127
+    few_view n h = let same = count_is n l t.counted in omega (arith, same, fields-living n l l, h)
 
-    pub table_more : (n : ℕ) → counted n l < 2 ^ 127 → IsTable (change_at n incremented l) last settled
+    pub table_more : (n : ℕ) → counted n l < fields_in n l + 2 ^ 127 → IsTable (change_at n incremented l) last settled
     table_more n few = record {
       in_order = in_order-change n incremented l t.in_order;
       counted = sound_more n l t.in_order t.counted few;

@@ -7,4 +7,5 @@ pub mod Collecting
 pub mod Marking
 pub mod Listing
 pub mod Arrays
+pub mod Facts
 pub mod Restoring

@@ -4,10 +4,11 @@
 //! hold the object and one for each hold that was not undone, and that a sweep takes away what no hold and no object
 //! that stays leads to.
 //!
-//! In reading order: `objects` (the table, and its calls on fields and holds), `making` (new objects), `arrays` (calls
-//! of arrays), `host_calls` (calls of host objects and services), `sweeping` (the sweep), `marking` (what was made,
-//! changed or taken away), `marked_slots` (the slots of what was made or changed), `restoring` (a table from what a
-//! state holds), `counting` (the counts of what an object's words are handles to).
+//! In reading order: `objects` (the table, and its calls on fields and holds), `reading` (the numbers of all objects,
+//! the services, and what holds of every table), `making` (new objects), `arrays` (calls of arrays), `host_calls` (calls
+//! of host objects and services), `sweeping` (the sweep), `marking` (what was made, changed or taken away),
+//! `marked_slots` (the slots of what was made or changed), `restoring` (a table from what a state holds), `counting` (the
+//! counts of what an object's words are handles to).
 #![tactic(auto)]
 
 mod arrays;
@@ -17,6 +18,7 @@ mod making;
 mod marked_slots;
 mod marking;
 mod objects;
+mod reading;
 mod restoring;
 mod sweeping;
 

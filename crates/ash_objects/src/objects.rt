@@ -107,7 +107,7 @@ impl<B> Objects<B> {
     /// Holds the object in a slot once more. It takes no memory.
     pub fn hold_at(&mut self, slot: usize)
         requires few { (number : ℕ) × (slot_of number self.old ≡ Some slot)
-            × (count_of number self.old < 2 ^ 127) }
+            × (holds_of number self.old < 2 ^ 127) }
         ensures held { (number : ℕ) → slot_of number self.old ≡ Some slot
             → self.new ≡ with_object number held self.old }
     {
@@ -117,7 +117,7 @@ impl<B> Objects<B> {
     /// Holds an object once more. It takes no memory.
     pub fn hold(&mut self, number: u64)
         requires lives { Lives self.old.objects number }
-        requires few { count_of number self.old < 2 ^ 127 }
+        requires few { holds_of number self.old < 2 ^ 127 }
         ensures held { self.new ≡ with_object number held self.old }
     {
         let Some(slot) = self.slot(number) else {

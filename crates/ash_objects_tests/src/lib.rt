@@ -8,8 +8,8 @@
 //!   memory that is ample or refused once.
 //! - `sequences`, `marks`, `arrays` and `limits`: sequences of calls with the events that they leave, what is named as
 //!   changed, arrays, and a table at its limits, with memory that is ample.
-//! - `states`, `restoring`, `pools` and `refused_states`: tables from what a state holds, the boxes that they take, and
-//!   those that are given up where a state is refused.
+//! - `states`, `restoring`, `reading`, `pools` and `refused_states`: tables from what a state holds, what is read of one,
+//!   the boxes that they take, and those that are given up where a state is refused.
 //! - `refusals`: memory that is refused once.
 //! - `sentences`: what each fault says to a person.
 #![tactic(auto)]
@@ -28,6 +28,8 @@ mod limits;
 mod marks;
 #[cfg(test)]
 mod pools;
+#[cfg(test)]
+mod reading;
 #[cfg(test)]
 mod refusals;
 #[cfg(test)]

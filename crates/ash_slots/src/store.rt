@@ -4,7 +4,7 @@ ghost use Rattle.std.specs.Prelude.{IsTrue, ℕ, true, false, length, option_map
 ghost use Rattle.std.specs.Prelude.{nat_eq, IsSomeAnd, IfSome, IfNone, OnSome};
 ghost use Rattle.std.specs.Prelude.{IfOk, IfErr, OnErr, Some, None};
 ghost use Rattle.std.specs.Map.{remove_entry};
-ghost use Rattle.ash_host.specs.Objects.{object_at, with_at, IsInOrder};
+ghost use Rattle.ash_host.specs.Objects.{object_at, with_at, numbers, IsInOrder};
 ghost use Rattle.std.specs.Borrow.{sem};
 ghost use Rattle.ash_slots.specs.Store.{IsIn, IsOccupied, AreStored, IsIdle};
 ghost use Rattle.ash_slots.specs.Store.{NoneWaits, change_in, with_waiting};
@@ -13,6 +13,7 @@ use crate::entry::{Entry, Occupant};
 use slab::Slab;
 use std::alloc::{AllocFailed, Global};
 use std::collections::BTreeMap;
+use std::collections::btree_map::Keys;
 use std::marker::Model;
 
 /// Objects in slots, found by their numbers, and a list of those that the next sweep looks at.
@@ -96,6 +97,13 @@ impl<B> Store<B> {
         ensures stored { AreStored self.now.objects }
     {
         self.index.len()
+    }
+
+    /// The numbers of the objects, in ascending order.
+    pub fn numbers(&self) -> Keys<'_, u64, usize>
+        ensures numbers { result ≡ numbers self.now.objects }
+    {
+        self.index.keys()
     }
 
     /// The number of the object in a slot.
