@@ -12,6 +12,7 @@ use Rattle.ash_host.specs.declared.event.Target.TheVariants as targets
 use Rattle.ash_host.specs.declared.host_object.HostObject.{Ghosts}
 use Rattle.ash_host.specs.Calls.{HostCall, Start, Invoke, Get, Set}
 use Rattle.ash_host.specs.Limits.{max_state_bytes}
+use Rattle.ash_host.specs.Words.{IsAnswer}
 
 -- one call: what it went to, what it was, the state before it, the answer, and the state after it
 pub record HostRecord : Type 0 where
@@ -21,10 +22,11 @@ pub record HostRecord : Type 0 where
   pub answer : HostAnswer
   pub after : List ℕ
 
--- A record is valid for the object that answered where it allows the answer and the state after it, from the state
--- before, and where neither state is longer than a state may be.
+-- A record is valid for the object that answered if it allows the answer and the state after it, from the state before;
+-- if the answered word has a number that its type has; and if neither state is longer than a state may be.
 pub record IsValidRecord {B : Type 0} (host : Ghosts B) (object : B) (r : HostRecord) : Type 0 where
   pub allowed : host.allows object r.call r.before r.answer r.after
+  pub answered_fits : IsAnswer r.answer
   pub before_fits : length r.before ≤ max_state_bytes
   pub after_fits : length r.after ≤ max_state_bytes
 

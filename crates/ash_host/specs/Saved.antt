@@ -1,7 +1,11 @@
--- What is taken as true of a kind of host object, beyond what its code is proved to do.
+-- What is true of the states of host objects, and what is taken as true of a kind beyond what its code is proved to do.
 use Rattle.std.specs.Prelude.{◌≡◌, ◌≤◌, ℕ, List, length}
 use Rattle.ash_host.specs.declared.host_object.HostObject.{Ghosts}
 use Rattle.ash_host.specs.Limits.{max_state_bytes}
+
+-- The state of an object is no longer than a state may be.
+abbrev pub StateFits : {B : Type 0} → Ghosts B → B → Type 0
+StateFits host object = length (host.state object) ≤ max_state_bytes
 
 -- An object saves these bytes: they are its state, and no longer than a state may be.
 pub record Saves {B : Type 0} (host : Ghosts B) (object : B) (bytes : List ℕ) : Type 0 where

@@ -1,8 +1,23 @@
--- Words as whole numbers, and the integer operators on them.
-use Rattle.std.specs.Prelude.{ℤ, pos, ◌+ℤ◌, ◌-ℤ◌, ◌*ℤ◌}
-use Rattle.std.specs.Int.{int_wrap, w32}
+-- Words as whole numbers, the integer operators on them, and which words a host may answer with.
+use Rattle.std.specs.Prelude.{ℤ, pos, FitsSigned, ◌+ℤ◌, ◌-ℤ◌, ◌*ℤ◌}
+use Rattle.std.specs.Int.{FitsUnsignedBits, int_wrap, w32, w64}
+use Rattle.ash_host.specs.declared.answer.HostAnswer.{HostAnswer}
+use Rattle.ash_host.specs.declared.answer.HostAnswer.TheVariants.{Value}
 use Rattle.ash_host.specs.declared.word.Word.{Word}
-use Rattle.ash_host.specs.declared.word.Word.TheVariants.{Int}
+use Rattle.ash_host.specs.declared.word.Word.TheVariants.{Int, Uint, Int64, Uint64}
+
+-- a word that a host answers with has a number that its type has
+abbrev pub IsHostWord : Word → Type 0
+IsHostWord (Int n) = FitsSigned w32 n
+IsHostWord (Uint n) = FitsUnsignedBits 32 (pos n)
+IsHostWord (Int64 n) = FitsSigned w64 n
+IsHostWord (Uint64 n) = FitsUnsignedBits 64 (pos n)
+IsHostWord _ = Unit {0}
+
+-- the word of an answer, if it has one, is such a word
+abbrev pub IsAnswer : HostAnswer → Type 0
+IsAnswer (Value word) = IsHostWord word
+IsAnswer _ = Unit {0}
 
 -- the number of an `int`; typed code asks it of nothing else, and what is no `int` reads as zero
 abbrev pub int_of : Word → ℤ

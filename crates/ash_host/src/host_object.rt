@@ -28,9 +28,11 @@ pub trait HostObject: Drop {
     /// be trusted: that a fresh object of the kind doesn't is `RestoresSaved`.
     ghost refuses: { Self → List ℕ → Type 0 };
 
-    /// The number of its kind. It takes no memory.
+    /// The number of its kind. It takes no memory. Before any other call it says that the state is no longer than a
+    /// state may be.
     fn kind(&self) -> u16
-        ensures kind { result ≡ kind_of self.now };
+        ensures kind { result ≡ kind_of self.now }
+        ensures bounded { length (state self.now) ≤ max_state_bytes };
 
     /// Begins its life with the arguments of a factory. `Nothing` is success.
     fn start(&mut self, args: &[Word]) -> HostAnswer

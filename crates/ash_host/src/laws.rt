@@ -9,6 +9,7 @@ ghost use Rattle.ash_host.specs.ObjectLaws.{SweepSettles, CascadeIsSweep};
 ghost use Rattle.ash_host.specs.ObjectLaws.{CountIsReferences, InsertIsExact, NumbersRise};
 ghost use Rattle.ash_host.specs.ObjectLaws.{SweepKeepsLast, RecordIsExact};
 ghost use Rattle.ash_host.specs.Records.{IsValidRecord};
+ghost use Rattle.ash_host.specs.Words.{IsHostWord, IsAnswer};
 
 use crate::{HostAnswer, HostObject, Word};
 
@@ -52,6 +53,28 @@ pub fn record_is_exact()
     ensures taken { RecordIsExact }
 {}
 
+/// Every word has a number that its type has.
+pub fn words_have_their_ranges(word: Word)
+    ensures in_range { IsHostWord word }
+{
+    match word {
+        Word::Int(_number) => {}
+        Word::Uint(_number) => {}
+        Word::Int64(_number) => {}
+        Word::Uint64(_number) => {}
+        Word::Bool(_) | Word::Null | Word::Object(_) => {}
+    }
+}
+
+/// Every answer has such a word, if it has one.
+pub fn answers_have_their_ranges(answer: HostAnswer)
+    ensures in_range { IsAnswer answer }
+{
+    if let HostAnswer::Value(word) = answer {
+        words_have_their_ranges(word);
+    }
+}
+
 /// Runs a method of an object. What it answers makes a valid record, whichever number the object has.
 pub fn invoke_is_valid<B: HostObject>(object: &mut B, method: u16, args: &[Word]) -> HostAnswer
     requires bounded { length (B.state object.old) ≤ max_state_bytes }
@@ -63,5 +86,7 @@ pub fn invoke_is_valid<B: HostObject>(object: &mut B, method: u16, args: &[Word]
       after = B.state object.new;
     }) }
 {
-    object.invoke(method, args)
+    let answer = object.invoke(method, args);
+    answers_have_their_ranges(answer);
+    answer
 }

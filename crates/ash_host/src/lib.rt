@@ -5,12 +5,13 @@
 //! within the relation of its kind.
 //!
 //! In reading order: `word` (values), `answer` (what a call of a host object answers), `fault` (why one isn't saved
-//! or restored), `host_object` (the trait), `counter` and `tally` (the kinds that come with the product, with `int`,
-//! the number that each has), `event` (what happens to host objects during a request), `limits` (of the live objects),
-//! `laws` (of objects, and of what host objects answer).
+//! or restored), `host_object` (the trait), `boxes` (of host objects), `counter` and `tally` (the kinds that come with the
+//! product, with `int`, the number that each has), `event` (what happens to host objects during a request), `limits` (of
+//! the live objects), `laws` (of objects, and of what host objects answer).
 #![tactic(auto)]
 
 mod answer;
+mod boxes;
 mod counter;
 mod event;
 mod fault;
@@ -22,6 +23,7 @@ mod tally;
 pub mod word;
 
 pub use answer::HostAnswer;
+pub use boxes::see_kinds;
 pub use counter::Counter;
 pub use event::{Event, Target};
 pub use fault::{NoMemory, RestoreFault};

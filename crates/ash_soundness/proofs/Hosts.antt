@@ -15,6 +15,7 @@ use Rattle.ash_host.specs.declared.event.Target.TheVariants as targets
 use Rattle.ash_host.specs.Calls.{HostCall, Invoke, Get, Set}
 use Rattle.ash_host.specs.Objects.{Plain, Script, Array, Host, LiveObjects, handle}
 use Rattle.ash_host.specs.Records.{HostRecord, next_record}
+use Rattle.ash_host.specs.Words.{IsHostWord, IsAnswer}
 use Rattle.ash_host.proofs.RecordLaws.{next_record_says}
 use Rattle.ash_integers.specs.declared.int_type.IntType.TheVariants as ints
 use Rattle.ash_typed.specs.declared.types.VarType.{VarType}
@@ -24,7 +25,7 @@ use Rattle.ash_typed.specs.SoundExpressions.{TypedEnvironment}
 use Rattle.ash_meaning.specs.Activity.{FreeBox, World, Activity, in_world}
 use Rattle.ash_meaning.specs.Classes.{Program}
 use Rattle.ash_meaning.specs.HostSteps.{with_event, state_of, with_state_in, with_state, next_answer, after_answer, call_host, is_of, accept, invoke_host, get_property, set_property, without_box}
-use Rattle.ash_soundness.specs.WellFormed.{Known, Context, shape_of, int, uint, int64, uint64, is_truth, is_integer, IsGiven, gives_nothing, gives, IsState, IsHostWord, IsAnswer, IsObject, is_host, Follows, IsWorld, IsWellFormed}
+use Rattle.ash_soundness.specs.WellFormed.{Known, Context, shape_of, int, uint, int64, uint64, is_truth, is_integer, IsGiven, gives_nothing, gives, IsState, IsObject, is_host, Follows, IsWorld, IsWellFormed}
 use Rattle.ash_soundness.specs.WellFormedLaws.{Goes, Offers, Leaves, done, ended, no_step, Evaluates}
 use Rattle.ash_soundness.proofs.Values.{Stays, frame_stays, frames_stay}
 use Rattle.ash_soundness.proofs.Changes.{world_changed, world_follows, changed_stays}

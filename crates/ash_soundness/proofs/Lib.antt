@@ -10,6 +10,7 @@ pub mod Lists
 pub mod Ranges
 pub mod Integers
 pub mod Hosts
+pub mod Answers
 pub mod Constructions
 pub mod Arrays
 pub mod Locations

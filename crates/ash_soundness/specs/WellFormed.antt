@@ -6,11 +6,10 @@ use Rattle.std.specs.Int.{w32, w64, FitsUnsignedBits}
 use Rattle.std.specs.List.{AllByRecursion}
 use Rattle.ash_host.specs.declared.word.Word.{Word}
 use Rattle.ash_host.specs.declared.word.Word.TheVariants as words
-use Rattle.ash_host.specs.declared.answer.HostAnswer.{HostAnswer}
-use Rattle.ash_host.specs.declared.answer.HostAnswer.TheVariants as answers
 use Rattle.ash_host.specs.Limits.{max_state_bytes}
 use Rattle.ash_host.specs.Objects.{Elements, Plain, Script, Array, Host, LiveObjects, object_at, Lives, AreNumbered}
 use Rattle.ash_host.specs.Records.{HostRecord}
+use Rattle.ash_host.specs.Words.{IsAnswer}
 use Rattle.ash_host.specs.Limits.{max_objects, max_elements}
 use Rattle.ash_tree.specs.declared.tree.types.Primitive.{Primitive}
 use Rattle.ash_integers.specs.declared.int_type.IntType.{IntType}
@@ -217,23 +216,15 @@ pub record AreOffered (host : signatures.HostSignatures) (all : LiveObjects (Lis
 pub record AllLive (all : LiveObjects (List ℕ)) (numbers : List ℕ) : Type 0 where
   pub each : (number : ℕ) → Contains numbers number → Lives all number
 
--- a word that a host answers with has a number that its type has
-abbrev pub IsHostWord : Word → Type 0
-IsHostWord (words.Int n) = IsInRange ints.Int n
-IsHostWord (words.Uint n) = IsInRange ints.Uint (pos n)
-IsHostWord (words.Int64 n) = IsInRange ints.Int64 n
-IsHostWord (words.Uint64 n) = IsInRange ints.Uint64 (pos n)
-IsHostWord _ = Unit {0}
-
-abbrev pub IsAnswer : HostAnswer → Type 0
-IsAnswer (answers.Value word) = IsHostWord word
-IsAnswer _ = Unit {0}
+-- an answer has a number that its type has, and the state after it is no longer than a state may be
+abbrev pub AreAnswers : List HostRecord → Type 0
+AreAnswers records = AllByRecursion (λ (r : HostRecord). IsState r.after × IsAnswer r.answer) records
 
 -- what services and free boxes have, and what hosts will answer and leave
 pub record AreStates (w : World) : Type 0 where
   pub services : AllByRecursion IsState w.services
   pub pool : AllByRecursion (λ (box : FreeBox). IsState box.state) w.pool
-  pub answers : AllByRecursion (λ (r : HostRecord). IsState r.after × IsAnswer r.answer) w.answers
+  pub answers : AreAnswers w.answers
 
 -- A world in which the module runs: numbers are at most the last, no more objects live than may, and what is stored is
 -- of its type.

@@ -5,13 +5,12 @@ use Rattle.std.specs.List.{AllByRecursion}
 use Rattle.std.specs.Option.{option_and_then}
 use Rattle.ash_host.specs.Objects.{LiveObjects, handles, Lives, AreNumbered}
 use Rattle.ash_host.specs.Reach.{ReachableIn}
-use Rattle.ash_host.specs.Records.{HostRecord}
 use Rattle.ash_host.specs.Limits.{max_objects}
 use Rattle.ash_typed.specs.Modules.{Module}
 use Rattle.ash_typed.specs.Signatures.{HostSignatures, types_of_globals}
 use Rattle.ash_meaning.specs.Activity.{FreeBox}
 use Rattle.ash_meaning.specs.ObjectSteps.{max_number}
-use Rattle.ash_soundness.specs.WellFormed.{Known, AreValues, AreObjects, AreOffered, IsState, IsAnswer}
+use Rattle.ash_soundness.specs.WellFormed.{Known, AreValues, AreObjects, AreOffered, IsState, AreAnswers}
 use Rattle.ash_soundness.specs.WellFormedLaws.{OffersNothing}
 use Rattle.ash_requests.specs.States.{LoadedModule, State, Hosts, Embedding, compare_names, has_name, globals_of}
 use Rattle.ash_requests.specs.Requests.{Request}
@@ -22,7 +21,7 @@ use Rattle.ash_requests.specs.Premises.{ReadsSound}
 -- what hosts bring: no state is longer than a state may be, and an answer has a number that its type has
 pub record AreHosts (h : Hosts) : Type 0 where
   pub pool : AllByRecursion (λ (box : FreeBox). IsState box.state) h.pool
-  pub answers : AllByRecursion (λ (r : HostRecord). IsState r.after × IsAnswer r.answer) h.answers
+  pub answers : AreAnswers h.answers
 
 -- the modules come after a name
 abbrev pub ComeAfter : List ℕ → List LoadedModule → Type 0

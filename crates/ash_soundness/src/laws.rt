@@ -1,11 +1,15 @@
 //! The laws of well-formed worlds. A function without a body does nothing: its contract is the law.
-ghost use Rattle.std.specs.Prelude.{ℕ};
-ghost use Rattle.ash_soundness.specs.WellFormed.{Context, IsContext};
+ghost use Rattle.std.specs.Prelude.{ℕ, List};
+ghost use Rattle.ash_host.specs.Records.{HostRecord};
+ghost use Rattle.ash_meaning.specs.Answers.{Answerers, AreValid};
+ghost use Rattle.ash_soundness.specs.WellFormed.{Context, IsContext, AreAnswers};
 ghost use Rattle.ash_soundness.specs.WellFormedLaws.{ExpressionsKeep, StatementsKeep, BlocksKeep};
 ghost use Rattle.ash_soundness.specs.WellFormedLaws.{CallsKeep, MethodsKeep};
 ghost use Rattle.ash_soundness.specs.WellFormedLaws.{RunsKeep, LoadsKeep, CallsComeToAnEnd};
 ghost use Rattle.ash_soundness.specs.WellFormedLaws.{LoadsComeToAnEnd, MoreModulesKeep, FewerModulesKeep};
 ghost use Rattle.ash_soundness.specs.WellFormedLaws.{ValuesAreOfTheirModule, ValuesKeepTheirTypes};
+
+use ash_host::HostObject;
 
 /// A phrase of a sound module leaves what is well-formed, at each of its ends: an expression gives a value of its type,
 /// and so does a call; a statement is left by a jump that its scope allows, with what its function gives. A phrase has
@@ -37,4 +41,10 @@ pub fn modules_come_and_go()
     ensures fewer { FewerModulesKeep }
     ensures own { ValuesAreOfTheirModule }
     ensures others { ValuesKeepTheirTypes }
+{}
+
+/// What hosts answer is as a well-formed world has it, if each record is valid for the object that it is of.
+pub fn valid_answers_fit<B: HostObject>()
+    ensures fit { (answerers : Answerers B) (records : List HostRecord)
+        → AreValid B.HostObject answerers records → AreAnswers records }
 {}
