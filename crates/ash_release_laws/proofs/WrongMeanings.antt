@@ -1,0 +1,73 @@
+-- What the two wrong meanings come to at their examples.
+use Rattle.std.proofs.Common.{◌≡◌, ◌≤◌, ◌<◌, ◌+◌, ℕ, zero, suc, Bool, true, false, cond, List, [], ◌∷◌, ◌++◌, refl, sym, ap, subst, nat_eq, arith, rules}
+use Rattle.std.specs.Prelude.{Option, Some, None, Contains, IsSome}
+use Rattle.std.specs.Option.{option_map_or}
+use Rattle.std.proofs.lemmas.Bool.{eqb-true}
+use Rattle.ash_host.specs.declared.word.Word.{Word}
+use Rattle.ash_host.specs.declared.word.Word.TheVariants as words
+use Rattle.ash_host.specs.Objects.{Plain, Host, LiveObjects, object_at, handles, fields_of, Refers, Lives}
+use Rattle.ash_host.specs.Reach.{Reachable, Root, Field, ReachableIn}
+use Rattle.ash_meaning.specs.Activity.{Activity}
+use Rattle.ash_meaning.specs.Releases.{release}
+use Rattle.ash_meaning.specs.CallMeaning.{Calls}
+use Rattle.ash_release_laws.proofs.Handles.{first_in, none_in}
+use Rattle.ash_release_laws.specs.Settling.{Reaches, IsSettled, IsNumbered, Settles, KeepsItsFrame, Keeps}
+use Rattle.ash_release_laws.specs.WrongMeanings.{one_object, before_clearing, between_arguments, cleared, second_argument}
+
+abbrev objects : LiveObjects (List ℕ)
+objects = (1, Host 1 []) ∷ []
+
+-- only the one object lives
+
+lives_from : (n : ℕ) (b : Bool) → nat_eq n 1 ≡ b → IsSome (cond {A = Option (Plain (List ℕ))} b (Some (Host 1 [])) None) → n ≡ 1
+lives_from n true is l = eqb-true n 1 is
+lives_from n false is l = absurd (cc)
+
+the_one : (n : ℕ) → Lives objects n → n ≡ 1
+the_one n l = lives_from n (nat_eq n 1) refl l
+
+numbered : (locals : List Word) (held : List ℕ) → IsNumbered (one_object locals held)
+numbered locals held = record {
+  in_order = search rules;
+  given = λ n l. let here = the_one n l in (omega (arith, here), omega (arith, here));
+}
+
+pub numbered_clearing : IsNumbered before_clearing
+numbered_clearing = numbered (words.Object 1 ∷ []) []
+
+pub numbered_between : IsNumbered between_arguments
+numbered_between = numbered [] (1 ∷ [])
+
+pub settled_clearing : IsSettled before_clearing
+settled_clearing = record { reached = λ n l. Root (subst (λ (k : ℕ). Contains (1 ∷ []) k) (sym (the_one n l)) (first_in 1 [])) }
+
+pub settled_between : IsSettled between_arguments
+settled_between = record { reached = λ n l. Root (subst (λ (k : ℕ). Contains (1 ∷ []) k) (sym (the_one n l)) (first_in 1 [])) }
+
+-- it refers to nothing
+
+refers_from : (one other : ℕ) (b : Bool) → Contains (option_map_or (λ (object : Plain (List ℕ)). handles (fields_of object)) (cond b (Some (Host 1 [])) None) []) other → ⊥
+refers_from one other true c = none_in other c
+refers_from one other false c = none_in other c
+
+refers_nothing : (one other : ℕ) → Refers objects one other → ⊥
+refers_nothing one other c = refers_from one other (nat_eq one 1) c
+
+none_reached : (n : ℕ) → ReachableIn (Contains []) objects n → ⊥
+none_reached n (Root c) = none_in n c
+none_reached n (Field {one} r f) = refers_nothing one n f
+
+pub collecting_refused : (calls : Calls) → ¬ Settles Word (cleared calls)
+collecting_refused calls settles =
+    let left = settles before_clearing numbered_clearing settled_clearing in
+    none_reached 1 (left.reached 1 refl)
+
+not_nothing : (more : List ℕ) → [] ≡ more ++ 1 ∷ [] → ⊥
+not_nothing [] e = cc
+not_nothing (x ∷ more) e = cc
+
+pub hasty_refused : (calls : Calls) → ¬ Keeps KeepsItsFrame Word (second_argument calls)
+unfolding release
+hasty_refused calls keeps =
+    let left = keeps between_arguments numbered_between in
+    not_nothing left.more left.held

@@ -1,0 +1,61 @@
+-- Two meanings of release points that the laws refuse, each at an expression of one line.
+use Rattle.std.specs.Prelude.{ℕ, [], ◌∷◌, List}
+use Rattle.ash_host.specs.declared.word.Word.{Word}
+use Rattle.ash_host.specs.declared.word.Word.TheVariants as words
+use Rattle.ash_host.specs.Objects.{Host}
+use Rattle.ash_typed.specs.declared.types.VarType.TheVariants as vars
+use Rattle.ash_typed.specs.declared.types.ObjectType.TheVariants as objects
+use Rattle.ash_typed.specs.declared.tree.operations.Variable.TheVariants as variables
+use Rattle.ash_typed.specs.TypedTree.{Expr, Assign, Stored, Null}
+use Rattle.ash_meaning.specs.Activity.{World, Frame, Activity, in_frame}
+use Rattle.ash_meaning.specs.Runs.{Run, give, ◌>>=◌, ◌>>◌, change}
+use Rattle.ash_meaning.specs.Releases.{let_go, full}
+use Rattle.ash_meaning.specs.CallMeaning.{Calls}
+use Rattle.ash_meaning.specs.ExpressionMeaning.{expression}
+
+-- A full expression whose end is no release point: what can't be reached is collected until the call ends.
+abbrev pub collecting : Run Word → Run Word
+collecting run = run >>= (λ value. change (in_frame let_go) >> give value)
+
+-- An operand whose end is that of a full expression: what is held is let go before the full expression ends.
+abbrev pub hasty : Run Word → Run Word
+hasty run = full run
+
+-- A host object, the only one, that a frame with these locals and held handles has.
+abbrev pub one_object : List Word → List ℕ → Activity
+one_object locals held =
+    record {
+      world = record {
+        globals = [];
+        outside = [];
+        objects = (1, Host 1 []) ∷ [];
+        last = 1;
+        services = [];
+        pool = [];
+        answers = [];
+        events = [];
+      };
+      ticks = 1;
+      frame = record { function = []; line = 1; this = words.Null; locals = locals; held = held };
+      callers = [];
+    }
+
+-- `@c = null;`, if the local `c` is a handle to the object
+abbrev pub clearing : Expr
+clearing = Assign (Stored (variables.Local 0 (vars.Handle (objects.Host 1)))) Null
+
+-- before it
+abbrev pub before_clearing : Activity
+before_clearing = one_object (words.Object 1 ∷ []) []
+
+-- `f(C(), null)`, after its first argument, which is held, and before its second
+abbrev pub between_arguments : Activity
+between_arguments = one_object [] (1 ∷ [])
+
+-- what the two meanings make of them
+
+abbrev pub cleared : Calls → Run Word
+cleared calls = collecting (expression calls clearing)
+
+abbrev pub second_argument : Calls → Run Word
+second_argument calls = hasty (expression calls Null)
