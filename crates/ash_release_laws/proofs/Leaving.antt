@@ -30,7 +30,7 @@ use Rattle.ash_meaning.proofs.Walks.{Walk, at_most}
 use Rattle.ash_meaning.proofs.StepWalks.{to_full as walk_full}
 use Rattle.ash_meaning.proofs.PhraseWalks.{walk_expression, walk_statement, walk_call, walk_construct}
 use Rattle.ash_meaning.proofs.Depth.{walk_called}
-use Rattle.ash_release_laws.proofs.Handles.{first_in, later_in, none_in}
+use Rattle.ash_soundness.proofs.Values.{first_in, later_in, none_in}
 use Rattle.ash_release_laws.specs.Settling.{AtEachEnd, Reaches, ReachesFrom, IsNumbered, IsSettled, IsSettledBy, Settles, SettlesWhereItGoesOn}
 use Rattle.ash_release_laws.specs.Leaving.{IsReachedAt, IsReachedThroughout, LivesWhileReached, LeavesAtTheFirst, LeaveAtTheFirst, AtTheValue, LetsGo, LeaveWhereItGoesOn, LetsGoWhereItGoesOn, ObjectsLeaveAtOnce}
 use Rattle.ash_release_laws.proofs.Roots.{changed_lived, changed_lives, made_lived, made_lives}
@@ -129,7 +129,7 @@ step n a b (Releases f) = record {
 
 -- along a trace
 
-given : (n : ℕ) (first : Activity) → IsNumbered first → Lives (first.world).objects n → n ≤ (first.world).last
+pub given : (n : ℕ) (first : Activity) → IsNumbered first → Lives (first.world).objects n → n ≤ (first.world).last
 given n first numbered l = (numbered.given n l).1
 
 module _ (n : ℕ) {first : Activity} (numbered : IsNumbered first) where

@@ -11,8 +11,8 @@ use Rattle.ash_host.proofs.Order.{object_at-with_at}
 use Rattle.ash_meaning.specs.Activity.{World, Frame, Activity}
 use Rattle.ash_meaning.specs.Releases.{roots_of_frame, roots}
 use Rattle.ash_meaning.specs.ObjectSteps.{change_at, words_in, with_words}
-use Rattle.ash_release_laws.proofs.Handles.{handle_first, handle_later, handle_cases, none_in}
-use Rattle.ash_release_laws.proofs.Handles.{object_at-changed, in_order-changed}
+use Rattle.ash_soundness.proofs.Values.{handle_first, handle_later, handle_cases, none_in}
+use Rattle.ash_soundness.proofs.Changes.{object_at-changed, in_order-changed}
 
 abbrev P : Type 0
 P = Plain (List ℕ)

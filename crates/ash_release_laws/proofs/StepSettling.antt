@@ -41,7 +41,7 @@ use Rattle.ash_meaning.specs.Classes.{Program}
 use Rattle.ash_meaning.specs.CallMeaning.{cast}
 use Rattle.ash_meaning.specs.ExpressionMeaning.{store, update, count_at, element_at}
 use Rattle.ash_host.specs.Reach.{Root}
-use Rattle.ash_release_laws.proofs.Handles.{first_in, handle_first, none_in}
+use Rattle.ash_soundness.proofs.Values.{first_in, handle_first, none_in}
 use Rattle.ash_release_laws.specs.Settling.{Reaches, IsSettled, IsNumbered, KeepsItsFrame, KeepsItsCallers}
 use Rattle.ash_release_laws.proofs.Roots.{set_keeps, handles_left, take_or_drop, frame_cases, this_root, local_root, held_root, first_root, caller_root, frames_cases, frames_more, outside_root, global_root, frame_root, root_cases, changed_lived, changed_lives, changed_numbered, changed_refers, words_keep, made_lived, made_lives, made_refers}
 use Rattle.ash_release_laws.proofs.Settling.{Kept, kept_same, kept_of, kept_more, Goes, goes_on, Comes, done, ended, no_way, Settling, Anything, weaken, bind, bound, followed, weakened, anyway, given, looked, nowhere, chosen_by, found_there, Calm, raised, demanded, reach_on, Moves, moves_settle, released}

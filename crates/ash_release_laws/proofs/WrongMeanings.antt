@@ -6,13 +6,15 @@ use Rattle.std.proofs.lemmas.Bool.{eqb-true}
 use Rattle.ash_host.specs.declared.word.Word.{Word}
 use Rattle.ash_host.specs.declared.word.Word.TheVariants as words
 use Rattle.ash_host.specs.Objects.{Plain, Host, LiveObjects, object_at, handles, fields_of, Refers, Lives}
-use Rattle.ash_host.specs.Reach.{Reachable, Root, Field, ReachableIn}
+use Rattle.ash_host.specs.Reach.{Root, Field, ReachableIn, Swept, after_sweep, drops_of_sweep}
+use Rattle.ash_host.proofs.ReachLaws.{sweep_is_exact}
 use Rattle.ash_meaning.specs.Activity.{Activity}
-use Rattle.ash_meaning.specs.Releases.{release}
+use Rattle.ash_meaning.specs.Releases.{release, sweep}
+use Rattle.ash_meaning.specs.Traces.{after_release}
 use Rattle.ash_meaning.specs.CallMeaning.{Calls}
-use Rattle.ash_release_laws.proofs.Handles.{first_in, none_in}
+use Rattle.ash_soundness.proofs.Values.{first_in, none_in}
 use Rattle.ash_release_laws.specs.Settling.{Reaches, IsSettled, IsNumbered, Settles, KeepsItsFrame, Keeps}
-use Rattle.ash_release_laws.specs.WrongMeanings.{one_object, before_clearing, between_arguments, cleared, second_argument}
+use Rattle.ash_release_laws.specs.WrongMeanings.{LeavesTooLate, LeavesTooEarly, one_object, before_clearing, between_arguments, cleared, second_argument}
 
 abbrev objects : LiveObjects (List ℕ)
 objects = (1, Host 1 []) ∷ []
@@ -57,6 +59,14 @@ none_reached : (n : ℕ) → ReachableIn (Contains []) objects n → ⊥
 none_reached n (Root c) = none_in n c
 none_reached n (Field {one} r f) = refers_nothing one n f
 
+pub collecting_late : (calls : Calls) → LeavesTooLate (cleared calls) before_clearing
+collecting_late calls = record {
+  last = one_object (words.Null ∷ []) [];
+  runs = refl;
+  there = refl;
+  unreached = none_reached 1;
+}
+
 pub collecting_refused : (calls : Calls) → ¬ Settles Word (cleared calls)
 collecting_refused calls settles =
     let left = settles before_clearing numbered_clearing settled_clearing in
@@ -71,3 +81,20 @@ unfolding release
 hasty_refused calls keeps =
     let left = keeps between_arguments numbered_between in
     not_nothing left.more left.held
+
+-- the object that was held is gone
+
+swept : Swept (Contains []) objects (after_sweep [] objects) (drops_of_sweep [] objects)
+swept = sweep_is_exact [] objects numbered_clearing.in_order
+
+gone : ¬ Lives (after_sweep [] objects) 1
+gone l = let none = subst IsSome (swept.goes 1 (none_reached 1)) l in cc
+
+pub hasty_early : (calls : Calls) → LeavesTooEarly (second_argument calls) between_arguments
+unfolding release sweep
+hasty_early calls = record {
+  last = after_release (one_object [] []);
+  runs = refl;
+  held = first_in 1 [];
+  gone = gone;
+}

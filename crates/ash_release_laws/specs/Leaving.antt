@@ -1,20 +1,22 @@
 -- When objects leave: at the first release point at which they can't be reached.
-use Rattle.std.specs.Prelude.{◌≡◌, ◌≤◌, ◌↔◌, ◌∷◌, ℕ, List, Contains, Some}
+use Rattle.std.specs.Prelude.{◌≡◌, ◌≤◌, ◌↔◌, ◌∷◌, ℕ, List, [], Contains, Some}
 use Rattle.ash_host.specs.declared.event.Event.TheVariants.{Dropped}
 use Rattle.ash_host.specs.Objects.{Host, object_at, Lives}
 use Rattle.ash_host.specs.declared.word.Word.{Word}
 use Rattle.ash_typed.specs.TypedTree.{Expr}
 use Rattle.ash_typed.specs.StatementTree.{Stmt}
-use Rattle.ash_meaning.specs.Activity.{Activity}
+use Rattle.ash_meaning.specs.Activity.{World, Activity}
 use Rattle.ash_meaning.specs.Runs.{Progress, Done, Ended, NoStep, Run}
 use Rattle.ash_meaning.specs.Releases.{full}
-use Rattle.ash_meaning.specs.Classes.{Program, ModuleCallee}
+use Rattle.ash_meaning.specs.Classes.{Program, ModuleCallee, FreeFunction, Entry, entry_of}
 use Rattle.ash_meaning.specs.CallMeaning.{call, construct}
 use Rattle.ash_meaning.specs.ExpressionMeaning.{expression}
 use Rattle.ash_meaning.specs.StatementMeaning.{Flow, On, statement}
 use Rattle.ash_meaning.specs.Functions.{calls_within}
+use Rattle.ash_meaning.specs.Ends.{Outcome, call_function, load_module}
+use Rattle.ash_meaning.specs.MeaningLaws.{IsReleased, first_of_call, first_of_load}
 use Rattle.ash_meaning.specs.Traces.{Transition, Releases, Trace, Here, Then, after_release}
-use Rattle.ash_release_laws.specs.Settling.{Reaches, IsNumbered, IsSettled}
+use Rattle.ash_release_laws.specs.Settling.{ReachesFrom, Reaches, IsNumbered, IsSettledFrom, IsSettled}
 
 -- where a transition is a release point, the object can be reached at it
 abbrev pub IsReachedAt : ℕ → {old new : Activity} → Transition old new → Type 0
@@ -83,3 +85,25 @@ pub record ObjectsLeaveAtOnce (program : Program) (depth : ℕ) : Type 0 where
   pub calls : (callee : ModuleCallee) (this : Word) (args : List Word)
       → LetsGo depth Word (call (calls_within program depth) callee this args)
   pub constructions : (class : ℕ) (args : List Word) → LetsGo depth Word (construct (calls_within program depth) class args)
+
+-- whole runs
+
+-- Over a run, which ends with a release point without frames, an object lives exactly where it can be reached at each
+-- release point, and none is late.
+pub record LeaveByTheEnd (first : Activity) (outcome : Outcome) : Type 0 where
+  pub last : Activity
+  pub trace : Trace first last
+  pub released : IsReleased [] last.world outcome.world
+  pub lives : (number : ℕ) → Lives (first.world).objects number
+      → (Lives (outcome.world).objects number
+      ↔ (IsReachedThroughout number trace × ReachesFrom [] last.world number))
+  pub none_late : IsSettledFrom [] outcome.world
+
+-- Calls from outside and loads, whatever they come to.
+pub record RunsLetGo (program : Program) (budget : ℕ) (world : World) : Type 0 where
+  pub calls : (place : ℕ) (args : List Word) (outcome : Outcome)
+      → call_function program place args budget world ≡ Some outcome
+      → (e : Entry) × (entry_of program.tree (FreeFunction place) ≡ Some e)
+      × LeaveByTheEnd (first_of_call e args budget world) outcome
+  pub loads : (outcome : Outcome) → load_module program budget world ≡ Some outcome
+      → LeaveByTheEnd (first_of_load program budget world) outcome

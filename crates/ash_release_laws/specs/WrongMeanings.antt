@@ -1,17 +1,18 @@
 -- Two meanings of release points that the laws refuse, each at an expression of one line.
-use Rattle.std.specs.Prelude.{ℕ, [], ◌∷◌, List}
+use Rattle.std.specs.Prelude.{◌≡◌, ℕ, List, [], ◌∷◌, Contains}
 use Rattle.ash_host.specs.declared.word.Word.{Word}
 use Rattle.ash_host.specs.declared.word.Word.TheVariants as words
-use Rattle.ash_host.specs.Objects.{Host}
+use Rattle.ash_host.specs.Objects.{Host, Lives}
 use Rattle.ash_typed.specs.declared.types.VarType.TheVariants as vars
 use Rattle.ash_typed.specs.declared.types.ObjectType.TheVariants as objects
 use Rattle.ash_typed.specs.declared.tree.operations.Variable.TheVariants as variables
 use Rattle.ash_typed.specs.TypedTree.{Expr, Assign, Stored, Null}
 use Rattle.ash_meaning.specs.Activity.{World, Frame, Activity, in_frame}
-use Rattle.ash_meaning.specs.Runs.{Run, give, ◌>>=◌, ◌>>◌, change}
+use Rattle.ash_meaning.specs.Runs.{Run, Done, give, ◌>>=◌, ◌>>◌, change}
 use Rattle.ash_meaning.specs.Releases.{let_go, full}
 use Rattle.ash_meaning.specs.CallMeaning.{Calls}
 use Rattle.ash_meaning.specs.ExpressionMeaning.{expression}
+use Rattle.ash_release_laws.specs.Settling.{Reaches}
 
 -- A full expression whose end is no release point: what can't be reached is collected until the call ends.
 abbrev pub collecting : Run Word → Run Word
@@ -59,3 +60,17 @@ cleared calls = collecting (expression calls clearing)
 
 abbrev pub second_argument : Calls → Run Word
 second_argument calls = hasty (expression calls Null)
+
+-- It comes to null, and the object is there although nothing leads to it.
+pub record LeavesTooLate (run : Run Word) (first : Activity) : Type 0 where
+  pub last : Activity
+  pub runs : run first ≡ Done words.Null last
+  pub there : Lives (last.world).objects 1
+  pub unreached : ¬ Reaches last 1
+
+-- It comes to null, and the object is gone although the full expression has not ended, and holds it.
+pub record LeavesTooEarly (run : Run Word) (first : Activity) : Type 0 where
+  pub last : Activity
+  pub runs : run first ≡ Done words.Null last
+  pub held : Contains (first.frame).held 1
+  pub gone : ¬ Lives (last.world).objects 1

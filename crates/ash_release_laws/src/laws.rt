@@ -1,10 +1,11 @@
 //! The laws of release points. A function without a body does nothing: its contract is the law.
 ghost use Rattle.std.specs.Prelude.{ℕ};
-ghost use Rattle.ash_meaning.specs.Activity.{Activity};
+ghost use Rattle.ash_host.specs.Objects.{AreNumbered};
+ghost use Rattle.ash_meaning.specs.Activity.{World, Activity};
 ghost use Rattle.ash_meaning.specs.Classes.{Program};
 ghost use Rattle.ash_meaning.specs.Traces.{Trace};
 ghost use Rattle.ash_release_laws.specs.Settling.{IsNumbered, ReleasePointsSettle, HoldsUntilTheEnd};
-ghost use Rattle.ash_release_laws.specs.Leaving.{LivesWhileReached, ObjectsLeaveAtOnce};
+ghost use Rattle.ash_release_laws.specs.Leaving.{LivesWhileReached, ObjectsLeaveAtOnce, RunsLetGo};
 
 /// Where every object that lives can be reached, each phrase leaves it so, at each of its ends: an expression, a
 /// statement or a block that goes on, a call of any kind, an initializer.
@@ -28,4 +29,11 @@ pub fn objects_live_while_reached()
 /// that goes on or a call none is left that can't be reached. If it is a host object, the events say that it left.
 pub fn objects_leave_at_once()
     ensures leave { (program : Program) (depth : ℕ) → ObjectsLeaveAtOnce program depth }
+{}
+
+/// Over a whole run an object lives exactly as long as it can be reached at each release point, the last of which is at
+/// the end of the run; and none is left to which no global leads.
+pub fn runs_let_go()
+    ensures let_go { (program : Program) (budget : ℕ) (world : World) → AreNumbered world.last world.objects
+        → RunsLetGo program budget world }
 {}

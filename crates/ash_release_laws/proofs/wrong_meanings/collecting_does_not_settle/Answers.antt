@@ -4,5 +4,8 @@ use Rattle.ash_release_laws.proofs.wrong_meanings.collecting_does_not_settle.Goa
 pub returns-clause-before : goal.returns-clause-before
 returns-clause-before c = (wrong.numbered_clearing, wrong.settled_clearing)
 
+pub returns-clause-late : goal.returns-clause-late
+returns-clause-late c = wrong.collecting_late
+
 pub returns-clause-refused : goal.returns-clause-refused
 returns-clause-refused c = wrong.collecting_refused

@@ -4,5 +4,8 @@ use Rattle.ash_release_laws.proofs.wrong_meanings.letting_go_early_takes_what_is
 pub returns-clause-before : goal.returns-clause-before
 returns-clause-before c = (wrong.numbered_between, wrong.settled_between)
 
+pub returns-clause-early : goal.returns-clause-early
+returns-clause-early c = wrong.hasty_early
+
 pub returns-clause-refused : goal.returns-clause-refused
 returns-clause-refused c = wrong.hasty_refused
