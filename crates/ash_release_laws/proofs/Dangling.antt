@@ -1,11 +1,11 @@
 -- No handle dangles in a well-formed activity.
-use Rattle.std.proofs.Common.{◌≡◌, ◌⊎◌, ℕ, List, [], ◌∷◌, ◌++◌, inl, inr, refl, subst, flat_map, Option, Some, None}
-use Rattle.std.specs.Prelude.{Contains, IsSome}
+use Rattle.std.proofs.Common.{◌≡◌, ℕ, List, [], ◌∷◌, ◌++◌, inl, inr, refl, subst, flat_map, Option, Some, None}
+use Rattle.std.specs.Prelude.{Contains}
 use Rattle.std.specs.Option.{option_map_or}
 use Rattle.std.proofs.lemmas.Option.{same_Some}
 use Rattle.std.proofs.lemmas.List.Elements.{Contains-append_cases}
 use Rattle.ash_host.specs.declared.word.Word.{Word}
-use Rattle.ash_host.specs.Objects.{Plain, LiveObjects, object_at, handle, handles, fields_of, Refers, Lives}
+use Rattle.ash_host.specs.Objects.{Plain, LiveObjects, object_at, handle, handles, fields_of, Lives}
 use Rattle.ash_host.proofs.SweepLaws.{reachable_lives}
 use Rattle.ash_typed.specs.SoundExpressions.{TypedEnvironment}
 use Rattle.ash_meaning.specs.Activity.{World, Frame, Activity}
@@ -13,7 +13,7 @@ use Rattle.ash_meaning.specs.Releases.{roots_of_frame, roots}
 use Rattle.ash_meaning.specs.Classes.{Program}
 use Rattle.ash_soundness.specs.WellFormed.{Known, Context, IsObject, is_script, is_array, is_host, IsThis, no_this, is_this, IsFrame, AreFrames, no_frames, and_frame, IsWorld, IsWellFormed}
 use Rattle.ash_soundness.proofs.Values.{none_in, handle_cases, shape_lives, values_live, all_live}
-use Rattle.ash_release_laws.specs.SafePoints.{HandlesLive, LivesWhereReached}
+use Rattle.ash_release_laws.specs.SafePoints.{HandlesLive, LivesExactlyIfReached}
 
 -- objects
 
@@ -63,5 +63,5 @@ module _ {c : Context} where
     fields = λ one other i. fields_live h.world one other (object_at one (a.world).objects) refl i;
   }
 
-  pub lives_where_reached : LivesWhereReached c
-  lives_where_reached env envs a h s n = (s.reached n, λ r. reachable_lives (a.world).objects (handles_live env envs a h) n r)
+  pub lives_exactly_if_reached : LivesExactlyIfReached c
+  lives_exactly_if_reached env envs a h s n = (s.reached n, λ r. reachable_lives (a.world).objects (handles_live env envs a h) n r)

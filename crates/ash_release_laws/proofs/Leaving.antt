@@ -1,6 +1,6 @@
 -- Objects live while they can be reached at release points, and leave at the first at which they can't.
-use Rattle.std.proofs.Common.{◌≡◌, ◌≤◌, ◌<◌, ◌⊎◌, ◌+◌, ◌∙◌, ℕ, zero, suc, Bool, true, false, cond, List, [], ◌∷◌, ◌++◌, map, inl, inr, refl, sym, ap, subst, nat_eq, Option, Some, None, arith}
-use Rattle.std.specs.Prelude.{Contains, IsSome, ◌↔◌, ◌&&◌, filter}
+use Rattle.std.proofs.Common.{◌≡◌, ◌≤◌, ◌⊎◌, ◌+◌, ◌∙◌, ℕ, zero, suc, Bool, true, false, cond, List, [], ◌∷◌, map, inl, inr, refl, sym, ap, subst, nat_eq, Option, Some, None, arith}
+use Rattle.std.specs.Prelude.{Contains, IsSome, ◌&&◌, filter}
 use Rattle.std.specs.Option.{is_none}
 use Rattle.std.specs.Map.{keys_of}
 use Rattle.std.proofs.lemmas.Bool.{eqb-true}
@@ -11,16 +11,16 @@ use Rattle.ash_host.specs.declared.event.Event.{Event}
 use Rattle.ash_host.specs.declared.event.Event.TheVariants.{Dropped}
 use Rattle.ash_host.specs.declared.event.Target.{Target}
 use Rattle.ash_host.specs.declared.event.Target.TheVariants as targets
-use Rattle.ash_host.specs.Objects.{Plain, Script, Array, Host, LiveObjects, object_at, with_at, is_host, Lives}
+use Rattle.ash_host.specs.Objects.{Plain, Host, LiveObjects, object_at, with_at, is_host, Lives}
 use Rattle.ash_host.specs.Reach.{hosts_gone, after_sweep, drops_of_sweep}
 use Rattle.ash_meaning.specs.Activity.{World, Frame, Activity}
 use Rattle.ash_meaning.specs.Releases.{roots, sweep}
 use Rattle.ash_meaning.specs.Frames.{back_in}
-use Rattle.ash_meaning.specs.Runs.{Raising, OutOfTicks, Progress, Done, Ended, NoStep, Run}
+use Rattle.ash_meaning.specs.Runs.{Progress, Done, Ended, NoStep, Run}
 use Rattle.ash_meaning.specs.StatementMeaning.{Flow, On, Broke, Continued, Returned}
 use Rattle.ash_meaning.specs.Functions.{body}
 use Rattle.ash_meaning.specs.Classes.{Program}
-use Rattle.ash_meaning.specs.HostSteps.{with_state_in, with_state, after_answer}
+use Rattle.ash_meaning.specs.HostSteps.{with_state_in, with_state}
 use Rattle.ash_meaning.specs.ObjectSteps.{change_at, with_words}
 use Rattle.ash_meaning.specs.MeaningLaws.{ComesBy}
 use Rattle.ash_meaning.specs.Traces.{WorldTransition, WritesGlobal, WritesWords, Makes, Draws, TakesAnswer, Notes, Transition, TakesTick, InFrame, Enters, Leaves, InWorld, Releases, Trace, Here, Then, after_release}
@@ -31,8 +31,8 @@ use Rattle.ash_meaning.proofs.StepWalks.{to_full as walk_full}
 use Rattle.ash_meaning.proofs.PhraseWalks.{walk_expression, walk_statement, walk_call, walk_construct}
 use Rattle.ash_meaning.proofs.Depth.{walk_called}
 use Rattle.ash_soundness.proofs.Values.{first_in, later_in, none_in}
-use Rattle.ash_release_laws.specs.Settling.{AtEachEnd, Reaches, ReachesFrom, IsNumbered, IsSettled, IsSettledBy, Settles, SettlesWhereItGoesOn}
-use Rattle.ash_release_laws.specs.Leaving.{IsReachedAt, IsReachedThroughout, LivesWhileReached, LeavesAtTheFirst, LeaveAtTheFirst, AtTheValue, LetsGo, LeaveWhereItGoesOn, LetsGoWhereItGoesOn, ObjectsLeaveAtOnce}
+use Rattle.ash_release_laws.specs.Settling.{AtEachEnd, Reaches, IsNumbered, IsSettled, IsSettledBy, Settles, SettlesIfItGoesOn}
+use Rattle.ash_release_laws.specs.Leaving.{IsReachedAt, IsReachedThroughout, LivesWhileReached, LeavesAtTheFirst, LeaveOnTime, AtTheValue, LetsGoOnTime, LeaveIfItGoesOn, LetsGoIfItGoesOn, ObjectsLeaveOnTime}
 use Rattle.ash_release_laws.proofs.Roots.{changed_lived, changed_lives, made_lived, made_lives}
 use Rattle.ash_release_laws.proofs.Settling.{left_reached, reached_stays}
 use Rattle.ash_release_laws.proofs.Settled.{settles, goes_on_settled}
@@ -248,7 +248,7 @@ module _ (n : ℕ) {first : Activity} (numbered : IsNumbered first) (lives : Liv
 
 -- phrases
 
-pub leave_at_the_first : (first last : Activity) → IsNumbered first → Trace first last → IsSettled last → LeaveAtTheFirst first last
+pub leave_at_the_first : (first last : Activity) → IsNumbered first → Trace first last → IsSettled last → LeaveOnTime first last
 leave_at_the_first first last numbered t s = record {
   trace = t;
   lives = live_while_reached first last t numbered;
@@ -257,30 +257,30 @@ leave_at_the_first first last numbered t s = record {
 }
 
 module _ (a : Activity) (numbered : IsNumbered a) where
-  lets_go : {A : Type 0} (r : Progress A) → ComesBy a r → AtEachEnd (λ (v : A) b. IsSettled b) IsSettled r → AtTheValue (λ (v : A) b. LeaveAtTheFirst a b) r
+  lets_go : {A : Type 0} (r : Progress A) → ComesBy a r → AtEachEnd (λ (v : A) b. IsSettled b) IsSettled r → AtTheValue (λ (v : A) b. LeaveOnTime a b) r
   lets_go (Done v b) t s = leave_at_the_first a b numbered t s
   lets_go (Ended i b) t s = tt
   lets_go NoStep t s = tt
 
-  flow_goes : (flow : Flow) (b : Activity) → Trace a b → IsSettledBy flow b → LeaveWhereItGoesOn a flow b
+  flow_goes : (flow : Flow) (b : Activity) → Trace a b → IsSettledBy flow b → LeaveIfItGoesOn a flow b
   flow_goes On b t s = leave_at_the_first a b numbered t s
   flow_goes Broke b t s = tt
   flow_goes Continued b t s = tt
   flow_goes (Returned value) b t s = tt
 
-  lets_go_on : (r : Progress Flow) → ComesBy a r → AtEachEnd IsSettledBy IsSettled r → AtTheValue (LeaveWhereItGoesOn a) r
+  lets_go_on : (r : Progress Flow) → ComesBy a r → AtEachEnd IsSettledBy IsSettled r → AtTheValue (LeaveIfItGoesOn a) r
   lets_go_on (Done flow b) t s = flow_goes flow b t s
   lets_go_on (Ended i b) t s = tt
   lets_go_on NoStep t s = tt
 
-letting : {A : Type 0} {d : ℕ} {r : Run A} → Walk d r r → Settles A r → LetsGo d A r
+letting : {A : Type 0} {d : ℕ} {r : Run A} → Walk d r r → Settles A r → LetsGoOnTime d A r
 letting {r = r} w s a le numbered settled = lets_go a numbered (r a) (w.comes a le) (s a numbered settled)
 
-letting_on : {d : ℕ} {r : Run Flow} → Walk d r r → SettlesWhereItGoesOn r → LetsGoWhereItGoesOn d r
+letting_on : {d : ℕ} {r : Run Flow} → Walk d r r → SettlesIfItGoesOn r → LetsGoIfItGoesOn d r
 letting_on {r = r} w s a le numbered settled = lets_go_on a numbered (r a) (w.comes a le) (s a numbered settled)
 
-pub objects_leave_at_once : (p : Program) (d : ℕ) → ObjectsLeaveAtOnce p d
-objects_leave_at_once p d = record {
+pub objects_leave_on_time : (p : Program) (d : ℕ) → ObjectsLeaveOnTime p d
+objects_leave_on_time p d = record {
   full_expressions = λ e. letting (walk_full (walk_expression p (body p d) (body p d) (walk_called p d) e)) (settles (to_full_expression p (body p d) (to_body p d) e));
   statements = λ s. letting_on (walk_statement p (body p d) (body p d) (walk_called p d) d d (at_most d) (at_most d) s) (goes_on_settled (to_statement p (body p d) (to_body p d) d s));
   calls = λ callee this args. letting (walk_call p (body p d) (body p d) (walk_called p d) callee this args) (settles (to_call p (body p d) (to_body p d) callee this args));

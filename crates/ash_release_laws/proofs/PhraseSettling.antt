@@ -1,8 +1,8 @@
 -- Phrases settle, where the bodies that they call do.
-use Rattle.std.proofs.Common.{◌≡◌, ◌⊎◌, ◌+◌, ℕ, zero, suc, ℤ, Bool, true, false, inl, inr, refl, sym, subst, List, [], ◌∷◌, ◌++◌, length, slice_get, Option, Some, None, if◌then◌else◌, flat_map}
-use Rattle.std.specs.Prelude.{is_none, Contains, IsSome}
+use Rattle.std.proofs.Common.{◌≡◌, ◌⊎◌, ◌+◌, ℕ, zero, suc, ℤ, Bool, true, false, inl, inr, refl, sym, subst, List, [], ◌∷◌, length, slice_get, Option, Some, None, if◌then◌else◌, flat_map}
+use Rattle.std.specs.Prelude.{is_none, Contains}
 use Rattle.std.specs.Option.{option_map_or, option_and_then}
-use Rattle.std.proofs.lemmas.List.Elements.{Contains-append_right, Contains-append_cases}
+use Rattle.std.proofs.lemmas.List.Elements.{Contains-append_right}
 use Rattle.ash_host.specs.declared.word.Word.{Word}
 use Rattle.ash_host.specs.declared.word.Word.TheVariants as words
 use Rattle.ash_host.specs.declared.event.Target.TheVariants as hosts
@@ -21,7 +21,7 @@ use Rattle.ash_typed.specs.TypedTree.{Expr, Number, Truth, Null, This, Read, Inv
 use Rattle.ash_typed.specs.StatementTree.{Initialization, Stmt, Empty, Declare, Evaluate, Block, If, Branch, no_branch, branch, Head, no_head, declared_head, evaluated_head, Repeat, For, Loop, repeated, Switch, Break, Continue, Return, Stmts, no_stmt, stmt, Case, labelled, Cases, no_case, next_case}
 use Rattle.ash_typed.specs.Modules.{Variables}
 use Rattle.ash_meaning.specs.Activity.{Frame, Activity}
-use Rattle.ash_meaning.specs.Runs.{Done, Run, ◌>>=◌, ◌>>◌, out_of_ticks}
+use Rattle.ash_meaning.specs.Runs.{Done, Run, ◌>>=◌, ◌>>◌}
 use Rattle.ash_meaning.specs.Frames.{frame_of, tick, back_in, leave, in_frame_of}
 use Rattle.ash_meaning.specs.Classes.{Program, class_of, implemented, element_of, ModuleCallee, Construction, Method as ClassMethod, FreeFunction, Entry, entry_of}
 use Rattle.ash_meaning.specs.CallMeaning.{Calls, value_or_null, blank, call, construct, call_through, invoke, call_target}
@@ -29,12 +29,12 @@ use Rattle.ash_meaning.specs.OperatorMeaning.{is_true, zero_of, converted_to, al
 use Rattle.ash_meaning.specs.Locations.{Global, Part, location_of_member}
 use Rattle.ash_meaning.specs.ExpressionMeaning.{expression, location, arguments, lazily}
 use Rattle.ash_meaning.specs.StatementMeaning.{Flow, On, Broke, Continued, Returned, go_on, end_block, in_block, after_break, declare_all, evaluate, evaluate_all, condition, condition_or_true, begin, return_value, Turn, after_body, turn, turns, repeat, Labelled, from_label, is_constant, or_else, fall_through, switch, statement, otherwise, loop, statements, case_run, cases}
-use Rattle.ash_meaning.specs.Functions.{initialize_globals, initialize_module, write_field, initialize_fields, value_of, run_entry, body, calls_within}
+use Rattle.ash_meaning.specs.Functions.{initialize_globals, initialize_module, write_field, initialize_fields, value_of, run_entry, body}
 use Rattle.ash_meaning.specs.Releases.{holding, roots_of_frame, roots, release, full}
 use Rattle.ash_meaning.specs.Traces.{after_release}
 use Rattle.ash_release_laws.specs.Settling.{Reaches, IsSettled, IsSettledBy, IsNumbered, KeepsItsFrame}
 use Rattle.ash_release_laws.proofs.Roots.{this_root, local_root, held_root, first_root, caller_root, outside_root, global_root, frame_root, root_cases, frame_cases}
-use Rattle.ash_release_laws.proofs.Settling.{Kept, Goes, goes_on, Comes, done, ended, Settling, Anything, weaken, bind, bound, followed, weakened, anyway, given, looked, nowhere, chosen_by, found_there, outer, Calm, reach_on, released, release_goes, release_keeps, kept_more}
+use Rattle.ash_release_laws.proofs.Settling.{Goes, Comes, done, ended, Settling, Anything, weaken, bind, bound, followed, given, looked, chosen_by, found_there, outer, Calm, reach_on, released, release_goes, kept_more}
 use Rattle.ash_release_laws.proofs.StepSettling.{IsSettledBut, to_give_held, to_full, to_count_locals, to_declare, to_leave_blocks, to_tick, to_demand_frame, to_object_of, to_demand_number, to_make, to_invoke_host, to_construct_host, to_operate, to_read, to_write, to_store, to_update, to_count_at, to_element_at, to_construct_array, to_invoke_array, to_cast}
 
 -- frames

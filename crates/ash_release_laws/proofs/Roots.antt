@@ -8,7 +8,7 @@ use Rattle.ash_host.specs.declared.word.Word.{Word}
 use Rattle.ash_host.specs.declared.word.Word.TheVariants.{Null}
 use Rattle.ash_host.specs.Objects.{Plain, Script, Array, Host, LiveObjects, object_at, with_at, handle, handles, fields_of, Refers, Lives, AreNumbered}
 use Rattle.ash_host.proofs.Order.{object_at-with_at}
-use Rattle.ash_meaning.specs.Activity.{World, Frame, Activity}
+use Rattle.ash_meaning.specs.Activity.{World, Frame}
 use Rattle.ash_meaning.specs.Releases.{roots_of_frame, roots}
 use Rattle.ash_meaning.specs.ObjectSteps.{change_at, words_in, with_words}
 use Rattle.ash_soundness.proofs.Values.{handle_first, handle_later, handle_cases, none_in}

@@ -1,13 +1,13 @@
 -- Release points inside a phrase.
-use Rattle.std.proofs.Common.{◌≡◌, ◌<◌, ◌+◌, ℕ, List, [], ◌∷◌, length, refl, subst, arith}
+use Rattle.std.proofs.Common.{◌<◌, List, [], ◌∷◌, length, refl, arith}
 use Rattle.ash_host.specs.declared.word.Word.{Word}
-use Rattle.ash_host.specs.Objects.{LiveObjects, handles}
+use Rattle.ash_host.specs.Objects.{handles}
 use Rattle.ash_typed.specs.TypeOf.{ValueType}
 use Rattle.ash_typed.specs.SoundExpressions.{TypedEnvironment}
 use Rattle.ash_meaning.specs.Activity.{Frame, Activity}
 use Rattle.ash_meaning.specs.Releases.{let_go}
 use Rattle.ash_meaning.specs.Frames.{max_frames, back_in}
-use Rattle.ash_soundness.specs.WellFormed.{Context, IsGiven, IsFrame, AreFrames, no_frames, and_frame, IsWellFormed}
+use Rattle.ash_soundness.specs.WellFormed.{Context, IsGiven, AreFrames, and_frame, IsWellFormed}
 use Rattle.ash_soundness.proofs.Values.{none_in}
 use Rattle.ash_soundness.proofs.Triples.{holds_more, word_lives}
 use Rattle.ash_soundness.proofs.Frames.{release_goes, frame_passes, left_passes}

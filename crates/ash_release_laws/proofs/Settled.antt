@@ -1,13 +1,12 @@
 -- Release points settle, and what is held stays.
-use Rattle.std.proofs.Common.{ℕ, Bool, true, List}
-use Rattle.ash_host.specs.declared.word.Word.{Word}
+use Rattle.std.proofs.Common.{ℕ, Bool, true}
 use Rattle.ash_meaning.specs.Activity.{Activity}
 use Rattle.ash_meaning.specs.Runs.{Progress, Run}
-use Rattle.ash_meaning.specs.StatementMeaning.{Flow, On, Broke, Continued, Returned}
+use Rattle.ash_meaning.specs.StatementMeaning.{Flow}
 use Rattle.ash_meaning.specs.Functions.{body}
 use Rattle.ash_meaning.specs.Classes.{Program}
-use Rattle.ash_release_laws.specs.Settling.{IsSettled, IsSettledBy, IsNumbered, AtEachEnd, Settles, SettlesWhereItGoesOn, ReleasePointsSettle, KeepsItsFrame, KeepsItsCallers, Keeps, HoldsUntilTheEnd}
-use Rattle.ash_release_laws.proofs.Settling.{Kept, Goes, Comes, done, ended, no_way, Settling, outer, Calm}
+use Rattle.ash_release_laws.specs.Settling.{IsSettled, AtEachEnd, Settles, SettlesIfItGoesOn, ReleasePointsSettle, KeepsItsFrame, KeepsItsCallers, Keeps, HoldsUntilTheEnd}
+use Rattle.ash_release_laws.proofs.Settling.{Kept, Goes, Comes, done, ended, no_way, Calm}
 use Rattle.ash_release_laws.proofs.PhraseSettling.{Led, to_call, to_construct, to_invoke, to_target, to_expression, to_location, to_arguments, to_full_expression, to_declare_all, to_statement, to_statements, to_fields, to_module, to_body}
 
 settled_of : {A : Type 0} {k : Bool} {a : Activity} {P : Type 0} {Post : A → Activity → Type 0} {r : Progress A} → Comes P (λ (v : A) b. Goes k P (Post v b) a b) r → P → AtEachEnd Post IsSettled r
@@ -23,7 +22,7 @@ kept_by no_way = tt
 pub settles : {A : Type 0} {k : Bool} {r : Run A} → Calm k r → Settles A r
 settles h a numbered s = settled_of (h.comes a numbered) s
 
-pub goes_on_settled : {r : Run Flow} → Led r → SettlesWhereItGoesOn r
+pub goes_on_settled : {r : Run Flow} → Led r → SettlesIfItGoesOn r
 goes_on_settled h a numbered s = settled_of (h.comes a numbered) s
 
 keeps_frame : {A : Type 0} {r : Run A} → Calm true r → Keeps KeepsItsFrame A r

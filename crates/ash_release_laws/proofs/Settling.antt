@@ -2,7 +2,7 @@
 use Rattle.std.proofs.Common.{◌≡◌, ◌⊎◌, ◌∙◌, ℕ, Bool, true, false, cond, List, [], ◌∷◌, ◌++◌, inl, inr, refl, sym, ap, subst, append_assoc, flat_map, if◌then◌else◌}
 use Rattle.std.specs.Prelude.{Option, Some, None, Contains, IsSome}
 use Rattle.ash_host.specs.Objects.{object_at, Refers, Lives, AreNumbered}
-use Rattle.ash_host.specs.Reach.{Root, Field, ReachableIn, is_reachable, after_sweep}
+use Rattle.ash_host.specs.Reach.{Root, Field, is_reachable, after_sweep}
 use Rattle.ash_host.proofs.ReachLaws.{is_reachable_says, is_reachable_yes, object_at-after_sweep, sweep_is_exact}
 use Rattle.ash_host.proofs.SweepLaws.{swept_reachable}
 use Rattle.ash_host.proofs.NumberLaws.{swept_numbered}

@@ -1,5 +1,5 @@
 -- Steps that call nothing of a script settle, and keep what frames have.
-use Rattle.std.proofs.Common.{◌≡◌, ◌⊎◌, ◌∙◌, ◌+◌, ◌-◌, ◌==◌, ◌<◌, ℕ, zero, suc, Bool, true, false, nat_lt, nat_le, List, [], ◌∷◌, ◌++◌, length, take, drop, replicate, slice_get, slice_set, slice_index_or, inl, inr, refl, sym, ap, subst, flat_map, Option, Some, None, Ok, Err, Result, arith}
+use Rattle.std.proofs.Common.{◌≡◌, ◌⊎◌, ◌∙◌, ◌+◌, ◌-◌, ◌==◌, ℕ, zero, suc, Bool, true, false, nat_lt, nat_le, List, [], ◌∷◌, ◌++◌, length, take, drop, replicate, slice_get, slice_set, slice_index_or, inl, inr, refl, sym, subst, Option, Some, None, Ok, Err, Result}
 use Rattle.std.specs.Prelude.{Contains}
 use Rattle.std.specs.Option.{option_map_or}
 use Rattle.std.proofs.lemmas.List.Elements.{Contains-append_left, Contains-append_right}
@@ -12,7 +12,7 @@ use Rattle.ash_host.specs.declared.event.Event.TheVariants.{Drew, Called}
 use Rattle.ash_host.specs.declared.event.Target.{Target}
 use Rattle.ash_host.specs.declared.event.Target.TheVariants as targets
 use Rattle.ash_host.specs.Calls.{HostCall, Start, Invoke, Get, Set}
-use Rattle.ash_host.specs.Objects.{Plain, Script, Array, Host, Elements, LiveObjects, object_at, with_at, handle, handles, fields_of, Refers, Lives, AreNumbered}
+use Rattle.ash_host.specs.Objects.{Plain, Script, Array, Host, Elements, LiveObjects, object_at, with_at, handles, fields_of, Refers, Lives, AreNumbered}
 use Rattle.ash_host.specs.Records.{HostRecord}
 use Rattle.ash_host.specs.Limits.{max_objects, max_elements}
 use Rattle.ash_host.proofs.NumberLaws.{put_next}
@@ -28,23 +28,23 @@ use Rattle.ash_typed.specs.declared.tree.operations.Operation.{Operation}
 use Rattle.ash_typed.specs.declared.tree.operations.Operation.TheVariants as operations
 use Rattle.ash_typed.specs.declared.tree.operations.IncrementOp.{IncrementOp}
 use Rattle.ash_meaning.specs.declared.exception.Exception.TheVariants.{StackOverflow, ObjectLimit, NumbersSpent, PoolEmpty, IndexOutOfBounds, ArrayLimit}
-use Rattle.ash_meaning.specs.Activity.{FreeBox, World, Frame, Activity, in_frame, in_world}
-use Rattle.ash_meaning.specs.Runs.{Progress, Done, Run, give, ◌>>=◌, ◌>>◌, look, change, demand, found}
-use Rattle.ash_meaning.specs.Releases.{holding, roots_of_frame, roots, hold, hold_all, give_held, let_go, end_expression, full, count_locals, declare, leave_blocks}
+use Rattle.ash_meaning.specs.Activity.{World, Frame, Activity, in_frame, in_world}
+use Rattle.ash_meaning.specs.Runs.{Run, ◌>>=◌, ◌>>◌, change, demand}
+use Rattle.ash_meaning.specs.Releases.{holding, roots_of_frame, roots, hold, hold_all, give_held, let_go, full, count_locals, declare, leave_blocks}
 use Rattle.ash_meaning.specs.Frames.{at_line, spend, tick, max_frames, demand_frame}
-use Rattle.ash_meaning.specs.ObjectSteps.{object_of, change_at, with_object, words_in, words_at, with_words, put_words, max_number, demand_number, with_new, make}
-use Rattle.ash_meaning.specs.HostSteps.{with_event, note, state_in, with_state_in, with_state, next_answer, after_answer, call_host, accept, invoke_host, get_property, set_property, place_of_kind, without_box, box_in, box_of_kind, draw, construct_host, is_of}
+use Rattle.ash_meaning.specs.ObjectSteps.{object_of, with_object, words_in, words_at, with_words, put_words, max_number, demand_number, with_new, make}
+use Rattle.ash_meaning.specs.HostSteps.{with_event, note, with_state_in, next_answer, after_answer, call_host, accept, invoke_host, get_property, set_property, place_of_kind, without_box, box_in, box_of_kind, draw, construct_host, is_of}
 use Rattle.ash_meaning.specs.OperatorMeaning.{calculated_by, converted_to, counted, given_by, give_or_raise, calculate, operate}
-use Rattle.ash_meaning.specs.Locations.{Location, Local, Global, Part, Property, with_local, with_global, read, overwrite, write}
+use Rattle.ash_meaning.specs.Locations.{Location, Local, Global, Part, Property, with_local, with_global, read, write}
 use Rattle.ash_meaning.specs.ArraySteps.{zero_element, natural_of, count_in, zero_in, resized, index_in, construct_array, zero_at, resize, insert_last, remove_last, length_of, invoke_array}
 use Rattle.ash_meaning.specs.Classes.{Program}
 use Rattle.ash_meaning.specs.CallMeaning.{cast}
 use Rattle.ash_meaning.specs.ExpressionMeaning.{store, update, count_at, element_at}
 use Rattle.ash_host.specs.Reach.{Root}
-use Rattle.ash_soundness.proofs.Values.{first_in, handle_first, none_in}
-use Rattle.ash_release_laws.specs.Settling.{Reaches, IsSettled, IsNumbered, KeepsItsFrame, KeepsItsCallers}
-use Rattle.ash_release_laws.proofs.Roots.{set_keeps, handles_left, take_or_drop, frame_cases, this_root, local_root, held_root, first_root, caller_root, frames_cases, frames_more, outside_root, global_root, frame_root, root_cases, changed_lived, changed_lives, changed_numbered, changed_refers, words_keep, made_lived, made_lives, made_refers}
-use Rattle.ash_release_laws.proofs.Settling.{Kept, kept_same, kept_of, kept_more, Goes, goes_on, Comes, done, ended, no_way, Settling, Anything, weaken, bind, bound, followed, weakened, anyway, given, looked, nowhere, chosen_by, found_there, Calm, raised, demanded, reach_on, Moves, moves_settle, released}
+use Rattle.ash_soundness.proofs.Values.{first_in}
+use Rattle.ash_release_laws.specs.Settling.{Reaches, IsSettled, IsNumbered, KeepsItsFrame}
+use Rattle.ash_release_laws.proofs.Roots.{set_keeps, handles_left, take_or_drop, frame_cases, this_root, local_root, held_root, first_root, frames_more, outside_root, global_root, frame_root, root_cases, changed_lived, changed_lives, changed_numbered, changed_refers, words_keep, made_lived, made_lives, made_refers}
+use Rattle.ash_release_laws.proofs.Settling.{Goes, goes_on, Comes, done, ended, Settling, Anything, bound, followed, given, looked, nowhere, chosen_by, found_there, Calm, raised, demanded, reach_on, Moves, moves_settle, released}
 
 -- the roots of an activity
 abbrev rooted : Activity → ℕ → Type 0

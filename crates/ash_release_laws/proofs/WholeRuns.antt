@@ -1,7 +1,7 @@
 -- Whole runs: what is left at their end.
-use Rattle.std.proofs.Common.{◌≡◌, ℕ, Bool, true, false, List, [], refl, sym, ap, subst, cond}
+use Rattle.std.proofs.Common.{◌≡◌, ℕ, Bool, true, false, List, refl, sym, ap, subst}
 use Rattle.std.specs.Prelude.{Contains, IsSome}
-use Rattle.ash_host.specs.Objects.{LiveObjects, object_at, Lives, AreNumbered}
+use Rattle.ash_host.specs.Objects.{Lives, AreNumbered}
 use Rattle.ash_host.specs.Reach.{ReachableIn, is_reachable}
 use Rattle.ash_host.proofs.ReachLaws.{is_reachable_says, is_reachable_yes}
 use Rattle.ash_host.proofs.SweepLaws.{swept_reachable}
@@ -12,7 +12,7 @@ use Rattle.ash_meaning.specs.Ends.{Outcome}
 use Rattle.ash_meaning.specs.MeaningLaws.{IsReleased, EffectsStay}
 use Rattle.ash_meaning.proofs.Endings.{runs_stay}
 use Rattle.ash_release_laws.specs.Settling.{ReachesFrom, IsSettledFrom, IsNumbered}
-use Rattle.ash_release_laws.specs.Leaving.{LeaveByTheEnd, RunsLetGo}
+use Rattle.ash_release_laws.specs.Leaving.{LeaveByTheEnd, RunsLeaveOnTime}
 use Rattle.ash_release_laws.proofs.Leaving.{given, was_reached, lives_on}
 
 module _ {frames : List Frame} {old new : World} (r : IsReleased frames old new) where
@@ -52,8 +52,8 @@ by_the_end first outcome numbered e = record {
   none_late = settled e.released;
 }
 
-pub runs_let_go : (p : Program) (budget : ℕ) (world : World) → AreNumbered world.last world.objects → RunsLetGo p budget world
-runs_let_go p budget world numbered =
+pub runs_leave_on_time : (p : Program) (budget : ℕ) (world : World) → AreNumbered world.last world.objects → RunsLeaveOnTime p budget world
+runs_leave_on_time p budget world numbered =
     let stay = runs_stay p budget world numbered in
     record {
       calls = λ place args outcome ran. let (e, there, effects) = stay.calls place args outcome ran in (e, there, by_the_end _ outcome numbered effects);

@@ -1,20 +1,19 @@
 -- What the two wrong meanings come to at their examples.
-use Rattle.std.proofs.Common.{◌≡◌, ◌≤◌, ◌<◌, ◌+◌, ℕ, zero, suc, Bool, true, false, cond, List, [], ◌∷◌, ◌++◌, refl, sym, ap, subst, nat_eq, arith, rules}
+use Rattle.std.proofs.Common.{◌≡◌, ℕ, Bool, true, false, cond, List, [], ◌∷◌, ◌++◌, refl, sym, subst, nat_eq, arith, rules}
 use Rattle.std.specs.Prelude.{Option, Some, None, Contains, IsSome}
 use Rattle.std.specs.Option.{option_map_or}
 use Rattle.std.proofs.lemmas.Bool.{eqb-true}
 use Rattle.ash_host.specs.declared.word.Word.{Word}
 use Rattle.ash_host.specs.declared.word.Word.TheVariants as words
-use Rattle.ash_host.specs.Objects.{Plain, Host, LiveObjects, object_at, handles, fields_of, Refers, Lives}
+use Rattle.ash_host.specs.Objects.{Plain, Host, LiveObjects, handles, fields_of, Refers, Lives}
 use Rattle.ash_host.specs.Reach.{Root, Field, ReachableIn, Swept, after_sweep, drops_of_sweep}
 use Rattle.ash_host.proofs.ReachLaws.{sweep_is_exact}
-use Rattle.ash_meaning.specs.Activity.{Activity}
 use Rattle.ash_meaning.specs.Releases.{release, sweep}
 use Rattle.ash_meaning.specs.Traces.{after_release}
 use Rattle.ash_meaning.specs.CallMeaning.{Calls}
 use Rattle.ash_soundness.proofs.Values.{first_in, none_in}
-use Rattle.ash_release_laws.specs.Settling.{Reaches, IsSettled, IsNumbered, Settles, KeepsItsFrame, Keeps}
-use Rattle.ash_release_laws.specs.WrongMeanings.{LeavesTooLate, LeavesTooEarly, one_object, before_clearing, between_arguments, cleared, second_argument}
+use Rattle.ash_release_laws.specs.Settling.{IsSettled, IsNumbered, Settles, KeepsItsFrame, Keeps}
+use Rattle.ash_release_laws.specs.WrongMeanings.{LeavesTooLate, LeavesTooEarly, one_object, before_clearing, between_arguments, late_clearing, early_argument}
 
 abbrev objects : LiveObjects (List ℕ)
 objects = (1, Host 1 []) ∷ []
@@ -59,16 +58,16 @@ none_reached : (n : ℕ) → ReachableIn (Contains []) objects n → ⊥
 none_reached n (Root c) = none_in n c
 none_reached n (Field {one} r f) = refers_nothing one n f
 
-pub collecting_late : (calls : Calls) → LeavesTooLate (cleared calls) before_clearing
-collecting_late calls = record {
+pub late_example : (calls : Calls) → LeavesTooLate (late_clearing calls) before_clearing
+late_example calls = record {
   last = one_object (words.Null ∷ []) [];
   runs = refl;
   there = refl;
   unreached = none_reached 1;
 }
 
-pub collecting_refused : (calls : Calls) → ¬ Settles Word (cleared calls)
-collecting_refused calls settles =
+pub late_refused : (calls : Calls) → ¬ Settles Word (late_clearing calls)
+late_refused calls settles =
     let left = settles before_clearing numbered_clearing settled_clearing in
     none_reached 1 (left.reached 1 refl)
 
@@ -76,9 +75,9 @@ not_nothing : (more : List ℕ) → [] ≡ more ++ 1 ∷ [] → ⊥
 not_nothing [] e = cc
 not_nothing (x ∷ more) e = cc
 
-pub hasty_refused : (calls : Calls) → ¬ Keeps KeepsItsFrame Word (second_argument calls)
+pub early_refused : (calls : Calls) → ¬ Keeps KeepsItsFrame Word (early_argument calls)
 unfolding release
-hasty_refused calls keeps =
+early_refused calls keeps =
     let left = keeps between_arguments numbered_between in
     not_nothing left.more left.held
 
@@ -90,9 +89,9 @@ swept = sweep_is_exact [] objects numbered_clearing.in_order
 gone : ¬ Lives (after_sweep [] objects) 1
 gone l = let none = subst IsSome (swept.goes 1 (none_reached 1)) l in cc
 
-pub hasty_early : (calls : Calls) → LeavesTooEarly (second_argument calls) between_arguments
+pub early_example : (calls : Calls) → LeavesTooEarly (early_argument calls) between_arguments
 unfolding release sweep
-hasty_early calls = record {
+early_example calls = record {
   last = after_release (one_object [] []);
   runs = refl;
   held = first_in 1 [];

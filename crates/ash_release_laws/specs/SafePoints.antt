@@ -7,7 +7,7 @@ use Rattle.ash_typed.specs.declared.types.VarType.{VarType}
 use Rattle.ash_typed.specs.TypeOf.{ValueType}
 use Rattle.ash_typed.specs.SoundExpressions.{TypedEnvironment}
 use Rattle.ash_typed.specs.SoundStatements.{with_locals}
-use Rattle.ash_meaning.specs.Activity.{Frame, Activity, in_frame}
+use Rattle.ash_meaning.specs.Activity.{Activity, in_frame}
 use Rattle.ash_meaning.specs.Releases.{roots, let_go, keeping}
 use Rattle.ash_meaning.specs.Frames.{back_in}
 use Rattle.ash_meaning.specs.Traces.{after_release}
@@ -44,8 +44,8 @@ HandlesLive c =
     → IsWellFormed c env envs activity → NoHandleDangles activity
 
 -- What can be reached in a well-formed activity lives, and if nothing is left that can't be reached, nothing else does.
-abbrev pub LivesWhereReached : Context → Type 0
-LivesWhereReached c =
+abbrev pub LivesExactlyIfReached : Context → Type 0
+LivesExactlyIfReached c =
     (env : TypedEnvironment) (envs : List TypedEnvironment) (activity : Activity)
     → IsWellFormed c env envs activity
     → IsSettled activity

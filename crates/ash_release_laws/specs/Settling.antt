@@ -36,30 +36,33 @@ pub record IsSettledFrom (frames : List Frame) (world : World) : Type 0 where
 abbrev pub IsSettled : Activity → Type 0
 IsSettled activity = IsSettledFrom (activity.frame ∷ activity.callers) activity.world
 
--- what is done, and what is left where a run is interrupted
+-- runs
 
+-- This holds of the value and the activity to which a run comes, and that of the activity in which it is interrupted.
 abbrev pub AtEachEnd : {A : Type 0} → (A → Activity → Type 0) → (Activity → Type 0) → Progress A → Type 0
 AtEachEnd Left Interrupted (Done value activity) = Left value activity
 AtEachEnd Left Interrupted (Ended interrupt activity) = Interrupted activity
 AtEachEnd Left Interrupted NoStep = Unit {0}
 
+-- Numbers rise, and none is above the last that was given.
 abbrev pub IsNumbered : Activity → Type 0
 IsNumbered activity = AreNumbered (activity.world).last (activity.world).objects
 
--- From where every object that lives can be reached, a run leads to where this is so, or ends there.
+-- If every object that lives can be reached, so it is at each end of the run.
 abbrev pub Settles : (A : Type 0) → Run A → Type 0
 Settles A run =
     (activity : Activity) → IsNumbered activity → IsSettled activity
     → AtEachEnd (λ value left. IsSettled left) IsSettled (run activity)
 
--- A jump is on its way to a release point: nothing is said of it before it is there.
+-- Every object that lives can be reached if a statement goes on. A jump is on its way to a release point, and nothing
+-- is said before it is there.
 abbrev pub IsSettledBy : Flow → Activity → Type 0
 IsSettledBy On activity = IsSettled activity
 IsSettledBy _ activity = Unit {0}
 
--- the same of a run that may be left by a jump, where it goes on
-abbrev pub SettlesWhereItGoesOn : Run Flow → Type 0
-SettlesWhereItGoesOn run =
+-- If every object that lives can be reached, so it is at each end of a run at which it goes on.
+abbrev pub SettlesIfItGoesOn : Run Flow → Type 0
+SettlesIfItGoesOn run =
     (activity : Activity) → IsNumbered activity → IsSettled activity → AtEachEnd IsSettledBy IsSettled (run activity)
 
 -- Every phrase of a module settles, at this depth: expressions, full expressions, variables, statements and blocks that
@@ -70,8 +73,8 @@ pub record ReleasePointsSettle (program : Program) (depth : ℕ) : Type 0 where
   pub argument_lists : (es : Exprs) → Settles (List Word) (arguments (calls_within program depth) es)
   pub full_expressions : (e : Expr) → Settles Word (full (expression (calls_within program depth) e))
   pub variables : (vs : List Initialization) → Settles (Unit {0}) (declare_all (calls_within program depth) vs)
-  pub blocks : (ss : Stmts) → SettlesWhereItGoesOn (statements (calls_within program depth) depth ss)
-  pub statements : (s : Stmt) → SettlesWhereItGoesOn (statement (calls_within program depth) depth s)
+  pub blocks : (ss : Stmts) → SettlesIfItGoesOn (statements (calls_within program depth) depth ss)
+  pub statements : (s : Stmt) → SettlesIfItGoesOn (statement (calls_within program depth) depth s)
   pub calls : (callee : ModuleCallee) (this : Word) (args : List Word)
       → Settles Word (call (calls_within program depth) callee this args)
   pub constructions : (class : ℕ) (args : List Word) → Settles Word (construct (calls_within program depth) class args)
@@ -101,9 +104,11 @@ pub record KeepsItsCallers (old new : Activity) : Type 0 where
   pub lives : (number : ℕ) → Contains (flat_map roots_of_frame old.callers) number
       → Lives (old.world).objects number → Lives (new.world).objects number
 
+-- A run that comes to a value keeps this.
 abbrev pub Keeps : (Activity → Activity → Type 0) → (A : Type 0) → Run A → Type 0
 Keeps Kept A run =
-    (activity : Activity) → IsNumbered activity → AtEachEnd (λ value left. Kept activity left) (λ left. Unit {0}) (run activity)
+    (activity : Activity) → IsNumbered activity
+    → AtEachEnd (λ value left. Kept activity left) (λ left. Unit {0}) (run activity)
 
 -- What is held is held until the full expression ends: within it nothing is taken from the frame, and a statement takes
 -- nothing from the callers.

@@ -7,7 +7,7 @@ use Rattle.ash_typed.specs.declared.types.VarType.TheVariants as vars
 use Rattle.ash_typed.specs.declared.types.ObjectType.TheVariants as objects
 use Rattle.ash_typed.specs.declared.tree.operations.Variable.TheVariants as variables
 use Rattle.ash_typed.specs.TypedTree.{Expr, Assign, Stored, Null}
-use Rattle.ash_meaning.specs.Activity.{World, Frame, Activity, in_frame}
+use Rattle.ash_meaning.specs.Activity.{Activity, in_frame}
 use Rattle.ash_meaning.specs.Runs.{Run, Done, give, ◌>>=◌, ◌>>◌, change}
 use Rattle.ash_meaning.specs.Releases.{let_go, full}
 use Rattle.ash_meaning.specs.CallMeaning.{Calls}
@@ -15,12 +15,12 @@ use Rattle.ash_meaning.specs.ExpressionMeaning.{expression}
 use Rattle.ash_release_laws.specs.Settling.{Reaches}
 
 -- A full expression whose end is no release point: what can't be reached is collected until the call ends.
-abbrev pub collecting : Run Word → Run Word
-collecting run = run >>= (λ value. change (in_frame let_go) >> give value)
+abbrev pub full_without_release : Run Word → Run Word
+full_without_release run = run >>= (λ value. change (in_frame let_go) >> give value)
 
 -- An operand whose end is that of a full expression: what is held is let go before the full expression ends.
-abbrev pub hasty : Run Word → Run Word
-hasty run = full run
+abbrev pub operand_as_full : Run Word → Run Word
+operand_as_full run = full run
 
 -- A host object, the only one, that a frame with these locals and held handles has.
 abbrev pub one_object : List Word → List ℕ → Activity
@@ -53,13 +53,15 @@ before_clearing = one_object (words.Object 1 ∷ []) []
 abbrev pub between_arguments : Activity
 between_arguments = one_object [] (1 ∷ [])
 
--- what the two meanings make of them
+-- what the two meanings make of the two expressions
 
-abbrev pub cleared : Calls → Run Word
-cleared calls = collecting (expression calls clearing)
+-- the assignment, whose end is no release point
+abbrev pub late_clearing : Calls → Run Word
+late_clearing calls = full_without_release (expression calls clearing)
 
-abbrev pub second_argument : Calls → Run Word
-second_argument calls = hasty (expression calls Null)
+-- the second argument, at whose end the first is let go
+abbrev pub early_argument : Calls → Run Word
+early_argument calls = operand_as_full (expression calls Null)
 
 -- It comes to null, and the object is there although nothing leads to it.
 pub record LeavesTooLate (run : Run Word) (first : Activity) : Type 0 where

@@ -5,10 +5,10 @@ ghost use Rattle.ash_meaning.specs.Activity.{World, Activity};
 ghost use Rattle.ash_meaning.specs.Classes.{Program};
 ghost use Rattle.ash_meaning.specs.Traces.{Trace};
 ghost use Rattle.ash_release_laws.specs.Settling.{IsNumbered, ReleasePointsSettle, HoldsUntilTheEnd};
-ghost use Rattle.ash_release_laws.specs.Leaving.{LivesWhileReached, ObjectsLeaveAtOnce, RunsLetGo};
+ghost use Rattle.ash_release_laws.specs.Leaving.{LivesWhileReached, ObjectsLeaveOnTime, RunsLeaveOnTime};
 
-/// Where every object that lives can be reached, each phrase leaves it so, at each of its ends: an expression, a
-/// statement or a block that goes on, a call of any kind, an initializer.
+/// If every object that lives can be reached, each phrase leaves it so, at each of its ends: an expression, a statement
+/// or a block that goes on, a call of any kind, an initializer.
 pub fn release_points_settle()
     ensures settle { (program : Program) (depth : ℕ) → ReleasePointsSettle program depth }
 {}
@@ -27,13 +27,13 @@ pub fn objects_live_while_reached()
 
 /// Each object leaves at the first release point at which it can't be reached, and after a full expression, a statement
 /// that goes on or a call none is left that can't be reached. If it is a host object, the events say that it left.
-pub fn objects_leave_at_once()
-    ensures leave { (program : Program) (depth : ℕ) → ObjectsLeaveAtOnce program depth }
+pub fn objects_leave_on_time()
+    ensures leave { (program : Program) (depth : ℕ) → ObjectsLeaveOnTime program depth }
 {}
 
 /// Over a whole run an object lives exactly as long as it can be reached at each release point, the last of which is at
-/// the end of the run; and none is left to which no global leads.
-pub fn runs_let_go()
-    ensures let_go { (program : Program) (budget : ℕ) (world : World) → AreNumbered world.last world.objects
-        → RunsLetGo program budget world }
+/// the end of the run. Then none is left to which no global leads.
+pub fn runs_leave_on_time()
+    ensures leave { (program : Program) (budget : ℕ) (world : World) → AreNumbered world.last world.objects
+        → RunsLeaveOnTime program budget world }
 {}

@@ -1,7 +1,7 @@
-//! The laws of release points inside a phrase of a sound module. A function without a body does nothing: its contract is
-//! the law.
+//! The laws of release points inside a phrase of a sound module. A function without a body does nothing: its contract
+//! is the law.
 ghost use Rattle.ash_soundness.specs.WellFormed.{Context};
-ghost use Rattle.ash_release_laws.specs.SafePoints.{ReleasePointsAreSafe, HandlesLive, LivesWhereReached};
+ghost use Rattle.ash_release_laws.specs.SafePoints.{ReleasePointsAreSafe, HandlesLive, LivesExactlyIfReached};
 
 /// An activity is well-formed at each release point inside a phrase of a sound module, and after it.
 pub fn release_points_are_safe()
@@ -12,5 +12,5 @@ pub fn release_points_are_safe()
 /// left that can't be reached, an object lives exactly if it can be reached.
 pub fn handles_live()
     ensures live { (c : Context) → HandlesLive c }
-    ensures exactly { (c : Context) → LivesWhereReached c }
+    ensures exactly { (c : Context) → LivesExactlyIfReached c }
 {}

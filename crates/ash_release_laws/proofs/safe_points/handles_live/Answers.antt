@@ -5,4 +5,4 @@ pub returns-clause-live : goal.returns-clause-live
 returns-clause-live g = λ c. dangling.handles_live
 
 pub returns-clause-exactly : goal.returns-clause-exactly
-returns-clause-exactly g = λ c. dangling.lives_where_reached
+returns-clause-exactly g = λ c. dangling.lives_exactly_if_reached

@@ -5,7 +5,7 @@ pub returns-clause-before : goal.returns-clause-before
 returns-clause-before c = (wrong.numbered_clearing, wrong.settled_clearing)
 
 pub returns-clause-late : goal.returns-clause-late
-returns-clause-late c = wrong.collecting_late
+returns-clause-late c = wrong.late_example
 
 pub returns-clause-refused : goal.returns-clause-refused
-returns-clause-refused c = wrong.collecting_refused
+returns-clause-refused c = wrong.late_refused

@@ -5,7 +5,7 @@ pub returns-clause-before : goal.returns-clause-before
 returns-clause-before c = (wrong.numbered_between, wrong.settled_between)
 
 pub returns-clause-early : goal.returns-clause-early
-returns-clause-early c = wrong.hasty_early
+returns-clause-early c = wrong.early_example
 
 pub returns-clause-refused : goal.returns-clause-refused
-returns-clause-refused c = wrong.hasty_refused
+returns-clause-refused c = wrong.early_refused
