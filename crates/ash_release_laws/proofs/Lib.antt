@@ -1,0 +1,10 @@
+pub mod Roots
+pub mod Settling
+pub mod StepSettling
+pub mod PhraseSettling
+pub mod Settled
+pub mod Leaving
+pub mod WholeRuns
+pub mod WrongMeanings
+pub mod Safe
+pub mod Dangling

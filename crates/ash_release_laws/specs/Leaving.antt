@@ -1,0 +1,112 @@
+-- When objects leave: at the first release point at which they can't be reached.
+use Rattle.std.specs.Prelude.{◌≡◌, ◌≤◌, ◌↔◌, ℕ, List, [], Contains, Some}
+use Rattle.ash_host.specs.declared.event.Event.TheVariants.{Dropped}
+use Rattle.ash_host.specs.Objects.{Host, object_at, Lives}
+use Rattle.ash_host.specs.declared.word.Word.{Word}
+use Rattle.ash_typed.specs.TypedTree.{Expr}
+use Rattle.ash_typed.specs.StatementTree.{Stmt}
+use Rattle.ash_meaning.specs.Activity.{World, Activity}
+use Rattle.ash_meaning.specs.Runs.{Progress, Done, Ended, NoStep, Run}
+use Rattle.ash_meaning.specs.Releases.{full}
+use Rattle.ash_meaning.specs.Classes.{Program, ModuleCallee, FreeFunction, Entry, entry_of}
+use Rattle.ash_meaning.specs.CallMeaning.{call, construct}
+use Rattle.ash_meaning.specs.ExpressionMeaning.{expression}
+use Rattle.ash_meaning.specs.StatementMeaning.{Flow, On, statement}
+use Rattle.ash_meaning.specs.Functions.{calls_within}
+use Rattle.ash_meaning.specs.Ends.{Outcome, call_function, load_module}
+use Rattle.ash_meaning.specs.MeaningLaws.{IsReleased, first_of_call, first_of_load}
+use Rattle.ash_meaning.specs.Traces.{Transition, Releases, Trace, Here, Then, after_release}
+use Rattle.ash_release_laws.specs.Settling.{ReachesFrom, Reaches, IsNumbered, IsSettledFrom, IsSettled}
+
+-- If a transition is a release point, the object can be reached at it.
+abbrev pub IsReachedAt : ℕ → {old new : Activity} → Transition old new → Type 0
+IsReachedAt number {old} (Releases e) = Reaches old number
+IsReachedAt number _ = Unit {0}
+
+-- The object can be reached at each release point of a trace.
+abbrev pub IsReachedThroughout : ℕ → {first last : Activity} → Trace first last → Type 0
+IsReachedThroughout number Here = Unit {0}
+IsReachedThroughout number (Then before transition) =
+    IsReachedThroughout number before × IsReachedAt number transition
+
+-- An object that lives at first lives at last exactly if it can be reached at each release point between them.
+abbrev pub LivesWhileReached : {first last : Activity} → Trace first last → Type 0
+LivesWhileReached {first} {last} trace =
+    (number : ℕ) → Lives (first.world).objects number
+    → (Lives (last.world).objects number ↔ IsReachedThroughout number trace)
+
+-- An object leaves at the first release point at which it can't be reached: it could be at each one before, it was
+-- there until then and is not after, and if it is a host object the events say so.
+pub record LeavesAtTheFirst (number : ℕ) (first last : Activity) : Type 0 where
+  pub point : Activity
+  pub before : Trace first point
+  pub reached : IsReachedThroughout number before
+  pub there : Lives (point.world).objects number
+  pub unreached : ¬ Reaches point number
+  pub left : ¬ Lives ((after_release point).world).objects number
+  pub dropped : (kind : ℕ) (state : List ℕ) → object_at number (point.world).objects ≡ Some (Host kind state)
+      → Contains (last.world).events (Dropped number)
+  pub after : Trace (after_release point) last
+
+-- Each object that is gone left at the first release point at which it couldn't be reached, and none is late: what
+-- lives at last can be reached.
+pub record LeaveOnTime (first last : Activity) : Type 0 where
+  pub trace : Trace first last
+  pub lives : LivesWhileReached trace
+  pub left : (number : ℕ) → Lives (first.world).objects number → ¬ Lives (last.world).objects number
+      → LeavesAtTheFirst number first last
+  pub none_late : IsSettled last
+
+-- This holds of the value and the activity to which a run comes.
+abbrev pub AtTheValue : {A : Type 0} → (A → Activity → Type 0) → Progress A → Type 0
+AtTheValue Left (Done value activity) = Left value activity
+AtTheValue Left (Ended interrupt activity) = Unit {0}
+AtTheValue Left NoStep = Unit {0}
+
+-- Objects leave on time in a run that comes to its value, within so many ticks.
+abbrev pub LetsGoOnTime : ℕ → (A : Type 0) → Run A → Type 0
+LetsGoOnTime depth A run =
+    (activity : Activity) → activity.ticks ≤ depth → IsNumbered activity → IsSettled activity
+    → AtTheValue (λ value left. LeaveOnTime activity left) (run activity)
+
+-- Objects leave on time if a statement goes on. A jump is on its way to a release point.
+abbrev pub LeaveIfItGoesOn : Activity → Flow → Activity → Type 0
+LeaveIfItGoesOn first On last = LeaveOnTime first last
+LeaveIfItGoesOn first _ last = Unit {0}
+
+-- Objects leave on time in a statement that goes on, within so many ticks.
+abbrev pub LetsGoIfItGoesOn : ℕ → Run Flow → Type 0
+LetsGoIfItGoesOn depth run =
+    (activity : Activity) → activity.ticks ≤ depth → IsNumbered activity → IsSettled activity
+    → AtTheValue (LeaveIfItGoesOn activity) (run activity)
+
+-- Objects leave on time, at this depth: in a full expression, in a statement that goes on, and in a call.
+pub record ObjectsLeaveOnTime (program : Program) (depth : ℕ) : Type 0 where
+  pub full_expressions : (e : Expr) → LetsGoOnTime depth Word (full (expression (calls_within program depth) e))
+  pub statements : (s : Stmt) → LetsGoIfItGoesOn depth (statement (calls_within program depth) depth s)
+  pub calls : (callee : ModuleCallee) (this : Word) (args : List Word)
+      → LetsGoOnTime depth Word (call (calls_within program depth) callee this args)
+  pub constructions : (class : ℕ) (args : List Word)
+      → LetsGoOnTime depth Word (construct (calls_within program depth) class args)
+
+-- whole runs
+
+-- A run ends with a release point without frames. Over it an object lives exactly if it can be reached at each release
+-- point, and none is late.
+pub record LeaveByTheEnd (first : Activity) (outcome : Outcome) : Type 0 where
+  pub last : Activity
+  pub trace : Trace first last
+  pub released : IsReleased [] last.world outcome.world
+  pub lives : (number : ℕ) → Lives (first.world).objects number
+      → (Lives (outcome.world).objects number
+      ↔ (IsReachedThroughout number trace × ReachesFrom [] last.world number))
+  pub none_late : IsSettledFrom [] outcome.world
+
+-- So it is over calls from outside and over loads, whatever they come to.
+pub record RunsLeaveOnTime (program : Program) (budget : ℕ) (world : World) : Type 0 where
+  pub calls : (place : ℕ) (args : List Word) (outcome : Outcome)
+      → call_function program place args budget world ≡ Some outcome
+      → (e : Entry) × (entry_of program.tree (FreeFunction place) ≡ Some e)
+      × LeaveByTheEnd (first_of_call e args budget world) outcome
+  pub loads : (outcome : Outcome) → load_module program budget world ≡ Some outcome
+      → LeaveByTheEnd (first_of_load program budget world) outcome

@@ -1,0 +1,4 @@
+pub mod Settling
+pub mod Leaving
+pub mod WrongMeanings
+pub mod SafePoints
