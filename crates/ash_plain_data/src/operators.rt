@@ -7,7 +7,7 @@ ghost use Rattle.ash_meaning.specs.OperatorMeaning.{word_at, converted_to, zero_
 ghost use Rattle.ash_meaning.specs.OperatorMeaning.{is_true, calculated_by};
 ghost use Rattle.ash_meaning.specs.OperatorMeaning.{holds_of_numbers, holds_of_words, holds};
 ghost use Rattle.ash_meaning.specs.OperatorMeaning.{altered, counted, given_by};
-ghost use Rattle.ash_plain_data.specs.Conversions.{converted_by};
+ghost use Rattle.ash_walked_phrases.specs.WalkedPhrases.{converted_by};
 
 use ash_host::Word;
 use ash_integers::{

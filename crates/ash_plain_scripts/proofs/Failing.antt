@@ -1,7 +1,7 @@
 -- Where a run ends by an error, so does what is put together from it and what would come after it.
-use Rattle.std.proofs.Common.{◌≡◌, refl, ap}
+use Rattle.std.proofs.Common.{ap}
 use Rattle.ash_meaning.specs.Activity.{Activity}
-use Rattle.ash_meaning.specs.Runs.{Progress, Done, Ended, NoStep, Run, give, onward, ◌>>=◌}
+use Rattle.ash_meaning.specs.Runs.{Progress, Run, onward}
 use Rattle.ash_plain_data.specs.declared.run_error.RunError.{RunError}
 use Rattle.ash_plain_data.specs.declared.run_error.RunError.TheVariants as errors
 use Rattle.ash_plain_data.specs.CallRuns.{FailsAs}
@@ -11,13 +11,3 @@ fails_onward (errors.Raising exception) a p next h = ap (λ (q : Progress _). on
 fails_onward errors.OutOfTicks a p next h = ap (λ (q : Progress _). onward q next) h
 fails_onward errors.NoStep a p next h = ap (λ (q : Progress _). onward q next) h
 fails_onward errors.NoMemory a p next h = tt
-
-pub onward_assoc : {A B C : Type 0} (p : Progress A) (f : A → Run B) (g : B → Run C) → onward (onward p f) g ≡ onward p (λ v. f v >>= g)
-onward_assoc (Done v a) f g = refl
-onward_assoc (Ended i a) f g = refl
-onward_assoc NoStep f g = refl
-
-pub onward_give : {A : Type 0} (p : Progress A) → onward p give ≡ p
-onward_give (Done v a) = refl
-onward_give (Ended i a) = refl
-onward_give NoStep = refl

@@ -9,9 +9,9 @@ ghost use Rattle.ash_plain_data.specs.CallRuns.{RunsAs};
 ghost use Rattle.ash_plain_world.specs.ActivityViews.{activity_seen};
 ghost use Rattle.ash_plain_world.specs.LocationViews.{location_seen};
 ghost use Rattle.ash_plain_scripts.specs.EvaluatorViews.{calls_seen};
-ghost use Rattle.ash_plain_scripts.specs.WalkedPhrases.{operand_run, operands_run, link_run};
-ghost use Rattle.ash_plain_scripts.specs.WalkedPhrases.{links_run, lazies_run, path_run};
-ghost use Rattle.ash_plain_scripts.specs.WalkedPhrases.{chain_run, lazy_run, target_run, invocation_run};
+ghost use Rattle.ash_walked_phrases.specs.WalkedPhrases.{operand_run, operands_run, link_run};
+ghost use Rattle.ash_walked_phrases.specs.WalkedPhrases.{links_run, lazies_run, path_run};
+ghost use Rattle.ash_walked_phrases.specs.WalkedPhrases.{chain_run, lazy_run, target_run, invocation_run};
 ghost use Rattle.ash_plain_scripts.specs.Bodies.{RunsBodies};
 
 use crate::evaluator::Evaluator;

@@ -8,8 +8,8 @@ ghost use Rattle.ash_meaning.specs.StatementMeaning.{statement, statements, in_b
 ghost use Rattle.ash_plain_data.specs.CallRuns.{RunsAs};
 ghost use Rattle.ash_plain_world.specs.ActivityViews.{activity_seen};
 ghost use Rattle.ash_plain_world.specs.FlowViews.{flow_seen};
-ghost use Rattle.ash_plain_scripts.specs.EvaluatorViews.{calls_seen, turn_seen};
-ghost use Rattle.ash_plain_scripts.specs.WalkedPhrases.{fall_run, for_run, turn_run, next_turn};
+ghost use Rattle.ash_plain_scripts.specs.EvaluatorViews.{calls_seen};
+ghost use Rattle.ash_walked_phrases.specs.WalkedPhrases.{fall_run, for_run, turn_seen, turn_run, next_turn};
 ghost use Rattle.ash_plain_scripts.specs.Bodies.{RunsBodies};
 
 use crate::evaluator::Evaluator;

@@ -8,7 +8,7 @@ ghost use Rattle.ash_typed.specs.BodyViews.{case_of};
 ghost use Rattle.ash_typed.specs.SoundStatements.{constant_of};
 ghost use Rattle.ash_meaning.specs.CallMeaning.{Calls};
 ghost use Rattle.ash_meaning.specs.StatementMeaning.{is_constant, chosen, cases as labelled};
-ghost use Rattle.ash_plain_scripts.specs.Choosing.{from_case};
+ghost use Rattle.ash_walked_phrases.specs.WalkedPhrases.{from_case};
 
 use ash_tree::Label;
 use ash_typed::Case;

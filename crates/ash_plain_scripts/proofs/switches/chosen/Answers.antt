@@ -5,8 +5,8 @@ use Rattle.std.proofs.lemmas.Bool.Decides.{nat_tests}
 use Rattle.ash_typed.specs.declared.tree.statements.Case as case_code
 use Rattle.ash_typed.specs.declared.tree.statements.Case.{size-Case}
 use Rattle.ash_meaning.specs.StatementMeaning.{is_constant}
-use Rattle.ash_plain_scripts.specs.Choosing.{from_case}
-use Rattle.ash_plain_scripts.proofs.Switching.{chosen_first, chosen_default, from_most}
+use Rattle.ash_walked_phrases.specs.WalkedPhrases.{from_case}
+use Rattle.ash_walked_phrases.proofs.Labels.{chosen_first, chosen_default, from_most}
 use Rattle.ash_plain_scripts.proofs.switches.chosen.Goals as goal
 
 pub returns-then-is_empty-clause-labels : goal.returns-then-is_empty-clause-labels

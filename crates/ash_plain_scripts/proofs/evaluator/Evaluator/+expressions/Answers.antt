@@ -2,7 +2,7 @@ use Rattle.std.proofs.Common.{sym, ◌∙◌, rules}
 use Rattle.ash_plain_world.specs.ActivityViews.{activity_seen}
 use Rattle.ash_plain_scripts.specs.EvaluatorViews.{calls_seen}
 use Rattle.ash_plain_scripts.proofs.Failing.{fails_onward}
-use Rattle.ash_plain_scripts.proofs.Walks.{path_follows, chain_follows, lazy_follows, call_follows, invoke_follows, arguments_begin, arguments_step, arguments_end}
+use Rattle.ash_walked_phrases.proofs.WalkedExpressions.{path_follows, chain_follows, lazy_follows, call_follows, invoke_follows, arguments_begin, arguments_step, arguments_end}
 use Rattle.ash_plain_scripts.proofs.evaluator.Evaluator.+expressions.Goals as goal
 
 pub expression-returns-in-Path : goal.expression-returns-in-Path

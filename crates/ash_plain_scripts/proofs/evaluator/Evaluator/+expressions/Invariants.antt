@@ -9,7 +9,7 @@ use Rattle.ash_typed.specs.TypedTreeViews.{expr_of}
 use Rattle.ash_meaning.specs.ExpressionMeaning.{arguments}
 use Rattle.ash_plain_world.specs.ActivityViews.{activity_seen}
 use Rattle.ash_plain_scripts.specs.EvaluatorViews.{calls_seen}
-use Rattle.ash_plain_scripts.specs.WalkedPhrases.{operands_run, links_run, lazies_run, arguments_after}
+use Rattle.ash_walked_phrases.specs.WalkedPhrases.{operands_run, links_run, lazies_run, arguments_after}
 use Rattle.ash_plain_scripts.proofs.evaluator.Evaluator.+expressions.Given as goal
 
 -- the depth of what a function goes down, and how near it is to the next expression

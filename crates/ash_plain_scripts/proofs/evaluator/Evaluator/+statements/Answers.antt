@@ -1,11 +1,11 @@
 use Rattle.std.proofs.Common.{sym, ◌∙◌, rules}
 use Rattle.ash_plain_world.specs.ActivityViews.{activity_seen}
 use Rattle.ash_plain_scripts.specs.EvaluatorViews.{calls_seen}
-use Rattle.ash_plain_scripts.specs.EvaluatorViews.{turn_seen}
+use Rattle.ash_walked_phrases.specs.WalkedPhrases.{turn_seen}
 use Rattle.ash_plain_scripts.proofs.Failing.{fails_onward}
-use Rattle.ash_plain_scripts.proofs.Turns.{turns_more}
-use Rattle.ash_plain_scripts.proofs.StatementWalks.{block_follows, declare_follows, switch_follows}
-use Rattle.ash_plain_scripts.proofs.Switching.{fall_step}
+use Rattle.ash_walked_phrases.proofs.Turns.{turns_more}
+use Rattle.ash_walked_phrases.proofs.WalkedStatements.{block_follows, declare_follows, switch_follows}
+use Rattle.ash_walked_phrases.proofs.Labels.{fall_step}
 use Rattle.ash_plain_scripts.proofs.evaluator.Evaluator.+statements.Goals as goal
 
 pub statement-returns-in-Declare : goal.statement-returns-in-Declare

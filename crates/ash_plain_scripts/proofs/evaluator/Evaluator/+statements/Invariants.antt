@@ -7,8 +7,7 @@ use Rattle.ash_typed.specs.BodyViews.{body_of}
 use Rattle.ash_meaning.specs.StatementMeaning.{statements, turns}
 use Rattle.ash_plain_world.specs.ActivityViews.{activity_seen}
 use Rattle.ash_plain_scripts.specs.EvaluatorViews.{calls_seen}
-use Rattle.ash_plain_scripts.specs.EvaluatorViews.{turn_seen}
-use Rattle.ash_plain_scripts.specs.WalkedPhrases.{fall_run}
+use Rattle.ash_walked_phrases.specs.WalkedPhrases.{fall_run, turn_seen}
 use Rattle.ash_plain_scripts.proofs.evaluator.Evaluator.+statements.Given as goal
 
 -- the depth of what a function goes down, and how near it is to the next statement

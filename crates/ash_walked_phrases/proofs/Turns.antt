@@ -1,17 +1,12 @@
 -- Loops, turn by turn.
-use Rattle.std.proofs.Common.{◌≡◌, ◌<◌, ◌≤◌, ◌-◌, ◌+◌, ℕ, suc, Bool, true, false, Option, Some, None, refl, ap, ◌∙◌, arith}
+use Rattle.std.proofs.Common.{◌≡◌, ◌<◌, ◌≤◌, ◌-◌, ◌+◌, ℕ, suc, Bool, true, false, Some, None, refl, ap, ◌∙◌, arith}
 use Rattle.std.specs.Prelude.{if◌then◌else◌}
 use Rattle.ash_meaning.specs.Activity.{Activity}
 use Rattle.ash_meaning.specs.Runs.{Progress, Done, Ended, NoStep, Run, give, onward, ◌>>=◌, ◌>>◌, out_of_ticks}
 use Rattle.ash_meaning.specs.Frames.{tick}
 use Rattle.ash_meaning.specs.Releases.{release}
 use Rattle.ash_meaning.specs.StatementMeaning.{Flow, On, Broke, Continued, Returned, Turn, turn, turns, after_body}
-use Rattle.ash_plain_scripts.specs.WalkedPhrases.{after_turn, turn_run, next_turn}
-
--- the next turn, unless the loop is left
-abbrev pub left_or : Run Flow → Option Flow → Run Flow
-left_or next None = next
-left_or next (Some flow) = give flow
+use Rattle.ash_walked_phrases.specs.WalkedPhrases.{after_turn, turn_run, next_turn, left_or}
 
 module _ (t : Turn) (next : Run Flow) where
   stepped : (p : Progress (Unit {0})) → onward p (λ _. next) ≡ onward (onward p (λ _. give None)) (left_or next)

@@ -18,30 +18,19 @@ use Rattle.ash_typed.specs.TypedTree.{Expr, Exprs, exprs, Operate, Lazily, conve
 use Rattle.ash_typed.specs.TypedTreeViews.{expr_in, expr_of, linked, chained, all_linked, all_chained, all_lazies}
 use Rattle.ash_typed.proofs.Rows.{path_is, chain_is, lazy_is, call_is, exprs_of-row}
 use Rattle.ash_meaning.specs.Activity.{Activity}
-use Rattle.ash_meaning.specs.Runs.{Progress, Done, Ended, NoStep, Run, give, onward, ◌>>=◌}
+use Rattle.ash_meaning.specs.Runs.{Progress, Done, Ended, NoStep, give, onward, ◌>>=◌}
 use Rattle.ash_meaning.specs.OperatorMeaning.{converted_to, is_true, operate}
 use Rattle.ash_meaning.specs.CallMeaning.{Calls}
 use Rattle.ash_meaning.specs.ExpressionMeaning.{expression, arguments, lazily}
-use Rattle.ash_plain_data.specs.Conversions.{converted_by}
-use Rattle.ash_plain_scripts.specs.WalkedPhrases.{operand_run, operands_run, link_run, links_run, lazies_run, arguments_after, target_run, invocation_run}
-use Rattle.ash_plain_scripts.proofs.Failing.{onward_assoc, onward_give}
-
-three : {A B C D : Type 0} (p : Progress A) (f : A → Run B) (g : B → Run C) (h : C → Run D) → onward (onward (onward p f) g) h ≡ onward p (λ v. f v >>= g >>= h)
-three (Done v a) f g h = refl
-three (Ended i a) f g h = refl
-three NoStep f g h = refl
-
-four : {A B C D E : Type 0} (p : Progress A) (f : A → Run B) (g : B → Run C) (h : C → Run D) (k : D → Run E) → onward (onward (onward (onward p f) g) h) k ≡ onward p (λ v. f v >>= g >>= h >>= k)
-four (Done v a) f g h k = refl
-four (Ended i a) f g h k = refl
-four NoStep f g h k = refl
+use Rattle.ash_walked_phrases.specs.WalkedPhrases.{converted_by, operand_run, operands_run, link_run, links_run, lazies_run, arguments_after, target_run, invocation_run}
+use Rattle.ash_walked_phrases.proofs.Composed.{onward_assoc, onward_give, three, four}
 
 module _ (calls : Calls) where
   operated : (before : Option Conversion) (op : Operation) (e v : Expr) (a : Activity) → expression calls (Operate op (converted before e) v) a ≡ onward (expression calls e a) (λ left. expression calls v >>= operate op (converted_by before left))
   operated None op e v a = refl
   operated (Some c) op e v a = onward_assoc (expression calls e a) (λ word. give (converted_to c.to word)) (λ left. expression calls v >>= operate op left)
 
-  operands_follow : (e : Expr) (os : List operand_code.Operand) (a : Activity) → expression calls (all_chained e os) a ≡ onward (expression calls e a) (operands_run calls os)
+  pub operands_follow : (e : Expr) (os : List operand_code.Operand) (a : Activity) → expression calls (all_chained e os) a ≡ onward (expression calls e a) (operands_run calls os)
   operands_follow e [] a = sym (onward_give (expression calls e a))
   operands_follow e (o ∷ os) a =
       operands_follow (chained e o) os a
@@ -53,14 +42,14 @@ module _ (calls : Calls) where
   link_follows e (links.Index' address index of) a = three (expression calls e a) _ _ _
   link_follows e (links.Invoke' method parameters shape row) a = refl
 
-  links_follow : (e : Expr) (ls : List link_code.Link) (a : Activity) → expression calls (all_linked e ls) a ≡ onward (expression calls e a) (links_run calls ls)
+  pub links_follow : (e : Expr) (ls : List link_code.Link) (a : Activity) → expression calls (all_linked e ls) a ≡ onward (expression calls e a) (links_run calls ls)
   links_follow e [] a = sym (onward_give (expression calls e a))
   links_follow e (l ∷ ls) a =
       links_follow (linked e l) ls a
       ∙ ap (λ (p : Progress Word). onward p (links_run calls ls)) (link_follows e l a)
       ∙ onward_assoc (expression calls e a) (link_run calls l) (links_run calls ls)
 
-  lazies_follow : (op : Lazy) (e : Expr) (xs : List expr_code.Expr) (a : Activity) → expression calls (all_lazies op e xs) a ≡ onward (expression calls e a) (lazies_run calls op xs)
+  pub lazies_follow : (op : Lazy) (e : Expr) (xs : List expr_code.Expr) (a : Activity) → expression calls (all_lazies op e xs) a ≡ onward (expression calls e a) (lazies_run calls op xs)
   lazies_follow op e [] a = sym (onward_give (expression calls e a))
   lazies_follow op e (x ∷ xs) a =
       lazies_follow op (Lazily op e (expr_of x)) xs a
@@ -93,7 +82,7 @@ appended done word (Done rest a) = ap (λ (l : List Word). Done l a) (sym (appen
 appended done word (Ended i a) = refl
 appended done word NoStep = refl
 
-spread : (calls : Calls) (done : List Word) (es : Exprs) (p : Progress Word) → onward (onward p (λ word. arguments calls es >>= (λ rest. give (word ∷ rest)))) (λ rest. give (done ++ rest)) ≡ onward p (λ word. arguments_after calls (done ++ word ∷ []) es)
+pub spread : (calls : Calls) (done : List Word) (es : Exprs) (p : Progress Word) → onward (onward p (λ word. arguments calls es >>= (λ rest. give (word ∷ rest)))) (λ rest. give (done ++ rest)) ≡ onward p (λ word. arguments_after calls (done ++ word ∷ []) es)
 spread calls done es (Done word a) = appended done word (arguments calls es a)
 spread calls done es (Ended i a) = refl
 spread calls done es NoStep = refl

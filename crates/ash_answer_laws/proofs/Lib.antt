@@ -1,0 +1,5 @@
+pub mod Leaving
+pub mod StepsLeave
+pub mod PhrasesLeave
+pub mod RunsLeave
+pub mod RequestsLeave

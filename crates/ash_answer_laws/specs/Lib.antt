@@ -1,0 +1,2 @@
+pub mod MoreAnswers
+pub mod ChainedRequests

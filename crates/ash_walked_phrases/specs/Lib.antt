@@ -1,0 +1,2 @@
+pub mod WalkedPhrases
+pub mod WalkedLaws
