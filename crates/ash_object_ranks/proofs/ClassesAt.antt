@@ -1,7 +1,7 @@
 -- The classes of the objects that have the class or the interface with an index as a type.
-use Rattle.std.proofs.Common.{◌≡◌, ◌<◌, ◌+◌, ℕ, zero, suc, Bool, true, false, List, [], ◌∷◌, length, map, refl, sym, ap, ◌∙◌, subst, inl, inr, nat_eq, slice_get, get_or, ◌||◌, arith}
+use Rattle.std.proofs.Common.{◌≡◌, ◌<◌, ◌+◌, ℕ, zero, suc, true, false, List, [], ◌∷◌, length, map, refl, sym, ap, ◌∙◌, subst, inl, inr, nat_eq, slice_get, get_or, arith}
 use Rattle.std.specs.Prelude.{Option, Some, None, Contains, option_map}
-use Rattle.std.specs.List.{AllByRecursion, list_any, range_with_len}
+use Rattle.std.specs.List.{list_any, range_with_len}
 use Rattle.std.specs.Option.{option_map_or}
 use Rattle.std.proofs.lemmas.Bool.{eqb-true, eq-eqb}
 use Rattle.std.proofs.lemmas.Option.{same_Some, slice_get-map, slice_get_within}
@@ -10,7 +10,7 @@ use Rattle.std.proofs.lemmas.List.FromFn.{length-range_with_len, get_or-range_wi
 use Rattle.ash_host.proofs.Membership.{or_cases, or_first, or_second}
 use Rattle.ash_typed.specs.Modules.{Implementation, Class, Module}
 use Rattle.ash_typed.specs.Signatures as signatures
-use Rattle.ash_typed.specs.Signatures.{HostSignatures, ModuleSignatures, Signature, signatures_of, signature_of_class, methods_of_interface}
+use Rattle.ash_typed.specs.Signatures.{HostSignatures, ModuleSignatures, signatures_of, signature_of_class, methods_of_interface}
 use Rattle.ash_typed.specs.SoundModules.{IsSound, IsSoundClass, AreSoundClasses, IsImplementation}
 use Rattle.ash_typed.specs.References.{Lists}
 use Rattle.ash_meaning.specs.Classes.{place_of_class, place_of_interface}
@@ -33,7 +33,8 @@ sound_from s start (suc k) class (c ∷ cs) source level h at = sound_from s (st
 pub index_within : (m k : ℕ) → k < m → Contains (range_with_len 0 m) k
 index_within m k lt =
     let long : length (range_with_len 0 m) ≡ m = length-range_with_len 0 m in
-    subst (Contains (range_with_len 0 m)) (get_or-range_with_len 0 m k 0 lt) (Contains-get_or (range_with_len 0 m) k 0 (omega arith))
+    let same : get_or (range_with_len 0 m) k 0 ≡ k = omega (arith, get_or-range_with_len 0 m k 0 lt) in
+    subst (Contains (range_with_len 0 m)) same (Contains-get_or (range_with_len 0 m) k 0 (omega arith))
 
 -- interfaces that are listed, by their indexes
 

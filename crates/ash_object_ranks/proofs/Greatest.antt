@@ -1,5 +1,5 @@
 -- The greatest of some numbers.
-use Rattle.std.proofs.Common.{◌≡◌, ◌≤◌, ◌<◌, ℕ, zero, suc, List, [], ◌∷◌, subst, arith}
+use Rattle.std.proofs.Common.{◌≤◌, ◌<◌, ℕ, zero, suc, List, [], ◌∷◌, subst, arith}
 use Rattle.std.specs.Prelude.{Contains, All, slice_index}
 use Rattle.std.proofs.lemmas.List.Elements.{All-head, All-tail}
 use Rattle.ash_soundness.proofs.Values.{none_in, first_in, later_in}

@@ -1,12 +1,12 @@
 -- Each class and each interface has an index of its own.
-use Rattle.std.proofs.Common.{◌≡◌, ◌<◌, ◌≤◌, ◌+◌, ℕ, Bool, true, false, cond, List, [], ◌∷◌, length, sym, ap, ◌∙◌, nat_le, arith}
-use Rattle.std.specs.Prelude.{Option, Some, count_by, slice_get}
+use Rattle.std.proofs.Common.{◌≡◌, ◌<◌, ◌≤◌, ◌+◌, ℕ, Bool, true, false, cond, List, [], ◌∷◌, length, ap, nat_le, arith}
+use Rattle.std.specs.Prelude.{Option, count_by}
 use Rattle.std.specs.Option.{option_map_or}
 use Rattle.std.proofs.lemmas.List.Sums.{sum_by-cons}
 use Rattle.ash_typed.specs.Modules.{Interface, Module}
 use Rattle.ash_typed.specs.Signatures.{HostSignatures, signatures_of}
 use Rattle.ash_typed.specs.SoundModules.{IsSound, IsSoundInterface}
-use Rattle.ash_meaning.specs.Classes.{place_of_class, place_of_interface}
+use Rattle.ash_meaning.specs.Classes.{place_of_interface}
 use Rattle.ash_soundness.proofs.Parts.{there_from}
 use Rattle.ash_soundness.proofs.Hosts.{rec_at}
 use Rattle.ash_soundness.proofs.Places.{one_class, class_or_interface, one_interface}
@@ -48,7 +48,7 @@ module _ {host : HostSignatures} {m : Module} (sound : IsSound host m) where
       below : (interface : ℕ) → interface < length m.interfaces → place_of_interface m interface < length m.classes + length m.interfaces
       below interface within =
           let (i, at) = there_from m.interfaces interface within in
-          let is = rec_at (IsSoundInterface (signatures_of host m) (length m.classes)) m.interfaces interface i at sound.interfaces in
+          let is = rec_at (IsSoundInterface (signatures_of host m) (length m.classes)) m.interfaces interface i sound.interfaces at in
           let here : place_of_interface m interface ≡ interface + i.classes_before = ap (λ (o : Option Interface). interface + option_map_or (λ (x : Interface). x.classes_before) o 0) at in
           let before : i.classes_before ≤ length m.classes = is.before in
           omega (arith, here, before, within)

@@ -1,12 +1,12 @@
 -- Objects of modules whose classes have ranks have ranks that fall along every reference.
-use Rattle.std.proofs.Common.{◌≡◌, ◌<◌, ◌≤◌, ◌+◌, ◌*◌, ℕ, zero, suc, List, [], ◌∷◌, ◌⊎◌, length, map, refl, sym, ap, ◌∙◌, subst, inl, inr, slice_get, length-map, arith}
+use Rattle.std.proofs.Common.{◌≡◌, ◌<◌, ◌≤◌, ◌+◌, ◌*◌, ℕ, List, [], ◌⊎◌, length, map, refl, sym, ap, ◌∙◌, subst, inl, inr, slice_get, arith}
 use Rattle.std.specs.Prelude.{Option, Some, None, Result, Ok, Err, Contains, option_map, find, slice_index}
 use Rattle.std.specs.Option.{option_map_or}
-use Rattle.std.proofs.lemmas.Option.{same_Some, slice_get-map, slice_get_within}
+use Rattle.std.proofs.lemmas.List.{length-map}
+use Rattle.std.proofs.lemmas.Option.{same_Some, slice_get-map}
 use Rattle.ash_host.specs.declared.word.Word.{Word}
-use Rattle.ash_host.specs.declared.word.Word.TheVariants as words
-use Rattle.ash_host.specs.Objects.{Elements, Handles, Plain, Script, Array, Host, LiveObjects, object_at, handle, handles, fields_of, Lives, Refers}
-use Rattle.ash_host.specs.Reach.{AreObjectRanks}
+use Rattle.ash_host.specs.Objects.{Elements, Handles, Plain, LiveObjects, object_at, handle, handles, fields_of}
+use Rattle.ash_integers.specs.declared.int_type.IntType.{IntType}
 use Rattle.ash_integers.specs.declared.int_type.IntType.TheVariants as ints
 use Rattle.ash_typed.specs.declared.types.Element as typed_element
 use Rattle.ash_typed.specs.declared.types.Element.TheVariants as elements
@@ -19,16 +19,12 @@ use Rattle.ash_typed.specs.TypeOf.{type_of_element}
 use Rattle.ash_typed.specs.Modules.{Class, Module}
 use Rattle.ash_typed.specs.References as references
 use Rattle.ash_typed.specs.References.{ElementHolds, ObjectHolds, VariableHolds, ClassRefers, AreRanks}
-use Rattle.ash_typed.specs.Signatures as signatures
 use Rattle.ash_typed.specs.Signatures.{HostSignatures, ModuleSignatures, signatures_of, signature_of_class, type_declared}
-use Rattle.ash_typed.specs.SoundModules.{IsSound}
-use Rattle.ash_typed.specs.SoundExpressions.{TypedEnvironment}
-use Rattle.ash_meaning.specs.Activity.{World, Activity}
 use Rattle.ash_meaning.specs.Classes.{Program, place_of_class, place_of_interface, element_of}
 use Rattle.ash_requests.specs.States.{State, Embedding, LoadedModule, has_name}
 use Rattle.ash_requests.specs.Premises.{ReadsSound}
 use Rattle.ash_requests.specs.Tasks.{tree_in, tree_of}
-use Rattle.ash_soundness.specs.WellFormed.{Known, Context, Shape, OfClass, OfElements, OfKind, shape_of, shape_at, IsOfClass, ListsInterface, IsNamed, IsArrayOf, IsOf, IsReference, to_nothing, to_object, IsValue, is_truth, is_integer, is_object, is_handle, AreValues, no_values, and_value, AllAre, none_are, and_is, IsScript, IsKnownFor, IsArray, IsObject, is_script, is_array, is_host, AreObjects, IsWorld, IsWellFormed}
+use Rattle.ash_soundness.specs.WellFormed.{Known, Shape, OfClass, OfElements, OfKind, shape_of, shape_at, IsOfClass, ListsInterface, IsNamed, IsOf, IsReference, to_nothing, to_object, IsValue, is_truth, is_integer, is_object, is_handle, AreValues, no_values, and_value, AllAre, none_are, and_is, IsScript, IsKnownFor, IsArray, IsObject, is_script, is_array, is_host, AreObjects}
 use Rattle.ash_soundness.specs.WellFormedStates.{known_of, IsWellFormedState}
 use Rattle.ash_soundness.proofs.Values.{none_in, handle_cases, integer_is_none, later_in, first_in}
 use Rattle.ash_soundness.proofs.Entries.{chained}
@@ -78,6 +74,14 @@ module _ {p : Program} {all : LiveObjects (List ℕ)} where
 holds_by : (s : ModuleSignatures) (class : ℕ) (of : VarType) (o : ObjectType) → (of ≡ vars.Object o) ⊎ (of ≡ vars.Handle o) → ObjectHolds s class o → VariableHolds s class of
 holds_by s class of o (inl e) h = subst (VariableHolds s class) (sym e) (references.object h)
 holds_by s class of o (inr e) h = subst (VariableHolds s class) (sym e) (references.handle h)
+
+no_truth : (o : ObjectType) → (vars.Bool ≡ vars.Object o) ⊎ (vars.Bool ≡ vars.Handle o) → ⊥
+no_truth o (inl e) = cc
+no_truth o (inr e) = cc
+
+no_integer : (int_type : IntType) (o : ObjectType) → (vars.Integer int_type ≡ vars.Object o) ⊎ (vars.Integer int_type ≡ vars.Handle o) → ⊥
+no_integer int_type o (inl e) = cc
+no_integer int_type o (inr e) = cc
 
 same_object : (o other : ObjectType) → (vars.Handle o ≡ vars.Object other) ⊎ (vars.Handle o ≡ vars.Handle other) → other ≡ o
 same_object o other (inl e) = absurd (cc)
@@ -140,6 +144,49 @@ module _ {host : HostSignatures} {modules : Known} {ranks : ClassRanks} (sound :
     refers_by from to source of o at within is holds =
         (signature_of_class source, of, slice_get-map signature_of_class tree.classes from ∙ ap (option_map signature_of_class) at, within, holds_by s to of o is holds)
 
+  -- an element leads to what has a lower rank than the array
+  element_falls : (q : Program) (element : typed_element.Element) (o : ObjectType) (shape : Shape) → IsKnownFor modules q element → IsNamed q.tree element → (type_of_element element ≡ vars.Object o) ⊎ (type_of_element element ≡ vars.Handle o) → IsOf q o shape → rank_of modules ranks shape ≤ rank_of_elements modules ranks (element_of q element)
+  element_falls q elements.Bool o shape known named is fits = absurd (no_truth o is)
+  element_falls q (elements.Integer int_type) o shape known named is fits = absurd (no_integer int_type o is)
+  element_falls q (elements.Class class) o shape known named is fits =
+      let i : IsOfClass q class shape = subst (λ (x : ObjectType). IsOf q x shape) (same_object (objects.Class class) o is) fits in
+      let mine = ap (rank_of modules ranks) i.is in
+      omega (arith, mine)
+  element_falls q (elements.Interface interface) o shape known named is fits =
+      let i : ListsInterface q interface shape = subst (λ (x : ObjectType). IsOf q x shape) (same_object (objects.Interface interface) o is) fits in
+      let index = place_of_interface q.tree interface in
+      let low = no_less (rank_in (ranks q.name)) (classes_at q.tree index) i.class (in_classes q.tree index i.class (i.of).source (i.of).at (own_interface q.tree i.class interface (i.of).source (i.of).at i.lists)) in
+      omega (arith, rank_of_shape q.name q.tree known i.class shape i.of, is_greatest q.name q.tree known index, low)
+  element_falls q (elements.Host kind) o shape known named is fits =
+      let i : shape ≡ OfKind kind = subst (λ (x : ObjectType). IsOf q x shape) (same_object (objects.Host kind) o is) fits in
+      omega (arith, ap (rank_of modules ranks) i)
+
+  -- no rank is as great as the limit
+
+  class_below : (name : List ℕ) (tree : Module) → modules name ≡ Some tree → (class : ℕ) → rank_in (ranks name) class ≤ 2 * max_module_types + 2
+  class_below name tree known class =
+      let r : AreRanks (signatures_of host tree) (ranks name) = ranked name tree known in
+      let small = ranks_within (length (signatures_of host tree).classes) (ranks name) r.within class in
+      let many = length-map tree.classes signature_of_class in
+      omega (arith, small, many, (sound name tree known).few_types)
+
+  handles_below : (name : List ℕ) (index : ℕ) (o : Option Module) → modules name ≡ o → option_map_or (λ (m : Module). greatest (rank_in (ranks name)) (classes_at m index)) o 0 ≤ 2 * max_module_types + 2
+  handles_below name index None e = omega arith
+  handles_below name index (Some tree) e = no_more (rank_in (ranks name)) (classes_at tree index) (2 * max_module_types + 2) (λ class within. class_below name tree e class)
+
+  rank_below : (shape : Shape) → rank_of modules ranks shape < rank_limit
+  rank_below (OfClass owner index) = omega (arith, handles_below owner index (modules owner) refl)
+  rank_below (OfElements of) = array_below of
+    where
+      array_below : (of : Elements (List ℕ)) → rank_of modules ranks (OfElements of) < rank_limit
+      array_below (Handles owner index) = omega (arith, handles_below owner index (modules owner) refl)
+      array_below _ = omega arith
+  rank_below (OfKind kind) = omega arith
+
+  rank_at_below : (o : Option Shape) → option_map_or (rank_of modules ranks) o 0 < rank_limit
+  rank_at_below None = omega arith
+  rank_at_below (Some shape) = rank_below shape
+
   module _ {all : LiveObjects (List ℕ)} where
     script_falls : {owner : List ℕ} {index : ℕ} {fields : List Word} (number : ℕ) → IsScript modules all owner index fields → Contains (handles fields) number → rank_at modules ranks all number < rank_of modules ranks (OfClass owner index)
     script_falls {owner} {index} number i within =
@@ -148,23 +195,6 @@ module _ {host : HostSignatures} {modules : Known} {ranks : ClassRanks} (sound :
         let mine = rank_of_class owner i.tree i.known i.class i.source i.at in
         let here : rank_of modules ranks (OfClass owner index) ≡ rank_of_handles modules ranks owner (place_of_class i.tree i.class) = ap (rank_of_handles modules ranks owner) i.is in
         omega (arith, ap (λ (o : Option Shape). option_map_or (rank_of modules ranks) o 0) leads.at, low, mine, here)
-
-    -- an element leads to what has a lower rank than the array
-    element_falls : (q : Program) (element : typed_element.Element) (o : ObjectType) (shape : Shape) → IsKnownFor modules q element → IsNamed q.tree element → (type_of_element element ≡ vars.Object o) ⊎ (type_of_element element ≡ vars.Handle o) → IsOf q o shape → rank_of modules ranks shape ≤ rank_of_elements modules ranks (element_of q element)
-    element_falls q elements.Bool o shape known named is fits = absurd (elim is [ inl e ↦ cc | inr e ↦ cc ])
-    element_falls q (elements.Integer int_type) o shape known named is fits = absurd (elim is [ inl e ↦ cc | inr e ↦ cc ])
-    element_falls q (elements.Class class) o shape known named is fits =
-        let i : IsOfClass q class shape = subst (λ (x : ObjectType). IsOf q x shape) (same_object (objects.Class class) o is) fits in
-        let mine = ap (rank_of modules ranks) i.is in
-        omega (arith, mine)
-    element_falls q (elements.Interface interface) o shape known named is fits =
-        let i : ListsInterface q interface shape = subst (λ (x : ObjectType). IsOf q x shape) (same_object (objects.Interface interface) o is) fits in
-        let index = place_of_interface q.tree interface in
-        let low = no_less (rank_in (ranks q.name)) (classes_at q.tree index) i.class (in_classes q.tree index i.class (i.of).source (i.of).at (own_interface q.tree i.class interface (i.of).source (i.of).at i.lists)) in
-        omega (arith, rank_of_shape q.name q.tree known i.class shape i.of, is_greatest q.name q.tree known index, low)
-    element_falls q (elements.Host kind) o shape known named is fits =
-        let i : shape ≡ OfKind kind = subst (λ (x : ObjectType). IsOf q x shape) (same_object (objects.Host kind) o is) fits in
-        omega (arith, ap (rank_of modules ranks) i)
 
     array_falls : {of : Elements (List ℕ)} {ws : List Word} (number : ℕ) → IsArray modules all of ws → Contains (handles ws) number → rank_at modules ranks all number < rank_of modules ranks (OfElements of)
     array_falls {of} number i within =
@@ -176,32 +206,6 @@ module _ {host : HostSignatures} {modules : Known} {ranks : ClassRanks} (sound :
     object_falls number o (is_script i) within = script_falls number i within
     object_falls number o (is_array i) within = array_falls number i within
     object_falls number o (is_host i) within = absurd (none_in number within)
-
-    -- no rank is as great as the limit
-
-    class_below : (name : List ℕ) (tree : Module) → modules name ≡ Some tree → (class : ℕ) → rank_in (ranks name) class ≤ 2 * max_module_types + 2
-    class_below name tree known class =
-        let r : AreRanks (signatures_of host tree) (ranks name) = ranked name tree known in
-        let small = ranks_within (length (signatures_of host tree).classes) (ranks name) r.within class in
-        let many = length-map tree.classes signature_of_class in
-        omega (arith, small, many, (sound name tree known).few_types)
-
-    handles_below : (name : List ℕ) (index : ℕ) (o : Option Module) → modules name ≡ o → option_map_or (λ (m : Module). greatest (rank_in (ranks name)) (classes_at m index)) o 0 ≤ 2 * max_module_types + 2
-    handles_below name index None e = omega arith
-    handles_below name index (Some tree) e = no_more (rank_in (ranks name)) (classes_at tree index) (2 * max_module_types + 2) (λ class within. class_below name tree e class)
-
-    rank_below : (shape : Shape) → rank_of modules ranks shape < rank_limit
-    rank_below (OfClass owner index) = omega (arith, handles_below owner index (modules owner) refl)
-    rank_below (OfElements of) = array_below of
-      where
-        array_below : (of : Elements (List ℕ)) → rank_of modules ranks (OfElements of) < rank_limit
-        array_below (Handles owner index) = omega (arith, handles_below owner index (modules owner) refl)
-        array_below _ = omega arith
-    rank_below (OfKind kind) = omega arith
-
-    rank_at_below : (o : Option Shape) → option_map_or (rank_of modules ranks) o 0 < rank_limit
-    rank_at_below None = omega arith
-    rank_at_below (Some shape) = rank_below shape
 
     falls_at : (one other : ℕ) (o : Option (Plain (List ℕ))) → ((object : Plain (List ℕ)) → o ≡ Some object → IsObject modules all object) → Contains (option_map_or (λ (object : Plain (List ℕ)). handles (fields_of object)) o []) other → rank_at modules ranks all other < option_map_or (rank_of modules ranks) (option_map shape_of o) 0
     falls_at one other None each refers = absurd (none_in other refers)

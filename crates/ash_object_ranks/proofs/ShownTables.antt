@@ -1,16 +1,15 @@
 -- Tables as plain data.
-use Rattle.std.proofs.Common.{◌≡◌, ◌<◌, ℕ, List, [], ◌∷◌, ◌↔◌, map, refl, sym, ap, ◌∙◌, subst}
-use Rattle.std.specs.Prelude.{Option, Some, None, IsSome, IsSomeAnd, Contains, option_map, is_some}
+use Rattle.std.proofs.Common.{◌≡◌, ℕ, List, [], refl, sym, ap, ◌∙◌, subst}
+use Rattle.std.specs.Prelude.{Option, Some, None, IsSomeAnd, Contains, option_map, is_some}
 use Rattle.std.specs.Option.{option_map_or}
 use Rattle.ash_host.specs.declared.host_object.HostObject.{Ghosts}
 use Rattle.ash_host.specs.declared.word.Word.{Word}
-use Rattle.ash_host.specs.Objects.{Plain, object_at, handles, fields_of, is_host, Lives, Refers}
-use Rattle.ash_host.specs.Reach.{AreObjectRanks}
+use Rattle.ash_host.specs.Objects.{Plain, object_at, handles, fields_of, is_host, Refers}
 use Rattle.ash_slots.specs.declared.body.Body.{Body}
 use Rattle.ash_slots.specs.declared.body.Body.TheVariants as bodies
 use Rattle.ash_slots.specs.Bodies.{words_of, is_boxed}
-use Rattle.ash_objects.specs.Table.{Living, Table}
-use Rattle.ash_objects.specs.Sweeping.{RefersTo, RanksFall}
+use Rattle.ash_objects.specs.Table.{Living}
+use Rattle.ash_objects.specs.Sweeping.{RefersTo}
 use Rattle.ash_objects.proofs.Marks.{object_at-mapped}
 use Rattle.ash_soundness.proofs.Values.{none_in}
 use Rattle.ash_object_ranks.specs.ShownTables.{SlotNames, body_shown, objects_shown}

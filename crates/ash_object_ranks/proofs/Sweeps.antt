@@ -1,5 +1,5 @@
 -- Sweeps of a table, as plain data.
-use Rattle.std.proofs.Common.{◌≡◌, ◌<◌, ℕ, Bool, true, false, cond, List, [], ◌∷◌, ◌++◌, map, refl, sym, ap, ◌∙◌, subst, ◌&&◌}
+use Rattle.std.proofs.Common.{◌≡◌, ℕ, Bool, true, false, cond, List, [], ◌∷◌, ◌++◌, map, refl, sym, ap, ◌∙◌, subst, ◌&&◌}
 use Rattle.std.specs.Prelude.{Option, Some, None, Contains, option_map, is_some, filter}
 use Rattle.std.specs.Option.{is_none}
 use Rattle.std.specs.Map.{keys_of}
@@ -7,23 +7,22 @@ use Rattle.ash_host.specs.declared.event.Event.{Event}
 use Rattle.ash_host.specs.declared.event.Event.TheVariants.{Dropped}
 use Rattle.ash_host.specs.declared.host_object.HostObject.{Ghosts}
 use Rattle.ash_host.specs.Objects.{Plain, LiveObjects, object_at, IsInOrder, Lives, is_host}
-use Rattle.ash_host.specs.Reach.{AreObjectRanks, Reachable, ReachableIn, is_reachable, after_sweep, hosts_gone, drops_of_sweep}
+use Rattle.ash_host.specs.Reach.{AreObjectRanks, ReachableIn, is_reachable, after_sweep, hosts_gone, drops_of_sweep}
 use Rattle.ash_host.proofs.Order.{same_in_order}
 use Rattle.ash_host.proofs.ReachLaws.{is_reachable_says, is_reachable_yes, object_at-after_sweep, sweep_is_exact}
 use Rattle.ash_host.proofs.SweepLaws.{reachable_along}
-use Rattle.ash_typed.specs.Signatures.{HostSignatures}
 use Rattle.ash_meaning.specs.Activity.{World, Frame}
 use Rattle.ash_meaning.specs.Releases.{roots, sweep}
 use Rattle.ash_slots.specs.Bodies.{is_boxed}
 use Rattle.ash_soundness.specs.WellFormed.{Known, Context, AreObjects, IsWorld}
-use Rattle.ash_objects.specs.Table.{Living, Table, holds_of}
-use Rattle.ash_objects.specs.Sweeping.{RefersTo, IsReachable, Collects, LeavesReachable, gone_from, drops}
+use Rattle.ash_objects.specs.Table.{Living, Table}
+use Rattle.ash_objects.specs.Sweeping.{IsReachable, Collects, LeavesReachable, gone_from, drops}
 use Rattle.ash_objects.proofs.Marks.{in_order-mapped}
 use Rattle.ash_object_ranks.specs.ObjectRanks.{ClassRanks, AreSound, HaveRanks, rank_at, rank_limit}
 use Rattle.ash_object_ranks.specs.ShownTables.{SlotNames, objects_shown}
-use Rattle.ash_object_ranks.specs.SweepLaws.{IsHeldBy, SweptByCounts, SweepsAs, Releases, SweepsTakeTheUnreachable, SweepsAreReleases}
+use Rattle.ash_object_ranks.specs.SweepLaws.{IsHeldBy, SweptByCounts, Releases, SweepsTakeTheUnreachable, SweepsAreReleases}
 use Rattle.ash_object_ranks.proofs.Ranked.{objects_have_ranks}
-use Rattle.ash_object_ranks.proofs.ShownTables.{living_shown, host_shown, shown_at, lives_shown, refers_shown, refers_of_shown, tables_have_ranks}
+use Rattle.ash_object_ranks.proofs.ShownTables.{living_shown, host_shown, shown_at, refers_shown, refers_of_shown, tables_have_ranks}
 
 none_from : {A : Type 0} (o : Option A) → (is_some o ≡ true → ⊥) → o ≡ None
 none_from None h = refl
@@ -36,9 +35,6 @@ module _ {B : Type 0} (G : Ghosts B) (names : SlotNames) where
   -- what is left of a table is what is left of its plain data
 
   module _ (held : List ℕ) (old new : Table B) (holds : IsHeldBy held old) (collects : Collects old new) (leaves : LeavesReachable old new) where
-    left : LiveObjects (List ℕ)
-    left = after_sweep held (shown old)
-
     reached : (number : ℕ) → ReachableIn (Contains held) (shown old) number → IsReachable old number
     reached number r = reachable_along (λ n i. (holds n).1 i) (λ one other refers. refers_of_shown G names old.objects one other refers) number r
 
@@ -104,12 +100,12 @@ module _ {B : Type 0} (G : Ghosts B) (names : SlotNames) where
 
   -- the laws
 
-  leaves_by : {modules : Known} {ranks : ClassRanks} (old new : Table B) → SweptByCounts old new → AreObjectRanks (rank_at modules ranks (shown old)) rank_limit (shown old) → LeavesReachable old new
-  leaves_by {modules} {ranks} old new swept falls = swept.reachable (rank_at modules ranks (shown old)) rank_limit (tables_have_ranks G names old (rank_at modules ranks (shown old)) rank_limit falls)
+  leaves_by : (modules : Known) (ranks : ClassRanks) (old new : Table B) → SweptByCounts old new → AreObjectRanks (rank_at modules ranks (shown old)) rank_limit (shown old) → LeavesReachable old new
+  leaves_by modules ranks old new swept falls = swept.reachable (rank_at modules ranks (shown old)) rank_limit (tables_have_ranks G names old (rank_at modules ranks (shown old)) rank_limit falls)
 
   pub sweeps_take_the_unreachable : SweepsTakeTheUnreachable G names
   sweeps_take_the_unreachable host modules ranks held old new sound ranked living holds swept =
-      let leaves = leaves_by {modules} {ranks} old new swept (objects_have_ranks sound ranked living) in
+      let leaves = leaves_by modules ranks old new swept (objects_have_ranks sound ranked living) in
       record {
         each = each held old new holds swept.collected leaves;
         all = λ before after. all held old new holds swept.collected leaves (in_order-mapped (living_shown G names) old.objects before) after;
@@ -119,7 +115,7 @@ module _ {B : Type 0} (G : Ghosts B) (names : SlotNames) where
   -- the same of a world
   module _ (c : Context) (ranks : ClassRanks) (frames : List Frame) (w : World) (old new : Table B) (sound : AreSound c.host c.modules) (ranked : HaveRanks c.host c.modules ranks) (h : IsWorld c w) (same : shown old ≡ w.objects) (holds : IsHeldBy (roots frames w) old) (swept : SweptByCounts old new) where
     leaves : LeavesReachable old new
-    leaves = leaves_by {modules = c.modules} {ranks} old new swept (objects_have_ranks sound ranked (subst (AreObjects c.modules) (sym same) h.living))
+    leaves = leaves_by c.modules ranks old new swept (objects_have_ranks sound ranked (subst (AreObjects c.modules) (sym same) h.living))
 
     left_is : after_sweep (roots frames w) (shown old) ≡ after_sweep (roots frames w) w.objects
     left_is = ap (after_sweep (roots frames w)) same

@@ -1,7 +1,6 @@
 -- That each class and each interface of a sound module has an index of its own, by which dispatch and casts find it.
 use Rattle.std.specs.Prelude.{◌≡◌, ◌<◌, ℕ, ◌+◌, length}
 use Rattle.ash_typed.specs.Modules.{Module}
-use Rattle.ash_typed.specs.ModuleLimits.{max_module_types}
 use Rattle.ash_meaning.specs.Classes.{place_of_class, place_of_interface}
 
 -- two classes with the same index are the same
