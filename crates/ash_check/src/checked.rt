@@ -61,6 +61,17 @@ impl CheckedScript {
         self.module
     }
 
+    /// What the script declares, typed, with a rank for each class by its place in the module's `classes`.
+    pub fn into_parts(self) -> (Module, Vec<usize>)
+        ensures tree { result.0 ≡ self.typed }
+        ensures sound { IsSound (offered self.registered) (module_of result.0) }
+        ensures items { result.1.items ≡ self.ranks }
+        ensures fall { AreRanks (signatures_of (offered self.registered) (module_of result.0))
+            result.1.items }
+    {
+        (self.module, self.ranks)
+    }
+
     /// A rank for each class, by its place in `module().classes`: a number below that of the classes, and greater than
     /// the rank of each class that it refers to.
     pub fn ranks(&self) -> &[usize]

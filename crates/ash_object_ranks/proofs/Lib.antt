@@ -1,0 +1,6 @@
+pub mod Greatest
+pub mod ClassesAt
+pub mod Indexes
+pub mod Ranked
+pub mod ShownTables
+pub mod Sweeps
