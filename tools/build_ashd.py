@@ -4,8 +4,10 @@ error how far it is."""
 import hashlib
 import os
 import re
+import shutil
 import subprocess
 import sys
+import tempfile
 import time
 
 from kit import TOP, need_rt, time_to_prove, uses_of_crates
@@ -15,8 +17,8 @@ PROGRAM = f"{OUT}/ashd"
 # The sum of the sources that the program was built from, and the program's own.
 RECORD = f"{OUT}/built-from"
 LOG = f"{OUT}/build.log"
-# What ashd serves an empty input with, since rt builds a program only where it runs it.
-WORDS = ("try", "--budget", "0", "--counters", "0")
+# What rt writes of a crate that is proved.
+PROVED = r"^rt: \w+ (?:proved|is kept:)"
 SECONDS_BETWEEN_LINES = 20
 LINES_OF_LOG = 20
 
@@ -72,52 +74,59 @@ def record(sources):
             file.write(f"{sources} {sum_of_file(PROGRAM)}\n")
 
 
-def lines_of_log(begin):
-    """What the log has from a byte on."""
-    with open(LOG, "rb") as file:
-        file.seek(begin)
-        return file.read().decode(errors="replace").splitlines()
+def lines_of_log():
+    with open(LOG, encoding="utf-8", errors="replace") as file:
+        return file.read().splitlines()
 
 
-def functions_so_far(begin):
-    """How many functions of a crate are proved, where rt has said it in the log from a byte on."""
-    found = re.findall(r"^so far: (\d+ of \d+ functions)", "\n".join(lines_of_log(begin)), re.M)
-    return f", {found[-1]}" if found else ""
+def copy_crates(to, crates):
+    """Copies these crates, without their must-fail edits, as a repository of their own."""
+    for crate in crates:
+        shutil.copytree(f"{TOP}/crates/{crate}", f"{to}/crates/{crate}", ignore=shutil.ignore_patterns("out", "must-fail"))
+    shutil.copy(f"{TOP}/HANDLES", to)
+    with open(f"{TOP}/crates.txt", encoding="utf-8") as file, open(f"{to}/crates.txt", "w", encoding="utf-8") as copy:
+        copy.writelines(it for it in file if (it.split() or [""])[0].rstrip(":") in crates)
 
 
-def build_crate(crate, count, start, log):
-    """Proves a crate, whose number among all is in `count`, and returns whether that went well."""
-    command = ["rt", "run", "--", *WORDS] if crate == "ashd" else ["rt", "lib"]
-    begin = os.path.getsize(LOG)
-    how = {"stdin": subprocess.DEVNULL, "stdout": log, "stderr": subprocess.STDOUT}
-    with subprocess.Popen(command, cwd=f"{TOP}/crates/{crate}", **how) as work:
-        while work.returncode is None:
-            minutes = int(time.monotonic() - start) // 60
-            write(f"proving {count}: {crate}{functions_so_far(begin)}, {minutes} min so far")
-            try:
-                work.wait(SECONDS_BETWEEN_LINES)
-            except subprocess.TimeoutExpired:
-                pass
-            except BaseException:
-                work.terminate()
-                raise
+def prove(folder, crates):
+    """Proves the crates of a repository and builds its programs, and returns whether that went well. rt takes what it has
+    proved on this machine before from its store, as what the gate proved."""
+    start = time.monotonic()
+    with open(LOG, "wb") as log:
+        how = {"cwd": folder, "stdin": subprocess.DEVNULL, "stdout": log, "stderr": subprocess.STDOUT}
+        with subprocess.Popen(["rt", "ci"], **how) as work:
+            while work.returncode is None:
+                proved, minutes = len(re.findall(PROVED, "\n".join(lines_of_log()), re.M)), int(time.monotonic() - start) // 60
+                write(f"proved {proved} of {len(crates)} crates, {minutes} min so far")
+                try:
+                    work.wait(SECONDS_BETWEEN_LINES)
+                except subprocess.TimeoutExpired:
+                    pass
+                except BaseException:
+                    work.terminate()
+                    raise
     return work.returncode == 0
 
 
 def build():
-    """Proves the crates of ashd, lowest first, and builds the program. Returns the status to end with."""
+    """Proves the crates of ashd and builds it, if that is not done for the present sources. Returns the status to end with."""
     sources = sum_of_sources()
     if is_built(sources):
         return 0
     os.makedirs(OUT, exist_ok=True)
     write(f"proving and building ashd. From nothing that takes {time_to_prove()}; rt's own lines go to {LOG}")
-    crates, start = in_order("ashd", uses_of_crates(), []), time.monotonic()
-    with open(LOG, "wb") as log:
-        for number, crate in enumerate(crates, 1):
-            if not build_crate(crate, f"{number} of {len(crates)}", start, log):
-                print(*lines_of_log(0)[-LINES_OF_LOG:], sep="\n", file=sys.stderr)
-                write(f"{crate} was not proved or not built. Above are the last lines of {LOG}")
-                return 1
+    crates = in_order("ashd", uses_of_crates(), [])
+    with tempfile.TemporaryDirectory(prefix="ashd-") as folder:
+        # rt runs what it built as another user
+        os.chmod(folder, 0o711)
+        copy_crates(folder, crates)
+        if not prove(folder, crates):
+            print(*lines_of_log()[-LINES_OF_LOG:], sep="\n", file=sys.stderr)
+            write(f"ashd was not proved or not built. Above are the last lines of {LOG}")
+            return 1
+        # under another name first, since the program may run
+        shutil.copy(f"{folder}/crates/ashd/out/ashd", f"{PROGRAM}.new")
+        os.replace(f"{PROGRAM}.new", PROGRAM)
     record(sources)
     return 0
 
@@ -127,7 +136,7 @@ if __name__ == "__main__":
     try:
         sys.exit(build())
     except KeyboardInterrupt:
-        write("stopped. What is proved is stored: the next call goes on from there")
+        write("stopped. Each crate that is proved is stored: the next call goes on from there")
         sys.exit(130)
     except OSError as error:
         write(str(error))

@@ -2,7 +2,7 @@
 # Such a test passes whichever of its allocations is refused. They are those of refusals.rt. OBJECTS_TESTS names the program
 # with the tests, else it is the one in the checkout, which `rt test` in crates/ash_objects_tests makes.
 
-tests=${OBJECTS_TESTS:-$top/crates/ash_objects_tests/out/ash_host_tests_tests}
+tests=${OBJECTS_TESTS:-$top/crates/ash_objects_tests/out/ash_objects_tests_tests}
 if [ ! -x "$tests" ]; then
     verdict 1 "the tests of the object table are not built (rt test in crates/ash_objects_tests does it): $tests"
     return
