@@ -34,8 +34,8 @@ def need_rt(command):
     """Ends this command where the toolchain is not installed."""
     if shutil.which("rt") is None:
         print(
-            f"{command}: the command rt is not on the PATH. Install the Rattle kit that README.md names under 'What is"
-            " trusted', and put its folder bin on the PATH.",
+            f"{command}: the command rt is not on the PATH. Install the Rattle kit that README.md names under"
+            " 'Building', and put its folder bin on the PATH.",
             file=sys.stderr,
         )
         sys.exit(127)
