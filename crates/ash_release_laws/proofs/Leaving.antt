@@ -35,6 +35,7 @@ use Rattle.ash_release_laws.specs.Settling.{AtEachEnd, Reaches, IsNumbered, IsSe
 use Rattle.ash_release_laws.specs.Leaving.{IsReachedAt, IsReachedThroughout, LivesWhileReached, LeavesAtTheFirst, LeaveOnTime, AtTheValue, LetsGoOnTime, LeaveIfItGoesOn, LetsGoIfItGoesOn, ObjectsLeaveOnTime}
 use Rattle.ash_release_laws.proofs.Roots.{changed_lived, changed_lives, made_lived, made_lives}
 use Rattle.ash_release_laws.proofs.Settling.{left_reached, reached_stays}
+use Rattle.ash_release_laws.proofs.Still.{none_there}
 use Rattle.ash_release_laws.proofs.Settled.{settles, goes_on_settled}
 use Rattle.ash_release_laws.proofs.PhraseSettling.{to_call, to_construct, to_full_expression, to_statement, to_body}
 
@@ -183,10 +184,6 @@ dropped_in : (n : ℕ) (ns : List ℕ) → Contains ns n → Contains (map Dropp
 dropped_in n [] c = absurd (none_in n c)
 dropped_in n (k ∷ ns) (zero, less, e) = subst (λ (j : ℕ). Contains (Dropped k ∷ map Dropped ns) (Dropped j)) e (first_in (Dropped k) (map Dropped ns))
 dropped_in n (k ∷ ns) (suc i, less, e) = later_in (Dropped k) (Dropped n) (map Dropped ns) (dropped_in n ns (i, omega arith, e))
-
-none_there : {A : Type 0} (o : Option A) → ¬ IsSome o → o ≡ None
-none_there None h = refl
-none_there (Some x) h = absurd (h refl)
 
 -- its release point says that it left
 said : (n : ℕ) (a : Activity) → ¬ Lives ((after_release a).world).objects n → (kind : ℕ) (state : List ℕ) → object_at n (a.world).objects ≡ Some (Host kind state) → Contains ((after_release a).world).events (Dropped n)

@@ -5,6 +5,7 @@ pub mod PhraseSettling
 pub mod Settled
 pub mod Leaving
 pub mod WholeRuns
+pub mod Still
 pub mod WrongMeanings
 pub mod Safe
 pub mod Dangling

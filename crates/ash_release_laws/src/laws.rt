@@ -1,10 +1,12 @@
 //! The laws of release points. A function without a body does nothing: its contract is the law.
-ghost use Rattle.std.specs.Prelude.{ℕ};
+ghost use Rattle.std.specs.Prelude.{◌≡◌, ℕ};
 ghost use Rattle.ash_host.specs.Objects.{AreNumbered};
 ghost use Rattle.ash_meaning.specs.Activity.{World, Activity};
 ghost use Rattle.ash_meaning.specs.Classes.{Program};
+ghost use Rattle.ash_meaning.specs.Releases.{release};
+ghost use Rattle.ash_meaning.specs.Runs.{Done};
 ghost use Rattle.ash_meaning.specs.Traces.{Trace};
-ghost use Rattle.ash_release_laws.specs.Settling.{IsNumbered, ReleasePointsSettle, HoldsUntilTheEnd};
+ghost use Rattle.ash_release_laws.specs.Settling.{IsNumbered, IsSettled, ReleasePointsSettle, HoldsUntilTheEnd};
 ghost use Rattle.ash_release_laws.specs.Leaving.{LivesWhileReached, ObjectsLeaveOnTime, RunsLeaveOnTime};
 
 /// If every object that lives can be reached, each phrase leaves it so, at each of its ends: an expression, a statement
@@ -17,6 +19,13 @@ pub fn release_points_settle()
 /// or a caller has as a handle lives on.
 pub fn what_is_held_stays()
     ensures held { (program : Program) (depth : ℕ) → HoldsUntilTheEnd program depth }
+{}
+
+/// If every object that lives can be reached, a release point changes nothing. So more of them within an expression, or
+/// between statements, would let nothing go earlier.
+pub fn a_settled_release_changes_nothing()
+    ensures same { (activity : Activity) → IsNumbered activity → IsSettled activity
+        → release activity ≡ Done tt activity }
 {}
 
 /// Along a trace an object lives exactly as long as it can be reached at each release point.
