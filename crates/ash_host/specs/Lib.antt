@@ -4,6 +4,7 @@ pub mod Limits
 pub mod Ints
 pub mod Kinds
 pub mod Objects
+pub mod ElementTags
 pub mod Reach
 pub mod Records
 pub mod Saved

@@ -1,9 +1,7 @@
 -- What the code's objects represent.
 use Rattle.std.specs.Prelude.{ℕ, List}
-use Rattle.ash_host.specs.Objects.{Elements, Bools, Ints, Uints, Int64s, Uint64s}
-use Rattle.ash_host.specs.Objects.{Handles, Hosts, Plain, Script, Array, Host}
-use Rattle.ash_image.specs.declared.stored.ElementType.{ElementType}
-use Rattle.ash_image.specs.declared.stored.ElementType.TheVariants as elements
+use Rattle.ash_host.specs.ElementTags.{element_of}
+use Rattle.ash_host.specs.Objects.{Plain, Script, Array, Host}
 use Rattle.ash_image.specs.declared.stored.StoredBody.{StoredBody}
 use Rattle.ash_image.specs.declared.stored.StoredBody.TheVariants as bodies
 use Rattle.ash_image.specs.declared.stored.StoredScript.{StoredScript}
@@ -11,15 +9,6 @@ use Rattle.ash_image.specs.declared.stored.StoredHost.{StoredHost}
 use Rattle.ash_image.specs.declared.stored.StoredArray.{StoredArray}
 use Rattle.ash_image.specs.declared.parts.BodyParts.{BodyParts}
 use Rattle.ash_image.specs.declared.parts.BodyParts.TheVariants as parts
-
-abbrev pub element_of : ElementType → Elements ℕ
-element_of elements.Bool = Bools
-element_of elements.Int = Ints
-element_of elements.Uint = Uints
-element_of elements.Int64 = Int64s
-element_of elements.Uint64 = Uint64s
-element_of (elements.Class owner class) = Handles owner class
-element_of (elements.Host kind) = Hosts kind
 
 -- what was read
 

@@ -4,7 +4,8 @@ ghost use Rattle.std.specs.Prelude.{◌≡◌, ◌<◌, ◌≤◌, ◌+◌, ◌*
 ghost use Rattle.std.specs.List.{flat_map};
 ghost use Rattle.ash_image.specs.ImageWords.{word};
 ghost use Rattle.ash_image.specs.ObjectBytes.{element, host, plain, FitsHost, FitsPlain};
-ghost use Rattle.ash_image.specs.ImageObjectViews.{element_of, plain_in};
+ghost use Rattle.ash_host.specs.ElementTags.{element_of};
+ghost use Rattle.ash_image.specs.ImageObjectViews.{plain_in};
 ghost use Rattle.ash_image.specs.Image.{loaded_module, service, object, image_of};
 ghost use Rattle.ash_image.specs.Image.{FitsModule, FitsObject, FitServices};
 ghost use Rattle.ash_image.specs.Image.{FitModules, FitObjects, FitsVersion};
@@ -13,8 +14,7 @@ ghost use Rattle.ash_image.specs.SnapshotViews.{object_in, objects_in, snapshot_
 ghost use Rattle.ash_image.specs.declared.version.Version.TheVariants.{Two};
 
 use crate::parts::{BodyParts, HostParts, ModuleParts, ObjectParts, StateParts};
-use crate::stored::ElementType;
-use ash_host::Word;
+use ash_host::{ElementTag, Word};
 
 fn word_length(value: Word) -> usize
     ensures exact { result ≡ length (word value) }
@@ -40,18 +40,18 @@ fn words_length(words: &[Word]) -> usize
     total
 }
 
-fn element_length(of: ElementType) -> usize
+fn element_length(of: ElementTag) -> usize
     ensures exact { result ≡ length (element (element_of of)) }
     ensures most { result ≤ 4 }
 {
     match of {
-        ElementType::Class(_, _) => 4,
-        ElementType::Host(_) => 3,
-        ElementType::Bool
-        | ElementType::Int
-        | ElementType::Uint
-        | ElementType::Int64
-        | ElementType::Uint64 => 1,
+        ElementTag::Class(_, _) => 4,
+        ElementTag::Kind(_) => 3,
+        ElementTag::Bool
+        | ElementTag::Int
+        | ElementTag::Uint
+        | ElementTag::Int64
+        | ElementTag::Uint64 => 1,
     }
 }
 

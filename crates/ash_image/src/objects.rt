@@ -22,39 +22,40 @@ ghost use Rattle.ash_image.specs.ObjectBytes.{FitsScript, FitsHost, FitsArray};
 ghost use Rattle.ash_image.specs.ObjectBytes.{element_at, kind_and_state_at};
 ghost use Rattle.ash_image.specs.ObjectBytes.{script_at, array_at};
 ghost use Rattle.ash_image.specs.ObjectBytes.{plain_at};
-ghost use Rattle.ash_image.specs.ImageObjectViews.{element_of, script_of, service_of};
+ghost use Rattle.ash_host.specs.ElementTags.{element_of};
+ghost use Rattle.ash_image.specs.ImageObjectViews.{script_of, service_of};
 ghost use Rattle.ash_image.specs.ImageObjectViews.{array_of, plain_of, plain_in};
 ghost use Rattle.ash_image.specs.declared.fields.ReadError.TheVariants.{Damaged};
 
 use crate::fields::{ReadError, prefix, u8_at, u16_at, write_u8, write_u16};
 use crate::limits::MAX_CLASS_MEMBERS;
 use crate::parts::{ArrayParts, BodyParts, HostParts, ScriptParts};
-use crate::stored::{ElementType, StoredArray, StoredBody, StoredHost, StoredScript};
+use crate::stored::{StoredArray, StoredBody, StoredHost, StoredScript};
 use crate::words::{words_of, write_words};
-use ash_host::{MAX_ELEMENTS, MAX_STATE_BYTES};
+use ash_host::{ElementTag, MAX_ELEMENTS, MAX_STATE_BYTES};
 use std::alloc::{AllocError, Global};
 
 #[tactic(auto, unfolding(crate::specs::ObjectBytes::element_at, crate::specs::ObjectBytes::element_case))]
-fn element_of(bytes: &[u8]) -> Result<(ElementType, &[u8]), ReadError>
+fn element_of(bytes: &[u8]) -> Result<(ElementTag, &[u8]), ReadError>
     ensures read { ReturnsField (λ x. (element_of x.0, x.1.now)) result (element_at bytes.now) }
     // It takes no memory.
     ensures no_memory { IsOkUnless result Damaged }
 {
     let (tag, rest) = u8_at(bytes)?;
     match tag {
-        0 => Ok((ElementType::Bool, rest)),
-        1 => Ok((ElementType::Int, rest)),
-        2 => Ok((ElementType::Uint, rest)),
-        3 => Ok((ElementType::Int64, rest)),
-        4 => Ok((ElementType::Uint64, rest)),
+        0 => Ok((ElementTag::Bool, rest)),
+        1 => Ok((ElementTag::Int, rest)),
+        2 => Ok((ElementTag::Uint, rest)),
+        3 => Ok((ElementTag::Int64, rest)),
+        4 => Ok((ElementTag::Uint64, rest)),
         5 => {
             let (module, rest) = u8_at(rest)?;
             let (class, rest) = u16_at(rest)?;
-            Ok((ElementType::Class(module, class), rest))
+            Ok((ElementTag::Class(module, class), rest))
         }
         6 => {
             let (kind, rest) = u16_at(rest)?;
-            Ok((ElementType::Host(kind), rest))
+            Ok((ElementTag::Kind(kind), rest))
         }
         _ => Err(ReadError::Damaged),
     }
@@ -131,21 +132,21 @@ pub fn body_of(alloc: Global, bytes: &[u8]) -> Result<(StoredBody, &[u8]), ReadE
     }
 }
 
-fn write_element(out: &mut Vec<u8>, of: ElementType) -> Result<(), AllocError>
+fn write_element(out: &mut Vec<u8>, of: ElementTag) -> Result<(), AllocError>
     ensures value { OnOk result (out.new.items ≡ out.old.items ++ element (element_of of)) }
 {
     match of {
-        ElementType::Bool => write_u8(out, 0),
-        ElementType::Int => write_u8(out, 1),
-        ElementType::Uint => write_u8(out, 2),
-        ElementType::Int64 => write_u8(out, 3),
-        ElementType::Uint64 => write_u8(out, 4),
-        ElementType::Class(module, class) => {
+        ElementTag::Bool => write_u8(out, 0),
+        ElementTag::Int => write_u8(out, 1),
+        ElementTag::Uint => write_u8(out, 2),
+        ElementTag::Int64 => write_u8(out, 3),
+        ElementTag::Uint64 => write_u8(out, 4),
+        ElementTag::Class(module, class) => {
             write_u8(out, 5)?;
             write_u8(out, module)?;
             write_u16(out, class)
         }
-        ElementType::Host(kind) => {
+        ElementTag::Kind(kind) => {
             write_u8(out, 6)?;
             write_u16(out, kind)
         }

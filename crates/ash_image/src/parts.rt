@@ -1,7 +1,6 @@
 //! The parts of a state that is to be stored.
 
-use crate::stored::ElementType;
-use ash_host::Word;
+use ash_host::{ElementTag, Word};
 
 /// An object of a script's class.
 #[derive(Clone, Copy, Debug)]
@@ -24,7 +23,7 @@ pub struct HostParts<'a> {
 /// An array.
 #[derive(Clone, Copy, Debug)]
 pub struct ArrayParts<'a> {
-    pub element: ElementType,
+    pub element: ElementTag,
     pub elements: &'a [Word],
 }
 

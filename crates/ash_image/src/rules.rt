@@ -4,7 +4,8 @@ ghost use Rattle.std.specs.Prelude.{◌≡◌, ◌↔◌, IfOk, IsTrue};
 ghost use Rattle.std.specs.List.{list_all};
 ghost use Rattle.ash_host.specs.Objects.{numbers, fields_of};
 ghost use Rattle.ash_host.specs.Reach.{is_among};
-ghost use Rattle.ash_image.specs.ImageObjectViews.{element_of, plain_of};
+ghost use Rattle.ash_host.specs.ElementTags.{element_of};
+ghost use Rattle.ash_image.specs.ImageObjectViews.{plain_of};
 ghost use Rattle.ash_image.specs.Image.{do_rise};
 ghost use Rattle.ash_image.specs.Rules.{is_given, is_placed, is_element};
 ghost use Rattle.ash_image.specs.Rules.{are_elements, all_live};
@@ -13,8 +14,8 @@ ghost use Rattle.ash_image.specs.Rules.{is_whole, KeepsRules};
 ghost use Rattle.ash_image.specs.SnapshotViews.{object_of, objects_of, modules_of, snapshot_of};
 
 use crate::reaching::are_reached;
-use crate::stored::{ElementType, StoredBody, StoredModule, StoredObject, StoredState, words_of};
-use ash_host::Word;
+use crate::stored::{StoredBody, StoredModule, StoredObject, StoredState, words_of};
+use ash_host::{ElementTag, Word};
 use std::alloc::{AllocError, Global};
 
 fn is_given(object: &StoredObject, last: u64) -> bool
@@ -41,7 +42,7 @@ fn is_placed(body: &StoredBody, modules: usize) -> bool
     match body {
         StoredBody::Script(script) => (script.owner as usize) < modules,
         StoredBody::Array(array) => match array.element {
-            ElementType::Class(owner, _) => (owner as usize) < modules,
+            ElementTag::Class(owner, _) => (owner as usize) < modules,
             _ => true,
         },
         StoredBody::Host(_) => true,
@@ -61,20 +62,20 @@ fn are_placed(objects: &[StoredObject], modules: usize) -> bool
 }
 
 /// Whether an array of such elements may hold a word, as far as the array says it.
-fn is_element(of: ElementType, word: Word) -> bool
+fn is_element(of: ElementTag, word: Word) -> bool
     ensures value { result ≡ is_element (element_of of) word }
 {
     match of {
-        ElementType::Bool => matches!(word, Word::Bool(_)),
-        ElementType::Int => matches!(word, Word::Int(_)),
-        ElementType::Uint => matches!(word, Word::Uint(_)),
-        ElementType::Int64 => matches!(word, Word::Int64(_)),
-        ElementType::Uint64 => matches!(word, Word::Uint64(_)),
-        ElementType::Class(_, _) | ElementType::Host(_) => true,
+        ElementTag::Bool => matches!(word, Word::Bool(_)),
+        ElementTag::Int => matches!(word, Word::Int(_)),
+        ElementTag::Uint => matches!(word, Word::Uint(_)),
+        ElementTag::Int64 => matches!(word, Word::Int64(_)),
+        ElementTag::Uint64 => matches!(word, Word::Uint64(_)),
+        ElementTag::Class(_, _) | ElementTag::Kind(_) => true,
     }
 }
 
-fn all_elements(of: ElementType, words: &[Word]) -> bool
+fn all_elements(of: ElementTag, words: &[Word]) -> bool
     ensures value { result ≡ list_all (is_element (element_of of)) words.now }
 {
     for word in words {

@@ -5,22 +5,7 @@ ghost use Rattle.ash_host.specs.Objects.{fields_of};
 ghost use Rattle.ash_image.specs.ImageObjectViews.{plain_of};
 
 use crate::version::Version;
-use ash_host::Word;
-
-/// What the elements of an array are.
-#[derive(Clone, Copy, Debug, PartialEq, Eq)]
-pub enum ElementType {
-    Bool,
-    Int,
-    Uint,
-    Int64,
-    Uint64,
-    /// Handles to objects of a class or an interface: the index of its module in the list of modules, and its index in
-    /// the module's source.
-    Class(u8, u16),
-    /// Handles to host objects of a kind.
-    Host(u16),
-}
+use ash_host::{ElementTag, Word};
 
 /// An object of a script's class.
 #[derive(Debug, Drop)]
@@ -43,7 +28,7 @@ pub struct StoredHost {
 /// An array.
 #[derive(Debug, Drop)]
 pub struct StoredArray {
-    pub element: ElementType,
+    pub element: ElementTag,
     pub elements: Vec<Word>,
 }
 

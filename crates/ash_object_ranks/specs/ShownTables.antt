@@ -3,8 +3,8 @@ use Rattle.std.specs.Prelude.{ℕ, List, map}
 use Rattle.ash_host.specs.declared.host_object.HostObject.{Ghosts}
 use Rattle.ash_host.specs.Objects.{Elements, Bools, Ints, Uints, Int64s, Uint64s, Handles, Hosts}
 use Rattle.ash_host.specs.Objects.{Plain, Script, Array, Host, LiveObjects}
-use Rattle.ash_slots.specs.declared.body.ElementTag.{ElementTag}
-use Rattle.ash_slots.specs.declared.body.ElementTag.TheVariants as tags
+use Rattle.ash_host.specs.declared.element.ElementTag.{ElementTag}
+use Rattle.ash_host.specs.declared.element.ElementTag.TheVariants as tags
 use Rattle.ash_slots.specs.declared.body.Body.{Body}
 use Rattle.ash_slots.specs.declared.body.Body.TheVariants as bodies
 use Rattle.ash_objects.specs.Table.{Living}

@@ -8,7 +8,8 @@ use Rattle.ash_host.specs.Objects.{object_at, IsInOrder, Lives}
 use Rattle.ash_slots.specs.declared.body.Body.{Body}
 use Rattle.ash_slots.specs.declared.body.Body.TheVariants.{Script, Array, Host}
 use Rattle.ash_slots.specs.declared.body.Array as arrays
-use Rattle.ash_slots.specs.Bodies.{words_of, with_word, initial_of}
+use Rattle.ash_host.specs.ElementTags.{initial_of}
+use Rattle.ash_slots.specs.Bodies.{words_of, with_word}
 use Rattle.ash_slots.specs.SlotArrays.{array_of, with_words, lengthened}
 use Rattle.ash_objects.specs.Arrays.{array_at, with_elements}
 use Rattle.ash_objects.specs.Table.{Living, Table, slot_of, field_of, with_object, with_field}

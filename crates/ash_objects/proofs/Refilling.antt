@@ -11,10 +11,11 @@ use Rattle.ash_host.specs.Objects.{object_at, IsInOrder, handles_to, is_handle_t
 use Rattle.ash_slots.specs.declared.body.Body.{Body}
 use Rattle.ash_slots.specs.declared.body.Body.TheVariants.{Script, Array, Host}
 use Rattle.ash_slots.specs.declared.body.Array as arrays
-use Rattle.ash_slots.specs.declared.body.ElementTag.{ElementTag}
+use Rattle.ash_host.specs.declared.element.ElementTag.{ElementTag}
 use Rattle.ash_slots.specs.declared.entry.Occupant.{Occupant}
-use Rattle.ash_slots.specs.declared.body.ElementTag.TheVariants as elements
-use Rattle.ash_slots.specs.Bodies.{words_of, initial_of}
+use Rattle.ash_host.specs.declared.element.ElementTag.TheVariants as elements
+use Rattle.ash_host.specs.ElementTags.{initial_of}
+use Rattle.ash_slots.specs.Bodies.{words_of}
 use Rattle.ash_slots.specs.SlotArrays.{array_of, with_words, stored_array, refilled, lengthened}
 use Rattle.ash_objects.specs.Arrays.{array_at, elements_of, elements_at, with_elements}
 use Rattle.ash_slots.specs.Store.{SlotEntry, IsIn, with_item, change_at}

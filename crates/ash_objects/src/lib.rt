@@ -23,8 +23,8 @@ mod restoring;
 mod sweeping;
 
 pub use arrays::{IndexOutOfBounds, LengthFault};
-pub use ash_host::{MAX_ELEMENTS, MAX_OBJECTS};
-pub use ash_slots::{Array, Body, ElementTag, Script, Words};
+pub use ash_host::{ElementTag, MAX_ELEMENTS, MAX_OBJECTS};
+pub use ash_slots::{Array, Body, Script, Words};
 pub use making::MakeFault;
 pub use marking::Changes;
 pub use objects::Objects;

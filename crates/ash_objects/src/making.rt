@@ -6,15 +6,16 @@ ghost use Rattle.std.specs.List.{remove, position};
 ghost use Rattle.ash_host.specs.declared.event.Event.{Event};
 ghost use Rattle.ash_objects.specs.declared.making.MakeFault.{MakeFault};
 ghost use Rattle.ash_slots.specs.declared.body.Body.{Body};
-ghost use Rattle.ash_slots.specs.Bodies.{words_of, initial_of};
+ghost use Rattle.ash_host.specs.ElementTags.{initial_of};
+ghost use Rattle.ash_slots.specs.Bodies.{words_of};
 ghost use Rattle.ash_objects.specs.Table.{slot_of, IsAlive};
 ghost use Rattle.ash_host.specs.Limits.{max_objects, max_elements};
 ghost use Rattle.ash_objects.specs.Making.{IsFull, IsSpent, first_of_kind, with_new_object};
 
 use crate::counting::refer_words;
 use crate::objects::Objects;
-use ash_host::{Event, HostObject, MAX_ELEMENTS, MAX_OBJECTS, NoMemory};
-use ash_slots::{Array, Body, ElementTag, Occupant, Script, Words};
+use ash_host::{ElementTag, Event, HostObject, MAX_ELEMENTS, MAX_OBJECTS, NoMemory};
+use ash_slots::{Array, Body, Occupant, Script, Words};
 use thiserror::Error;
 
 /// Why no object was made.

@@ -10,7 +10,8 @@ use ash_host::Word;
 use std::alloc::{AllocError, Global};
 
 /// What the elements of an array are of. Handles of objects of a class or an interface have the module, and the place
-/// of the class or the interface in its source.
+/// of the class or the interface in its source. It is not `ash_host`'s `ElementTag`, since a module is known by its name
+/// here, and has no number.
 #[derive(Drop)]
 pub enum Elements {
     Bools,

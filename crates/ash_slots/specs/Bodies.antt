@@ -1,10 +1,7 @@
 -- What objects hold.
-use Rattle.std.specs.Prelude.{ℕ, Bool, true, false, List, [], slice_set, pos}
+use Rattle.std.specs.Prelude.{ℕ, Bool, true, false, List, [], slice_set}
 use Rattle.ash_host.specs.declared.word.Word.{Word}
 use Rattle.ash_slots.specs.declared.body.Body.{Body}
-use Rattle.ash_slots.specs.declared.body.ElementTag.{ElementTag}
-use Rattle.ash_slots.specs.declared.body.ElementTag.TheVariants as elements
-use Rattle.ash_host.specs.declared.word.Word.TheVariants as words
 use Rattle.ash_slots.specs.declared.body.Body.TheVariants.{Script, Array, Host}
 
 -- the words that an object holds; a host object holds none
@@ -24,13 +21,3 @@ abbrev pub is_boxed : {B : Type 0} → Body B → Bool
 is_boxed (Script _) = false
 is_boxed (Array _) = false
 is_boxed (Host _) = true
-
--- what an element of an array is before anything is written to it: zero, or null
-abbrev pub initial_of : ElementTag → Word
-initial_of elements.Bool = words.Bool false
-initial_of elements.Int = words.Int (pos 0)
-initial_of elements.Uint = words.Uint 0
-initial_of elements.Int64 = words.Int64 (pos 0)
-initial_of elements.Uint64 = words.Uint64 0
-initial_of (elements.Class _ _) = words.Null
-initial_of (elements.Kind _) = words.Null

@@ -6,7 +6,7 @@ use Rattle.ash_host.specs.Objects.{object_at}
 use Rattle.ash_slots.specs.declared.body.Array as arrays
 use Rattle.ash_slots.specs.declared.body.Body.{Body}
 use Rattle.ash_slots.specs.declared.body.Body.TheVariants.{Script, Array, Host}
-use Rattle.ash_slots.specs.Bodies.{initial_of}
+use Rattle.ash_host.specs.ElementTags.{initial_of}
 use Rattle.ash_slots.specs.Store.{SlotEntry, IsIn, with_item}
 
 module _ {B : Type 0} where

@@ -1,9 +1,9 @@
 //! What an object is.
 ghost use Rattle.std.specs.Prelude.{◌≡◌};
-ghost use Rattle.ash_slots.specs.Bodies.{words_of, is_boxed, initial_of};
+ghost use Rattle.ash_slots.specs.Bodies.{words_of, is_boxed};
 
 use crate::words::Words;
-use ash_host::Word;
+use ash_host::{ElementTag, Word};
 
 /// What an object is, beside its number and its count.
 #[derive(Drop)]
@@ -34,36 +34,6 @@ pub struct Array {
     pub element: ElementTag,
     /// Its elements, in order.
     pub elements: Words,
-}
-
-/// What the elements of an array are.
-#[derive(Clone, Copy, Debug, PartialEq, Eq)]
-pub enum ElementTag {
-    Bool,
-    Int,
-    Uint,
-    Int64,
-    Uint64,
-    /// Handles to objects of the class or interface at a place in the source of the module in a slot.
-    Class(u8, u16),
-    /// Handles to host objects of a kind.
-    Kind(u16),
-}
-
-impl ElementTag {
-    /// What an element is before anything is written to it.
-    pub fn initial(self) -> Word
-        ensures initial { result ≡ initial_of self }
-    {
-        match self {
-            ElementTag::Bool => Word::Bool(false),
-            ElementTag::Int => Word::Int(0),
-            ElementTag::Uint => Word::Uint(0),
-            ElementTag::Int64 => Word::Int64(0),
-            ElementTag::Uint64 => Word::Uint64(0),
-            ElementTag::Class(_, _) | ElementTag::Kind(_) => Word::Null,
-        }
-    }
 }
 
 impl<B> Body<B> {

@@ -16,7 +16,7 @@ mod fields;
 mod store;
 mod words;
 
-pub use body::{Array, Body, ElementTag, Script};
+pub use body::{Array, Body, Script};
 pub use calling::{box_in, invoke_in, set_in, start_in};
 pub use counting::{add_ref, decrement_count, increment_count, remove_ref};
 pub use elements::{grow_elements, set_elements, take_elements};

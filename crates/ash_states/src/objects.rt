@@ -5,11 +5,13 @@ ghost use Rattle.ash_host.specs.Objects.{numbers};
 ghost use Rattle.ash_plain_data.specs.ObjectViews.{element_seen, object_seen};
 ghost use Rattle.ash_plain_steps.specs.StateViews.{modules_seen};
 ghost use Rattle.ash_image.specs.Image.{do_rise};
-ghost use Rattle.ash_image.specs.ImageObjectViews.{element_of, plain_of};
+ghost use Rattle.ash_host.specs.ElementTags.{element_of};
+ghost use Rattle.ash_image.specs.ImageObjectViews.{plain_of};
 ghost use Rattle.ash_image.specs.SnapshotViews.{objects_of};
 ghost use Rattle.ash_states.specs.Images.{name_at, element_named, plain_named, entry_named};
 
-use ash_image::stored::{ElementType, StoredBody, StoredObject};
+use ash_host::ElementTag;
+use ash_image::stored::{StoredBody, StoredObject};
 use ash_plain_data::object::{Elements, Object};
 use ash_plain_steps::state::LoadedModule;
 use ash_plain_world::objects::ObjectMap;
@@ -29,25 +31,25 @@ fn name_at(modules: &[LoadedModule], index: u8) -> &str
 fn element_of(
     alloc: Global,
     modules: &[LoadedModule],
-    of: ElementType,
+    of: ElementTag,
 ) -> Result<Elements, AllocError>
     ensures value { IfOk result (λ e. element_seen e
         ≡ element_named (name_at (modules_seen modules.now)) (element_of of)) }
 {
     match of {
-        ElementType::Bool => Ok(Elements::Bools),
-        ElementType::Int => Ok(Elements::Ints),
-        ElementType::Uint => Ok(Elements::Uints),
-        ElementType::Int64 => Ok(Elements::Int64s),
-        ElementType::Uint64 => Ok(Elements::Uint64s),
-        ElementType::Class(owner, place) => {
+        ElementTag::Bool => Ok(Elements::Bools),
+        ElementTag::Int => Ok(Elements::Ints),
+        ElementTag::Uint => Ok(Elements::Uints),
+        ElementTag::Int64 => Ok(Elements::Int64s),
+        ElementTag::Uint64 => Ok(Elements::Uint64s),
+        ElementTag::Class(owner, place) => {
             let owner = String::from_str(alloc, name_at(modules, owner))?;
             Ok(Elements::Handles {
                 owner,
                 place: usize::from(place),
             })
         }
-        ElementType::Host(kind) => Ok(Elements::Hosts(kind)),
+        ElementTag::Kind(kind) => Ok(Elements::Hosts(kind)),
     }
 }
 

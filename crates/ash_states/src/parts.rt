@@ -5,7 +5,8 @@ ghost use Rattle.std.specs.List.{position, AllByRecursion};
 ghost use Rattle.ash_requests.specs.States.{has_name};
 ghost use Rattle.ash_plain_data.specs.ObjectViews.{element_seen, object_seen};
 ghost use Rattle.ash_plain_steps.specs.StateViews.{loaded_seen, modules_seen};
-ghost use Rattle.ash_image.specs.ImageObjectViews.{element_of, plain_in};
+ghost use Rattle.ash_host.specs.ElementTags.{element_of};
+ghost use Rattle.ash_image.specs.ImageObjectViews.{plain_in};
 ghost use Rattle.ash_image.specs.SnapshotViews.{modules_in, objects_in};
 ghost use Rattle.ash_states.specs.Indexes.{index_in, element_indexed, plain_indexed};
 ghost use Rattle.ash_states.specs.Indexes.{entry_indexed, stored_modules_of};
@@ -13,8 +14,8 @@ ghost use Rattle.ash_states.specs.Indexes.{IsElementIndexed, IsPlainIndexed};
 ghost use Rattle.ash_states.specs.Indexes.{HasElementKind, HasKind};
 ghost use Rattle.ash_states.specs.Writing.{HavePartKinds};
 
+use ash_host::ElementTag;
 use ash_image::parts::{ArrayParts, BodyParts, HostParts, ModuleParts, ObjectParts, ScriptParts};
-use ash_image::stored::ElementType;
 use ash_plain_data::object::{Elements, Object};
 use ash_plain_steps::state::LoadedModule;
 use ash_plain_world::objects::ObjectMap;
@@ -35,22 +36,22 @@ fn index_of(modules: &[LoadedModule], name: &str) -> usize
 }
 
 /// What the elements of an array are.
-fn element_type(modules: &[LoadedModule], of: &Elements) -> ElementType
+fn element_type(modules: &[LoadedModule], of: &Elements) -> ElementTag
     requires indexed { IsElementIndexed (modules_seen modules.now) (element_seen of.now) }
     ensures indexed { element_of result
         ≡ element_indexed (index_in (modules_seen modules.now)) (element_seen of.now) }
     ensures kind { HasElementKind (element_of result) }
 {
     match of {
-        Elements::Bools => ElementType::Bool,
-        Elements::Ints => ElementType::Int,
-        Elements::Uints => ElementType::Uint,
-        Elements::Int64s => ElementType::Int64,
-        Elements::Uint64s => ElementType::Uint64,
+        Elements::Bools => ElementTag::Bool,
+        Elements::Ints => ElementTag::Int,
+        Elements::Uints => ElementTag::Uint,
+        Elements::Int64s => ElementTag::Int64,
+        Elements::Uint64s => ElementTag::Uint64,
         Elements::Handles { owner, place } => {
-            ElementType::Class(index_of(modules, owner.as_str()) as u8, *place as u16)
+            ElementTag::Class(index_of(modules, owner.as_str()) as u8, *place as u16)
         }
-        Elements::Hosts(kind) => ElementType::Host(*kind),
+        Elements::Hosts(kind) => ElementTag::Kind(*kind),
     }
 }
 

@@ -1,9 +1,9 @@
 //! The image of what was read, written by the layout alone, without the code that is tested.
 
-use ash_host::Word;
+use ash_host::{ElementTag, Word};
 use ash_image::stored::{
-    ElementType, StoredArray, StoredBody, StoredHost, StoredImage, StoredModule, StoredObject,
-    StoredScript, StoredState,
+    StoredArray, StoredBody, StoredHost, StoredImage, StoredModule, StoredObject, StoredScript,
+    StoredState,
 };
 use ash_image::version::Version;
 use std::alloc::{AllocError, Global};
@@ -89,18 +89,18 @@ fn add_script(out: &mut Vec<u8>, script: &StoredScript) -> Result<(), AllocError
 }
 
 /// What the elements of an array are.
-fn add_element(out: &mut Vec<u8>, element: ElementType) -> Result<(), AllocError> {
+fn add_element(out: &mut Vec<u8>, element: ElementTag) -> Result<(), AllocError> {
     match element {
-        ElementType::Bool => out.extend_from_slice(&[0]),
-        ElementType::Int => out.extend_from_slice(&[1]),
-        ElementType::Uint => out.extend_from_slice(&[2]),
-        ElementType::Int64 => out.extend_from_slice(&[3]),
-        ElementType::Uint64 => out.extend_from_slice(&[4]),
-        ElementType::Class(owner, class) => {
+        ElementTag::Bool => out.extend_from_slice(&[0]),
+        ElementTag::Int => out.extend_from_slice(&[1]),
+        ElementTag::Uint => out.extend_from_slice(&[2]),
+        ElementTag::Int64 => out.extend_from_slice(&[3]),
+        ElementTag::Uint64 => out.extend_from_slice(&[4]),
+        ElementTag::Class(owner, class) => {
             out.extend_from_slice(&[5, owner])?;
             out.extend_from_slice(&class.to_le_bytes())
         }
-        ElementType::Host(kind) => {
+        ElementTag::Kind(kind) => {
             out.push(6)?;
             out.extend_from_slice(&kind.to_le_bytes())
         }

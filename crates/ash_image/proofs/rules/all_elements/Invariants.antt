@@ -1,6 +1,6 @@
 use Rattle.std.proofs.Common.{◌≡◌, drop}
 use Rattle.std.specs.List.{list_all}
-use Rattle.ash_image.specs.ImageObjectViews.{element_of}
+use Rattle.ash_host.specs.ElementTags.{element_of}
 use Rattle.ash_image.specs.Rules.{is_element}
 use Rattle.ash_image.proofs.rules.all_elements.Given as goal
 

@@ -2,7 +2,7 @@ use Rattle.std.proofs.Common.{◌≡◌, ◌++◌, ◌∷◌, [], List, Some, re
 use Rattle.std.specs.Prelude.{IsSome, IfSome}
 use Rattle.ash_host.specs.declared.word.Word.{Word}
 use Rattle.ash_host.specs.Objects.{Lives, handle}
-use Rattle.ash_slots.specs.Bodies.{initial_of}
+use Rattle.ash_host.specs.ElementTags.{initial_of}
 use Rattle.ash_slots.proofs.Options.{some_of, some_if}
 use Rattle.ash_objects.specs.Arrays.{array_at, with_elements}
 use Rattle.ash_objects.specs.Table.{Table, with_object, with_field, slot_of, field_of}
