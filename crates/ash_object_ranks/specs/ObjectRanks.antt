@@ -50,7 +50,8 @@ abbrev pub greatest : (ℕ → ℕ) → List ℕ → ℕ
 greatest number [] = 0
 greatest number (x ∷ xs) = max (number x) (greatest number xs)
 
--- the rank of an object of a class: there is room for the rank of an array between those of two classes
+-- The rank of an object of a class, which leaves room for that of an array: a class that has a field of an array of
+-- another class's handles refers to that class.
 abbrev pub rank_in : List ℕ → ℕ → ℕ
 rank_in ranks class = 2 * slice_index ranks class + 2
 
@@ -65,8 +66,8 @@ module _ (modules : Known) (ranks : ClassRanks) where
   rank_of_elements (Handles owner index) = rank_of_handles owner index
   rank_of_elements _ = 0
 
-  -- The rank of an object: a host object has 0, an array more than what its elements can be handles to, and an object
-  -- of a class that of the class.
+  -- The rank of an object: that of a host object is 0, that of an array one more than the greatest of what its elements
+  -- can be handles to, and that of an object of a class is the class's own, since no other has its index.
   abbrev pub rank_of : Shape → ℕ
   rank_of (OfClass owner index) = rank_of_handles owner index
   rank_of (OfElements of) = rank_of_elements of + 1

@@ -1,5 +1,5 @@
-//! The laws of ranks and of indexes. A function without a body does nothing: its contract is the law. `F` is the type of
-//! the faults of sources.
+//! The laws of ranks and of indexes. A function without a body does nothing: its contract is the law. `F` is the type
+//! of the faults of sources.
 ghost use Rattle.ash_typed.specs.Modules.{Module};
 ghost use Rattle.ash_typed.specs.Signatures.{HostSignatures};
 ghost use Rattle.ash_typed.specs.SoundModules.{IsSound};
