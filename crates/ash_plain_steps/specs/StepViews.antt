@@ -3,7 +3,7 @@ use Rattle.std.specs.Prelude.{◌≡◌, ◌<◌, ◌⊎◌, ℕ, List, length, 
 use Rattle.ash_typed.specs.Modules.{module_of}
 use Rattle.ash_requests.specs.States.{State, Hosts, Embedding, find_module}
 use Rattle.ash_requests.specs.Requests.{Request, NoMemory, Refused}
-use Rattle.ash_requests.specs.Tasks.{TaskResult, Initialize, Invoke, Remove, max_seq, task_of}
+use Rattle.ash_requests.specs.Tasks.{max_seq, task_of}
 use Rattle.ash_plain_steps.specs.declared.state.PlainState.{PlainState}
 use Rattle.ash_requests.specs.declared.step_error.StepError.{StepError}
 use Rattle.ash_requests.specs.declared.step_error.StepError.TheVariants as errors
@@ -18,7 +18,7 @@ use Rattle.ash_requests.specs.Steps.{Step, answered, replied, step, TakesMemory}
 use Rattle.ash_plain_steps.specs.declared.state.LoadedModule.{LoadedModule}
 use Rattle.ash_plain_steps.specs.declared.step.Step as code_step
 use Rattle.ash_plain_steps.specs.StateViews.{modules_seen, state_seen, hosts_seen}
-use Rattle.ash_requests.specs.TaskResults.{TakesMemoryToFind}
+use Rattle.ash_requests.specs.TaskResults.{TakesMemoryToFind, TaskChangesState}
 
 -- a step with what it leaves
 abbrev pub step_seen : {Code Fault : Type 0} → (Code → Fault) → code_step.Step Code → Step Fault
