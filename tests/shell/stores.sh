@@ -37,7 +37,7 @@ keep "$store" "$scratch/before"
 ends "create over a store that was used" 1 "ashd: 502 AlreadyThere" create "$store"
 same "a create over a used store changes nothing" "$store" "$scratch/before"
 
-# The second example of README.md, on a copy of that store.
+# The example with an object, on a copy of that store.
 keep "$store" "$scratch/second"
 cp examples/objects.requests "$scratch/input"
 ends "the second example" 0 "" try --budget 1000 --counters 0
@@ -48,6 +48,18 @@ holds "the second example over a store" $'ok seq 3\nok 70 seq 4\nok object 1\nok
 asks 'object 1\nget m n\n'
 ends "serve the second example again" 0 "" serve "$scratch/second" --budget 1000 --counters 2
 holds "what is found of it" $'ok object 1 shop.Purse count 1 gold 70\nok 7'
+
+# The example of README.md, on a store of its own.
+mkdir "$scratch/shop"
+asks ''
+ends "create the store of the shop" 0 "" create "$scratch/shop"
+cp examples/shop.requests "$scratch/input"
+ends "serve the shop" 0 "" serve "$scratch/shop" --budget 1000 --counters 2
+cmp -s "$scratch/output" examples/shop.replies
+verdict $? "the replies of the shop"
+asks 'get shop gold\n'
+ends "serve the shop again" 0 "" serve "$scratch/shop" --budget 1000 --counters 2
+holds "what is found of the shop" "ok 71"
 
 asks 'load b 10\nint n = 1;\nload a 10\nint n = 2;\nload c 10\nint n = 3;\ndiscard b\ndiscard z\n'
 keep "$store" "$scratch/other"
