@@ -1,3 +1,4 @@
+pub mod Taking
 pub mod Leaving
 pub mod StepsLeave
 pub mod PhrasesLeave

@@ -1,4 +1,4 @@
--- Phrases leave the answers behind those that they take, if what they call does.
+-- Phrases take the first of the answers, if what they call does.
 use Rattle.std.proofs.Common.{◌+◌, refl, ℕ, zero, suc, ℤ, Bool, true, false, List, [], ◌∷◌, length, slice_get, Option, Some, None, if◌then◌else◌}
 use Rattle.std.specs.Prelude.{is_none}
 use Rattle.std.specs.Option.{option_map_or, option_and_then}

@@ -1,5 +1,5 @@
--- Steps that call nothing of a script leave the answers behind those that they take.
-use Rattle.std.proofs.Common.{◌≡◌, ◌+◌, ◌-◌, ◌==◌, ◌∙◌, refl, ap, ℕ, Bool, true, false, cond, nat_lt, nat_le, List, [], ◌∷◌, ◌++◌, length, take, drop, replicate, slice_get, slice_set, Option, Some, None, option_map, Ok, Err, Result}
+-- Steps that call nothing of a script take the first of the answers.
+use Rattle.std.proofs.Common.{◌≡◌, ◌+◌, ◌-◌, ◌==◌, ◌∙◌, refl, ap, ℕ, Bool, true, false, cond, nat_lt, nat_le, List, [], ◌∷◌, ◌++◌, length, take, drop, replicate, slice_get, slice_set, Option, Some, None, unwrap_or, sym, subst, Ok, Err, Result}
 use Rattle.std.specs.Option.{option_map_or, option_and_then}
 use Rattle.ash_host.specs.declared.word.Word.{Word}
 use Rattle.ash_host.specs.declared.word.Word.TheVariants as words
@@ -37,67 +37,79 @@ use Rattle.ash_meaning.specs.ArraySteps.{zero_element, natural_of, count_in, zer
 use Rattle.ash_meaning.specs.Classes.{Program}
 use Rattle.ash_meaning.specs.CallMeaning.{cast}
 use Rattle.ash_meaning.specs.ExpressionMeaning.{store, update, count_at, element_at}
-use Rattle.ash_answer_laws.specs.MoreAnswers.{with_more, activity_with_more, IsSameWithMore}
+use Rattle.ash_answer_laws.specs.TakenAnswers.{with_answers, activity_with_answers, TakesTheFirst}
+use Rattle.ash_answer_laws.proofs.Taking.{takes_these, takes_none}
 use Rattle.ash_answer_laws.proofs.Leaving.{Leaves, bound, followed, given, looked, changed, raised, nowhere, chosen_by, demanded}
 
 -- a frame that is left leaves the answers as they are
-back_with_more : (callers : List Frame) (result : Word) (rest : List HostRecord) (a : Activity) → back_in callers result (activity_with_more rest a) ≡ activity_with_more rest (back_in callers result a)
-back_with_more [] result rest a = refl
-back_with_more (caller ∷ callers) result rest a = refl
+back_with : (callers : List Frame) (result : Word) (x : List HostRecord) (a : Activity) → back_in callers result (activity_with_answers x a) ≡ activity_with_answers x (back_in callers result a)
+back_with [] result x a = refl
+back_with (caller ∷ callers) result x a = refl
 
 -- hosts
 
--- the next record is the same, and those that are left have the rest behind them
+module _ (target : Target) (call : HostCall) where
+  -- The next record is taken, and with others behind it these are left.
+  abbrev TakesNext : (List HostRecord → Option (HostRecord × List HostRecord)) → List HostRecord → HostRecord → List HostRecord → Type 0
+  TakesNext from records next left = (records ≡ next ∷ left) × ((rest : List HostRecord) → from (next ∷ rest) ≡ Some (next, rest))
 
-abbrev more_left : List HostRecord → HostRecord × List HostRecord → HostRecord × List HostRecord
-more_left rest taken = (taken.0, taken.1 ++ rest)
+  if_of : (before : List ℕ) (next first : HostRecord) (left others : List HostRecord) (b : Bool) → is_record_of target call before first ≡ b → cond {A = Option (HostRecord × List HostRecord)} b (Some (first, others)) None ≡ Some (next, left) → TakesNext (next_record target call before) (first ∷ others) next left
+  if_of before next first left others true is e =
+      let both : (first, others) ≡ (next, left) = ap (λ (o : Option (HostRecord × List HostRecord)). unwrap_or o (first, others)) e in
+      let one : first ≡ next = ap (λ (p : HostRecord × List HostRecord). p.0) both in
+      let rest : others ≡ left = ap (λ (p : HostRecord × List HostRecord). p.1) both in (
+        ap (λ (x : HostRecord). x ∷ others) one ∙ ap (λ (xs : List HostRecord). next ∷ xs) rest,
+        λ behind. ap (λ (b : Bool). cond {A = Option (HostRecord × List HostRecord)} b (Some (next, behind)) None) (subst (λ (x : HostRecord). is_record_of target call before x ≡ true) one is),
+      )
+  if_of before next first left others false is e = absurd (cc)
 
-if_of : (rest left : List HostRecord) (next first : HostRecord) (others : List HostRecord) (b : Bool) → cond {A = Option (HostRecord × List HostRecord)} b (Some (first, others)) None ≡ Some (next, left) → cond {A = Option (HostRecord × List HostRecord)} b (Some (first, others ++ rest)) None ≡ Some (next, left ++ rest)
-if_of rest left next first others true e = ap (λ (o : Option (HostRecord × List HostRecord)). option_map (more_left rest) o) e
-if_of rest left next first others false e = absurd (cc)
+  record_taken : (before : List ℕ) (records left : List HostRecord) (next : HostRecord) → next_record target call before records ≡ Some (next, left) → TakesNext (next_record target call before) records next left
+  record_taken before [] left next e = absurd (cc)
+  record_taken before (first ∷ others) left next e = if_of before next first left others (is_record_of target call before first) refl e
 
-record_with_more : (target : Target) (call : HostCall) (before : List ℕ) (rest records left : List HostRecord) (next : HostRecord) → next_record target call before records ≡ Some (next, left) → next_record target call before (records ++ rest) ≡ Some (next, left ++ rest)
-record_with_more target call before rest [] left next e = absurd (cc)
-record_with_more target call before rest (first ∷ others) left next e = if_of rest left next first others (is_record_of target call before first) e
+  at_state : (records left : List HostRecord) (next : HostRecord) (state : Option (List ℕ)) → option_and_then (λ before. next_record target call before records) state ≡ Some (next, left) → TakesNext (λ rs. option_and_then (λ before. next_record target call before rs) state) records next left
+  at_state records left next None e = absurd (cc)
+  at_state records left next (Some before) e = record_taken before records left next e
 
-state_with_more : (target : Target) (rest : List HostRecord) (world : World) → state_of target (with_more rest world) ≡ state_of target world
-state_with_more (targets.Object number) rest world = refl
-state_with_more (targets.Service index) rest world = refl
+state_with : (target : Target) (x : List HostRecord) (world : World) → state_of target (with_answers x world) ≡ state_of target world
+state_with (targets.Object number) x world = refl
+state_with (targets.Service index) x world = refl
 
-at_state : (target : Target) (call : HostCall) (rest records left : List HostRecord) (next : HostRecord) (state : Option (List ℕ)) → option_and_then (λ before. next_record target call before records) state ≡ Some (next, left) → option_and_then (λ before. next_record target call before (records ++ rest)) state ≡ Some (next, left ++ rest)
-at_state target call rest records left next None e = absurd (cc)
-at_state target call rest records left next (Some before) e = record_with_more target call before rest records left next e
+answer_with : (target : Target) (call : HostCall) (x : List HostRecord) (world : World) → next_answer target call (with_answers x world) ≡ option_and_then (λ before. next_record target call before x) (state_of target world)
+answer_with target call x world = ap (λ (state : Option (List ℕ)). option_and_then (λ before. next_record target call before x) state) (state_with target x world)
 
-answer_with_more : (target : Target) (call : HostCall) (rest left : List HostRecord) (next : HostRecord) (world : World) → next_answer target call world ≡ Some (next, left) → next_answer target call (with_more rest world) ≡ Some (next, left ++ rest)
-answer_with_more target call rest left next world e =
-    ap (λ (state : Option (List ℕ)). option_and_then (λ before. next_record target call before (world.answers ++ rest)) state) (state_with_more target rest world)
-    ∙ at_state target call rest world.answers left next (state_of target world) e
+-- what the host did stays, whatever is left
+stays_with : (target : Target) (next : HostRecord) (x rest left : List HostRecord) (world : World) → after_answer target next rest (with_answers x world) ≡ with_answers rest (after_answer target next left world)
+stays_with (targets.Object number) next x rest left world = refl
+stays_with (targets.Service index) next x rest left world = refl
 
--- what the host did stays, and so does the rest
-stays_with_more : (target : Target) (next : HostRecord) (rest left : List HostRecord) (world : World) → after_answer target next (left ++ rest) (with_more rest world) ≡ with_more rest (after_answer target next left world)
-stays_with_more (targets.Object number) next rest left world = refl
-stays_with_more (targets.Service index) next rest left world = refl
+left_after : (target : Target) (next : HostRecord) (left : List HostRecord) (world : World) → (after_answer target next left world).answers ≡ left
+left_after (targets.Object number) next left world = refl
+left_after (targets.Service index) next left world = refl
 
 -- what is done with an answer that is taken
 abbrev with_answer : Target → HostRecord × List HostRecord → Run HostAnswer
 with_answer target taken = change (in_world (after_answer target taken.0 taken.1)) >> give (taken.0).answer
 
-answered : (target : Target) (call : HostCall) (rest : List HostRecord) (a : Activity) (next : Option (HostRecord × List HostRecord)) → next_answer target call a.world ≡ next → IsSameWithMore rest (onward (found next a) (with_answer target)) (call_host target call (activity_with_more rest a))
-answered target call rest a None e = tt
-answered target call rest a (Some (next, left)) e =
-    let more : Activity = activity_with_more rest a in
-    ap (λ (o : Option (HostRecord × List HostRecord)). onward (found o more) (with_answer target)) (answer_with_more target call rest left next a.world e)
-    ∙ ap (λ (world : World). Done next.answer (record a { world = world })) (stays_with_more target next rest left a.world)
+answered : (target : Target) (call : HostCall) (a : Activity) (next : Option (HostRecord × List HostRecord)) → next_answer target call a.world ≡ next → TakesTheFirst (call_host target call) a (onward (found next a) (with_answer target))
+answered target call a None e = tt
+answered target call a (Some (next, left)) e =
+    let takes = at_state target call (a.world).answers left next (state_of target a.world) e in
+    takes_these (next ∷ []) (takes.0 ∙ ap (λ (l : List HostRecord). next ∷ l) (sym (left_after target next left a.world)))
+    (λ rest. ap (λ (o : Option (HostRecord × List HostRecord)). onward (found o (activity_with_answers (next ∷ rest) a)) (with_answer target)) (answer_with target call (next ∷ rest) a.world ∙ takes.1 rest)
+    ∙ ap (λ (world : World). Done next.answer (record a { world = world })) (stays_with target next (next ∷ rest) rest left a.world))
 
 -- boxes
 
-box_found : (rest : List HostRecord) (a : Activity) (place : ℕ) (box : Option FreeBox) → IsSameWithMore {A = ℕ × FreeBox} rest (onward (found box a) (λ b. give (place, b))) (onward (found box (activity_with_more rest a)) (λ b. give (place, b)))
-box_found rest a place (Some box) = refl
-box_found rest a place None = tt
+box_at : (kind : ℕ) (a : Activity) (place : ℕ) (box : Option FreeBox) → place_of_kind kind a.world ≡ Some place → slice_get (a.world).pool place ≡ box → TakesTheFirst (box_of_kind kind) a (onward (found box a) (λ b. give (place, b)))
+box_at kind a place None e g = tt
+box_at kind a place (Some box) e g =
+    takes_none (λ x. ap (λ (p : Option ℕ). box_in (with_answers x a.world) p (activity_with_answers x a)) e
+    ∙ ap (λ (o : Option FreeBox). onward (found o (activity_with_answers x a)) (λ b. give (place, b))) g)
 
-box_with_more : (rest : List HostRecord) (a : Activity) (world : World) (place : Option ℕ) → IsSameWithMore rest (box_in world place a) (box_in (with_more rest world) place (activity_with_more rest a))
-box_with_more rest a world None = refl
-box_with_more rest a world (Some place) = box_found rest a place (slice_get world.pool place)
+box_found : (kind : ℕ) (a : Activity) (place : Option ℕ) → place_of_kind kind a.world ≡ place → TakesTheFirst (box_of_kind kind) a (box_in a.world place a)
+box_found kind a None e = takes_none (λ x. ap (λ (p : Option ℕ). box_in (with_answers x a.world) p (activity_with_answers x a)) e)
+box_found kind a (Some place) e = box_at kind a place (slice_get (a.world).pool place) e refl
 
 pub to_hold_all : (ws : List Word) → Leaves (hold_all ws)
 to_hold_all ws = changed _ (λ rest a. refl)
@@ -129,7 +141,7 @@ to_enter name line of args = changed _ (λ rest a. refl)
 
 pub to_leave : (w : Word) → Leaves (leave w)
 unfolding leave
-to_leave w = followed (followed (changed (λ a. back_in a.callers w a) (λ rest a. back_with_more a.callers w rest a)) to_release) (given w)
+to_leave w = followed (followed (changed (λ a. back_in a.callers w a) (λ rest a. back_with a.callers w rest a)) to_release) (given w)
 
 pub to_demand_frame : Leaves demand_frame
 to_demand_frame = bound (looked (λ a. nat_lt (length a.callers + 1) max_frames) (λ rest a. refl)) (λ b. demanded b StackOverflow)
@@ -156,7 +168,7 @@ pub to_note : (event : Event) → Leaves (note event)
 to_note event = changed _ (λ rest a. refl)
 
 pub to_call_host : (target : Target) (call : HostCall) → Leaves (call_host target call)
-to_call_host target call = record { rest = λ rest a. answered target call rest a (next_answer target call a.world) refl }
+to_call_host target call = record { rest = λ a. answered target call a (next_answer target call a.world) refl }
 
 pub to_accept : (result : Option VarType) (answer : HostAnswer) → Leaves (accept result answer)
 to_accept None answers.Nothing = given _
@@ -178,7 +190,7 @@ pub to_set_property : (number id : ℕ) (w : Word) → Leaves (set_property numb
 to_set_property number id w = bound (bound (to_call_host (targets.Object number) (Set id w)) (to_accept None)) (λ _. given tt)
 
 pub to_box_of_kind : (kind : ℕ) → Leaves (box_of_kind kind)
-to_box_of_kind kind = record { rest = λ rest a. box_with_more rest a a.world (place_of_kind kind a.world) }
+to_box_of_kind kind = record { rest = λ a. box_found kind a (place_of_kind kind a.world) refl }
 
 pub to_draw : (kind : ℕ) → Leaves (draw kind)
 to_draw kind =

@@ -1,2 +1,2 @@
-pub mod MoreAnswers
+pub mod TakenAnswers
 pub mod ChainedRequests

@@ -1,66 +1,52 @@
 //! The laws. A function without a body does nothing: its contract is the law. `F` is the type of the faults of sources.
-ghost use Rattle.std.specs.Prelude.{◌≡◌, ◌++◌, ℕ, List, Some};
-ghost use Rattle.ash_host.specs.Records.{HostRecord};
-ghost use Rattle.ash_meaning.specs.Activity.{FreeBox, World};
+ghost use Rattle.std.specs.Prelude.{ℕ};
+ghost use Rattle.ash_meaning.specs.Activity.{World};
 ghost use Rattle.ash_meaning.specs.Classes.{Program};
-ghost use Rattle.ash_requests.specs.States.{State, Hosts, Embedding};
-ghost use Rattle.ash_requests.specs.Requests.{Request};
-ghost use Rattle.ash_requests.specs.Steps.{Step, History, step, run, Steps, Runs};
-ghost use Rattle.ash_answer_laws.specs.MoreAnswers.{PhrasesLeaveTheRest, RunsLeaveTheRest};
-ghost use Rattle.ash_answer_laws.specs.MoreAnswers.{hosts_with_more, step_with_more, history_with_more};
-ghost use Rattle.ash_answer_laws.specs.ChainedRequests.{all_of, hosts_of, IsStepOf, IsChain};
+ghost use Rattle.ash_requests.specs.States.{Embedding};
+ghost use Rattle.ash_requests.specs.Steps.{Steps, Runs};
+ghost use Rattle.ash_answer_laws.specs.TakenAnswers.{PhrasesLeaveTheRest, RunsLeaveTheRest};
+ghost use Rattle.ash_answer_laws.specs.ChainedRequests.{IsStepOf, StepsLeaveTheRest};
+ghost use Rattle.ash_answer_laws.specs.ChainedRequests.{IsRunOf, HistoriesLeaveTheRest};
+ghost use Rattle.ash_answer_laws.specs.ChainedRequests.{ChainsAreRuns, RunsAreChains};
 
-/// A phrase that has a step comes to the same with more answers behind those that it takes, and leaves them.
+/// A phrase that has a step takes the first of the answers, and comes to the same whatever is behind those.
 pub fn phrases_leave_the_rest()
     ensures rest { (program : Program) (depth : ℕ) → PhrasesLeaveTheRest program depth }
 {}
 
-/// A call from outside, and a load, that come to an outcome come to the same with more answers, and leave them.
+/// A call from outside, and a load, that come to an outcome take the first of the answers, and come to the same
+/// whatever is behind those.
 pub fn runs_leave_the_rest()
-    ensures rest { (program : Program) (budget : ℕ) (rest : List HostRecord) (world : World)
-        → RunsLeaveTheRest program budget rest world }
+    ensures rest { (program : Program) (budget : ℕ) (world : World)
+        → RunsLeaveTheRest program budget world }
 {}
 
-/// A request that has a step has the same with more answers, and leaves them; so do the refusals whose cause is not in
-/// the state.
+/// A request that has a step takes the first of the answers, and has the same whatever is behind those; so do the
+/// refusals whose cause is not in the state.
 pub fn steps_leave_the_rest<F>()
-    ensures performed { (embedding : Embedding F) (budget : ℕ) (rest : List HostRecord)
-        (request : Request) (state : State) (hosts : Hosts) (one : Step F)
-        → step embedding budget request state hosts ≡ Some one
-        → step embedding budget request state (hosts_with_more rest hosts) ≡ Some (step_with_more rest one) }
-    ensures every { (embedding : Embedding F) (budget : ℕ) (rest : List HostRecord)
-        (request : Request) (state : State) (hosts : Hosts) (one : Step F)
-        → Steps embedding budget request state hosts one
-        → Steps embedding budget request state (hosts_with_more rest hosts) (step_with_more rest one) }
+    ensures performed { (embedding : Embedding F) (budget : ℕ) → StepsLeaveTheRest (IsStepOf embedding budget) }
+    ensures every { (embedding : Embedding F) (budget : ℕ) → StepsLeaveTheRest (Steps embedding budget) }
 {}
 
-/// Requests that have a run have the same with more answers, and leave them.
+/// Requests that have a run take the first of the answers, and have the same whatever is behind those.
 pub fn requests_leave_the_rest<F>()
-    ensures run { (embedding : Embedding F) (budget : ℕ) (rest : List HostRecord)
-        (requests : List Request) (state : State) (hosts : Hosts) (history : History F)
-        → run embedding budget requests state hosts ≡ Some history
-        → run embedding budget requests state (hosts_with_more rest hosts)
-        ≡ Some (history_with_more rest history) }
-    ensures every { (embedding : Embedding F) (budget : ℕ) (rest : List HostRecord)
-        (requests : List Request) (state : State) (hosts : Hosts) (history : History F)
-        → Runs embedding budget requests state hosts history
-        → Runs embedding budget requests state (hosts_with_more rest hosts)
-        (history_with_more rest history) }
+    ensures run { (embedding : Embedding F) (budget : ℕ) → HistoriesLeaveTheRest (IsRunOf embedding budget) }
+    ensures every { (embedding : Embedding F) (budget : ℕ) → HistoriesLeaveTheRest (Runs embedding budget) }
 {}
 
 /// Requests that each take all answers of a list of their own are one run over the lists joined in order; what is
 /// behind them is left.
 pub fn chains_are_runs<F>()
-    ensures run { (embedding : Embedding F) (budget : ℕ) (rest : List HostRecord)
-        (requests : List Request) (state : State) (pool : List FreeBox)
-        (lists : List (List HostRecord)) (history : History F)
-        → IsChain (IsStepOf embedding budget) requests state pool lists history
-        → run embedding budget requests state (hosts_of pool (all_of lists ++ rest))
-        ≡ Some (history_with_more rest history) }
-    ensures every { (embedding : Embedding F) (budget : ℕ) (rest : List HostRecord)
-        (requests : List Request) (state : State) (pool : List FreeBox)
-        (lists : List (List HostRecord)) (history : History F)
-        → IsChain (Steps embedding budget) requests state pool lists history
-        → Runs embedding budget requests state (hosts_of pool (all_of lists ++ rest))
-        (history_with_more rest history) }
+    ensures run { (embedding : Embedding F) (budget : ℕ)
+        → ChainsAreRuns (IsStepOf embedding budget) (IsRunOf embedding budget) }
+    ensures every { (embedding : Embedding F) (budget : ℕ)
+        → ChainsAreRuns (Steps embedding budget) (Runs embedding budget) }
+{}
+
+/// Each run of requests is such a chain: the answers that it took are a list for each request, in order.
+pub fn runs_are_chains<F>()
+    ensures run { (embedding : Embedding F) (budget : ℕ)
+        → RunsAreChains (IsStepOf embedding budget) (IsRunOf embedding budget) }
+    ensures every { (embedding : Embedding F) (budget : ℕ)
+        → RunsAreChains (Steps embedding budget) (Runs embedding budget) }
 {}
