@@ -7,22 +7,28 @@ use Rattle.ash_host.specs.declared.event.Event.{Event}
 use Rattle.ash_host.specs.declared.event.Event.TheVariants.{Dropped}
 use Rattle.ash_host.specs.declared.host_object.HostObject.{Ghosts}
 use Rattle.ash_host.specs.Objects.{Plain, LiveObjects, object_at, IsInOrder, Lives, is_host}
-use Rattle.ash_host.specs.Reach.{AreObjectRanks, ReachableIn, is_reachable, after_sweep, hosts_gone, drops_of_sweep}
+use Rattle.ash_host.specs.Reach.{Reachable, Root, Field, AreObjectRanks, ReachableIn, is_reachable, after_sweep, hosts_gone, drops_of_sweep}
 use Rattle.ash_host.proofs.Order.{same_in_order}
 use Rattle.ash_host.proofs.ReachLaws.{is_reachable_says, is_reachable_yes, object_at-after_sweep, sweep_is_exact}
 use Rattle.ash_host.proofs.SweepLaws.{reachable_along}
+use Rattle.ash_typed.specs.Signatures.{HostSignatures}
 use Rattle.ash_meaning.specs.Activity.{World, Frame}
 use Rattle.ash_meaning.specs.Releases.{roots, sweep}
 use Rattle.ash_slots.specs.Bodies.{is_boxed}
-use Rattle.ash_soundness.specs.WellFormed.{Known, Context, AreObjects, IsWorld}
+use Rattle.ash_soundness.specs.WellFormed.{Known, AreObjects}
 use Rattle.ash_objects.specs.Table.{Living, Table}
 use Rattle.ash_objects.specs.Sweeping.{IsReachable, Collects, LeavesReachable, gone_from, drops}
 use Rattle.ash_objects.proofs.Marks.{in_order-mapped}
 use Rattle.ash_object_ranks.specs.ObjectRanks.{ClassRanks, AreSound, HaveRanks, rank_at, rank_limit}
 use Rattle.ash_object_ranks.specs.ShownTables.{SlotNames, objects_shown}
-use Rattle.ash_object_ranks.specs.SweepLaws.{IsHeldBy, SweptByCounts, Releases, SweepsTakeTheUnreachable, SweepsAreReleases}
+use Rattle.ash_object_ranks.specs.SweepLaws.{ReachTheSame, SweptByCounts, Releases, SweepsTakeTheUnreachable, SweepsAreReleases}
 use Rattle.ash_object_ranks.proofs.Ranked.{objects_have_ranks}
 use Rattle.ash_object_ranks.proofs.ShownTables.{living_shown, host_shown, shown_at, refers_shown, refers_of_shown, tables_have_ranks}
+
+-- reach from what can be reached from others is reach from these
+reachable_from : {A B : ℕ → Type 0} {R : ℕ → ℕ → Type 0} → ((n : ℕ) → A n → Reachable B R n) → (n : ℕ) → Reachable A R n → Reachable B R n
+reachable_from held n (Root h) = held n h
+reachable_from held n (Field {one} r f) = Field (reachable_from held one r) f
 
 none_from : {A : Type 0} (o : Option A) → (is_some o ≡ true → ⊥) → o ≡ None
 none_from None h = refl
@@ -34,12 +40,12 @@ module _ {B : Type 0} (G : Ghosts B) (names : SlotNames) where
 
   -- what is left of a table is what is left of its plain data
 
-  module _ (held : List ℕ) (old new : Table B) (holds : IsHeldBy held old) (collects : Collects old new) (leaves : LeavesReachable old new) where
+  module _ (held : List ℕ) (old new : Table B) (holds : ReachTheSame held old) (collects : Collects old new) (leaves : LeavesReachable old new) where
     reached : (number : ℕ) → ReachableIn (Contains held) (shown old) number → IsReachable old number
-    reached number r = reachable_along (λ n i. (holds n).1 i) (λ one other refers. refers_of_shown G names old.objects one other refers) number r
+    reached number r = reachable_from holds.numbers number (reachable_along (λ n i. i) (λ one other refers. refers_of_shown G names old.objects one other refers) number r)
 
     reachable : (number : ℕ) → IsReachable old number → ReachableIn (Contains held) (shown old) number
-    reachable number r = reachable_along (λ n h. (holds n).0 h) (λ one other refers. refers_shown G names old.objects one other refers) number r
+    reachable number r = reachable_along (λ n h. h) (λ one other refers. refers_shown G names old.objects one other refers) number (reachable_from holds.holds number r)
 
     left_at : (number : ℕ) (b : Bool) → is_reachable held (shown old) number ≡ b → object_at number (shown new) ≡ cond b (object_at number (shown old)) None
     left_at number true is =
@@ -113,9 +119,9 @@ module _ {B : Type 0} (G : Ghosts B) (names : SlotNames) where
       }
 
   -- the same of a world
-  module _ (c : Context) (ranks : ClassRanks) (frames : List Frame) (w : World) (old new : Table B) (sound : AreSound c.host c.modules) (ranked : HaveRanks c.host c.modules ranks) (h : IsWorld c w) (same : shown old ≡ w.objects) (holds : IsHeldBy (roots frames w) old) (swept : SweptByCounts old new) where
+  module _ (host : HostSignatures) (modules : Known) (ranks : ClassRanks) (frames : List Frame) (w : World) (old new : Table B) (sound : AreSound host modules) (ranked : HaveRanks host modules ranks) (living : AreObjects modules w.objects) (in_order : IsInOrder w.objects) (same : shown old ≡ w.objects) (holds : ReachTheSame (roots frames w) old) (swept : SweptByCounts old new) where
     leaves : LeavesReachable old new
-    leaves = leaves_by c.modules ranks old new swept (objects_have_ranks sound ranked (subst (AreObjects c.modules) (sym same) h.living))
+    leaves = leaves_by modules ranks old new swept (objects_have_ranks sound ranked (subst (AreObjects modules) (sym same) living))
 
     left_is : after_sweep (roots frames w) (shown old) ≡ after_sweep (roots frames w) w.objects
     left_is = ap (after_sweep (roots frames w)) same
@@ -124,9 +130,9 @@ module _ {B : Type 0} (G : Ghosts B) (names : SlotNames) where
     unfolding sweep
     releases = record {
       each = λ number. each (roots frames w) old new holds swept.collected leaves number ∙ ap (object_at number) left_is;
-      all = λ after. all (roots frames w) old new holds swept.collected leaves (subst IsInOrder (sym same) (h.numbered).in_order) after ∙ left_is;
+      all = λ after. all (roots frames w) old new holds swept.collected leaves (subst IsInOrder (sym same) in_order) after ∙ left_is;
       events = ap (λ (es : List Event). w.events ++ es) (dropped (roots frames w) old new holds swept.collected leaves ∙ ap (λ (all : LiveObjects (List ℕ)). map Dropped (drops_of_sweep (roots frames w) all)) same);
     }
 
   pub sweeps_are_releases : SweepsAreReleases G names
-  sweeps_are_releases c ranks frames w old new sound ranked h same holds swept = releases c ranks frames w old new sound ranked h same holds swept
+  sweeps_are_releases host modules ranks frames w old new sound ranked living in_order same holds swept = releases host modules ranks frames w old new sound ranked living in_order same holds swept

@@ -1,24 +1,30 @@
 -- That a sweep of a table by counts takes exactly what can't be reached.
-use Rattle.std.specs.Prelude.{◌≡◌, ◌<◌, ◌↔◌, ℕ, List, ◌++◌, map, Contains}
+use Rattle.std.specs.Prelude.{◌≡◌, ◌<◌, ℕ, List, ◌++◌, map, Contains}
 use Rattle.ash_host.specs.declared.event.Event.TheVariants.{Dropped}
 use Rattle.ash_host.specs.declared.host_object.HostObject.{Ghosts}
 use Rattle.ash_host.specs.Objects.{LiveObjects, object_at, IsInOrder}
-use Rattle.ash_host.specs.Reach.{AreObjectRanks, after_sweep, drops_of_sweep}
+use Rattle.ash_host.specs.Reach.{Reachable, AreObjectRanks, after_sweep, drops_of_sweep}
 use Rattle.ash_typed.specs.Signatures.{HostSignatures}
 use Rattle.ash_meaning.specs.Activity.{World, Frame}
 use Rattle.ash_meaning.specs.Releases.{roots, sweep}
-use Rattle.ash_soundness.specs.WellFormed.{Known, Context, AreObjects, IsWorld}
+use Rattle.ash_soundness.specs.WellFormed.{Known, AreObjects}
 use Rattle.ash_objects.specs.Table.{Table, holds_of}
-use Rattle.ash_objects.specs.Sweeping.{Collects, RanksFall, LeavesReachable, gone_from, drops}
+use Rattle.ash_objects.specs.Sweeping.{RefersTo, IsReachable, Collects, RanksFall, LeavesReachable}
+use Rattle.ash_objects.specs.Sweeping.{gone_from, drops}
 use Rattle.ash_object_ranks.specs.ObjectRanks.{ClassRanks, AreSound, HaveRanks}
 use Rattle.ash_object_ranks.specs.ShownTables.{SlotNames, objects_shown}
 
 module _ {B : Type 0} where
-  -- an object is held exactly if its number is one of these
-  abbrev pub IsHeldBy : List ℕ → Table B → Type 0
-  IsHeldBy held table = (number : ℕ) → (0 < holds_of number table) ↔ Contains held number
+  -- The same can be reached from the holds of a table and from these numbers: each object that is held from these
+  -- numbers, and each of these from what is held. So a table may hold a part of them, or more, and each of them as often
+  -- as it likes.
+  pub record ReachTheSame (held : List ℕ) (table : Table B) : Type 0 where
+    pub holds : (number : ℕ) → 0 < holds_of number table
+        → Reachable (Contains held) (RefersTo table.objects) number
+    pub numbers : (number : ℕ) → Contains held number → IsReachable table number
 
-  -- What `Objects::sweep` promises if memory is not refused.
+  -- What `Objects::sweep` promises of the table if memory is not refused. It promises too that its events are those
+  -- before it and then the `drops` of what has gone, which the laws below compare with what a release point drops.
   pub record SweptByCounts (old new : Table B) : Type 0 where
     pub collected : Collects old new
     pub reachable : (rank : ℕ → ℕ) (top : ℕ) → RanksFall rank top old → LeavesReachable old new
@@ -44,7 +50,7 @@ module _ {B : Type 0} where
         → AreSound host modules
         → HaveRanks host modules ranks
         → AreObjects modules (objects_shown G names old.objects)
-        → IsHeldBy held old
+        → ReachTheSame held old
         → SweptByCounts old new
         → SweepsAs (after_sweep held (objects_shown G names old.objects))
         (drops_of_sweep held (objects_shown G names old.objects)) old new
@@ -58,11 +64,13 @@ module _ {B : Type 0} where
 
     abbrev pub SweepsAreReleases : Type 0
     SweepsAreReleases =
-        (c : Context) (ranks : ClassRanks) (frames : List Frame) (w : World) (old new : Table B)
-        → AreSound c.host c.modules
-        → HaveRanks c.host c.modules ranks
-        → IsWorld c w
+        (host : HostSignatures) (modules : Known) (ranks : ClassRanks) (frames : List Frame) (w : World)
+        (old new : Table B)
+        → AreSound host modules
+        → HaveRanks host modules ranks
+        → AreObjects modules w.objects
+        → IsInOrder w.objects
         → objects_shown G names old.objects ≡ w.objects
-        → IsHeldBy (roots frames w) old
+        → ReachTheSame (roots frames w) old
         → SweptByCounts old new
         → Releases frames w old new
