@@ -24,7 +24,7 @@ ObjectsHaveRanks =
     → AreObjects modules all
     → FallAmong modules ranks all
 
--- in a world in which a module runs
+-- in a world that is well-formed
 abbrev pub WorldsHaveRanks : Type 0
 WorldsHaveRanks =
     (c : Context) (ranks : ClassRanks) (w : World)
@@ -33,7 +33,7 @@ WorldsHaveRanks =
     → IsWorld c w
     → FallAmong c.modules ranks w.objects
 
--- between two steps of a run, where a release point may be
+-- in an activity that is well-formed
 abbrev pub ActivitiesHaveRanks : Type 0
 ActivitiesHaveRanks =
     (c : Context) (ranks : ClassRanks) (env : TypedEnvironment) (envs : List TypedEnvironment) (a : Activity)

@@ -16,8 +16,7 @@ use Rattle.ash_object_ranks.specs.ShownTables.{SlotNames, objects_shown}
 
 module _ {B : Type 0} where
   -- The same can be reached from the holds of a table and from these numbers: each object that is held from these
-  -- numbers, and each of these from what is held. So a table may hold a part of them, or more, and each of them as often
-  -- as it likes.
+  -- numbers, and each of these from what is held. So a table needs no hold of a number to which another one leads.
   pub record ReachTheSame (held : List ℕ) (table : Table B) : Type 0 where
     pub holds : (number : ℕ) → 0 < holds_of number table
         → Reachable (Contains held) (RefersTo table.objects) number

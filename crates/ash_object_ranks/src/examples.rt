@@ -1,4 +1,4 @@
-//! That the premises of the laws can be met. The function does nothing when it runs.
+//! That the premises of the laws of ranks can be met. The function does nothing when it runs.
 ghost use Rattle.std.specs.Prelude.{◌≡◌, [], ◌∷◌, map};
 ghost use Rattle.ash_soundness.specs.WellFormed.{AreObjects};
 ghost use Rattle.ash_object_ranks.specs.ObjectRanks.{AreSound, HaveRanks, rank_at};

@@ -9,8 +9,8 @@ ghost use Rattle.ash_object_ranks.specs.RankLaws.{ActivitiesHaveRanks, StatesHav
 ghost use Rattle.ash_object_ranks.specs.IndexLaws.{ClassesDiffer, InterfacesDiffer};
 ghost use Rattle.ash_object_ranks.specs.IndexLaws.{ClassesAreNoInterfaces, AreBelow};
 
-/// Objects of modules whose classes have ranks have ranks that fall along every reference: in a world in which a module
-/// runs, wherever a run has come to, and between requests.
+/// Objects of modules whose classes have ranks have ranks that fall along every reference: in a well-formed world, in a
+/// well-formed activity, and in a well-formed state between requests.
 pub fn objects_have_ranks<F>()
     ensures objects { ObjectsHaveRanks }
     ensures worlds { WorldsHaveRanks }

@@ -10,7 +10,7 @@
 //! parser, no rule of typing and no evaluator.
 //!
 //! In reading order: `laws` (of ranks and of indexes), `table_laws` (of sweeps of a table), `examples` (that the
-//! premises can be met).
+//! premises of the laws of ranks can be met).
 #![tactic(auto)]
 
 mod examples;
