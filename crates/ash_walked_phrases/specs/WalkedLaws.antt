@@ -1,6 +1,7 @@
 -- What is walked part by part comes to what its tree means.
 use Rattle.std.specs.Prelude.{◌≡◌, ℕ, suc, ℤ, List, [], ◌∷◌, ◌++◌, map, is_none}
 use Rattle.ash_host.specs.declared.word.Word.{Word}
+use Rattle.ash_integers.specs.declared.int_type.IntType.{IntType}
 use Rattle.ash_typed.specs.declared.tree.expressions.Expr as expr_code
 use Rattle.ash_typed.specs.declared.tree.expressions.Link as link_code
 use Rattle.ash_typed.specs.declared.tree.expressions.Operand as operand_code
@@ -12,15 +13,16 @@ use Rattle.ash_typed.specs.declared.tree.statements.Loop as loop_code
 use Rattle.ash_typed.specs.declared.types.VarType.{VarType}
 use Rattle.ash_typed.specs.TypedTree.{Expr, Invoke, Call, Exprs, no_expr, expr, exprs}
 use Rattle.ash_typed.specs.TypedTreeViews.{expr_of, all_chained, all_linked, all_lazies}
-use Rattle.ash_typed.specs.StatementTree.{Head, For}
-use Rattle.ash_typed.specs.BodyViews.{body_of, loop_of}
+use Rattle.ash_typed.specs.StatementTree.{Head, For, Switch, cases}
+use Rattle.ash_typed.specs.BodyViews.{body_of, loop_of, case_of}
 use Rattle.ash_meaning.specs.Activity.{Activity}
 use Rattle.ash_meaning.specs.Runs.{Run, give, ◌>>=◌, ◌>>◌, out_of_ticks}
 use Rattle.ash_meaning.specs.Frames.{tick}
+use Rattle.ash_meaning.specs.Releases.{full}
 use Rattle.ash_meaning.specs.CallMeaning.{Calls}
 use Rattle.ash_meaning.specs.ExpressionMeaning.{expression, arguments}
-use Rattle.ash_meaning.specs.StatementMeaning.{Flow, Turn, turn, turns, repeat, after_break, go_on, chosen}
-use Rattle.ash_meaning.specs.StatementMeaning.{statement, statements, loop, is_constant}
+use Rattle.ash_meaning.specs.StatementMeaning.{Flow, On, Turn, turn, turns, repeat, after_break, go_on, chosen}
+use Rattle.ash_meaning.specs.StatementMeaning.{statement, statements, loop, switch, is_constant}
 use Rattle.ash_walked_phrases.specs.WalkedPhrases.{chain_run, path_run, lazy_run, target_run, invocation_run}
 use Rattle.ash_walked_phrases.specs.WalkedPhrases.{arguments_after, labels_seen, from_case, fall_run, for_run}
 use Rattle.ash_walked_phrases.specs.WalkedPhrases.{turn_seen, turn_run, next_turn, left_or}
@@ -76,7 +78,8 @@ pub record LoopsAreWalked (calls : Calls) (depth line : ℕ) (inside : loop_code
   pub fors : (head : Head) → ComeToTheSame (statement calls depth (For line head (loop_of inside)))
       (tick line >> for_run calls depth line head (loop_of inside) >>= after_break)
 
--- The labels that the code goes on from are those that the definitions choose, and they are fallen through one by one.
+-- The labels that the code goes on from are those that the definitions choose, and they are fallen through one by one,
+-- up to the last. A `switch` chooses among the labels of the code.
 pub record LabelsAreWalked (calls : Calls) (depth : ℕ) : Type 0 where
   pub found : (number : ℤ) (c : case_code.Case) (found all : List case_code.Case)
       → from_case (is_constant number) all ≡ c ∷ found
@@ -87,3 +90,7 @@ pub record LabelsAreWalked (calls : Calls) (depth : ℕ) : Type 0 where
   pub one : (c : case_code.Case) (cs : List case_code.Case)
       → ComeToTheSame (fall_run calls depth (c ∷ cs))
       (statements calls depth (body_of (case_code.out-Case c).body.items) >>= go_on (fall_run calls depth cs))
+  pub end : ComeToTheSame (fall_run calls depth []) (give On)
+  pub switches : (line : ℕ) (of : IntType) (e : Expr) (all : List case_code.Case)
+      → ComeToTheSame (statement calls depth (Switch line of e (cases (map case_of all))))
+      (tick line >> full (expression calls e) >>= switch (labels_seen calls depth all) >>= after_break)

@@ -33,7 +33,8 @@ pub fn turns_are_walked()
         → LoopsAreWalked calls depth line inside }
 {}
 
-/// The labels that code goes on from are those that the meaning chooses, and are fallen through one by one.
+/// The labels that code goes on from are those that the meaning chooses, and are fallen through one by one; a `switch`
+/// chooses among those of the code.
 pub fn labels_are_walked()
     ensures walked { (calls : Calls) (depth : ℕ) → LabelsAreWalked calls depth }
 {}
