@@ -1,15 +1,12 @@
 -- Loops, turn by turn.
 use Rattle.std.proofs.Common.{◌≡◌, ◌<◌, ◌≤◌, ◌-◌, ◌+◌, ℕ, suc, Bool, true, false, Some, None, refl, ap, ◌∙◌, arith}
 use Rattle.std.specs.Prelude.{if◌then◌else◌}
-use Rattle.ash_typed.specs.declared.tree.statements.Loop as loop_code
-use Rattle.ash_typed.specs.BodyViews.{loop_of}
 use Rattle.ash_meaning.specs.Activity.{Activity}
-use Rattle.ash_meaning.specs.CallMeaning.{Calls}
 use Rattle.ash_meaning.specs.Runs.{Progress, Done, Ended, NoStep, Run, give, onward, ◌>>=◌, ◌>>◌, out_of_ticks}
 use Rattle.ash_meaning.specs.Frames.{tick}
 use Rattle.ash_meaning.specs.Releases.{release}
-use Rattle.ash_meaning.specs.StatementMeaning.{Flow, On, Broke, Continued, Returned, Turn, turn, turns, after_body, repeat, loop}
-use Rattle.ash_walked_phrases.specs.WalkedPhrases.{after_turn, turn_run, next_turn, left_or, turn_seen}
+use Rattle.ash_meaning.specs.StatementMeaning.{Flow, On, Broke, Continued, Returned, Turn, turn, turns, after_body}
+use Rattle.ash_walked_phrases.specs.WalkedPhrases.{after_turn, turn_run, next_turn, left_or}
 
 module _ (t : Turn) (next : Run Flow) where
   stepped : (p : Progress (Unit {0})) → onward p (λ _. next) ≡ onward (onward p (λ _. give None)) (left_or next)
@@ -56,9 +53,3 @@ module _ (t : Turn) where
 
   pub turns_end : (depth i : ℕ) (a : Activity) → depth ≤ i → turns (depth - i) t a ≡ (tick t.line >> out_of_ticks) a
   turns_end depth i a over = let k : depth - i ≡ 0 = omega arith in ap (λ (n : ℕ). turns n t a) k
-
--- loops of the code
-
-pub loop_follows : (calls : Calls) (depth line : ℕ) (inside : loop_code.Loop) (a : Activity) → loop calls depth line (loop_of inside) a ≡ repeat (loop_code.out-Loop inside).test depth (turn_seen calls depth line inside) a
-unfolding loop_code.out-Loop denote.Hole.Carrier.out
-loop_follows calls depth line (loop_code.Loop' test c es address l k) a = refl

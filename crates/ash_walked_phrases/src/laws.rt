@@ -1,12 +1,11 @@
 //! The laws. A function without a body does nothing: its contract is the law.
 ghost use Rattle.std.specs.Prelude.{ℕ};
-ghost use Rattle.ash_typed.specs.declared.tree.statements.Loop.{Loop};
 ghost use Rattle.ash_typed.specs.TypedTree.{Expr};
 ghost use Rattle.ash_meaning.specs.Runs.{Run};
 ghost use Rattle.ash_meaning.specs.CallMeaning.{Calls};
 ghost use Rattle.ash_meaning.specs.StatementMeaning.{Turn};
 ghost use Rattle.ash_walked_phrases.specs.WalkedLaws.{RunsCompose, ExpressionsAreWalked};
-ghost use Rattle.ash_walked_phrases.specs.WalkedLaws.{ArgumentsAreWalked, TurnsAreWalked, LoopsAreWalked};
+ghost use Rattle.ash_walked_phrases.specs.WalkedLaws.{ArgumentsAreWalked, TurnsAreWalked};
 ghost use Rattle.ash_walked_phrases.specs.WalkedLaws.{LabelsAreWalked};
 
 /// Runs are put together in either grouping, and a value alone before or after a run changes nothing.
@@ -15,26 +14,23 @@ pub fn runs_compose<A, B, C>()
         → RunsCompose first next last }
 {}
 
-/// A chain of operators, a path, the operands of a lazy operator and the invocation of a method, walked from their first
-/// expression on, come to what their trees mean.
+/// A chain of operators, a path and the operands of a lazy operator, walked from their first expression on, come to
+/// what their trees mean.
 pub fn expressions_are_walked()
     ensures walked { (calls : Calls) (first : Expr) → ExpressionsAreWalked calls first }
 {}
 
-/// Arguments, walked one by one, come to what all of them mean, and a call after them to what its tree means.
+/// Arguments, walked one by one, come to what all of them mean.
 pub fn arguments_are_walked()
     ensures walked { (calls : Calls) → ArgumentsAreWalked calls }
 {}
 
-/// A loop, walked turn by turn, comes to what it means, and so do the loops of the code and a `for`.
+/// A loop, walked turn by turn, comes to what it means.
 pub fn turns_are_walked()
     ensures walked { (turn : Turn) → TurnsAreWalked turn }
-    ensures loops { (calls : Calls) (depth line : ℕ) (inside : Loop)
-        → LoopsAreWalked calls depth line inside }
 {}
 
-/// The labels that code goes on from are those that the meaning chooses, and are fallen through one by one; a `switch`
-/// chooses among those of the code.
+/// The labels that code goes on from are those that the meaning chooses, and are fallen through one by one.
 pub fn labels_are_walked()
     ensures walked { (calls : Calls) (depth : ℕ) → LabelsAreWalked calls depth }
 {}

@@ -1,4 +1,4 @@
-use Rattle.std.proofs.Common.{refl, sym, ap, append-nil, List}
+use Rattle.std.proofs.Common.{sym, ap, append-nil, List}
 use Rattle.ash_host.specs.declared.word.Word.{Word}
 use Rattle.ash_meaning.specs.Runs.{Done}
 use Rattle.ash_meaning.specs.ExpressionMeaning.{expression}
@@ -11,6 +11,5 @@ returns c = record {
     begin = λ es a. sym (arguments_begin calls es a);
     one = λ done e es a. spread calls done es (expression calls e a);
     end = λ done a. ap (λ (words : List Word). Done words a) (append-nil done);
-    targets = λ target parameters es a. refl;
   };
 }

@@ -1,4 +1,3 @@
-use Rattle.std.proofs.Common.{refl}
 use Rattle.ash_walked_phrases.proofs.WalkedExpressions.{operands_follow, links_follow, lazies_follow}
 use Rattle.ash_walked_phrases.proofs.laws.expressions_are_walked.Goals as goal
 
@@ -8,6 +7,5 @@ returns c = record {
     chains = operands_follow calls first;
     paths = links_follow calls first;
     lazies = λ op. lazies_follow calls op first;
-    invocations = λ method parameters es a. refl;
   };
 }

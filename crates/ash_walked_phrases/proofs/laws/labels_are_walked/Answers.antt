@@ -1,4 +1,3 @@
-use Rattle.std.proofs.Common.{refl}
 use Rattle.ash_walked_phrases.proofs.Labels.{goes_on_found, goes_on_default, falls_on}
 use Rattle.ash_walked_phrases.proofs.laws.labels_are_walked.Goals as goal
 
@@ -8,7 +7,5 @@ returns c = record {
     found = goes_on_found calls depth;
     default = goes_on_default calls depth;
     one = falls_on calls depth;
-    end = λ a. refl;
-    switches = λ line of e all a. refl;
   };
 }
