@@ -31,8 +31,8 @@ use Rattle.ash_meaning.proofs.StepWalks.{to_full as walk_full}
 use Rattle.ash_meaning.proofs.PhraseWalks.{walk_expression, walk_statement, walk_call, walk_construct}
 use Rattle.ash_meaning.proofs.Depth.{walk_called}
 use Rattle.ash_soundness.proofs.Values.{first_in, later_in, none_in}
-use Rattle.ash_release_laws.specs.Settling.{AtEachEnd, Reaches, IsNumbered, IsSettled, IsSettledBy, Settles, SettlesIfItGoesOn}
-use Rattle.ash_release_laws.specs.Leaving.{IsReachedAt, IsReachedThroughout, LivesWhileReached, LeavesAtTheFirst, LeaveOnTime, AtTheValue, LetsGoOnTime, LeaveIfItGoesOn, LetsGoIfItGoesOn, ObjectsLeaveOnTime}
+use Rattle.ash_release_laws.specs.Settling.{AtEachEnd, AtTheValue, Reaches, IsNumbered, IsSettled, IsSettledBy, Settles, SettlesIfItGoesOn}
+use Rattle.ash_release_laws.specs.Leaving.{IsReachedAt, IsReachedThroughout, LivesWhileReached, LeavesAtTheFirst, LeaveOnTime, LetsGoOnTime, LeaveIfItGoesOn, LetsGoIfItGoesOn, ObjectsLeaveOnTime}
 use Rattle.ash_release_laws.proofs.Roots.{changed_lived, changed_lives, made_lived, made_lives}
 use Rattle.ash_release_laws.proofs.Settling.{left_reached, reached_stays}
 use Rattle.ash_release_laws.proofs.Still.{none_there}

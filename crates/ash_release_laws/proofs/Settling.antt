@@ -20,12 +20,13 @@ Kept true a b = KeepsItsFrame a b
 Kept false a b = KeepsItsCallers a b
 
 frame_same : (a : Activity) → KeepsItsFrame a a
-frame_same a = record { more = []; held = refl; has = λ n c. c; callers = refl; lives = λ n c l. l }
+frame_same a = record { more = []; held = refl; locals = refl; has = λ n c. c; callers = refl; lives = λ n c l. l }
 
 frame_more : {a b c : Activity} → KeepsItsFrame a b → KeepsItsFrame b c → KeepsItsFrame a c
 frame_more {a} {b} {c} p q = record {
   more = q.more ++ p.more;
   held = q.held ∙ ap (λ (ns : List ℕ). q.more ++ ns) p.held ∙ sym (append_assoc q.more p.more (a.frame).held);
+  locals = q.locals ∙ p.locals;
   has = λ n i. q.has n (p.has n i);
   callers = q.callers ∙ p.callers;
   lives = λ n i l. q.lives n (frames_more a.frame b.frame a.callers b.callers p.has p.callers n i) (p.lives n i l);
@@ -185,6 +186,7 @@ pub release_keeps : (a : Activity) → KeepsItsFrame a (after_release a)
 release_keeps a = record {
   more = [];
   held = refl;
+  locals = refl;
   has = λ n c. c;
   callers = refl;
   lives = λ n c l. subst IsSome (sym (reached_stays (a.frame ∷ a.callers) a.world n (Root (frame_root (a.frame ∷ a.callers) a.world n c)))) l;

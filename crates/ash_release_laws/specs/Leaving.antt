@@ -6,7 +6,7 @@ use Rattle.ash_host.specs.declared.word.Word.{Word}
 use Rattle.ash_typed.specs.TypedTree.{Expr}
 use Rattle.ash_typed.specs.StatementTree.{Stmt}
 use Rattle.ash_meaning.specs.Activity.{World, Activity}
-use Rattle.ash_meaning.specs.Runs.{Progress, Done, Ended, NoStep, Run}
+use Rattle.ash_meaning.specs.Runs.{Run}
 use Rattle.ash_meaning.specs.Releases.{full}
 use Rattle.ash_meaning.specs.Classes.{Program, ModuleCallee, FreeFunction, Entry, entry_of}
 use Rattle.ash_meaning.specs.CallMeaning.{call, construct}
@@ -17,6 +17,7 @@ use Rattle.ash_meaning.specs.Ends.{Outcome, call_function, load_module}
 use Rattle.ash_meaning.specs.MeaningLaws.{IsReleased, first_of_call, first_of_load}
 use Rattle.ash_meaning.specs.Traces.{Transition, Releases, Trace, Here, Then, after_release}
 use Rattle.ash_release_laws.specs.Settling.{ReachesFrom, Reaches, IsNumbered, IsSettledFrom, IsSettled}
+use Rattle.ash_release_laws.specs.Settling.{AtTheValue}
 
 -- If a transition is a release point, the object can be reached at it.
 abbrev pub IsReachedAt : ℕ → {old new : Activity} → Transition old new → Type 0
@@ -56,12 +57,6 @@ pub record LeaveOnTime (first last : Activity) : Type 0 where
   pub left : (number : ℕ) → Lives (first.world).objects number → ¬ Lives (last.world).objects number
       → LeavesAtTheFirst number first last
   pub none_late : IsSettled last
-
--- This holds of the value and the activity to which a run comes.
-abbrev pub AtTheValue : {A : Type 0} → (A → Activity → Type 0) → Progress A → Type 0
-AtTheValue Left (Done value activity) = Left value activity
-AtTheValue Left (Ended interrupt activity) = Unit {0}
-AtTheValue Left NoStep = Unit {0}
 
 -- Objects leave on time in a run that comes to its value, within so many ticks.
 abbrev pub LetsGoOnTime : ℕ → (A : Type 0) → Run A → Type 0

@@ -12,6 +12,7 @@
 //! In reading order: `laws`; `wrong_meanings`, of two meanings that the laws refuse; `safe_points`.
 #![tactic(auto)]
 
+pub mod held;
 pub mod laws;
 pub mod safe_points;
 pub mod wrong_meanings;

@@ -1,0 +1,32 @@
+//! The laws of how long frames hold what they hold. A function without a body does nothing: its contract is the law.
+ghost use Rattle.std.specs.Prelude.{ℕ};
+ghost use Rattle.ash_typed.specs.StatementTree.{Stmt};
+ghost use Rattle.ash_meaning.specs.Classes.{Program};
+ghost use Rattle.ash_meaning.specs.Functions.{calls_within};
+ghost use Rattle.ash_meaning.specs.StatementMeaning.{statement};
+ghost use Rattle.ash_release_laws.specs.Held.{NothingStaysHeld, SettlesBetweenStatements};
+ghost use Rattle.ash_release_laws.specs.Held.{CallsHoldOnlyTheirValue, WhatIsTakenAwayIsHeld, JumpsReleaseOnce};
+
+/// Nothing is held after a full expression, nor after a statement that found nothing held, except the value that a
+/// `return` gives. A block leaves as many locals as it found. So if every object that lives can be reached between two
+/// statements without what is held, it is so between the next two.
+pub fn nothing_stays_held()
+    ensures held { (program : Program) (depth : ℕ) → NothingStaysHeld program depth }
+    ensures between { (program : Program) (depth : ℕ) (s : Stmt)
+        → SettlesBetweenStatements (statement (calls_within program depth) depth s) }
+{}
+
+/// After a call or a construction its caller holds what it held and the value, and nothing else of what the frame had.
+pub fn calls_hold_only_their_value()
+    ensures calls { (program : Program) (depth : ℕ) → CallsHoldOnlyTheirValue program depth }
+{}
+
+/// A word that is overwritten is held, and so are the elements that an array loses: no object goes meanwhile.
+pub fn what_is_taken_away_is_held()
+    ensures held { WhatIsTakenAwayIsHeld }
+{}
+
+/// The blocks that a jump leaves are no release points: it comes to one, where it leads.
+pub fn jumps_release_once()
+    ensures once { JumpsReleaseOnce }
+{}
