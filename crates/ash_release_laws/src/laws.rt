@@ -7,7 +7,7 @@ ghost use Rattle.ash_meaning.specs.Releases.{release};
 ghost use Rattle.ash_meaning.specs.Runs.{Done};
 ghost use Rattle.ash_meaning.specs.Traces.{Trace};
 ghost use Rattle.ash_release_laws.specs.Settling.{IsNumbered, IsSettled, ReleasePointsSettle, HoldsUntilTheEnd};
-ghost use Rattle.ash_release_laws.specs.Leaving.{LivesWhileReached, ObjectsLeaveOnTime, RunsLeaveOnTime};
+ghost use Rattle.ash_release_laws.specs.Leaving.{LeaveAlong, ObjectsLeaveOnTime, RunsLeaveOnTime};
 
 /// If every object that lives can be reached, each phrase leaves it so, at each of its ends: an expression, a statement
 /// or a block that goes on, a call of any kind, an initializer.
@@ -28,10 +28,10 @@ pub fn a_settled_release_changes_nothing()
         → release activity ≡ Done tt activity }
 {}
 
-/// Along a trace an object lives exactly as long as it can be reached at each release point.
+/// Along each trace an object that lives at its beginning lives at its end exactly if it can be reached at each release
+/// point, and if not, it leaves at the first at which it can't.
 pub fn objects_live_while_reached()
-    ensures reached { (first last : Activity) (trace : Trace first last) → IsNumbered first
-        → LivesWhileReached trace }
+    ensures reached { (first last : Activity) (trace : Trace first last) → IsNumbered first → LeaveAlong trace }
 {}
 
 /// Each object leaves at the first release point at which it can't be reached, and after a full expression, a statement
