@@ -16,7 +16,7 @@ use Rattle.ash_host.specs.Reach.{hosts_gone, after_sweep, drops_of_sweep}
 use Rattle.ash_meaning.specs.Activity.{World, Frame, Activity}
 use Rattle.ash_meaning.specs.Releases.{roots, sweep}
 use Rattle.ash_meaning.specs.Frames.{back_in}
-use Rattle.ash_meaning.specs.Runs.{Progress, Done, Ended, NoStep, Run}
+use Rattle.ash_meaning.specs.Runs.{Raising, OutOfTicks, Progress, Done, Ended, NoStep, Run}
 use Rattle.ash_meaning.specs.StatementMeaning.{Flow, On, Broke, Continued, Returned}
 use Rattle.ash_meaning.specs.Functions.{body}
 use Rattle.ash_meaning.specs.Classes.{Program}
@@ -32,7 +32,7 @@ use Rattle.ash_meaning.proofs.PhraseWalks.{walk_expression, walk_statement, walk
 use Rattle.ash_meaning.proofs.Depth.{walk_called}
 use Rattle.ash_soundness.proofs.Values.{first_in, later_in, none_in}
 use Rattle.ash_release_laws.specs.Settling.{AtEachEnd, AtTheValue, Reaches, IsNumbered, IsSettled, IsSettledBy, Settles, SettlesIfItGoesOn}
-use Rattle.ash_release_laws.specs.Leaving.{IsReachedAt, IsReachedThroughout, LivesWhileReached, LeavesAtTheFirst, LeaveAlong, LeaveFromAnywhere, LeaveOnTime, LetsGoOnTime, LeaveIfItGoesOn, LetsGoIfItGoesOn, ObjectsLeaveOnTime}
+use Rattle.ash_release_laws.specs.Leaving.{IsReachedAt, IsReachedThroughout, LivesWhileReached, LeavesAtTheFirst, LeaveAlong, LeaveFromAnywhere, LeaveNoEarlier, LeaveOnTime, LetsGoOnTime, LeaveByFlow, LetsGoByFlow, ObjectsLeaveOnTime}
 use Rattle.ash_release_laws.proofs.Roots.{changed_lived, changed_lives, made_lived, made_lives}
 use Rattle.ash_release_laws.proofs.Settling.{left_reached, reached_stays}
 use Rattle.ash_release_laws.proofs.Still.{none_there}
@@ -244,30 +244,35 @@ leave_along first last t numbered = record { lives = live_while_reached first la
 pub leave_from_anywhere : (first last : Activity) → IsNumbered first → LeaveFromAnywhere first last
 leave_from_anywhere first last numbered middle before after = leave_along middle last after ((along before numbered).lives).numbered
 
+leave_no_earlier : (first last : Activity) → IsNumbered first → Trace first last → LeaveNoEarlier first last
+leave_no_earlier first last numbered t = record { trace = t; from_anywhere = leave_from_anywhere first last numbered }
+
 pub leave_at_the_first : (first last : Activity) → IsNumbered first → Trace first last → IsSettled last → LeaveOnTime first last
-leave_at_the_first first last numbered t s = record { trace = t; from_anywhere = leave_from_anywhere first last numbered; none_late = s }
+leave_at_the_first first last numbered t s = record { no_earlier = leave_no_earlier first last numbered t; none_late = s }
 
 module _ (a : Activity) (numbered : IsNumbered a) where
-  lets_go : {A : Type 0} (r : Progress A) → ComesBy a r → AtEachEnd (λ (v : A) b. IsSettled b) IsSettled r → AtTheValue (λ (v : A) b. LeaveOnTime a b) r
+  lets_go : {A : Type 0} (r : Progress A) → ComesBy a r → AtEachEnd (λ (v : A) b. IsSettled b) IsSettled r → AtEachEnd (λ (v : A) b. LeaveOnTime a b) (LeaveOnTime a) r
   lets_go (Done v b) t s = leave_at_the_first a b numbered t s
-  lets_go (Ended i b) t s = tt
+  lets_go (Ended (Raising x) b) t s = leave_at_the_first a b numbered t s
+  lets_go (Ended OutOfTicks b) t s = leave_at_the_first a b numbered t.0 s
   lets_go NoStep t s = tt
 
-  flow_goes : (flow : Flow) (b : Activity) → Trace a b → IsSettledBy flow b → LeaveIfItGoesOn a flow b
+  flow_goes : (flow : Flow) (b : Activity) → Trace a b → IsSettledBy flow b → LeaveByFlow a flow b
   flow_goes On b t s = leave_at_the_first a b numbered t s
-  flow_goes Broke b t s = tt
-  flow_goes Continued b t s = tt
-  flow_goes (Returned value) b t s = tt
+  flow_goes Broke b t s = leave_no_earlier a b numbered t
+  flow_goes Continued b t s = leave_no_earlier a b numbered t
+  flow_goes (Returned value) b t s = leave_no_earlier a b numbered t
 
-  lets_go_on : (r : Progress Flow) → ComesBy a r → AtEachEnd IsSettledBy IsSettled r → AtTheValue (LeaveIfItGoesOn a) r
+  lets_go_on : (r : Progress Flow) → ComesBy a r → AtEachEnd IsSettledBy IsSettled r → AtEachEnd (LeaveByFlow a) (LeaveOnTime a) r
   lets_go_on (Done flow b) t s = flow_goes flow b t s
-  lets_go_on (Ended i b) t s = tt
+  lets_go_on (Ended (Raising x) b) t s = leave_at_the_first a b numbered t s
+  lets_go_on (Ended OutOfTicks b) t s = leave_at_the_first a b numbered t.0 s
   lets_go_on NoStep t s = tt
 
 letting : {A : Type 0} {d : ℕ} {r : Run A} → Walk d r r → Settles A r → LetsGoOnTime d A r
 letting {r = r} w s a le numbered settled = lets_go a numbered (r a) (w.comes a le) (s a numbered settled)
 
-letting_on : {d : ℕ} {r : Run Flow} → Walk d r r → SettlesIfItGoesOn r → LetsGoIfItGoesOn d r
+letting_on : {d : ℕ} {r : Run Flow} → Walk d r r → SettlesIfItGoesOn r → LetsGoByFlow d r
 letting_on {r = r} w s a le numbered settled = lets_go_on a numbered (r a) (w.comes a le) (s a numbered settled)
 
 pub objects_leave_on_time : (p : Program) (d : ℕ) → ObjectsLeaveOnTime p d

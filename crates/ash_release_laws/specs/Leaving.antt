@@ -17,7 +17,7 @@ use Rattle.ash_meaning.specs.Ends.{Outcome, call_function, load_module}
 use Rattle.ash_meaning.specs.MeaningLaws.{IsReleased, entered, initialized, first_of_call, first_of_load}
 use Rattle.ash_meaning.specs.Traces.{Transition, Releases, Trace, Here, Then, after_release}
 use Rattle.ash_release_laws.specs.Settling.{ReachesFrom, Reaches, IsNumbered, IsSettledFrom, IsSettled}
-use Rattle.ash_release_laws.specs.Settling.{AtTheValue}
+use Rattle.ash_release_laws.specs.Settling.{AtEachEnd}
 
 -- If a transition is a release point, the object can be reached at it.
 abbrev pub IsReachedAt : ℕ → {old new : Activity} → Transition old new → Type 0
@@ -71,34 +71,39 @@ pub record LeaveAlong {first last : Activity} (trace : Trace first last) : Type 
 abbrev pub LeaveFromAnywhere : Activity → Activity → Type 0
 LeaveFromAnywhere first last = (middle : Activity) → Trace first middle → (after : Trace middle last) → LeaveAlong after
 
--- A trace leads to the last activity, each object that is gone there left at the first release point at which it
--- couldn't be reached, and none is late: what lives at last can be reached.
-pub record LeaveOnTime (first last : Activity) : Type 0 where
+-- A trace leads to the last activity, and each object that is gone there left at the first release point at which it
+-- couldn't be reached.
+pub record LeaveNoEarlier (first last : Activity) : Type 0 where
   pub trace : Trace first last
   pub from_anywhere : LeaveFromAnywhere first last
+
+-- And none is late: what lives at last can be reached.
+pub record LeaveOnTime (first last : Activity) : Type 0 where
+  pub no_earlier : LeaveNoEarlier first last
   pub none_late : IsSettled last
 
--- Objects leave on time in a run that comes to its value, within so many ticks.
+-- Objects leave on time in a run, at each of its ends, within so many ticks.
 abbrev pub LetsGoOnTime : ℕ → (A : Type 0) → Run A → Type 0
 LetsGoOnTime depth A run =
     (activity : Activity) → activity.ticks ≤ depth → IsNumbered activity → IsSettled activity
-    → AtTheValue (λ value left. LeaveOnTime activity left) (run activity)
+    → AtEachEnd (λ value left. LeaveOnTime activity left) (LeaveOnTime activity) (run activity)
 
--- Objects leave on time if a statement goes on. A jump is on its way to a release point.
-abbrev pub LeaveIfItGoesOn : Activity → Flow → Activity → Type 0
-LeaveIfItGoesOn first On last = LeaveOnTime first last
-LeaveIfItGoesOn first _ last = Unit {0}
+-- Objects leave on time if a statement goes on. A jump is on its way to a release point: what can't be reached any more
+-- leaves there.
+abbrev pub LeaveByFlow : Activity → Flow → Activity → Type 0
+LeaveByFlow first On last = LeaveOnTime first last
+LeaveByFlow first _ last = LeaveNoEarlier first last
 
--- Objects leave on time in a statement that goes on, within so many ticks.
-abbrev pub LetsGoIfItGoesOn : ℕ → Run Flow → Type 0
-LetsGoIfItGoesOn depth run =
+-- Objects leave on time in a statement, within so many ticks; but not before the release point to which a jump leads.
+abbrev pub LetsGoByFlow : ℕ → Run Flow → Type 0
+LetsGoByFlow depth run =
     (activity : Activity) → activity.ticks ≤ depth → IsNumbered activity → IsSettled activity
-    → AtTheValue (LeaveIfItGoesOn activity) (run activity)
+    → AtEachEnd (LeaveByFlow activity) (LeaveOnTime activity) (run activity)
 
--- Objects leave on time, at this depth: in a full expression, in a statement that goes on, and in a call.
+-- Objects leave on time, at this depth: in a full expression, in a statement, and in a call.
 pub record ObjectsLeaveOnTime (program : Program) (depth : ℕ) : Type 0 where
   pub full_expressions : (e : Expr) → LetsGoOnTime depth Word (full (expression (calls_within program depth) e))
-  pub statements : (s : Stmt) → LetsGoIfItGoesOn depth (statement (calls_within program depth) depth s)
+  pub statements : (s : Stmt) → LetsGoByFlow depth (statement (calls_within program depth) depth s)
   pub calls : (callee : ModuleCallee) (this : Word) (args : List Word)
       → LetsGoOnTime depth Word (call (calls_within program depth) callee this args)
   pub constructions : (class : ℕ) (args : List Word)
