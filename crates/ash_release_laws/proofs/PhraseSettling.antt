@@ -68,6 +68,7 @@ leave_goes P a z w numbered same lives =
     back = record {
       more = handles (w ∷ []);
       held = refl;
+      this = refl;
       locals = refl;
       has = back_has (handles (w ∷ [])) a.frame;
       callers = refl;

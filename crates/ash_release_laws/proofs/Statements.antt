@@ -1,5 +1,6 @@
 -- What frames hold after statements, and after calls.
-use Rattle.std.proofs.Common.{◌≡◌, ◌≤◌, ◌+◌, ◌∙◌, ℕ, zero, suc, Bool, true, List, [], ◌∷◌, length, refl, sym, ap, subst, Option, Some, None, slice_get}
+use Rattle.std.proofs.Common.{◌≡◌, ◌≤◌, ◌+◌, ◌∙◌, ℕ, zero, suc, Bool, true, List, [], ◌∷◌, length, refl, sym, ap, subst, Option, Some, None, slice_get, arith}
+use Rattle.std.proofs.lemmas.List.{length-append}
 use Rattle.std.specs.Option.{option_map_or}
 use Rattle.ash_host.specs.declared.word.Word.{Word}
 use Rattle.ash_host.specs.declared.word.Word.TheVariants as words
@@ -18,9 +19,9 @@ use Rattle.ash_meaning.specs.ExpressionMeaning.{expression}
 use Rattle.ash_meaning.specs.StatementMeaning.{Flow, On, Broke, Continued, Returned, declare_one, declare_all, evaluate, evaluate_all, condition, condition_or_true, begin, return_value, Labelled, statement, otherwise, loop, statements, case_run, cases, after_break, in_block}
 use Rattle.ash_meaning.specs.Functions.{body, calls_within, initialize_field, initialize_global}
 use Rattle.ash_release_laws.specs.Settling.{AtEachEnd, AtTheValue, IsNumbered, IsSettled, IsSettledBy, IsSettledFrom, ReachesFrom}
-use Rattle.ash_release_laws.specs.Held.{HoldsNothing, LetsGoOfAll, LeavesNothingHeld, HoldsNothingBy, LeavesNothingHeldBy, LeavesItsLocals, NothingStaysHeld, IsSettledBetween, IsSettledBetweenBy, SettlesBetweenStatements}
+use Rattle.ash_release_laws.specs.Held.{HoldsNothing, LetsGoOfAll, LeavesNothingHeld, HoldsNothingBy, LeavesNothingHeldBy, LeavesMoreLocals, NothingStaysHeld, IsSettledBetween, IsSettledBetweenBy, SettlesBetweenStatements}
 use Rattle.ash_release_laws.proofs.Tidy.{Tidied, Tidy, at_value, at_bind, bound, followed, given, chosen_by, tidy_tick, tidy_declare, Grows, grows, full_lets_go, Passes, tidy_full, IsNoReturn, Flows, tidy_go_on, tidy_after_break, BlockLeft, block_left, tidy_block, tidy_repeat, Labels, no_labels, more_labels, tidy_switch}
-use Rattle.ash_release_laws.proofs.Settling.{Goes, Comes, done, ended, no_way, Calm}
+use Rattle.ash_release_laws.proofs.Settling.{Goes, Comes, done, ended, no_way, Calm, sweep_numbered}
 use Rattle.ash_release_laws.proofs.StepSettling.{to_tick}
 use Rattle.ash_release_laws.proofs.PhraseSettling.{to_expression, to_statement, to_body}
 use Rattle.ash_release_laws.proofs.Settled.{goes_on_settled}
@@ -40,6 +41,47 @@ same_of_comes no_way = tt
 
 same_of : {A : Type 0} {r : Run A} → Calm true r → (a : Activity) → IsNumbered a → AtTheValue (λ (v : A) b. SameLocals a b) (r a)
 same_of h a numbered = same_of_comes (h.comes a numbered)
+
+-- so many locals more
+
+record MoreLocals (k : ℕ) (a b : Activity) : Type 0 where
+  pub numbered : IsNumbered b
+  pub locals : length (b.frame).locals ≡ length (a.frame).locals + k
+
+record More {A : Type 0} (k : ℕ) (r : Run A) : Type 0 where
+  pub comes : (a : Activity) → IsNumbered a → AtTheValue (λ (v : A) b. MoreLocals k a b) (r a)
+
+more_on : {a b c : Activity} (j k n : ℕ) → j + k ≡ n → MoreLocals j a b → MoreLocals k b c → MoreLocals n a c
+more_on j k n e s t = record { numbered = t.numbered; locals = omega (arith, e, s.locals, t.locals) }
+
+more_bound : {A B : Type 0} {r : Run A} {f : A → Run B} (j k : ℕ) {n : ℕ} → j + k ≡ n → More j r → ((v : A) → More k (f v)) → More n (r >>= f)
+more_bound {r = r} {f = f} j k {n} e hr h = record {
+  comes = λ a numbered. at_bind _ f (r a) (hr.comes a numbered) (λ v b s. at_value (f v b) (λ w c t. more_on j k n e s t) ((h v).comes b s.numbered));
+}
+
+one_more : (k : ℕ) → 1 + k ≡ suc k
+one_more k = omega arith
+
+none_more : (k : ℕ) → 0 + k ≡ k
+none_more k = omega arith
+
+more_of_same : {A : Type 0} {r : Run A} → ((a : Activity) → IsNumbered a → AtTheValue (λ (v : A) b. SameLocals a b) (r a)) → More 0 r
+more_of_same {r = r} h = record { comes = λ a numbered. at_value (r a) (λ v b s. record { numbered = s.numbered; locals = omega (arith, s.locals) }) (h a numbered) }
+
+given_more : {A : Type 0} (v : A) → More 0 (give v)
+given_more v = record { comes = λ a numbered. record { numbered = numbered; locals = omega arith } }
+
+declare_more : (w : Word) → More 1 (declare w)
+declare_more w = record { comes = λ a numbered. record { numbered = numbered; locals = length-append (a.frame).locals (w ∷ []) } }
+
+full_locals : {A : Type 0} (k : ℕ) (a : Activity) (q : Progress A) → AtTheValue (λ (v : A) b. MoreLocals k a b) q → AtTheValue (λ (v : A) b. MoreLocals k a b) (onward q (λ v. end_expression >> give v))
+unfolding release
+full_locals k a (Done v b) m = record { numbered = sweep_numbered (let_go b.frame ∷ b.callers) b.world m.numbered; locals = m.locals }
+full_locals k a (Ended i b) m = tt
+full_locals k a NoStep m = tt
+
+full_more : {A : Type 0} {k : ℕ} {r : Run A} → More k r → More k (full r)
+full_more {k = k} {r = r} h = record { comes = λ a numbered. full_locals k a (r a) (h.comes a numbered) }
 
 module _ (p : Program) (d : ℕ) where
   abbrev c : Calls
@@ -150,25 +192,53 @@ module _ (p : Program) (d : ℕ) where
   given_none f a none None = none
   given_none f a none (Some e) = full_lets_go ((expression c e >>= f) a)
 
-  block_locals : {r : Run Flow} → Flows r → LeavesItsLocals (in_block r)
-  block_locals {r} h a numbered = at_value (in_block r a) (λ flow b l. l.same) (block_left h a numbered)
+  -- locals
 
-  -- the ticks of a `for` leave its locals
-  tick_same : (line : ℕ) (a : Activity) → IsNumbered a → AtTheValue (λ (v : Unit {0}) b. SameLocals a b) (tick line a)
-  tick_same line a numbered = same_of (to_tick line) a numbered
+  plus_none : (t u : ℕ) → t ≡ u → t ≡ u + 0
+  plus_none t u e = omega (arith, e)
 
-  break_same : (a b : Activity) → length (b.frame).locals ≡ length (a.frame).locals → (flow : Flow) → AtTheValue (λ (f : Flow) z. length (z.frame).locals ≡ length (a.frame).locals) (after_break flow b)
+  block_locals : {r : Run Flow} → Flows r → LeavesMoreLocals 0 (in_block r)
+  block_locals {r} h a numbered = at_value (in_block r a) (λ flow b l. plus_none (length (b.frame).locals) (length (a.frame).locals) l.same) (block_left h a numbered)
+
+  break_same : (n : ℕ) (b : Activity) → length (b.frame).locals ≡ n → (flow : Flow) → AtTheValue (λ (f : Flow) z. length (z.frame).locals ≡ n) (after_break flow b)
   unfolding release
-  break_same a b same On = same
-  break_same a b same Broke = same
-  break_same a b same Continued = same
-  break_same a b same (Returned value) = same
+  break_same n b same On = same
+  break_same n b same Broke = same
+  break_same n b same Continued = same
+  break_same n b same (Returned value) = same
 
-  for_locals : (line : ℕ) {r : Run Flow} → Flows r → LeavesItsLocals (tick line >> in_block r >>= after_break)
+  for_locals : (line : ℕ) {r : Run Flow} → Flows r → LeavesMoreLocals 0 (tick line >> in_block r >>= after_break)
   for_locals line {r} h a numbered =
       at_bind _ after_break ((tick line >> in_block r) a)
-      (at_bind _ (λ _. in_block r) (tick line a) (tick_same line a numbered) (λ v b s. at_value (in_block r b) (λ flow z l. l.same ∙ s.locals) (block_left h b s.numbered)))
-      (λ flow b same. break_same a b same flow)
+      (at_bind _ (λ _. in_block r) (tick line a) (same_of (to_tick line) a numbered) (λ v b s. at_value (in_block r b) (λ flow z l. l.same ∙ s.locals) (block_left h b s.numbered)))
+      (λ flow b same. break_same (length (a.frame).locals + 0) b (plus_none (length (b.frame).locals) (length (a.frame).locals) same) flow)
+
+  expression_more : (e : Expr) → More 0 (expression c e)
+  expression_more e = more_of_same (same_of (to_expression p (body p d) (to_body p d) e))
+
+  variable_more : (v : Initialization) → More 1 (declare_one c v)
+  variable_more v = go v.value
+    where
+      go : (value : Option Expr) → More 1 (option_map_or (λ e. full (expression c e >>= declare)) value (declare (zero_of v.of)))
+      go None = declare_more (zero_of v.of)
+      go (Some e) = full_more (more_bound 0 1 refl (expression_more e) declare_more)
+
+  variables_more : (vs : List Initialization) → More (length vs) (declare_all c vs)
+  variables_more [] = given_more tt
+  variables_more (v ∷ vs) = more_bound {f = λ _. declare_all c vs} 1 (length vs) (one_more (length vs)) (variable_more v) (λ _. variables_more vs)
+
+  declare_locals : (line : ℕ) (vs : List Initialization) → LeavesMoreLocals (length vs) (tick line >> declare_all c vs >> give On)
+  declare_locals line vs a numbered =
+      let tick_more : More 0 (tick line) = more_of_same (same_of (to_tick line)) in
+      let ran : More (length vs) (tick line >> declare_all c vs) = more_bound {f = λ _. declare_all c vs} 0 (length vs) (none_more (length vs)) tick_more (λ _. variables_more vs) in
+      at_bind _ (λ _. give On) ((tick line >> declare_all c vs) a) (ran.comes a numbered) (λ v b m. m.locals)
+
+  evaluate_locals : (line : ℕ) (e : Expr) → LeavesMoreLocals 0 (tick line >> evaluate c e >> give On)
+  evaluate_locals line e a numbered =
+      let tick_more : More 0 (tick line) = more_of_same (same_of (to_tick line)) in
+      let evaluated : More 0 (evaluate c e) = more_bound {f = λ _. give tt} 0 0 refl (full_more (expression_more e)) (λ _. given_more tt) in
+      let ran : More 0 (tick line >> evaluate c e) = more_bound {f = λ _. evaluate c e} 0 0 refl tick_more (λ _. evaluated) in
+      at_bind _ (λ _. give On) ((tick line >> evaluate c e) a) (ran.comes a numbered) (λ v b m. m.locals)
 
   pub nothing_stays_held : NothingStaysHeld p d
   nothing_stays_held = record {
@@ -180,6 +250,8 @@ module _ (p : Program) (d : ℕ) where
     globals = λ place v a none. given_none _ a none v.value;
     statements = λ s. none_after (tidy_statement s);
     lists = λ ss. none_after (tidy_statements ss);
+    declarations = declare_locals;
+    expressions = evaluate_locals;
     blocks = λ line ss. block_locals (tidy_statements ss);
     for_loops = λ line head inside. for_locals line (followed (tidy_begin head) (tidy_loop line inside));
   }

@@ -57,8 +57,7 @@ by_the_end p first last outcome numbered t comes r = record {
   released = r;
   dropped = λ n kind state at gone. said n last.world outcome.world gone kind state at;
   lives = λ middle before after n l.
-      let from : IsNumbered middle = ((along before numbered).lives).numbered in
-      (
+      let from : IsNumbered middle = ((along before numbered).lives).numbered in (
         (λ there. ((was_reached n from after (given n middle from l) (lived r n there)).0, was r n there)),
         (λ both. stays r n (lives_on n from after l both.0) both.1),
       );

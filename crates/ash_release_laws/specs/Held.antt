@@ -1,10 +1,10 @@
 -- How long frames hold what they hold: to the end of a full expression, and no longer.
-use Rattle.std.specs.Prelude.{◌≡◌, ◌++◌, ◌∷◌, ◌-◌, ℕ, Bool, List, [], length, drop, slice_index_or}
+use Rattle.std.specs.Prelude.{◌≡◌, ◌++◌, ◌∷◌, ◌+◌, ◌-◌, ℕ, Bool, List, [], length, drop, slice_index_or}
 use Rattle.ash_host.specs.declared.word.Word.{Word}
 use Rattle.ash_host.specs.declared.word.Word.TheVariants.{Null}
 use Rattle.ash_host.specs.Objects.{handles, Lives}
 use Rattle.ash_typed.specs.TypedTree.{Expr}
-use Rattle.ash_typed.specs.StatementTree.{Initialization, Head, Loop, Stmt, Block, For, Stmts}
+use Rattle.ash_typed.specs.StatementTree.{Initialization, Head, Loop, Stmt, Declare, Evaluate, Block, For, Stmts}
 use Rattle.ash_meaning.specs.Activity.{Activity, in_frame}
 use Rattle.ash_meaning.specs.Runs.{Done, Run, ◌>>◌}
 use Rattle.ash_meaning.specs.Releases.{holding, let_go, keeping, full}
@@ -46,15 +46,16 @@ abbrev pub LeavesNothingHeldBy : Run Flow → Type 0
 LeavesNothingHeldBy run =
     (activity : Activity) → IsNumbered activity → HoldsNothing activity → AtTheValue HoldsNothingBy (run activity)
 
--- As many locals are there as before, however the statement is left.
-abbrev pub LeavesItsLocals : Run Flow → Type 0
-LeavesItsLocals run =
+-- So many locals are there more than before, however the statement is left.
+abbrev pub LeavesMoreLocals : ℕ → Run Flow → Type 0
+LeavesMoreLocals more run =
     (activity : Activity) → IsNumbered activity
-    → AtTheValue (λ flow left. length (left.frame).locals ≡ length (activity.frame).locals) (run activity)
+    → AtTheValue (λ flow left. length (left.frame).locals ≡ length (activity.frame).locals + more) (run activity)
 
 -- Each full expression lets go of all that its frame holds, at this depth: that of a statement or a condition, and that
 -- of a variable, a field or a global with its value. So nothing is held after a statement that found nothing held,
--- except what it returns, and a block leaves the locals that it found.
+-- except what it returns. A declaration leaves a local more for each variable, an expression none, and a block as many as
+-- it found.
 pub record NothingStaysHeld (program : Program) (depth : ℕ) : Type 0 where
   pub full_expressions : (run : Run Word) → LetsGoOfAll Word (full run)
   pub evaluated : (e : Expr) → LetsGoOfAll (Unit {0}) (evaluate (calls_within program depth) e)
@@ -66,10 +67,14 @@ pub record NothingStaysHeld (program : Program) (depth : ℕ) : Type 0 where
       → LeavesNothingHeld (Unit {0}) (initialize_global (calls_within program depth) place v)
   pub lists : (ss : Stmts) → LeavesNothingHeldBy (statements (calls_within program depth) depth ss)
   pub statements : (s : Stmt) → LeavesNothingHeldBy (statement (calls_within program depth) depth s)
+  pub declarations : (line : ℕ) (vs : List Initialization)
+      → LeavesMoreLocals (length vs) (statement (calls_within program depth) depth (Declare line vs))
+  pub expressions : (line : ℕ) (e : Expr)
+      → LeavesMoreLocals 0 (statement (calls_within program depth) depth (Evaluate line e))
   pub blocks : (line : ℕ) (ss : Stmts)
-      → LeavesItsLocals (statement (calls_within program depth) depth (Block line ss))
+      → LeavesMoreLocals 0 (statement (calls_within program depth) depth (Block line ss))
   pub for_loops : (line : ℕ) (head : Head) (inside : Loop)
-      → LeavesItsLocals (statement (calls_within program depth) depth (For line head inside))
+      → LeavesMoreLocals 0 (statement (calls_within program depth) depth (For line head inside))
 
 -- The frame that runs holds nothing, and every object that lives can be reached from the globals, from what is held
 -- outside, from its `this` and its locals, and from the frames of its callers.

@@ -94,19 +94,22 @@ pub record ReleasePointsSettle (program : Program) (depth : ℕ) : Type 0 where
 
 -- what a frame has
 
--- Nothing is taken from the frame: it holds what it held, and more; it has as many locals; what its `this`, a local or
--- what it holds is a handle to is so still; its callers are as they were; and what they or it have as a handle lives on.
+-- Nothing is taken from the frame: it holds what it held, and more; its `this` is the same, and it has as many locals;
+-- what its `this`, a local or what it holds is a handle to is so still; its callers are as they were; and what they or
+-- it have as a handle lives on.
 pub record KeepsItsFrame (old new : Activity) : Type 0 where
   pub more : List ℕ
   pub held : (new.frame).held ≡ more ++ (old.frame).held
+  pub this : (new.frame).this ≡ (old.frame).this
   pub locals : length (new.frame).locals ≡ length (old.frame).locals
   pub has : (number : ℕ) → Contains (roots_of_frame old.frame) number → Contains (roots_of_frame new.frame) number
   pub callers : new.callers ≡ old.callers
   pub lives : (number : ℕ) → Contains (flat_map roots_of_frame (old.frame ∷ old.callers)) number
       → Lives (old.world).objects number → Lives (new.world).objects number
 
--- The callers are as they were, and what they have as a handle lives on.
+-- The callers and the `this` of the frame are as they were, and what the callers have as a handle lives on.
 pub record KeepsItsCallers (old new : Activity) : Type 0 where
+  pub this : (new.frame).this ≡ (old.frame).this
   pub callers : new.callers ≡ old.callers
   pub lives : (number : ℕ) → Contains (flat_map roots_of_frame old.callers) number
       → Lives (old.world).objects number → Lives (new.world).objects number
