@@ -13,3 +13,4 @@ pub mod Still
 pub mod WrongMeanings
 pub mod Safe
 pub mod Dangling
+pub mod SoundPhrases
