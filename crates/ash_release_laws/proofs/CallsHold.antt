@@ -5,17 +5,16 @@ use Rattle.ash_host.specs.declared.word.Word.TheVariants as words
 use Rattle.ash_host.specs.Objects.{Plain, handles}
 use Rattle.ash_host.specs.Limits.{max_objects}
 use Rattle.ash_host.proofs.NumberLaws.{put_next}
-use Rattle.ash_typed.specs.Modules.{Class}
 use Rattle.ash_meaning.specs.declared.exception.Exception.{Exception}
 use Rattle.ash_meaning.specs.declared.exception.Exception.TheVariants.{StackOverflow, ObjectLimit, NumbersSpent}
 use Rattle.ash_meaning.specs.Activity.{Frame, Activity}
-use Rattle.ash_meaning.specs.Runs.{Progress, Done, Run, give, ◌>>=◌, ◌>>◌, look, demand, found}
+use Rattle.ash_meaning.specs.Runs.{Progress, Done, Run, ◌>>=◌, ◌>>◌, look, demand, found}
 use Rattle.ash_meaning.specs.Releases.{holding, release}
 use Rattle.ash_meaning.specs.Frames.{max_frames, demand_frame, tick, back_in, leave, in_frame_of}
 use Rattle.ash_meaning.specs.ObjectSteps.{max_number, demand_number, make}
-use Rattle.ash_meaning.specs.Classes.{Program, ModuleCallee, Construction, Entry, entry_of}
+use Rattle.ash_meaning.specs.Classes.{Program, ModuleCallee, Construction, entry_of}
 use Rattle.ash_meaning.specs.CallMeaning.{Calls, value_or_null, blank, call, construct}
-use Rattle.ash_meaning.specs.Functions.{body, calls_within}
+use Rattle.ash_meaning.specs.Functions.{calls_within}
 use Rattle.ash_meaning.specs.Traces.{after_release}
 use Rattle.ash_release_laws.specs.Settling.{AtTheValue, IsNumbered, IsSettled}
 use Rattle.ash_release_laws.specs.Held.{HoldsItsValue, CallsHoldOnlyTheirValue}

@@ -1,20 +1,17 @@
 -- Objects live while they can be reached at release points, and leave at the first at which they can't.
-use Rattle.std.proofs.Common.{◌≡◌, ◌≤◌, ◌⊎◌, ◌+◌, ◌∙◌, ℕ, zero, suc, Bool, true, false, cond, List, [], ◌∷◌, map, inl, inr, refl, sym, ap, subst, nat_eq, Option, Some, None, arith}
+use Rattle.std.proofs.Common.{◌≡◌, ◌≤◌, ◌⊎◌, ◌+◌, ◌∙◌, ℕ, Bool, true, false, cond, List, [], ◌∷◌, inl, inr, refl, sym, ap, subst, nat_eq, Option, Some, None, arith}
 use Rattle.std.specs.Prelude.{Contains, IsSome, ◌&&◌, filter}
 use Rattle.std.specs.Option.{is_none}
 use Rattle.std.specs.Map.{keys_of}
 use Rattle.std.proofs.lemmas.Bool.{eqb-true}
 use Rattle.std.proofs.lemmas.Option.{same_Some}
-use Rattle.std.proofs.lemmas.List.Elements.{Contains-append_left, Contains-append_right}
 use Rattle.ash_host.specs.declared.word.Word.{Word}
-use Rattle.ash_host.specs.declared.event.Event.{Event}
-use Rattle.ash_host.specs.declared.event.Event.TheVariants.{Dropped}
 use Rattle.ash_host.specs.declared.event.Target.{Target}
 use Rattle.ash_host.specs.declared.event.Target.TheVariants as targets
 use Rattle.ash_host.specs.Objects.{Plain, Host, LiveObjects, object_at, with_at, is_host, Lives}
-use Rattle.ash_host.specs.Reach.{hosts_gone, after_sweep, drops_of_sweep}
+use Rattle.ash_host.specs.Reach.{hosts_gone}
 use Rattle.ash_meaning.specs.Activity.{World, Frame, Activity}
-use Rattle.ash_meaning.specs.Releases.{roots, sweep}
+use Rattle.ash_meaning.specs.Releases.{sweep}
 use Rattle.ash_meaning.specs.Frames.{back_in}
 use Rattle.ash_meaning.specs.Runs.{Raising, OutOfTicks, Progress, Done, Ended, NoStep, Run}
 use Rattle.ash_meaning.specs.StatementMeaning.{Flow, On, Broke, Continued, Returned}
@@ -30,8 +27,8 @@ use Rattle.ash_meaning.proofs.Walks.{Walk, at_most}
 use Rattle.ash_meaning.proofs.StepWalks.{to_full as walk_full}
 use Rattle.ash_meaning.proofs.PhraseWalks.{walk_expression, walk_statement, walk_call, walk_construct}
 use Rattle.ash_meaning.proofs.Depth.{walk_called}
-use Rattle.ash_soundness.proofs.Values.{first_in, later_in, none_in}
-use Rattle.ash_release_laws.specs.Settling.{AtEachEnd, AtTheValue, Reaches, IsNumbered, IsSettled, IsSettledBy, Settles, SettlesIfItGoesOn}
+use Rattle.ash_soundness.proofs.Values.{first_in, later_in}
+use Rattle.ash_release_laws.specs.Settling.{AtEachEnd, Reaches, IsNumbered, IsSettled, IsSettledBy, Settles, SettlesIfItGoesOn}
 use Rattle.ash_release_laws.specs.Leaving.{IsReachedAt, IsReachedThroughout, LivesWhileReached, LeavesAtTheFirst, LeaveAlong, LeaveFromAnywhere, LeaveNoEarlier, LeaveOnTime, LetsGoOnTime, LeaveByFlow, LetsGoByFlow, ObjectsLeaveOnTime}
 use Rattle.ash_release_laws.proofs.Roots.{changed_lived, changed_lives, made_lived, made_lives}
 use Rattle.ash_release_laws.proofs.Settling.{left_reached, reached_stays}

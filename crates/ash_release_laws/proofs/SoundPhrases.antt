@@ -1,7 +1,6 @@
 -- Release points of sound phrases are at well-formed activities.
-use Rattle.std.proofs.Common.{◌≡◌, ◌↔◌, ◌∷◌, ℕ, List, length, sym, subst}
+use Rattle.std.proofs.Common.{◌≡◌, ℕ, List, length, sym, subst}
 use Rattle.ash_host.specs.declared.word.Word.{Word}
-use Rattle.ash_host.specs.Objects.{Lives}
 use Rattle.ash_typed.specs.TypedTree.{Expr}
 use Rattle.ash_typed.specs.StatementTree.{Stmt, Stmts}
 use Rattle.ash_typed.specs.TypeOf.{ValueType}
@@ -17,8 +16,8 @@ use Rattle.ash_soundness.specs.WellFormed.{Context, IsContext, declared, IsWellF
 use Rattle.ash_soundness.specs.WellFormedLaws.{Leaves, done}
 use Rattle.ash_soundness.proofs.Lists.{values_length}
 use Rattle.ash_soundness.proofs.SoundStaysSound.{expressions_keep, statements_keep, blocks_keep}
-use Rattle.ash_release_laws.specs.Settling.{AtEachEnd, Reaches, IsNumbered, IsSettled, IsSettledBy}
-use Rattle.ash_release_laws.specs.SafePoints.{ReleasePointsAreSafe, SoundPhrasesReleaseSafely}
+use Rattle.ash_release_laws.specs.Settling.{AtEachEnd, IsNumbered, IsSettled, IsSettledBy}
+use Rattle.ash_release_laws.specs.SafePoints.{SoundPhrasesReleaseSafely}
 use Rattle.ash_release_laws.proofs.Settled.{goes_on_settled}
 use Rattle.ash_release_laws.proofs.PhraseSettling.{to_statement, to_body}
 use Rattle.ash_release_laws.proofs.Safe.{release_points_are_safe}

@@ -1,26 +1,23 @@
 -- What frames hold after statements, and after calls.
-use Rattle.std.proofs.Common.{◌≡◌, ◌≤◌, ◌+◌, ◌∙◌, ℕ, zero, suc, Bool, true, List, [], ◌∷◌, length, refl, sym, ap, subst, Option, Some, None, slice_get, arith}
+use Rattle.std.proofs.Common.{◌≡◌, ◌+◌, ◌∙◌, ℕ, suc, Bool, true, List, [], ◌∷◌, length, refl, sym, ap, subst, Option, Some, None, arith}
 use Rattle.std.proofs.lemmas.List.{length-append}
 use Rattle.std.specs.Option.{option_map_or}
 use Rattle.ash_host.specs.declared.word.Word.{Word}
-use Rattle.ash_host.specs.declared.word.Word.TheVariants as words
-use Rattle.ash_host.specs.Objects.{handles}
 use Rattle.ash_typed.specs.TypedTree.{Expr}
 use Rattle.ash_typed.specs.StatementTree.{Initialization, Stmt, Empty, Declare, Evaluate, Block, If, Branch, no_branch, branch, Head, no_head, declared_head, evaluated_head, Repeat, For, Loop, repeated, Switch, Break, Continue, Return, Stmts, no_stmt, stmt, Case, labelled, Cases, no_case, next_case}
-use Rattle.ash_meaning.specs.Activity.{Frame, Activity, in_frame}
+use Rattle.ash_meaning.specs.Activity.{Frame, Activity}
 use Rattle.ash_meaning.specs.Runs.{Progress, Done, Ended, NoStep, Run, give, onward, ◌>>=◌, ◌>>◌}
 use Rattle.ash_meaning.specs.Frames.{tick}
-use Rattle.ash_meaning.specs.Releases.{holding, full, release, let_go, end_expression, declare}
+use Rattle.ash_meaning.specs.Releases.{full, release, let_go, end_expression, declare}
 use Rattle.ash_meaning.specs.Classes.{Program}
 use Rattle.ash_meaning.specs.CallMeaning.{Calls}
 use Rattle.ash_meaning.specs.OperatorMeaning.{is_true, zero_of}
-use Rattle.ash_meaning.specs.Locations.{Global}
 use Rattle.ash_meaning.specs.ExpressionMeaning.{expression}
 use Rattle.ash_meaning.specs.StatementMeaning.{Flow, On, Broke, Continued, Returned, declare_one, declare_all, evaluate, evaluate_all, condition, condition_or_true, begin, return_value, Labelled, statement, otherwise, loop, statements, case_run, cases, after_break, in_block}
-use Rattle.ash_meaning.specs.Functions.{body, calls_within, initialize_field, initialize_global}
-use Rattle.ash_release_laws.specs.Settling.{AtEachEnd, AtTheValue, IsNumbered, IsSettled, IsSettledBy, IsSettledFrom, ReachesFrom}
-use Rattle.ash_release_laws.specs.Held.{HoldsNothing, LetsGoOfAll, LeavesNothingHeld, HoldsNothingBy, LeavesNothingHeldBy, LeavesMoreLocals, NothingStaysHeld, IsSettledBetween, IsSettledBetweenBy, SettlesBetweenStatements}
-use Rattle.ash_release_laws.proofs.Tidy.{Tidied, Tidy, at_value, at_bind, bound, followed, given, chosen_by, tidy_tick, tidy_declare, Grows, grows, full_lets_go, Passes, tidy_full, IsNoReturn, Flows, tidy_go_on, tidy_after_break, BlockLeft, block_left, tidy_block, tidy_repeat, Labels, no_labels, more_labels, tidy_switch}
+use Rattle.ash_meaning.specs.Functions.{body, calls_within}
+use Rattle.ash_release_laws.specs.Settling.{AtEachEnd, AtTheValue, IsNumbered, IsSettled, IsSettledBy, IsSettledFrom}
+use Rattle.ash_release_laws.specs.Held.{HoldsNothing, LetsGoOfAll, LeavesNothingHeld, HoldsNothingBy, LeavesNothingHeldBy, LeavesMoreLocals, NothingStaysHeld, IsSettledBetweenBy, SettlesBetweenStatements}
+use Rattle.ash_release_laws.proofs.Tidy.{Tidied, at_value, at_bind, bound, followed, given, chosen_by, tidy_tick, tidy_declare, Grows, grows, full_lets_go, Passes, tidy_full, IsNoReturn, Flows, tidy_go_on, tidy_after_break, block_left, tidy_block, tidy_repeat, Labels, no_labels, more_labels, tidy_switch}
 use Rattle.ash_release_laws.proofs.Settling.{Goes, Comes, done, ended, no_way, Calm, sweep_numbered}
 use Rattle.ash_release_laws.proofs.StepSettling.{to_tick}
 use Rattle.ash_release_laws.proofs.PhraseSettling.{to_expression, to_statement, to_body}

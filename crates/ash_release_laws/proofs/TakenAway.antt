@@ -12,14 +12,14 @@ use Rattle.ash_host.specs.Records.{HostRecord}
 use Rattle.ash_host.specs.Limits.{max_elements}
 use Rattle.ash_meaning.specs.declared.exception.Exception.TheVariants.{IndexOutOfBounds, ArrayLimit}
 use Rattle.ash_meaning.specs.Activity.{Activity, in_frame, in_world}
-use Rattle.ash_meaning.specs.Runs.{Progress, Done, Run, give, onward, ◌>>=◌, ◌>>◌, change, demand, found}
+use Rattle.ash_meaning.specs.Runs.{Progress, Done, give, onward, ◌>>=◌, ◌>>◌, change, demand, found}
 use Rattle.ash_meaning.specs.Releases.{hold_all, release, keeping, leave_blocks}
 use Rattle.ash_meaning.specs.Frames.{leave}
 use Rattle.ash_meaning.specs.ObjectSteps.{with_object, words_in, words_at, with_words, put_words}
 use Rattle.ash_meaning.specs.HostSteps.{with_state_in, next_answer, after_answer, accept}
 use Rattle.ash_meaning.specs.Locations.{Location, Local, Global, Part, Property, write}
-use Rattle.ash_meaning.specs.ArraySteps.{zero_at, zero_in, resized, resize, remove_last}
-use Rattle.ash_meaning.specs.StatementMeaning.{Flow, On, Broke, Continued, Returned, end_block, in_block}
+use Rattle.ash_meaning.specs.ArraySteps.{zero_at, zero_in, resized}
+use Rattle.ash_meaning.specs.StatementMeaning.{Flow, On, Broke, Continued, Returned, end_block}
 use Rattle.ash_release_laws.specs.Settling.{AtTheValue}
 use Rattle.ash_release_laws.specs.Held.{stored, HoldsAsWell, WhatIsTakenAwayIsHeld, IsJump, JumpsReleaseOnce}
 use Rattle.ash_release_laws.proofs.Roots.{changed_lives}

@@ -1,5 +1,5 @@
 -- Runs of statements, after which nothing is held if nothing was.
-use Rattle.std.proofs.Common.{◌≡◌, ◌≤◌, ◌+◌, ◌∙◌, ℕ, zero, suc, ℤ, Bool, true, false, List, [], ◌∷◌, ◌++◌, length, take, refl, sym, ap, subst, Option, Some, None, if◌then◌else◌, arith}
+use Rattle.std.proofs.Common.{◌≡◌, ◌≤◌, ℕ, zero, suc, ℤ, Bool, true, false, List, [], ◌∷◌, ◌++◌, length, take, refl, Option, if◌then◌else◌, arith}
 use Rattle.std.specs.Prelude.{is_none}
 use Rattle.std.proofs.lemmas.List.{length-append, length-take-le}
 use Rattle.ash_host.specs.declared.word.Word.{Word}
@@ -9,7 +9,7 @@ use Rattle.ash_typed.specs.declared.tree.statements.Test.TheVariants as tests
 use Rattle.ash_meaning.specs.Activity.{Activity, in_frame}
 use Rattle.ash_meaning.specs.Runs.{Progress, Done, Ended, NoStep, Run, give, onward, ◌>>=◌, ◌>>◌, look, change}
 use Rattle.ash_meaning.specs.Frames.{at_line, spend, tick}
-use Rattle.ash_meaning.specs.Releases.{let_go, release, end_expression, full, declaring, declare, keeping, leave_blocks}
+use Rattle.ash_meaning.specs.Releases.{let_go, release, end_expression, full, declare, keeping, leave_blocks}
 use Rattle.ash_meaning.specs.StatementMeaning.{Flow, On, Broke, Continued, Returned, go_on, end_block, in_block, after_break, Turn, after_body, turn, turns, repeat, Labelled, from_label, is_constant, or_else, fall_through, switch}
 use Rattle.ash_meaning.specs.Traces.{after_release}
 use Rattle.ash_release_laws.specs.Settling.{AtTheValue, IsNumbered}
