@@ -16,12 +16,15 @@ use Rattle.ash_meaning.specs.ExpressionMeaning.{expression}
 use Rattle.ash_meaning.specs.StatementMeaning.{Flow, On, Broke, Continued, Returned, declare_one, declare_all, evaluate, evaluate_all, condition, condition_or_true, begin, return_value, Labelled, statement, otherwise, loop, statements, case_run, cases, after_break, in_block}
 use Rattle.ash_meaning.specs.Functions.{body, calls_within}
 use Rattle.ash_release_laws.specs.Settling.{AtEachEnd, AtTheValue, IsNumbered, IsSettled, IsSettledBy, IsSettledFrom}
-use Rattle.ash_release_laws.specs.Held.{HoldsNothing, LetsGoOfAll, LeavesNothingHeld, HoldsNothingBy, LeavesNothingHeldBy, LeavesMoreLocals, NothingStaysHeld, IsSettledBetweenBy, SettlesBetweenStatements}
+use Rattle.ash_release_laws.specs.Held.{HoldsNothing, LetsGoOfAll, LeavesNothingHeld, HoldsNothingBy, LeavesNothingHeldBy, LeavesMoreLocals, FramesBeginWithNothingHeld, NothingStaysHeld, IsSettledBetweenBy, SettlesBetweenStatements}
 use Rattle.ash_release_laws.proofs.Tidy.{Tidied, at_value, at_bind, bound, followed, given, chosen_by, tidy_tick, tidy_declare, Grows, grows, full_lets_go, Passes, tidy_full, IsNoReturn, Flows, tidy_go_on, tidy_after_break, block_left, tidy_block, tidy_repeat, Labels, no_labels, more_labels, tidy_switch}
 use Rattle.ash_release_laws.proofs.Settling.{Goes, Comes, done, ended, no_way, Calm, sweep_numbered}
 use Rattle.ash_release_laws.proofs.StepSettling.{to_tick}
 use Rattle.ash_release_laws.proofs.PhraseSettling.{to_expression, to_statement, to_body}
 use Rattle.ash_release_laws.proofs.Settled.{goes_on_settled}
+
+pub frames_begin : (p : Program) → FramesBeginWithNothingHeld p
+frames_begin p = record { entered = λ function line this locals a. refl; calls = λ e args budget world. refl; loads = λ budget world. refl }
 
 -- where nothing is held, nothing is let go
 let_go_same : (a : Activity) → HoldsNothing a → let_go a.frame ≡ a.frame

@@ -3,21 +3,25 @@ use Rattle.std.specs.Prelude.{◌≡◌, ◌++◌, ◌∷◌, ◌+◌, ◌-◌, 
 use Rattle.ash_host.specs.declared.word.Word.{Word}
 use Rattle.ash_host.specs.declared.word.Word.TheVariants.{Null}
 use Rattle.ash_host.specs.Objects.{handles, Lives}
+use Rattle.ash_typed.specs.declared.tree.operations.Method.{Method}
+use Rattle.ash_typed.specs.declared.tree.operations.Method.TheVariants as methods
+use Rattle.ash_typed.specs.declared.tree.operations.CallTarget.{CallTarget}
 use Rattle.ash_typed.specs.TypedTree.{Expr}
 use Rattle.ash_typed.specs.StatementTree.{Initialization, Head, Loop, Stmt, Declare, Evaluate, Block, For, Stmts}
-use Rattle.ash_meaning.specs.Activity.{Activity, in_frame}
+use Rattle.ash_meaning.specs.Activity.{World, Activity, in_frame}
 use Rattle.ash_meaning.specs.Runs.{Done, Run, ◌>>◌}
 use Rattle.ash_meaning.specs.Releases.{holding, let_go, keeping, full}
-use Rattle.ash_meaning.specs.Frames.{back_in, leave}
+use Rattle.ash_meaning.specs.Frames.{enter, back_in, leave}
 use Rattle.ash_meaning.specs.ObjectSteps.{words_in}
 use Rattle.ash_meaning.specs.ArraySteps.{resize, remove_last}
 use Rattle.ash_meaning.specs.Locations.{Location, Local, Global, Part, Property, write}
-use Rattle.ash_meaning.specs.Classes.{Program, ModuleCallee}
-use Rattle.ash_meaning.specs.CallMeaning.{call, construct}
+use Rattle.ash_meaning.specs.Classes.{Program, ModuleCallee, Entry}
+use Rattle.ash_meaning.specs.CallMeaning.{call, construct, invoke, call_target}
 use Rattle.ash_meaning.specs.StatementMeaning.{Flow, On, Broke, Continued, Returned, Turn}
 use Rattle.ash_meaning.specs.StatementMeaning.{statement, statements, declare_one, evaluate, condition}
 use Rattle.ash_meaning.specs.StatementMeaning.{in_block, after_break, after_body}
 use Rattle.ash_meaning.specs.Functions.{calls_within, initialize_field, initialize_global}
+use Rattle.ash_meaning.specs.MeaningLaws.{first_of_call, first_of_load}
 use Rattle.ash_meaning.specs.Traces.{after_release}
 use Rattle.ash_release_laws.specs.Settling.{IsNumbered, IsSettledFrom, AtTheValue}
 
@@ -76,6 +80,14 @@ pub record NothingStaysHeld (program : Program) (depth : ℕ) : Type 0 where
   pub for_loops : (line : ℕ) (head : Head) (inside : Loop)
       → LeavesMoreLocals 0 (statement (calls_within program depth) depth (For line head inside))
 
+-- A frame begins with nothing held: one that is entered, and the first of a call from outside and of a load.
+pub record FramesBeginWithNothingHeld (program : Program) : Type 0 where
+  pub entered : (function : List ℕ) (line : ℕ) (this : Word) (locals : List Word) (activity : Activity)
+      → AtTheValue (λ none left. HoldsNothing left) (enter function line this locals activity)
+  pub calls : (e : Entry) (args : List Word) (budget : ℕ) (world : World)
+      → HoldsNothing (first_of_call e args budget world)
+  pub loads : (budget : ℕ) (world : World) → HoldsNothing (first_of_load program budget world)
+
 -- The frame that runs holds nothing, and every object that lives can be reached from the globals, from what is held
 -- outside, from its `this` and its locals, and from the frames of its callers.
 pub record IsSettledBetween (activity : Activity) : Type 0 where
@@ -104,12 +116,22 @@ pub record HoldsItsValue (old : Activity) (value : Word) (new : Activity) : Type
 abbrev pub HoldsOnlyItsValue : Run Word → Type 0
 HoldsOnlyItsValue run = (activity : Activity) → IsNumbered activity → AtTheValue (HoldsItsValue activity) (run activity)
 
--- Calls and constructions leave nothing of what their frames had, except the value, at this depth.
+-- It is no method of an array: those hold what they take away.
+abbrev pub IsNoArrayMethod : Method → Type 0
+IsNoArrayMethod (methods.Array method) = ⊥
+IsNoArrayMethod _ = Unit {0}
+
+-- Calls and constructions leave nothing of what their frames had, except the value, at this depth; so do those of hosts,
+-- and constructions of arrays.
 pub record CallsHoldOnlyTheirValue (program : Program) (depth : ℕ) : Type 0 where
   pub calls : (callee : ModuleCallee) (this : Word) (args : List Word)
       → HoldsOnlyItsValue (call (calls_within program depth) callee this args)
   pub constructions : (class : ℕ) (args : List Word)
       → HoldsOnlyItsValue (construct (calls_within program depth) class args)
+  pub targets : (target : CallTarget) (args : List Word)
+      → HoldsOnlyItsValue (call_target (calls_within program depth) target args)
+  pub methods : (method : Method) (number : ℕ) (args : List Word) → IsNoArrayMethod method
+      → HoldsOnlyItsValue (invoke (calls_within program depth) method number args)
 
 -- what is taken away
 
