@@ -1,6 +1,6 @@
 -- Release points inside a phrase of a sound module: what is well-formed at the ends of full expressions and of blocks,
 -- and what keeps a well-formed activity so.
-use Rattle.std.specs.Prelude.{◌≡◌, ◌↔◌, ◌∷◌, ℕ, List, Contains, length}
+use Rattle.std.specs.Prelude.{◌≡◌, ◌↔◌, ◌∷◌, ℕ, List, Option, Contains, length}
 use Rattle.ash_host.specs.declared.word.Word.{Word}
 use Rattle.ash_host.specs.Objects.{Lives}
 use Rattle.ash_host.specs.Reach.{NoneDangles}
@@ -15,7 +15,8 @@ use Rattle.ash_meaning.specs.Releases.{roots, let_go, keeping}
 use Rattle.ash_meaning.specs.Runs.{Done}
 use Rattle.ash_meaning.specs.Frames.{back_in}
 use Rattle.ash_meaning.specs.ExpressionMeaning.{expression}
-use Rattle.ash_meaning.specs.StatementMeaning.{Flow, On, statement, statements}
+use Rattle.ash_meaning.specs.StatementMeaning.{Flow, On, Returned, statement, statements}
+use Rattle.ash_meaning.specs.CallMeaning.{value_or_null}
 use Rattle.ash_meaning.specs.Functions.{calls_within}
 use Rattle.ash_meaning.specs.Traces.{after_release}
 use Rattle.ash_soundness.specs.WellFormed.{Context, declared, IsGiven, IsWorld, IsWellFormed, IsSafe}
@@ -45,9 +46,9 @@ pub record ReleasePointsAreSafe (c : Context) : Type 0 where
   pub run_ended : (activity : Activity) → IsSafe c activity → IsWorld c activity.world
 
 -- Where a sound phrase begins in a well-formed activity, its release points are at well-formed ones: that at the end of
--- a full expression, and that at the end of a block, also if a jump leads out of it. The activity from which a statement
--- leads on is well-formed, by whatever jump it is left. If it goes on from a
--- settled one, an object lives exactly if it can be reached.
+-- a full expression, that at the end of a block, also if a jump leads out of it, and that after a return. A statement
+-- leaves a well-formed activity, by whatever jump it is left. If it goes on from a settled one, an object lives exactly
+-- if it can be reached.
 pub record SoundPhrasesReleaseSafely (c : Context) (depth : ℕ) : Type 0 where
   pub full_expressions : (env : TypedEnvironment) (envs : List TypedEnvironment) (e : Expr) (of : ValueType)
       (activity left : Activity) (value : Word)
@@ -58,6 +59,11 @@ pub record SoundPhrasesReleaseSafely (c : Context) (depth : ℕ) : Type 0 where
       → (scope.env).signatures ≡ declared c → AreSoundStmts scope ss → IsWellFormed c scope.env envs activity
       → statements (calls_within c.program depth) depth ss activity ≡ Done flow left
       → IsWellFormed c scope.env envs (in_frame (keeping (length (activity.frame).locals)) left)
+  pub returns : (scope : TypedScope) (env : TypedEnvironment) (envs : List TypedEnvironment) (ss : Stmts)
+      (activity left : Activity) (value : Option Word)
+      → (scope.env).signatures ≡ declared c → AreSoundStmts scope ss → IsWellFormed c scope.env (env ∷ envs) activity
+      → statements (calls_within c.program depth) depth ss activity ≡ Done (Returned value) left
+      → IsWellFormed c env envs (back_in left.callers (value_or_null value) left)
   pub left : (scope : TypedScope) (envs : List TypedEnvironment) (s : Stmt) (activity left : Activity) (flow : Flow)
       → (scope.env).signatures ≡ declared c → IsSoundStmt scope s → IsWellFormed c scope.env envs activity
       → statement (calls_within c.program depth) depth s activity ≡ Done flow left
