@@ -58,8 +58,8 @@ LeavesMoreLocals more run =
 
 -- Each full expression lets go of all that its frame holds, at this depth: that of a statement or a condition, and that
 -- of a variable, a field or a global with its value. So nothing is held after a statement that found nothing held,
--- except what it returns. A declaration leaves a local more for each variable, an expression none, and a block as many as
--- it found.
+-- except what it returns. A declaration leaves a local more for each variable, and an expression and a block leave as
+-- many as they found.
 pub record NothingStaysHeld (program : Program) (depth : ℕ) : Type 0 where
   pub full_expressions : (run : Run Word) → LetsGoOfAll Word (full run)
   pub evaluated : (e : Expr) → LetsGoOfAll (Unit {0}) (evaluate (calls_within program depth) e)
@@ -121,8 +121,8 @@ abbrev pub IsNoArrayMethod : Method → Type 0
 IsNoArrayMethod (methods.Array method) = ⊥
 IsNoArrayMethod _ = Unit {0}
 
--- Calls and constructions leave nothing of what their frames had, except the value, at this depth; so do those of hosts,
--- and constructions of arrays.
+-- Calls and constructions leave nothing of what their frames had, except the value, at this depth. So do calls and
+-- constructions of hosts, and constructions of arrays.
 pub record CallsHoldOnlyTheirValue (program : Program) (depth : ℕ) : Type 0 where
   pub calls : (callee : ModuleCallee) (this : Word) (args : List Word)
       → HoldsOnlyItsValue (call (calls_within program depth) callee this args)

@@ -24,8 +24,8 @@ full_without_release run = run >>= (λ value. change (in_frame let_go) >> give v
 abbrev pub operand_as_full : Run Word → Run Word
 operand_as_full run = full run
 
--- A statement that is an expression, whose end is not that of a full expression: what is held is held on, and no release
--- point takes it.
+-- A statement that is an expression, whose end is not that of a full expression: what is held is held on, and no
+-- release point takes it.
 abbrev pub evaluated_without_end : Run Word → Run (Unit {0})
 evaluated_without_end run = run >> give tt
 

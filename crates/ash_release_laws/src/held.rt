@@ -7,9 +7,9 @@ ghost use Rattle.ash_meaning.specs.StatementMeaning.{statement};
 ghost use Rattle.ash_release_laws.specs.Held.{FramesBeginWithNothingHeld, NothingStaysHeld, SettlesBetweenStatements};
 ghost use Rattle.ash_release_laws.specs.Held.{CallsHoldOnlyTheirValue, WhatIsTakenAwayIsHeld, JumpsReleaseOnce};
 
-/// A frame begins with nothing held. Nothing is held after a full expression, nor after a statement that found nothing held, except the value that a
-/// `return` gives. A block leaves as many locals as it found. So if every object that lives can be reached between two
-/// statements without what is held, it is so between the next two.
+/// A frame begins with nothing held. Nothing is held after a full expression, nor after a statement that found nothing
+/// held, except the value that a `return` gives. A block leaves as many locals as it found. So if, before a statement,
+/// every object that lives can be reached without what the frame holds, it is so before the next.
 pub fn nothing_stays_held()
     ensures begin { (program : Program) → FramesBeginWithNothingHeld program }
     ensures held { (program : Program) (depth : ℕ) → NothingStaysHeld program depth }
@@ -17,8 +17,8 @@ pub fn nothing_stays_held()
         → SettlesBetweenStatements (statement (calls_within program depth) depth s) }
 {}
 
-/// After a call or a construction its caller holds what it held and the value, and nothing else of what the frame had;
-/// after a call of a host, or of a method that is none of an array, too.
+/// After a call or a construction its caller holds what it held and the value, and nothing else of what the frame had.
+/// So it is after a call of a host, and of a method that is none of an array.
 pub fn calls_hold_only_their_value()
     ensures calls { (program : Program) (depth : ℕ) → CallsHoldOnlyTheirValue program depth }
 {}

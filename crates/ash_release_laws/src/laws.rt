@@ -35,10 +35,10 @@ pub fn objects_live_while_reached()
     ensures reached { (first last : Activity) (trace : Trace first last) → IsNumbered first → LeaveAlong trace }
 {}
 
-/// Where every object that lives can be reached, each object that is gone after a full expression, a statement or a call
-/// left at the first release point at which it couldn't be reached; if it is a host object, it is among those that are
-/// the last events there. None is left that can't be reached, unless a statement is left by a jump, which is on its way
-/// to a release point. So it is of the objects that came meanwhile too, and if an exception or a refused tick ends the
+/// If every object that lives can be reached, each that is gone after a full expression, a statement or a call left at
+/// the first release point at which it couldn't be reached; if it is a host object, its leaving is among the last
+/// events there. None is left that can't be reached, unless a statement is left by a jump, which is on its way to a
+/// release point. So it is of the objects that came meanwhile too, and if an exception or a refused tick ends the
 /// phrase.
 pub fn objects_leave_on_time()
     ensures leave { (program : Program) (depth : ℕ) → ObjectsLeaveOnTime program depth }
