@@ -1,38 +1,35 @@
 -- Objects live while they can be reached at release points, and leave at the first at which they can't.
-use Rattle.std.proofs.Common.{◌≡◌, ◌≤◌, ◌⊎◌, ◌+◌, ◌∙◌, ℕ, zero, suc, Bool, true, false, cond, List, [], ◌∷◌, map, inl, inr, refl, sym, ap, subst, nat_eq, Option, Some, None, arith}
+use Rattle.std.proofs.Common.{◌≡◌, ◌≤◌, ◌⊎◌, ◌+◌, ◌∙◌, ℕ, Bool, true, false, cond, List, [], ◌∷◌, inl, inr, refl, sym, ap, subst, nat_eq, Option, Some, None, arith}
 use Rattle.std.specs.Prelude.{Contains, IsSome, ◌&&◌, filter}
 use Rattle.std.specs.Option.{is_none}
 use Rattle.std.specs.Map.{keys_of}
 use Rattle.std.proofs.lemmas.Bool.{eqb-true}
 use Rattle.std.proofs.lemmas.Option.{same_Some}
-use Rattle.std.proofs.lemmas.List.Elements.{Contains-append_left, Contains-append_right}
 use Rattle.ash_host.specs.declared.word.Word.{Word}
-use Rattle.ash_host.specs.declared.event.Event.{Event}
-use Rattle.ash_host.specs.declared.event.Event.TheVariants.{Dropped}
 use Rattle.ash_host.specs.declared.event.Target.{Target}
 use Rattle.ash_host.specs.declared.event.Target.TheVariants as targets
 use Rattle.ash_host.specs.Objects.{Plain, Host, LiveObjects, object_at, with_at, is_host, Lives}
-use Rattle.ash_host.specs.Reach.{hosts_gone, after_sweep, drops_of_sweep}
+use Rattle.ash_host.specs.Reach.{hosts_gone}
 use Rattle.ash_meaning.specs.Activity.{World, Frame, Activity}
-use Rattle.ash_meaning.specs.Releases.{roots, sweep}
+use Rattle.ash_meaning.specs.Releases.{sweep}
 use Rattle.ash_meaning.specs.Frames.{back_in}
-use Rattle.ash_meaning.specs.Runs.{Progress, Done, Ended, NoStep, Run}
+use Rattle.ash_meaning.specs.Runs.{Raising, OutOfTicks, Progress, Done, Ended, NoStep, Run}
 use Rattle.ash_meaning.specs.StatementMeaning.{Flow, On, Broke, Continued, Returned}
 use Rattle.ash_meaning.specs.Functions.{body}
 use Rattle.ash_meaning.specs.Classes.{Program}
 use Rattle.ash_meaning.specs.HostSteps.{with_state_in, with_state}
 use Rattle.ash_meaning.specs.ObjectSteps.{change_at, with_words}
-use Rattle.ash_meaning.specs.MeaningLaws.{ComesBy}
+use Rattle.ash_meaning.specs.MeaningLaws.{ComesBy, IsReleased}
 use Rattle.ash_meaning.specs.Traces.{WorldTransition, WritesGlobal, WritesWords, Makes, Draws, TakesAnswer, Notes, Transition, TakesTick, InFrame, Enters, Leaves, InWorld, Releases, Trace, Here, Then, after_release}
-use Rattle.ash_meaning.proofs.Traces.{one}
+use Rattle.ash_meaning.proofs.Released.{swept_by}
 use Rattle.ash_meaning.proofs.Numbers.{along}
 use Rattle.ash_meaning.proofs.Walks.{Walk, at_most}
 use Rattle.ash_meaning.proofs.StepWalks.{to_full as walk_full}
 use Rattle.ash_meaning.proofs.PhraseWalks.{walk_expression, walk_statement, walk_call, walk_construct}
 use Rattle.ash_meaning.proofs.Depth.{walk_called}
-use Rattle.ash_soundness.proofs.Values.{first_in, later_in, none_in}
+use Rattle.ash_soundness.proofs.Values.{first_in, later_in}
 use Rattle.ash_release_laws.specs.Settling.{AtEachEnd, Reaches, IsNumbered, IsSettled, IsSettledBy, Settles, SettlesIfItGoesOn}
-use Rattle.ash_release_laws.specs.Leaving.{IsReachedAt, IsReachedThroughout, LivesWhileReached, LeavesAtTheFirst, LeaveOnTime, AtTheValue, LetsGoOnTime, LeaveIfItGoesOn, LetsGoIfItGoesOn, ObjectsLeaveOnTime}
+use Rattle.ash_release_laws.specs.Leaving.{IsReachedAt, IsReachedThroughout, LivesWhileReached, LeavesAtTheFirst, LeaveAlong, LeaveFromAnywhere, LeaveNoEarlier, LeaveOnTime, LetsGoOnTime, LeaveByFlow, LetsGoByFlow, ObjectsLeaveOnTime}
 use Rattle.ash_release_laws.proofs.Roots.{changed_lived, changed_lives, made_lived, made_lives}
 use Rattle.ash_release_laws.proofs.Settling.{left_reached, reached_stays}
 use Rattle.ash_release_laws.proofs.Still.{none_there}
@@ -180,42 +177,34 @@ gone_in n new (e ∷ old) kind state at none =
     go true is d test next at = here (eqb-true n e.0 is) at
     go false is d test next at = more d test (next at)
 
-dropped_in : (n : ℕ) (ns : List ℕ) → Contains ns n → Contains (map Dropped ns) (Dropped n)
-dropped_in n [] c = absurd (none_in n c)
-dropped_in n (k ∷ ns) (zero, less, e) = subst (λ (j : ℕ). Contains (Dropped k ∷ map Dropped ns) (Dropped j)) e (first_in (Dropped k) (map Dropped ns))
-dropped_in n (k ∷ ns) (suc i, less, e) = later_in (Dropped k) (Dropped n) (map Dropped ns) (dropped_in n ns (i, omega arith, e))
+-- a release point says which host objects left
+pub said : (n : ℕ) (old new : World) → ¬ Lives new.objects n → (kind : ℕ) (state : List ℕ) → object_at n old.objects ≡ Some (Host kind state) → Contains (hosts_gone old.objects new.objects) n
+said n old new left kind state at = gone_in n new.objects old.objects kind state at (none_there (object_at n new.objects) left)
 
--- its release point says that it left
-said : (n : ℕ) (a : Activity) → ¬ Lives ((after_release a).world).objects n → (kind : ℕ) (state : List ℕ) → object_at n (a.world).objects ≡ Some (Host kind state) → Contains ((after_release a).world).events (Dropped n)
-unfolding sweep
-said n a left kind state at =
-    let objects : LiveObjects (List ℕ) = after_sweep (roots (a.frame ∷ a.callers) a.world) (a.world).objects in
-    Contains-append_right (a.world).events (map Dropped (drops_of_sweep (roots (a.frame ∷ a.callers) a.world) (a.world).objects)) (Dropped n)
-    (dropped_in n (hosts_gone (a.world).objects objects) (gone_in n objects (a.world).objects kind state at (none_there (object_at n objects) left)))
-
--- events stay
-events_on : (e : Event) (a b : Activity) → Transition a b → IsNumbered a → Contains (a.world).events e → Contains (b.world).events e
-events_on e a b x numbered c =
-    let o = along (one x) numbered in
-    subst (λ (events : List Event). Contains events e) (sym o.events) (Contains-append_left (a.world).events o.more e c)
+released_at : (a b : Activity) → IsNumbered a → b ≡ after_release a → IsReleased (a.frame ∷ a.callers) a.world b.world
+released_at a b numbered f = subst (λ (x : Activity). IsReleased (a.frame ∷ a.callers) a.world x.world) (sym f) (swept_by (a.frame ∷ a.callers) a.world numbered.in_order)
 
 module _ (n : ℕ) {first : Activity} (numbered : IsNumbered first) (lives : Lives (first.world).objects n) where
-  later : {middle last : Activity} → Trace first middle → Transition middle last → LeavesAtTheFirst n first middle → LeavesAtTheFirst n first last
+  later : {middle last : Activity} (t : Trace first middle) (x : Transition middle last) → LeavesAtTheFirst n t → LeavesAtTheFirst n (Then t x)
   later {middle} {last} t x w = record {
     point = w.point;
+    next = w.next;
+    step = w.step;
     before = w.before;
+    after = Then w.after x;
+    whole = ap (λ (u : Trace first middle). Then u x) w.whole;
     reached = w.reached;
     there = w.there;
     unreached = w.unreached;
     left = w.left;
-    dropped = λ kind state at. events_on (Dropped n) middle last x ((along t numbered).lives).numbered (w.dropped kind state at);
-    after = Then w.after x;
+    released = w.released;
+    dropped = w.dropped;
   }
 
   stays_or : {middle last : Activity} → Trace first middle → (x : Transition middle last) → Lives (middle.world).objects n → ¬ Lives (last.world).objects n → ¬ IsReachedAt n x
   stays_or {middle} {last} t x there gone r = gone ((step n middle last x).lives there r)
 
-  here : {middle last : Activity} (t : Trace first middle) (x : Transition middle last) → Lives (middle.world).objects n → ¬ Lives (last.world).objects n → LeavesAtTheFirst n first last
+  here : {middle last : Activity} (t : Trace first middle) (x : Transition middle last) → Lives (middle.world).objects n → ¬ Lives (last.world).objects n → LeavesAtTheFirst n (Then t x)
   here t (TakesTick left e f) there gone = absurd (stays_or t (TakesTick left e f) there gone tt)
   here t (InFrame line locals held f) there gone = absurd (stays_or t (InFrame line locals held f) there gone tt)
   here t (Enters frame f) there gone = absurd (stays_or t (Enters frame f) there gone tt)
@@ -223,57 +212,64 @@ module _ (n : ℕ) {first : Activity} (numbered : IsNumbered first) (lives : Liv
   here t (InWorld world x f) there gone = absurd (stays_or t (InWorld world x f) there gone tt)
   here {middle} {last} t (Releases f) there gone = record {
     point = middle;
+    next = last;
+    step = f;
     before = t;
+    after = Here;
+    whole = refl;
     reached = (was_reached n numbered t (given n first numbered lives) there).0;
     there = there;
     unreached = stays_or t (Releases f) there gone;
-    left = left;
-    dropped = λ kind state at. subst (λ (x : Activity). Contains (x.world).events (Dropped n)) (sym f) (said n middle left kind state at);
-    after = subst (λ (x : Activity). Trace (after_release middle) x) (sym f) Here;
+    left = gone;
+    released = released_at middle last ((along t numbered).lives).numbered f;
+    dropped = said n middle.world last.world gone;
   }
-    where
-      left : ¬ Lives ((after_release middle).world).objects n
-      left l = gone (subst (λ (x : Activity). Lives (x.world).objects n) (sym f) l)
 
-  pub leaves : {last : Activity} → Trace first last → ¬ Lives (last.world).objects n → LeavesAtTheFirst n first last
+  pub leaves : {last : Activity} (t : Trace first last) → ¬ Lives (last.world).objects n → LeavesAtTheFirst n t
   leaves Here gone = absurd (gone lives)
   leaves {last} (Then {middle} t x) gone = go (object_at n (middle.world).objects) refl (λ before. leaves t before)
     where
-      go : (o : Option (Plain (List ℕ))) → object_at n (middle.world).objects ≡ o → (¬ Lives (middle.world).objects n → LeavesAtTheFirst n first middle) → LeavesAtTheFirst n first last
+      go : (o : Option (Plain (List ℕ))) → object_at n (middle.world).objects ≡ o → (¬ Lives (middle.world).objects n → LeavesAtTheFirst n t) → LeavesAtTheFirst n (Then t x)
       go None e before = later t x (before (λ l. let none = subst IsSome e l in cc))
       go (Some object) e before = here t x (subst IsSome (sym e) refl) gone
 
 -- phrases
 
+pub leave_along : (first last : Activity) (t : Trace first last) → IsNumbered first → LeaveAlong t
+leave_along first last t numbered = record { lives = live_while_reached first last t numbered; left = λ n lives gone. leaves n numbered lives t gone }
+
+pub leave_from_anywhere : (first last : Activity) → IsNumbered first → LeaveFromAnywhere first last
+leave_from_anywhere first last numbered middle before after = leave_along middle last after ((along before numbered).lives).numbered
+
+leave_no_earlier : (first last : Activity) → IsNumbered first → Trace first last → LeaveNoEarlier first last
+leave_no_earlier first last numbered t = record { trace = t; from_anywhere = leave_from_anywhere first last numbered }
+
 pub leave_at_the_first : (first last : Activity) → IsNumbered first → Trace first last → IsSettled last → LeaveOnTime first last
-leave_at_the_first first last numbered t s = record {
-  trace = t;
-  lives = live_while_reached first last t numbered;
-  left = λ n lives gone. leaves n numbered lives t gone;
-  none_late = s;
-}
+leave_at_the_first first last numbered t s = record { no_earlier = leave_no_earlier first last numbered t; none_late = s }
 
 module _ (a : Activity) (numbered : IsNumbered a) where
-  lets_go : {A : Type 0} (r : Progress A) → ComesBy a r → AtEachEnd (λ (v : A) b. IsSettled b) IsSettled r → AtTheValue (λ (v : A) b. LeaveOnTime a b) r
+  lets_go : {A : Type 0} (r : Progress A) → ComesBy a r → AtEachEnd (λ (v : A) b. IsSettled b) IsSettled r → AtEachEnd (λ (v : A) b. LeaveOnTime a b) (LeaveOnTime a) r
   lets_go (Done v b) t s = leave_at_the_first a b numbered t s
-  lets_go (Ended i b) t s = tt
+  lets_go (Ended (Raising x) b) t s = leave_at_the_first a b numbered t s
+  lets_go (Ended OutOfTicks b) t s = leave_at_the_first a b numbered t.0 s
   lets_go NoStep t s = tt
 
-  flow_goes : (flow : Flow) (b : Activity) → Trace a b → IsSettledBy flow b → LeaveIfItGoesOn a flow b
+  flow_goes : (flow : Flow) (b : Activity) → Trace a b → IsSettledBy flow b → LeaveByFlow a flow b
   flow_goes On b t s = leave_at_the_first a b numbered t s
-  flow_goes Broke b t s = tt
-  flow_goes Continued b t s = tt
-  flow_goes (Returned value) b t s = tt
+  flow_goes Broke b t s = leave_no_earlier a b numbered t
+  flow_goes Continued b t s = leave_no_earlier a b numbered t
+  flow_goes (Returned value) b t s = leave_no_earlier a b numbered t
 
-  lets_go_on : (r : Progress Flow) → ComesBy a r → AtEachEnd IsSettledBy IsSettled r → AtTheValue (LeaveIfItGoesOn a) r
+  lets_go_on : (r : Progress Flow) → ComesBy a r → AtEachEnd IsSettledBy IsSettled r → AtEachEnd (LeaveByFlow a) (LeaveOnTime a) r
   lets_go_on (Done flow b) t s = flow_goes flow b t s
-  lets_go_on (Ended i b) t s = tt
+  lets_go_on (Ended (Raising x) b) t s = leave_at_the_first a b numbered t s
+  lets_go_on (Ended OutOfTicks b) t s = leave_at_the_first a b numbered t.0 s
   lets_go_on NoStep t s = tt
 
 letting : {A : Type 0} {d : ℕ} {r : Run A} → Walk d r r → Settles A r → LetsGoOnTime d A r
 letting {r = r} w s a le numbered settled = lets_go a numbered (r a) (w.comes a le) (s a numbered settled)
 
-letting_on : {d : ℕ} {r : Run Flow} → Walk d r r → SettlesIfItGoesOn r → LetsGoIfItGoesOn d r
+letting_on : {d : ℕ} {r : Run Flow} → Walk d r r → SettlesIfItGoesOn r → LetsGoByFlow d r
 letting_on {r = r} w s a le numbered settled = lets_go_on a numbered (r a) (w.comes a le) (s a numbered settled)
 
 pub objects_leave_on_time : (p : Program) (d : ℕ) → ObjectsLeaveOnTime p d

@@ -3,9 +3,14 @@ pub mod Settling
 pub mod StepSettling
 pub mod PhraseSettling
 pub mod Settled
+pub mod Tidy
+pub mod Statements
+pub mod CallsHold
+pub mod TakenAway
 pub mod Leaving
 pub mod WholeRuns
 pub mod Still
 pub mod WrongMeanings
 pub mod Safe
 pub mod Dangling
+pub mod SoundPhrases

@@ -68,6 +68,8 @@ leave_goes P a z w numbered same lives =
     back = record {
       more = handles (w ∷ []);
       held = refl;
+      this = refl;
+      locals = refl;
       has = back_has (handles (w ∷ [])) a.frame;
       callers = refl;
       lives = lives;
@@ -76,7 +78,7 @@ leave_goes P a z w numbered same lives =
     after : Goes true P (IsSettled (after_release (back_in (a.frame ∷ a.callers) w z))) (back_in (a.frame ∷ a.callers) w z) (after_release (back_in (a.frame ∷ a.callers) w z))
     after = release_goes true P (back_in (a.frame ∷ a.callers) w z) numbered
 
-abbrev entered_at : List ℕ → ℕ → Word → List Word → Activity → Activity
+abbrev pub entered_at : List ℕ → ℕ → Word → List Word → Activity → Activity
 entered_at name line of args a = record a { frame = frame_of name line of args; callers = a.frame ∷ a.callers }
 
 -- what could be reached can be reached from a frame that is entered
@@ -276,13 +278,13 @@ module _ (p : Program) (of : Entry → Run (Option Word)) (bodies : (e : Entry) 
   pub to_full_expression : (e : Expr) → Calm false (full (expression c e))
   to_full_expression e = to_full (outer (to_expression e))
 
-  to_value : (value : Option Expr) {f : Word → Run (Unit {0})} {r : Run (Unit {0})} → ((w : Word) → Calm true (f w)) → Passing r → Passing (option_map_or (λ e. full (expression c e >>= f)) value r)
+  to_value : (value : Option Expr) {f : Word → Run (Unit {0})} {r : Run (Unit {0})} → ((w : Word) → Passing (f w)) → Passing r → Passing (option_map_or (λ e. full (expression c e >>= f)) value r)
   to_value None hf hr = hr
-  to_value (Some e) hf hr = to_full (outer (bound (to_expression e) hf))
+  to_value (Some e) hf hr = to_full (bound (outer (to_expression e)) hf)
 
   pub to_declare_all : (vs : List Initialization) → Passing (declare_all c vs)
   to_declare_all [] = given _ (λ a s. s)
-  to_declare_all (v ∷ vs) = followed (to_value v.value to_declare (outer (to_declare (zero_of v.of)))) (to_declare_all vs)
+  to_declare_all (v ∷ vs) = followed (to_value v.value to_declare (to_declare (zero_of v.of))) (to_declare_all vs)
 
   to_evaluate : (e : Expr) → Passing (evaluate c e)
   to_evaluate e = followed (to_full_expression e) (given tt (λ a s. s))
@@ -349,7 +351,7 @@ module _ (p : Program) (of : Entry → Run (Option Word)) (bodies : (e : Entry) 
 
   pub to_fields : (place : ℕ) (vs : List Initialization) → Passing (initialize_fields c place vs)
   to_fields place [] = given _ (λ a s. s)
-  to_fields place (v ∷ vs) = followed (to_value v.value (to_write_field place) (given tt (λ a s. s))) (to_fields (place + 1) vs)
+  to_fields place (v ∷ vs) = followed (to_value v.value (λ w. outer (to_write_field place w)) (given tt (λ a s. s))) (to_fields (place + 1) vs)
 
   to_entry : (d : ℕ) (x : Entry) → Settling false IsSettled (λ (v : Option Word). Anything) (run_entry c d x)
   to_entry d x = bound (followed (to_fields 0 x.fields) (to_statements d x.body)) (λ flow. given (value_of flow) (λ a s. tt))
@@ -358,7 +360,7 @@ module _ (p : Program) (of : Entry → Run (Option Word)) (bodies : (e : Entry) 
 
   to_globals : (place : ℕ) (vs : List Initialization) → Passing (initialize_globals c place vs)
   to_globals place [] = given _ (λ a s. s)
-  to_globals place (v ∷ vs) = followed (to_value v.value (to_write (Global place)) (given tt (λ a s. s))) (to_globals (place + 1) vs)
+  to_globals place (v ∷ vs) = followed (to_value v.value (λ w. outer (to_write (Global place) w)) (given tt (λ a s. s))) (to_globals (place + 1) vs)
 
   pub to_module : (place : ℕ) (ds : List Variables) → Passing (initialize_module c place ds)
   to_module place [] = given _ (λ a s. s)

@@ -5,7 +5,7 @@ use Rattle.ash_meaning.specs.Runs.{Progress, Run}
 use Rattle.ash_meaning.specs.StatementMeaning.{Flow}
 use Rattle.ash_meaning.specs.Functions.{body}
 use Rattle.ash_meaning.specs.Classes.{Program}
-use Rattle.ash_release_laws.specs.Settling.{IsSettled, AtEachEnd, Settles, SettlesIfItGoesOn, ReleasePointsSettle, KeepsItsFrame, KeepsItsCallers, Keeps, HoldsUntilTheEnd}
+use Rattle.ash_release_laws.specs.Settling.{IsSettled, AtEachEnd, AtTheValue, Settles, SettlesIfItGoesOn, ReleasePointsSettle, KeepsItsFrame, KeepsItsCallers, Keeps, HoldsUntilTheEnd}
 use Rattle.ash_release_laws.proofs.Settling.{Kept, Goes, Comes, done, ended, no_way, Calm}
 use Rattle.ash_release_laws.proofs.PhraseSettling.{Led, to_call, to_construct, to_invoke, to_target, to_expression, to_location, to_arguments, to_full_expression, to_declare_all, to_statement, to_statements, to_fields, to_module, to_body}
 
@@ -14,7 +14,7 @@ settled_of (done g) p = g.settled p
 settled_of (ended s) p = s p
 settled_of no_way p = tt
 
-kept_by : {A : Type 0} {k : Bool} {a : Activity} {P : Type 0} {Post : A → Activity → Type 0} {r : Progress A} → Comes P (λ (v : A) b. Goes k P (Post v b) a b) r → AtEachEnd (λ (v : A) b. Kept k a b) (λ b. Unit {0}) r
+kept_by : {A : Type 0} {k : Bool} {a : Activity} {P : Type 0} {Post : A → Activity → Type 0} {r : Progress A} → Comes P (λ (v : A) b. Goes k P (Post v b) a b) r → AtTheValue (λ (v : A) b. Kept k a b) r
 kept_by (done g) = g.kept
 kept_by (ended s) = tt
 kept_by no_way = tt

@@ -20,12 +20,14 @@ Kept true a b = KeepsItsFrame a b
 Kept false a b = KeepsItsCallers a b
 
 frame_same : (a : Activity) → KeepsItsFrame a a
-frame_same a = record { more = []; held = refl; has = λ n c. c; callers = refl; lives = λ n c l. l }
+frame_same a = record { more = []; held = refl; this = refl; locals = refl; has = λ n c. c; callers = refl; lives = λ n c l. l }
 
 frame_more : {a b c : Activity} → KeepsItsFrame a b → KeepsItsFrame b c → KeepsItsFrame a c
 frame_more {a} {b} {c} p q = record {
   more = q.more ++ p.more;
   held = q.held ∙ ap (λ (ns : List ℕ). q.more ++ ns) p.held ∙ sym (append_assoc q.more p.more (a.frame).held);
+  this = q.this ∙ p.this;
+  locals = q.locals ∙ p.locals;
   has = λ n i. q.has n (p.has n i);
   callers = q.callers ∙ p.callers;
   lives = λ n i l. q.lives n (frames_more a.frame b.frame a.callers b.callers p.has p.callers n i) (p.lives n i l);
@@ -33,12 +35,13 @@ frame_more {a} {b} {c} p q = record {
 
 callers_more : {a b c : Activity} → KeepsItsCallers a b → KeepsItsCallers b c → KeepsItsCallers a c
 callers_more {a} {b} {c} p q = record {
+  this = q.this ∙ p.this;
   callers = q.callers ∙ p.callers;
   lives = λ n i l. q.lives n (subst (λ (fs : List Frame). Contains (flat_map roots_of_frame fs) n) (sym p.callers) i) (p.lives n i l);
 }
 
 callers_of : {a b : Activity} → KeepsItsFrame a b → KeepsItsCallers a b
-callers_of {a} {b} p = record { callers = p.callers; lives = λ n i l. p.lives n (caller_root a.frame a.callers n i) l }
+callers_of {a} {b} p = record { this = p.this; callers = p.callers; lives = λ n i l. p.lives n (caller_root a.frame a.callers n i) l }
 
 pub kept_same : (k : Bool) (a : Activity) → Kept k a a
 kept_same true a = frame_same a
@@ -185,6 +188,8 @@ pub release_keeps : (a : Activity) → KeepsItsFrame a (after_release a)
 release_keeps a = record {
   more = [];
   held = refl;
+  this = refl;
+  locals = refl;
   has = λ n c. c;
   callers = refl;
   lives = λ n c l. subst IsSome (sym (reached_stays (a.frame ∷ a.callers) a.world n (Root (frame_root (a.frame ∷ a.callers) a.world n c)))) l;

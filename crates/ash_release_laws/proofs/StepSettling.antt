@@ -3,6 +3,7 @@ use Rattle.std.proofs.Common.{◌≡◌, ◌⊎◌, ◌∙◌, ◌+◌, ◌-◌,
 use Rattle.std.specs.Prelude.{Contains}
 use Rattle.std.specs.Option.{option_map_or}
 use Rattle.std.proofs.lemmas.List.Elements.{Contains-append_left, Contains-append_right}
+use Rattle.std.proofs.lemmas.List.{length-set}
 use Rattle.ash_host.specs.declared.word.Word.{Word}
 use Rattle.ash_host.specs.declared.word.Word.TheVariants as words
 use Rattle.ash_host.specs.declared.answer.HostAnswer.{HostAnswer}
@@ -30,7 +31,7 @@ use Rattle.ash_typed.specs.declared.tree.operations.IncrementOp.{IncrementOp}
 use Rattle.ash_meaning.specs.declared.exception.Exception.TheVariants.{StackOverflow, ObjectLimit, NumbersSpent, PoolEmpty, IndexOutOfBounds, ArrayLimit}
 use Rattle.ash_meaning.specs.Activity.{World, Frame, Activity, in_frame, in_world}
 use Rattle.ash_meaning.specs.Runs.{Run, ◌>>=◌, ◌>>◌, change, demand}
-use Rattle.ash_meaning.specs.Releases.{holding, roots_of_frame, roots, hold, hold_all, give_held, let_go, full, count_locals, declare, leave_blocks}
+use Rattle.ash_meaning.specs.Releases.{holding, roots_of_frame, roots, hold, hold_all, give_held, let_go, full, count_locals, declaring, declare, leave_blocks}
 use Rattle.ash_meaning.specs.Frames.{at_line, spend, tick, max_frames, demand_frame}
 use Rattle.ash_meaning.specs.ObjectSteps.{object_of, with_object, words_in, words_at, with_words, put_words, max_number, demand_number, with_new, make}
 use Rattle.ash_meaning.specs.HostSteps.{with_event, note, with_state_in, next_answer, after_answer, call_host, accept, invoke_host, get_property, set_property, place_of_kind, without_box, box_in, box_of_kind, draw, construct_host, is_of}
@@ -70,15 +71,15 @@ module _ (a : Activity) (g : Frame) where
   frame_moves : ((n : ℕ) → Contains (roots_of_frame a.frame) n → Contains (roots_of_frame g) n) → IsNumbered a → Moves a framed
   frame_moves has numbered = record { numbered = numbered; rooted = frame_rooted has; refers = λ one other r. inl r; lived = λ n l. l }
 
-  frame_keeps : (more : List ℕ) → g.held ≡ more ++ (a.frame).held → ((n : ℕ) → Contains (roots_of_frame a.frame) n → Contains (roots_of_frame g) n) → KeepsItsFrame a framed
-  frame_keeps more held has = record { more = more; held = held; has = has; callers = refl; lives = λ n c l. l }
+  frame_keeps : (more : List ℕ) → g.held ≡ more ++ (a.frame).held → g.this ≡ (a.frame).this → length g.locals ≡ length (a.frame).locals → ((n : ℕ) → Contains (roots_of_frame a.frame) n → Contains (roots_of_frame g) n) → KeepsItsFrame a framed
+  frame_keeps more held this locals has = record { more = more; held = held; this = this; locals = locals; has = has; callers = refl; lives = λ n c l. l }
 
-  frame_goes : (more : List ℕ) → g.held ≡ more ++ (a.frame).held → ((n : ℕ) → Contains (roots_of_frame a.frame) n → Contains (roots_of_frame g) n) → IsNumbered a → Goes true (IsSettled a) (IsSettled framed) a framed
-  frame_goes more held has numbered = record { numbered = numbered; settled = moves_settle a framed (frame_moves has numbered); kept = frame_keeps more held has }
+  frame_goes : (more : List ℕ) → g.held ≡ more ++ (a.frame).held → g.this ≡ (a.frame).this → length g.locals ≡ length (a.frame).locals → ((n : ℕ) → Contains (roots_of_frame a.frame) n → Contains (roots_of_frame g) n) → IsNumbered a → Goes true (IsSettled a) (IsSettled framed) a framed
+  frame_goes more held this locals has numbered = record { numbered = numbered; settled = moves_settle a framed (frame_moves has numbered); kept = frame_keeps more held this locals has }
 
   -- whatever is changed in the frame, its callers stay
-  pub frame_changes : (P : Type 0) → IsNumbered a → Goes false P (Unit {0}) a framed
-  frame_changes P numbered = record { numbered = numbered; settled = λ p. tt; kept = record { callers = refl; lives = λ n c l. l } }
+  pub frame_changes : (P : Type 0) → g.this ≡ (a.frame).this → IsNumbered a → Goes false P (Unit {0}) a framed
+  frame_changes P same numbered = record { numbered = numbered; settled = λ p. tt; kept = record { this = same; callers = refl; lives = λ n c l. l } }
 
 -- steps of the world: the frame and its callers stay
 
@@ -101,7 +102,7 @@ module _ (a : Activity) (w : World) where
   same_globals same n c = global_root (a.frame ∷ a.callers) w n (subst (λ (ws : List Word). Contains (handles ws) n) (sym same) c)
 
   world_keeps : ((n : ℕ) → Lives (a.world).objects n → Lives w.objects n) → KeepsItsFrame a worldly
-  world_keeps lives = record { more = []; held = refl; has = λ n c. c; callers = refl; lives = λ n c l. lives n l }
+  world_keeps lives = record { more = []; held = refl; this = refl; locals = refl; has = λ n c. c; callers = refl; lives = λ n c l. lives n l }
 
 -- what is held
 
@@ -117,10 +118,10 @@ has_held ns f n c =
     ]
 
 pub hold_goes : (ns : List ℕ) (a : Activity) → IsNumbered a → Goes true (IsSettled a) (IsSettled (in_frame (holding ns) a)) a (in_frame (holding ns) a)
-hold_goes ns a numbered = frame_goes a (holding ns a.frame) ns refl (has_held ns a.frame) numbered
+hold_goes ns a numbered = frame_goes a (holding ns a.frame) ns refl refl refl (has_held ns a.frame) numbered
 
 hold_keeps : (ns : List ℕ) (a : Activity) → KeepsItsFrame a (in_frame (holding ns) a)
-hold_keeps ns a = frame_keeps a (holding ns a.frame) ns refl (has_held ns a.frame)
+hold_keeps ns a = frame_keeps a (holding ns a.frame) ns refl refl refl (has_held ns a.frame)
 
 -- these are held
 abbrev Holds : List ℕ → Activity → Type 0
@@ -151,7 +152,7 @@ has_local slot w f n c =
 local_goes : (slot : ℕ) (w : Word) (a : Activity) → IsNumbered a → Goes true (IsSettled a) (IsSettled (in_frame (with_local slot w) (in_frame (holding (handles (slice_index_or (a.frame).locals slot words.Null ∷ []))) a))) a (in_frame (with_local slot w) (in_frame (holding (handles (slice_index_or (a.frame).locals slot words.Null ∷ []))) a))
 local_goes slot w a numbered =
     let old : List ℕ = handles (slice_index_or (a.frame).locals slot words.Null ∷ []) in
-    frame_goes a (with_local slot w (holding old a.frame)) old refl (has_local slot w a.frame) numbered
+    frame_goes a (with_local slot w (holding old a.frame)) old refl refl (length-set (a.frame).locals slot w) (has_local slot w a.frame) numbered
 
 -- a global is overwritten, where what it was is held
 
@@ -302,14 +303,21 @@ has_declared w f n c =
           ]
     ]
 
-pub to_declare : (w : Word) → Calm true (declare w)
-to_declare w = record { comes = λ a numbered. done (frame_goes a (record a.frame { locals = (a.frame).locals ++ w ∷ [] }) [] refl (has_declared w a.frame) numbered) }
+declared_goes : (w : Word) (a : Activity) → IsNumbered a → Goes false (IsSettled a) (IsSettled (in_frame (declaring w) a)) a (in_frame (declaring w) a)
+declared_goes w a numbered = record {
+  numbered = numbered;
+  settled = moves_settle a (in_frame (declaring w) a) (frame_moves a (declaring w a.frame) (has_declared w a.frame) numbered);
+  kept = record { this = refl; callers = refl; lives = λ n c l. l };
+}
+
+pub to_declare : (w : Word) → Calm false (declare w)
+to_declare w = record { comes = λ a numbered. done (declared_goes w a numbered) }
 
 pub to_leave_blocks : {Pre : Activity → Type 0} (count : ℕ) → Settling false Pre (λ (none : Unit {0}). Anything) (leave_blocks count)
-to_leave_blocks {Pre} count = record { comes = λ a numbered. done (frame_changes a (record a.frame { locals = take count (a.frame).locals }) (Pre a) numbered) }
+to_leave_blocks {Pre} count = record { comes = λ a numbered. done (frame_changes a (record a.frame { locals = take count (a.frame).locals }) (Pre a) refl numbered) }
 
 to_let_go : {Pre : Activity → Type 0} → Settling false Pre (λ (none : Unit {0}). Anything) (change (in_frame let_go))
-to_let_go {Pre} = record { comes = λ a numbered. done (frame_changes a (let_go a.frame) (Pre a) numbered) }
+to_let_go {Pre} = record { comes = λ a numbered. done (frame_changes a (let_go a.frame) (Pre a) refl numbered) }
 
 -- a full expression settles
 pub to_full : {A : Type 0} {Pre : Activity → Type 0} {Mid : A → Activity → Type 0} {r : Run A} → Settling false Pre Mid r → Settling false Pre (λ v. IsSettled) (full r)
@@ -323,12 +331,12 @@ spent (suc t) = record {
   comes = λ a numbered. done (record {
     numbered = numbered;
     settled = λ s. record { reached = s.reached };
-    kept = record { more = []; held = refl; has = λ n c. c; callers = refl; lives = λ n c l. l };
+    kept = record { more = []; held = refl; this = refl; locals = refl; has = λ n c. c; callers = refl; lives = λ n c l. l };
   });
 }
 
 to_line : (line : ℕ) → Calm true (change (in_frame (at_line line)))
-to_line line = record { comes = λ a numbered. done (frame_goes a (at_line line a.frame) [] refl (λ n c. c) numbered) }
+to_line line = record { comes = λ a numbered. done (frame_goes a (at_line line a.frame) [] refl refl refl (λ n c. c) numbered) }
 
 pub to_tick : (line : ℕ) → Calm true (tick line)
 to_tick line = bound (followed (to_line line) (looked (λ a. a.ticks))) spent

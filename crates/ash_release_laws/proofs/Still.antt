@@ -5,13 +5,13 @@ use Rattle.std.proofs.lemmas.List.{append-nil}
 use Rattle.ash_host.specs.declared.event.Event.{Event}
 use Rattle.ash_host.specs.declared.event.Event.TheVariants.{Dropped}
 use Rattle.ash_host.specs.Objects.{LiveObjects, object_at, AreNumbered}
-use Rattle.ash_host.specs.Reach.{ReachableIn, Swept, hosts_gone, after_sweep, drops_of_sweep}
+use Rattle.ash_host.specs.Reach.{Swept, hosts_gone, after_sweep, drops_of_sweep}
 use Rattle.ash_host.proofs.ReachLaws.{sweep_is_exact}
 use Rattle.ash_host.proofs.SweepLaws.{swept_again, sweep_is_one, drops_are_one}
 use Rattle.ash_meaning.specs.Activity.{World, Frame, Activity}
 use Rattle.ash_meaning.specs.Releases.{roots, sweep, release}
 use Rattle.ash_meaning.specs.Runs.{Done}
-use Rattle.ash_release_laws.specs.Settling.{ReachesFrom, IsSettledFrom, IsNumbered, IsSettled}
+use Rattle.ash_release_laws.specs.Settling.{IsSettledFrom, IsNumbered, IsSettled}
 
 pub none_there : {A : Type 0} (o : Option A) → ¬ IsSome o → o ≡ None
 none_there None h = refl

@@ -1,5 +1,5 @@
--- What the two wrong meanings come to at their examples.
-use Rattle.std.proofs.Common.{◌≡◌, ℕ, Bool, true, false, cond, List, [], ◌∷◌, ◌++◌, refl, sym, subst, nat_eq, arith, rules}
+-- What the wrong meanings come to at their examples.
+use Rattle.std.proofs.Common.{◌≡◌, ℕ, Bool, true, false, cond, List, [], ◌∷◌, ◌++◌, refl, sym, ap, subst, nat_eq, arith, rules}
 use Rattle.std.specs.Prelude.{Option, Some, None, Contains, IsSome}
 use Rattle.std.specs.Option.{option_map_or}
 use Rattle.std.proofs.lemmas.Bool.{eqb-true}
@@ -8,12 +8,15 @@ use Rattle.ash_host.specs.declared.word.Word.TheVariants as words
 use Rattle.ash_host.specs.Objects.{Plain, Host, LiveObjects, handles, fields_of, Refers, Lives}
 use Rattle.ash_host.specs.Reach.{Root, Field, ReachableIn, Swept, after_sweep, drops_of_sweep}
 use Rattle.ash_host.proofs.ReachLaws.{sweep_is_exact}
+use Rattle.ash_meaning.specs.Activity.{Frame, Activity}
 use Rattle.ash_meaning.specs.Releases.{release, sweep}
 use Rattle.ash_meaning.specs.Traces.{after_release}
 use Rattle.ash_meaning.specs.CallMeaning.{Calls}
 use Rattle.ash_soundness.proofs.Values.{first_in, none_in}
 use Rattle.ash_release_laws.specs.Settling.{IsSettled, IsNumbered, Settles, KeepsItsFrame, Keeps}
-use Rattle.ash_release_laws.specs.WrongMeanings.{LeavesTooLate, LeavesTooEarly, one_object, before_clearing, between_arguments, late_clearing, early_argument}
+use Rattle.ash_release_laws.specs.Held.{LeavesNothingHeld, HoldsOnlyItsValue}
+use Rattle.ash_release_laws.proofs.Settling.{release_goes}
+use Rattle.ash_release_laws.specs.WrongMeanings.{HoldsOn, held_clearing, call_with_all, LeavesTooLate, LeavesTooEarly, one_object, before_clearing, between_arguments, late_clearing, early_argument}
 
 abbrev objects : LiveObjects (List ℕ)
 objects = (1, Host 1 []) ∷ []
@@ -97,3 +100,44 @@ early_example calls = record {
   held = first_in 1 [];
   gone = gone;
 }
+
+-- what is held on
+
+not_one : (k : ℕ) → k ∷ [] ≡ [] → ⊥
+not_one k e = cc
+
+pub held_example : (calls : Calls) → HoldsOn (held_clearing calls) before_clearing
+held_example calls = record {
+  value = tt;
+  last = one_object (words.Null ∷ []) (1 ∷ []);
+  runs = refl;
+  nothing_held = refl;
+  held = refl;
+  settled = record { reached = λ n l. Root (subst (λ (k : ℕ). Contains (1 ∷ []) k) (sym (the_one n l)) (first_in 1 [])) };
+}
+
+pub held_refused : (calls : Calls) → ¬ LeavesNothingHeld (Unit {0}) (held_clearing calls)
+held_refused calls leaves = not_one 1 (leaves before_clearing refl)
+
+abbrev after_call : Activity
+after_call = one_object (words.Object 1 ∷ []) (1 ∷ [])
+
+settled_call : IsSettled (after_release after_call)
+settled_call = (release_goes true (Unit {0}) after_call (numbered (words.Object 1 ∷ []) (1 ∷ []))).settled tt
+
+pub call_example : HoldsOn call_with_all before_clearing
+unfolding release
+call_example = record {
+  value = words.Null;
+  last = after_release after_call;
+  runs = refl;
+  nothing_held = refl;
+  held = refl;
+  settled = settled_call;
+}
+
+pub call_refused : ¬ HoldsOnlyItsValue call_with_all
+unfolding release
+call_refused holds =
+    let left = holds before_clearing numbered_clearing in
+    not_one 1 (ap (λ (f : Frame). f.held) left.frame)

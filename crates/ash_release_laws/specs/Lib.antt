@@ -1,4 +1,5 @@
 pub mod Settling
+pub mod Held
 pub mod Leaving
 pub mod WrongMeanings
 pub mod SafePoints

@@ -1,5 +1,5 @@
 -- What a phrase leaves of the objects: none that can't be reached, and all that its frame has.
-use Rattle.std.specs.Prelude.{◌≡◌, ◌++◌, ◌∷◌, ℕ, List, Contains, flat_map}
+use Rattle.std.specs.Prelude.{◌≡◌, ◌++◌, ◌∷◌, ℕ, List, Contains, flat_map, length}
 use Rattle.ash_host.specs.Objects.{Lives, AreNumbered}
 use Rattle.ash_host.specs.Reach.{ReachableIn}
 use Rattle.ash_typed.specs.declared.tree.operations.Method.{Method}
@@ -43,6 +43,12 @@ abbrev pub AtEachEnd : {A : Type 0} → (A → Activity → Type 0) → (Activit
 AtEachEnd Left Interrupted (Done value activity) = Left value activity
 AtEachEnd Left Interrupted (Ended interrupt activity) = Interrupted activity
 AtEachEnd Left Interrupted NoStep = Unit {0}
+
+-- This holds of the value and the activity to which a run comes.
+abbrev pub AtTheValue : {A : Type 0} → (A → Activity → Type 0) → Progress A → Type 0
+AtTheValue Left (Done value activity) = Left value activity
+AtTheValue Left (Ended interrupt activity) = Unit {0}
+AtTheValue Left NoStep = Unit {0}
 
 -- Numbers rise, and none is above the last that was given.
 abbrev pub IsNumbered : Activity → Type 0
@@ -88,18 +94,22 @@ pub record ReleasePointsSettle (program : Program) (depth : ℕ) : Type 0 where
 
 -- what a frame has
 
--- Nothing is taken from the frame: it holds what it held, and more; what its `this`, a local or what it holds is a
--- handle to is so still; its callers are as they were; and what they or it have as a handle lives on.
+-- Nothing is taken from the frame: it holds what it held, and more; its `this` is the same, and it has as many locals;
+-- what its `this`, a local or what it holds is a handle to is so still; its callers are as they were; and what they or
+-- it have as a handle lives on.
 pub record KeepsItsFrame (old new : Activity) : Type 0 where
   pub more : List ℕ
   pub held : (new.frame).held ≡ more ++ (old.frame).held
+  pub this : (new.frame).this ≡ (old.frame).this
+  pub locals : length (new.frame).locals ≡ length (old.frame).locals
   pub has : (number : ℕ) → Contains (roots_of_frame old.frame) number → Contains (roots_of_frame new.frame) number
   pub callers : new.callers ≡ old.callers
   pub lives : (number : ℕ) → Contains (flat_map roots_of_frame (old.frame ∷ old.callers)) number
       → Lives (old.world).objects number → Lives (new.world).objects number
 
--- The callers are as they were, and what they have as a handle lives on.
+-- The callers and the `this` of the frame are as they were, and what the callers have as a handle lives on.
 pub record KeepsItsCallers (old new : Activity) : Type 0 where
+  pub this : (new.frame).this ≡ (old.frame).this
   pub callers : new.callers ≡ old.callers
   pub lives : (number : ℕ) → Contains (flat_map roots_of_frame old.callers) number
       → Lives (old.world).objects number → Lives (new.world).objects number
@@ -108,7 +118,7 @@ pub record KeepsItsCallers (old new : Activity) : Type 0 where
 abbrev pub Keeps : (Activity → Activity → Type 0) → (A : Type 0) → Run A → Type 0
 Keeps Kept A run =
     (activity : Activity) → IsNumbered activity
-    → AtEachEnd (λ value left. Kept activity left) (λ left. Unit {0}) (run activity)
+    → AtTheValue (λ value left. Kept activity left) (run activity)
 
 -- What is held is held until the full expression ends: within it nothing is taken from the frame, and a statement takes
 -- nothing from the callers.
