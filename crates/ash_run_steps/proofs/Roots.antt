@@ -1,19 +1,18 @@
 -- How often an object is among the roots.
-use Rattle.std.proofs.Common.{◌≡◌, ℕ, Bool, true, false, cond, List, [], ◌∷◌, ◌++◌, ◌+◌, ◌-◌, ◌≤◌, ◌<◌, ◌^◌, length, take, drop, get_or, reverse, refl, sym, ap, ◌∙◌, subst, arith, zero, suc, nat_eq}
-use Rattle.std.specs.Prelude.{Option, Some, None, IsSome, count_by, flat_map, slice_get, slice_set}
+use Rattle.std.proofs.Common.{◌≡◌, ℕ, Bool, true, false, cond, List, [], ◌∷◌, ◌++◌, ◌+◌, ◌≤◌, ◌<◌, length, take, drop, get_or, reverse, refl, sym, ap, ◌∙◌, subst, arith, zero, suc, nat_eq}
+use Rattle.std.specs.Prelude.{Option, Some, None, IsSome, flat_map, slice_get, slice_set}
 use Rattle.std.specs.Option.{option_map, option_map_or}
 use Rattle.std.specs.List.{cons_option}
 use Rattle.std.proofs.lemmas.Bool.{eqb-true, eq-eqb}
 use Rattle.std.proofs.lemmas.List.{length-append, take-append-drop, take_more, reverse-append}
 use Rattle.std.proofs.lemmas.List.Elements.{filter_map-append}
-use Rattle.std.proofs.lemmas.List.Sums.{sum_by-append, sum_by-cons, count_by-le-length}
+use Rattle.std.proofs.lemmas.List.Sums.{sum_by-append, count_by-le-length}
 use Rattle.ash_host.specs.declared.word.Word.{Word}
 use Rattle.ash_host.specs.Objects.{object_at, Lives, handle, handles}
-use Rattle.ash_slots.specs.Store.{change_at}
 use Rattle.ash_slots.proofs.Changing.{object_at-change}
 use Rattle.ash_objects.specs.Table.{Living, Table, holds_of, slot_of, with_object, held, unheld}
 use Rattle.ash_run_steps.specs.RunStates.{times}
-use Rattle.ash_run_steps.specs.Stacks.{StackFrame, Frames, locals_of, roots_of, roots_of_frames}
+use Rattle.ash_run_steps.specs.Stacks.{StackFrame, locals_of, roots_of, roots_of_frames}
 use Rattle.ash_run_steps.specs.RunStates.{State, roots_in, HoldsRoots, HoldsMore, HoldsLess, is_alive_in}
 use Rattle.ash_run_steps.proofs.Bare.{bare_held, bare_unheld}
 use Rattle.ash_run_steps.proofs.Stacking.{handles_few}

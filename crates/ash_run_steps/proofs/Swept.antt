@@ -1,6 +1,6 @@
 -- A release point is the meaning's.
 use Rattle.std.proofs.Common.{◌≡◌, ℕ, ◌<◌, ◌++◌, Bool, true, false, cond, List, [], ◌∷◌, map, refl, sym, ap, ◌∙◌, subst, arith, nat_eq, inl, inr}
-use Rattle.std.specs.Prelude.{Option, Some, None, IfSome, Contains, is_some, flat_map, slice_get, ◌↔◌}
+use Rattle.std.specs.Prelude.{Option, Some, None, IfSome, Contains, is_some, slice_get}
 use Rattle.std.specs.Option.{option_map_or, option_and_then}
 use Rattle.std.proofs.lemmas.List.Folds.{flat_map-map}
 use Rattle.ash_host.specs.declared.event.Event.{Event}
@@ -12,10 +12,10 @@ use Rattle.ash_host.specs.Objects.{object_at, handles, IsInOrder, LiveObjects}
 use Rattle.ash_host.specs.Reach.{is_among, after_sweep, drops_of_sweep}
 use Rattle.ash_host.specs.Records.{HostRecord}
 use Rattle.ash_host.proofs.Membership.{or_cases, or_first, or_second, is_among_yes, is_among_says}
-use Rattle.ash_meaning.specs.Activity.{Activity, World}
+use Rattle.ash_meaning.specs.Activity.{World}
 use Rattle.ash_meaning.specs.Releases as releases
 use Rattle.ash_meaning.specs.Releases.{sweep, release as release_point}
-use Rattle.ash_meaning.specs.Runs.{Progress, Done}
+use Rattle.ash_meaning.specs.Runs.{Done}
 use Rattle.ash_slots.specs.SlotResponses.{box_of}
 use Rattle.ash_objects.specs.Table.{Living, Table, holds_of}
 use Rattle.ash_objects.specs.Responses.{box_at}
@@ -29,7 +29,6 @@ use Rattle.ash_run_steps.specs.Becoming.{Becomes, IsOf, KeepsBoxes}
 use Rattle.ash_run_steps.specs.Guarded.{give}
 use Rattle.ash_run_steps.specs.GuardedSteps.{RankTest, release}
 use Rattle.ash_run_steps.specs.RunStates.{State, Names, HoldsRoots, roots_in, times, shown, world_shown, frame_shown, box_shown}
-use Rattle.ash_run_steps.specs.Stacks.{roots_of}
 use Rattle.ash_run_steps.proofs.Bare.{same_relation}
 use Rattle.ash_run_steps.proofs.Roots.{times_cons, times_one}
 
@@ -55,9 +54,10 @@ times_among n (m ∷ ns) is =
 
 module _ {B : Type 0} where
   pub held_by_roots : (table : Table B) (held : List ℕ) → HoldsRoots table held → IsHeldBy held table
-  held_by_roots table held counts number =
-      (λ some. is_among_says number held (among_times number held (omega (arith, counts number, some))),
-      λ is. omega (arith, counts number, times_among number held (is_among_yes number held is)))
+  held_by_roots table held counts number = (
+    λ some. is_among_says number held (among_times number held (omega (arith, counts number, some))),
+    λ is. omega (arith, counts number, times_among number held (is_among_yes number held is)),
+  )
 
   pub holds_swept : (old new : Table B) → Collects old new → (m : ℕ) → holds_of m new ≡ holds_of m old
   holds_swept old new collects m = go (object_at m new.objects) refl

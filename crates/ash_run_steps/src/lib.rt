@@ -1,4 +1,12 @@
 //! The steps of a run over the table of objects, each of which is proved to be the meaning's.
+//!
+//! A run's state is the table, the frames, the globals and the events; each object is held in the table as often as it
+//! is among the roots. A step changes the state, and its contract says what is left of the run that it is a step of:
+//! `Becomes` in `specs/Becoming.antt`. Guards stand for what typing promises: if one fails nothing is said of the run,
+//! and no sound module's code comes to it.
+//!
+//! In reading order: `stack` (the frames), `state`, `stop` (why a run doesn't go on), `counting` (holds in the table),
+//! `holding` (what frames hold, ticks), `locals`, `releasing` (release points), `entering`.
 #![tactic(auto)]
 
 mod counting;

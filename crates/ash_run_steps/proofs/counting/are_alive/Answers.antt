@@ -1,4 +1,4 @@
-use Rattle.std.proofs.Common.{◌≡◌, get_or, take, true, false, sym, ◌∙◌, rules}
+use Rattle.std.proofs.Common.{◌≡◌, get_or, take, true, false, sym, rules}
 use Rattle.std.proofs.lemmas.List.{take_all, take_more}
 use Rattle.ash_host.specs.declared.word.Word.TheVariants.{Bool}
 use Rattle.ash_run_steps.specs.RunStates.{is_alive_in}

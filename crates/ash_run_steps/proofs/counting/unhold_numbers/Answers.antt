@@ -9,12 +9,14 @@ pub loop-number-init : goal.loop-number-init
 loop-number-init g c = less_none c.args.table.now
 
 pub unhold-requires : goal.unhold-requires
-unhold-requires g c = record { held =
-    let k = c.loop-number.number-index in
-    let ns = c.args.numbers.now in
-    let n = get_or ns k 0 in
-    let parts = ap (times n) (take_more ns k 0 c.loop-number-test.true) in
-    omega (arith, c.loop-number.invariant.counts n, parts, times_append n (take k ns) (n ∷ []), times_itself n, part_of n ns (k + 1), c.requires.held n) }
+unhold-requires g c = record {
+  held =
+      let k = c.loop-number.number-index in
+      let ns = c.args.numbers.now in
+      let n = get_or ns k 0 in
+      let parts = ap (times n) (take_more ns k 0 c.loop-number-test.true) in
+      omega (arith, c.loop-number.invariant.counts n, parts, times_append n (take k ns) (n ∷ []), times_itself n, part_of n ns (k + 1), c.requires.held n);
+}
 
 pub loop-number-preserved : goal.loop-number-preserved
 loop-number-preserved g c =

@@ -10,12 +10,14 @@ pub loop-word-init : goal.loop-word-init
 loop-word-init g c = less_none c.args.table.now
 
 pub unhold_word-requires : goal.unhold_word-requires
-unhold_word-requires g c = record { held = λ m.
-    let k = c.loop-word.word-index in
-    let ws = c.args.words.now in
-    let word = get_or ws k (Bool false) in
-    let parts = ap (times m) (handles_step ws k (Bool false) c.loop-word-test.true) in
-    omega (arith, c.loop-word.invariant.counts m, parts, times_append m (handles (take k ws)) (handles (word ∷ [])), part_of_words m ws (k + 1), c.requires.held m) }
+unhold_word-requires g c = record {
+  held = λ m.
+      let k = c.loop-word.word-index in
+      let ws = c.args.words.now in
+      let word = get_or ws k (Bool false) in
+      let parts = ap (times m) (handles_step ws k (Bool false) c.loop-word-test.true) in
+      omega (arith, c.loop-word.invariant.counts m, parts, times_append m (handles (take k ws)) (handles (word ∷ [])), part_of_words m ws (k + 1), c.requires.held m);
+}
 
 pub loop-word-preserved : goal.loop-word-preserved
 loop-word-preserved g c =

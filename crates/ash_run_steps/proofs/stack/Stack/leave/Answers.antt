@@ -1,6 +1,6 @@
 use Rattle.std.proofs.Common.{◌∷◌, [], ◌++◌, ◌≡◌, reverse, take, refl, arith}
 use Rattle.std.proofs.lemmas.List.{reverse-append}
-use Rattle.ash_run_steps.specs.Stacks.{AreStacked, frame_on, frames_on}
+use Rattle.ash_run_steps.specs.Stacks.{frame_on, frames_on}
 use Rattle.ash_run_steps.proofs.Stacking.{seen_left}
 use Rattle.ash_run_steps.proofs.stack.Stack.leave.Goals as goal
 
@@ -18,4 +18,5 @@ returns-clause-left c = λ _.
       frame_on caller (take f.base slots) (take f.mark held),
       frames_on (reverse rest) (take caller.base (take f.base slots)) (take caller.mark (take f.mark held)),
       rw (is, reverse-append rest (caller ∷ [])) refl,
-      seen_left f fs slots held caller rest is (omega (arith, stacked.0)) stacked.1)
+      seen_left f fs slots held caller rest is (omega (arith, stacked.0)) stacked.1,
+    )

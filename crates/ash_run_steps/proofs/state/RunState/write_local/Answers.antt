@@ -1,5 +1,5 @@
 use Rattle.std.proofs.Common.{◌≡◌, ◌∷◌, ◌∙◌, [], sym, false, arith, rules}
-use Rattle.std.specs.Prelude.{slice_get, Some, None}
+use Rattle.std.specs.Prelude.{slice_get, None}
 use Rattle.ash_host.specs.Objects.{handles}
 use Rattle.ash_run_steps.specs.RunStates.{state_with, is_alive_in}
 use Rattle.ash_run_steps.specs.Stacks.{locals_of}
