@@ -9,7 +9,7 @@ use Rattle.ash_host.specs.declared.event.Target.{Target}
 use Rattle.ash_host.specs.declared.event.Target.TheVariants as targets
 use Rattle.ash_host.specs.declared.host_object.HostObject.{Ghosts}
 use Rattle.ash_host.specs.Objects.{object_at, handles, IsInOrder, LiveObjects}
-use Rattle.ash_host.specs.Reach.{is_among, after_sweep, drops_of_sweep}
+use Rattle.ash_host.specs.Reach.{Root, is_among, after_sweep, drops_of_sweep}
 use Rattle.ash_host.specs.Records.{HostRecord}
 use Rattle.ash_host.proofs.Membership.{or_cases, or_first, or_second, is_among_yes, is_among_says}
 use Rattle.ash_meaning.specs.Activity.{World}
@@ -22,7 +22,7 @@ use Rattle.ash_objects.specs.Responses.{box_at}
 use Rattle.ash_objects.specs.Sweeping.{Collects, LeavesReachable, gone_from, drops}
 use Rattle.ash_objects.proofs.Marks.{in_order-mapped}
 use Rattle.ash_object_ranks.specs.ShownTables.{objects_shown}
-use Rattle.ash_object_ranks.specs.SweepLaws.{IsHeldBy, SweptByCounts}
+use Rattle.ash_object_ranks.specs.SweepLaws.{ReachTheSame, SweptByCounts}
 use Rattle.ash_object_ranks.proofs.ShownTables.{living_shown, tables_have_ranks}
 use Rattle.ash_object_ranks.proofs.Sweeps.{all, dropped}
 use Rattle.ash_run_steps.specs.Becoming.{Becomes, IsOf, KeepsBoxes}
@@ -53,11 +53,11 @@ times_among n (m ∷ ns) is =
     ]
 
 module _ {B : Type 0} where
-  pub held_by_roots : (table : Table B) (held : List ℕ) → HoldsRoots table held → IsHeldBy held table
-  held_by_roots table held counts number = (
-    λ some. is_among_says number held (among_times number held (omega (arith, counts number, some))),
-    λ is. omega (arith, counts number, times_among number held (is_among_yes number held is)),
-  )
+  pub held_by_roots : (table : Table B) (held : List ℕ) → HoldsRoots table held → ReachTheSame held table
+  held_by_roots table held counts = record {
+    holds = λ number some. Root (is_among_says number held (among_times number held (omega (arith, counts number, some))));
+    numbers = λ number is. Root (omega (arith, counts number, times_among number held (is_among_yes number held is)));
+  }
 
   pub holds_swept : (old new : Table B) → Collects old new → (m : ℕ) → holds_of m new ≡ holds_of m old
   holds_swept old new collects m = go (object_at m new.objects) refl
