@@ -7,7 +7,7 @@ use Rattle.ash_typed.specs.Signatures.{HostSignatures}
 use Rattle.ash_requests.specs.States.{LoadedModule}
 use Rattle.ash_plain_steps.specs.declared.state.LoadedModule as code_module
 use Rattle.ash_plain_steps.specs.declared.state.PlainState.{PlainState}
-use Rattle.ash_plain_steps.specs.StateViews.{modules_seen, state_seen}
+use Rattle.ash_plain_steps.specs.StateViews.{modules_seen}
 use Rattle.ash_sources.specs.Sources.{SourceRules, embedding_of}
 use Rattle.ash_admission.specs.Admission.{Constructs, AreWellTypedObjects}
 use Rattle.ash_image.specs.Snapshots.{Snapshot}

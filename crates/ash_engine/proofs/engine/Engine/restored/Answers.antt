@@ -1,4 +1,4 @@
-use Rattle.std.proofs.Common.{◌≡◌, List, [], Some, Err, ap, subst, map}
+use Rattle.std.proofs.Common.{◌≡◌, List, [], Some, Err, ap, subst}
 use Rattle.std.proofs.lemmas.Result.{err_from_is_err_and}
 use Rattle.ash_objects.specs.declared.restoring.TableFault.{TableFault}
 use Rattle.ash_objects.specs.Restoring.{RestoresServices, ServiceRefused}
