@@ -1,0 +1,4 @@
+//! The steps of a run over the table of objects, each of which is proved to be the meaning's.
+#![tactic(auto)]
+
+pub mod stack;

@@ -1,0 +1,189 @@
+//! The frames of a run, over one stack of words and one list of held objects.
+ghost use Rattle.std.specs.Prelude.{◌≡◌, ◌<◌, ◌≤◌, ◌+◌, ◌^◌, [], ◌∷◌, ◌++◌, length, take, drop};
+ghost use Rattle.std.specs.Prelude.{ℕ, List, OnOk, OnErr, slice_set, slice_get, Some, None, IsTrue, false};
+ghost use Rattle.ash_run_steps.specs.Stacks.{StackFrame, with_slots, roots_of_frames};
+
+use ash_host::{NoMemory, Word};
+use std::marker::Model;
+
+/// Where a frame is on the stack, and what it has beside its slots and the objects that it holds.
+#[derive(Clone, Copy, Drop)]
+struct Frame {
+    function: usize,
+    line: u32,
+    this: Word,
+    /// The index of its first slot.
+    base: usize,
+    /// How many of its slots are locals.
+    count: usize,
+    /// How many objects the frames below it hold.
+    mark: usize,
+}
+
+/// The frames of a run. The slots of a frame end where those of the frame above begin; those of the frame that runs
+/// end with the stack.
+#[derive(Drop)]
+pub struct Stack {
+    slots: Vec<Word>,
+    held: Vec<u64>,
+    frame: Frame,
+    /// The nearest is the last.
+    callers: Vec<Frame>,
+}
+
+impl Model for Stack {
+    ghost use Rattle.std.specs.Prelude.{◌+◌, ◌≤◌, length, reverse};
+    ghost use Rattle.ash_run_steps.specs.Stacks.{Frames, seen_on, AreStacked};
+
+    ghost Value = { Frames };
+
+    ghost view = { λ s. seen_on s.frame s.callers.items s.slots.items s.held.items };
+
+    ghost invariant = { λ s. (s.frame.base + s.frame.count ≤ length s.slots.items)
+        × (s.frame.mark ≤ length s.held.items)
+        × AreStacked (reverse s.callers.items) s.frame.base s.frame.mark };
+}
+
+impl Stack {
+    /// What holds of every stack. It does nothing.
+    pub fn facts(&self)
+        ensures few { length (roots_of_frames self.now) < 2 ^ 66 }
+        ensures within { self.now.frame.count ≤ length self.now.frame.slots }
+    {
+        let _callers = self.callers.len();
+        let _slots = self.slots.len();
+        let _held = self.held.len();
+    }
+
+    /// How many frames call the one that runs.
+    pub fn depth(&self) -> usize
+        ensures depth { result ≡ length self.now.callers }
+    {
+        self.callers.len()
+    }
+
+    /// The word in a slot, if there is such a slot.
+    pub fn word(&self, slot: usize) -> Option<Word>
+        ensures word { result ≡ slice_get self.now.frame.slots slot }
+    {
+        let place = self.frame.base.checked_add(slot)?;
+        self.slots.get(place).copied()
+    }
+
+    /// Writes a word into a slot.
+    pub fn set_word(&mut self, slot: usize, word: Word)
+        requires within { slot < length self.old.frame.slots }
+        ensures written { self.new ≡ record self.old {
+          frame = with_slots (slice_set self.old.frame.slots slot word) self.old.frame;
+        } }
+    {
+        self.slots[self.frame.base + slot] = word;
+    }
+
+    /// How many locals there are.
+    pub fn count(&self) -> usize
+        ensures count { result ≡ self.now.frame.count }
+        ensures within { result ≤ length self.now.frame.slots }
+    {
+        self.frame.count
+    }
+
+    /// Makes the first slots locals, so many of them.
+    pub fn set_count(&mut self, count: usize)
+        requires within { count ≤ length self.old.frame.slots }
+        ensures count { self.new ≡ record self.old {
+          frame = record self.old.frame { count = count };
+        } }
+    {
+        self.frame.count = count;
+    }
+
+    /// Stores the line of the frame.
+    pub fn set_line(&mut self, line: u32)
+        ensures line { self.new ≡ record self.old {
+          frame = record self.old.frame { line = line };
+        } }
+    {
+        self.frame.line = line;
+    }
+
+    /// The object whose method runs.
+    pub fn this(&self) -> Word
+        ensures this { result ≡ self.now.frame.this }
+    {
+        self.frame.this
+    }
+
+    /// Holds one more object. Where memory is refused nothing changes.
+    pub fn push_held(&mut self, number: u64) -> Result<(), NoMemory>
+        ensures held { OnOk result (self.new ≡ record self.old {
+          frame = record self.old.frame { held = number ∷ self.old.frame.held };
+        }) }
+        ensures unchanged { OnErr result (self.new ≡ self.old) }
+    {
+        self.held.push(number)?;
+        Ok(())
+    }
+
+    /// Holds one object less, and gives the one that was held last.
+    pub fn pop_held(&mut self) -> Option<u64>
+        ensures none { result ≡ None → (self.new ≡ self.old) × (self.old.frame.held ≡ []) }
+        ensures popped { (number : ℕ) → result ≡ Some number → self.old ≡ record self.new {
+          frame = record self.new.frame { held = number ∷ self.new.frame.held };
+        } }
+    {
+        if self.held.len() == self.frame.mark {
+            return None;
+        }
+        self.held.pop()
+    }
+
+    /// Enters a frame, whose slots are those of its caller from this one on. So many of them are its locals.
+    pub fn enter(&mut self, function: usize, this: Word, at: usize, count: usize) -> Result<(), NoMemory>
+        requires above { self.old.frame.count ≤ at }
+        requires within { at + count ≤ length self.old.frame.slots }
+        ensures entered { OnOk result (self.new ≡ record {
+          frame = record {
+            function = function;
+            line = self.old.frame.line;
+            this = this;
+            slots = drop at self.old.frame.slots;
+            count = count;
+            held = [];
+          };
+          callers = with_slots (take at self.old.frame.slots) self.old.frame ∷ self.old.callers;
+        }) }
+        ensures unchanged { OnErr result (self.new ≡ self.old) }
+    {
+        self.callers.push(self.frame)?;
+        self.frame = Frame {
+            function,
+            line: self.frame.line,
+            this,
+            base: self.frame.base + at,
+            count,
+            mark: self.held.len(),
+        };
+        Ok(())
+    }
+
+    /// Leaves the frame that runs, if it has a caller, which gets its slots back behind its own. The frame's objects
+    /// are given up before, or pass to the caller.
+    pub fn leave(&mut self) -> bool
+        ensures left { IsTrue result → (caller : StackFrame) × (callers : List StackFrame)
+            × (self.old.callers ≡ caller ∷ callers) × (self.new ≡ record {
+              frame = record caller {
+                slots = caller.slots ++ self.old.frame.slots;
+                held = self.old.frame.held ++ caller.held;
+              };
+              callers = callers;
+            }) }
+        ensures first { result ≡ false → (self.new ≡ self.old) × (self.old.callers ≡ []) }
+    {
+        let Some(caller) = self.callers.pop() else {
+            return false;
+        };
+        self.frame = caller;
+        true
+    }
+}
