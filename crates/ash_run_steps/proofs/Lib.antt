@@ -1,1 +1,5 @@
+pub mod Bare
+pub mod Composed
+pub mod HoldSteps
+pub mod Roots
 pub mod Stacking

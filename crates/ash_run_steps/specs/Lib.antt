@@ -1,1 +1,5 @@
+pub mod Becoming
+pub mod Guarded
+pub mod GuardedSteps
+pub mod RunStates
 pub mod Stacks

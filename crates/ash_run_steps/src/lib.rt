@@ -1,4 +1,8 @@
 //! The steps of a run over the table of objects, each of which is proved to be the meaning's.
 #![tactic(auto)]
 
+mod counting;
+pub mod holding;
 pub mod stack;
+pub mod state;
+pub mod stop;

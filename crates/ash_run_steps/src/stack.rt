@@ -1,7 +1,7 @@
 //! The frames of a run, over one stack of words and one list of held objects.
-ghost use Rattle.std.specs.Prelude.{◌≡◌, ◌<◌, ◌≤◌, ◌+◌, ◌^◌, [], ◌∷◌, ◌++◌, length, take, drop};
+ghost use Rattle.std.specs.Prelude.{◌≡◌, ◌<◌, ◌≤◌, ◌+◌, ◌^◌, [], ◌∷◌, ◌++◌, length, take, drop, reverse};
 ghost use Rattle.std.specs.Prelude.{ℕ, List, OnOk, OnErr, slice_set, slice_get, Some, None, IsTrue, false};
-ghost use Rattle.ash_run_steps.specs.Stacks.{StackFrame, with_slots, roots_of_frames};
+ghost use Rattle.ash_run_steps.specs.Stacks.{StackFrame, with_slots, locals_of, roots_of_frames};
 
 use ash_host::{NoMemory, Word};
 use std::marker::Model;
@@ -125,17 +125,27 @@ impl Stack {
         Ok(())
     }
 
-    /// Holds one object less, and gives the one that was held last.
-    pub fn pop_held(&mut self) -> Option<u64>
-        ensures none { result ≡ None → (self.new ≡ self.old) × (self.old.frame.held ≡ []) }
-        ensures popped { (number : ℕ) → result ≡ Some number → self.old ≡ record self.new {
-          frame = record self.new.frame { held = number ∷ self.new.frame.held };
+    /// The objects that the frame holds, in the order in which it came to hold them.
+    pub fn held(&self) -> &[u64]
+        ensures held { result.now ≡ reverse self.now.frame.held }
+    {
+        &self.held[self.frame.mark..]
+    }
+
+    /// Holds none of them any more.
+    pub fn clear_held(&mut self)
+        ensures cleared { self.new ≡ record self.old {
+          frame = record self.old.frame { held = [] };
         } }
     {
-        if self.held.len() == self.frame.mark {
-            return None;
-        }
-        self.held.pop()
+        self.held.truncate(self.frame.mark);
+    }
+
+    /// The locals.
+    pub fn locals(&self) -> &[Word]
+        ensures locals { result.now ≡ locals_of self.now.frame }
+    {
+        &self.slots[self.frame.base..self.frame.base + self.frame.count]
     }
 
     /// Enters a frame, whose slots are those of its caller from this one on. So many of them are its locals.

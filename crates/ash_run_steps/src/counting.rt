@@ -1,0 +1,80 @@
+//! Holds in the table.
+ghost use Rattle.std.specs.Prelude.{◌≡◌, ◌<◌, ◌≤◌, ◌+◌, ◌^◌, ◌∷◌, [], ℕ, true, length, All, IsTrue};
+ghost use Rattle.ash_host.specs.Objects.{handle, handles};
+ghost use Rattle.ash_objects.specs.Table.{holds_of};
+ghost use Rattle.ash_run_steps.specs.RunStates.{HoldsMore, HoldsLess, is_alive_in, times};
+
+use ash_host::{HostObject, Word};
+use ash_objects::Objects;
+
+/// The object that a word is a handle to.
+pub(crate) fn handle(word: Word) -> Option<u64>
+    ensures handle { result ≡ handle word }
+{
+    match word {
+        Word::Object(number) => Some(number),
+        _ => None,
+    }
+}
+
+/// Whether the object that a word is a handle to lives, if it is one.
+pub(crate) fn is_alive<B: HostObject>(table: &Objects<B>, word: Word) -> bool
+    ensures alive { result ≡ is_alive_in word table.now }
+{
+    match handle(word) {
+        Some(number) => table.slot(number).is_some(),
+        None => true,
+    }
+}
+
+/// Holds what a word is a handle to once more.
+pub(crate) fn hold_word<B: HostObject>(table: &mut Objects<B>, word: Word)
+    requires alive { IsTrue (is_alive_in word table.old) }
+    requires few { (number : ℕ) → holds_of number table.old < 2 ^ 127 }
+    ensures held { HoldsMore (handles (word ∷ [])) table.old table.new }
+{
+    if let Some(number) = handle(word) {
+        table.hold(number);
+    }
+}
+
+/// Holds what these words are handles to once more for each of them.
+pub(crate) fn hold_words<B: HostObject>(table: &mut Objects<B>, words: &[Word])
+    requires alive { All (λ word. IsTrue (is_alive_in word table.old)) words.now }
+    requires few { (number : ℕ) → holds_of number table.old + length words.now < 2 ^ 127 }
+    ensures held { HoldsMore (handles words.now) table.old table.new }
+{
+    for word in words {
+        hold_word(table, *word);
+    }
+}
+
+/// Undoes a hold of an object for each time that it is among these.
+pub(crate) fn unhold_numbers<B: HostObject>(table: &mut Objects<B>, numbers: &[u64])
+    requires held { (number : ℕ) → times number numbers.now ≤ holds_of number table.old }
+    ensures unheld { HoldsLess numbers.now table.old table.new }
+{
+    for number in numbers {
+        table.unhold(*number);
+    }
+}
+
+/// Undoes a hold of what a word is a handle to.
+pub(crate) fn unhold_word<B: HostObject>(table: &mut Objects<B>, word: Word)
+    requires held { (number : ℕ) → times number (handles (word ∷ [])) ≤ holds_of number table.old }
+    ensures unheld { HoldsLess (handles (word ∷ [])) table.old table.new }
+{
+    if let Some(number) = handle(word) {
+        table.unhold(number);
+    }
+}
+
+/// Undoes a hold for each of these words that is a handle.
+pub(crate) fn unhold_words<B: HostObject>(table: &mut Objects<B>, words: &[Word])
+    requires held { (number : ℕ) → times number (handles words.now) ≤ holds_of number table.old }
+    ensures unheld { HoldsLess (handles words.now) table.old table.new }
+{
+    for word in words {
+        unhold_word(table, *word);
+    }
+}

@@ -1,0 +1,67 @@
+//! What frames hold until a full expression ends.
+ghost use Rattle.std.specs.Prelude.{◌≡◌, ◌∷◌, ◌++◌, [], ℕ, Ok, OnOk, OnErr};
+ghost use Rattle.ash_host.specs.Objects.{handles};
+ghost use Rattle.ash_meaning.specs.Releases as releases;
+ghost use Rattle.ash_meaning.specs.Activity.{in_frame};
+ghost use Rattle.ash_meaning.specs.Frames as frames;
+ghost use Rattle.ash_meaning.specs.Runs.{change};
+ghost use Rattle.ash_run_steps.specs.Becoming.{Comes};
+ghost use Rattle.ash_run_steps.specs.Guarded.{plain};
+ghost use Rattle.ash_run_steps.specs.GuardedSteps.{hold};
+ghost use Rattle.ash_run_steps.specs.RunStates.{Names};
+
+use crate::counting::{handle, hold_word, is_alive, unhold_numbers};
+use crate::stack::Stack;
+use crate::state::RunState;
+use crate::stop::Stop;
+use ash_host::{HostObject, NoMemory, Word};
+
+// Makes the frame hold what a word is a handle to.
+pub(crate) fn push_handle(stack: &mut Stack, word: Word) -> Result<(), NoMemory>
+    ensures held { OnOk result (stack.new ≡ record stack.old {
+      frame = record stack.old.frame { held = handles (word ∷ []) ++ stack.old.frame.held };
+    }) }
+    ensures unchanged { OnErr result (stack.new ≡ stack.old) }
+{
+    match handle(word) {
+        Some(number) => stack.push_held(number),
+        None => Ok(()),
+    }
+}
+
+impl<B: HostObject> RunState<B> {
+    /// Holds what a word is a handle to until the full expression ends.
+    pub fn hold(&mut self, word: Word) -> Result<(), Stop>
+        ensures held { (names : Names) → Comes B.HostObject names (hold word) self.old result self.new }
+    {
+        if !is_alive(&self.table, word) {
+            return Err(Stop::Unsound);
+        }
+        self.stack.facts();
+        push_handle(&mut self.stack, word)?;
+        hold_word(&mut self.table, word);
+        Ok(())
+    }
+
+    /// Lets go what the frame holds. It takes no memory.
+    pub fn let_go(&mut self)
+        ensures let_go { (names : Names) → Comes B.HostObject names
+            (plain (change (in_frame releases.let_go))) self.old (Ok tt) self.new }
+    {
+        unhold_numbers(&mut self.table, self.stack.held());
+        self.stack.clear_held();
+    }
+
+    /// Takes a tick for what begins at a line.
+    pub fn tick(&mut self, line: u32) -> Result<(), Stop>
+        ensures ticked { (names : Names) → Comes B.HostObject names (plain (frames.tick line)) self.old
+            result self.new }
+    {
+        self.stack.set_line(line);
+        if self.ticks == 0 {
+            return Err(Stop::OutOfTicks);
+        }
+        self.ticks -= 1;
+        Ok(())
+    }
+}
