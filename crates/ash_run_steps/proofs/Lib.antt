@@ -1,5 +1,7 @@
 pub mod Bare
 pub mod Composed
 pub mod HoldSteps
+pub mod LocalSteps
 pub mod Roots
 pub mod Stacking
+pub mod Swept

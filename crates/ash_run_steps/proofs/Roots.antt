@@ -1,6 +1,6 @@
 -- How often an object is among the roots.
 use Rattle.std.proofs.Common.{◌≡◌, ℕ, Bool, true, false, cond, List, [], ◌∷◌, ◌++◌, ◌+◌, ◌-◌, ◌≤◌, ◌<◌, ◌^◌, length, take, drop, get_or, reverse, refl, sym, ap, ◌∙◌, subst, arith, zero, suc, nat_eq}
-use Rattle.std.specs.Prelude.{Option, Some, None, IsSome, count_by, flat_map}
+use Rattle.std.specs.Prelude.{Option, Some, None, IsSome, count_by, flat_map, slice_get, slice_set}
 use Rattle.std.specs.Option.{option_map, option_map_or}
 use Rattle.std.specs.List.{cons_option}
 use Rattle.std.proofs.lemmas.Bool.{eqb-true, eq-eqb}
@@ -30,25 +30,42 @@ eqb-sym n m = go (nat_eq n m) (nat_eq m n) refl refl
 pub times_append : (n : ℕ) (ms ns : List ℕ) → times n (ms ++ ns) ≡ times n ms + times n ns
 times_append n ms ns = sum_by-append (λ m. cond (nat_eq n m) 1 0) ms ns
 
-times_one : (n m : ℕ) → times n (m ∷ []) ≡ cond (nat_eq n m) 1 0
+pub times_one : (n m : ℕ) → times n (m ∷ []) ≡ cond (nat_eq n m) 1 0
 times_one n m = omega arith
 
 pub times_cons : (n m : ℕ) (ns : List ℕ) → times n (m ∷ ns) ≡ times n (m ∷ []) + times n ns
 times_cons n m ns = times_append n (m ∷ []) ns
 
+times_option : (n : ℕ) (o : Option ℕ) (ns : List ℕ) → times n (cons_option o ns) ≡ times n (cons_option o []) + times n ns
+times_option n None ns = omega arith
+times_option n (Some m) ns = times_cons n m ns
+
+pub times_word : (n : ℕ) (w : Word) (ws : List Word) → times n (handles (w ∷ ws)) ≡ times n (handles (w ∷ [])) + times n (handles ws)
+times_word n w ws = times_option n (handle w) (handles ws)
+
 -- a frame holds what it has as `this`, what its locals are handles to, and what it holds besides
 pub times_frame : (n : ℕ) (f : StackFrame) → times n (roots_of f) ≡ times n (handles (f.this ∷ [])) + times n (handles (locals_of f)) + times n f.held
 times_frame n f =
     let all = times_append n (handles (f.this ∷ locals_of f)) f.held in
-    let first = times_handle n f.this (locals_of f) in
-    omega arith
-  where
-    times_option : (n : ℕ) (o : Option ℕ) (ns : List ℕ) → times n (cons_option o ns) ≡ times n (cons_option o []) + times n ns
-    times_option n None ns = omega arith
-    times_option n (Some m) ns = times_cons n m ns
+    omega (arith, times_word n f.this (locals_of f))
 
-    times_handle : (n : ℕ) (w : Word) (ws : List Word) → times n (handles (w ∷ ws)) ≡ times n (handles (w ∷ [])) + times n (handles ws)
-    times_handle n w ws = times_option n (handle w) (handles ws)
+-- words, one of which is written over
+pub handles_set : (m : ℕ) (ws : List Word) (i : ℕ) (before after : Word) → slice_get ws i ≡ Some before
+    → times m (handles (slice_set ws i after)) + times m (handles (before ∷ [])) ≡ times m (handles ws) + times m (handles (after ∷ []))
+handles_set m [] i before after at = cc
+handles_set m (w ∷ ws) zero before after at =
+    let same : w ≡ before = cc in
+    let one = ap (λ (v : Word). times m (handles (v ∷ []))) same in
+    omega (arith, times_word m w ws, times_word m after ws)
+handles_set m (w ∷ ws) (suc i) before after at =
+    omega (arith, handles_set m ws i before after at, times_word m w ws, times_word m w (slice_set ws i after))
+
+-- words, of which the first are left
+pub handles_parts : (m : ℕ) (ws : List Word) (i : ℕ) → times m (handles (take i ws)) + times m (handles (drop i ws)) ≡ times m (handles ws)
+handles_parts m ws i =
+    let whole = ap (λ (vs : List Word). times m (handles vs)) (take-append-drop i ws) in
+    let parts = ap (times m) (filter_map-append handle (take i ws) (drop i ws)) in
+    omega (arith, times_append m (handles (take i ws)) (handles (drop i ws)))
 
 -- parts of lists
 
@@ -202,3 +219,6 @@ module _ {B : Type 0} where
 
   pub held_counted : (m : ℕ) (s : State B) → HoldsRoots s.table (roots_in s) → times m (reverse ((s.frames).frame).held) ≤ holds_of m s.table
   held_counted m s counts = omega (arith, times_letting_go m s, times_reverse m ((s.frames).frame).held, counts m)
+
+  pub times_letting_back : (m : ℕ) (s : State B) → times m (roots_in (letting_go s)) + times m (reverse ((s.frames).frame).held) ≡ times m (roots_in s)
+  times_letting_back m s = omega (arith, times_letting_go m s, times_reverse m ((s.frames).frame).held)

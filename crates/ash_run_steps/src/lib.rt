@@ -3,6 +3,8 @@
 
 mod counting;
 pub mod holding;
+pub mod locals;
+pub mod releasing;
 pub mod stack;
 pub mod state;
 pub mod stop;

@@ -49,6 +49,7 @@ impl Stack {
     pub fn facts(&self)
         ensures few { length (roots_of_frames self.now) < 2 ^ 66 }
         ensures within { self.now.frame.count ≤ length self.now.frame.slots }
+        ensures short { length self.now.frame.slots < 2 ^ 64 }
     {
         let _callers = self.callers.len();
         let _slots = self.slots.len();
@@ -148,14 +149,47 @@ impl Stack {
         &self.slots[self.frame.base..self.frame.base + self.frame.count]
     }
 
+    /// The word of a local, if there is such a local.
+    pub fn local(&self, slot: usize) -> Option<Word>
+        ensures local { result ≡ slice_get (locals_of self.now.frame) slot }
+    {
+        self.locals().get(slot).copied()
+    }
+
+    /// The locals from one on.
+    pub fn locals_from(&self, count: usize) -> &[Word]
+        ensures locals { result.now ≡ drop count (locals_of self.now.frame) }
+    {
+        match self.locals().get(count..) {
+            Some(locals) => locals,
+            None => &[],
+        }
+    }
+
+    /// The slots from one on, so many of them.
+    pub fn slots_from(&self, at: usize, count: usize) -> &[Word]
+        requires within { at + count ≤ length self.now.frame.slots }
+        ensures slots { result.now ≡ take count (drop at self.now.frame.slots) }
+    {
+        let first = self.frame.base + at;
+        &self.slots[first..first + count]
+    }
+
     /// Enters a frame, whose slots are those of its caller from this one on. So many of them are its locals.
-    pub fn enter(&mut self, function: usize, this: Word, at: usize, count: usize) -> Result<(), NoMemory>
+    pub fn enter(
+        &mut self,
+        function: usize,
+        line: u32,
+        this: Word,
+        at: usize,
+        count: usize,
+    ) -> Result<(), NoMemory>
         requires above { self.old.frame.count ≤ at }
         requires within { at + count ≤ length self.old.frame.slots }
         ensures entered { OnOk result (self.new ≡ record {
           frame = record {
             function = function;
-            line = self.old.frame.line;
+            line = line;
             this = this;
             slots = drop at self.old.frame.slots;
             count = count;
@@ -168,7 +202,7 @@ impl Stack {
         self.callers.push(self.frame)?;
         self.frame = Frame {
             function,
-            line: self.frame.line,
+            line,
             this,
             base: self.frame.base + at,
             count,

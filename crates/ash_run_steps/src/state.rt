@@ -19,25 +19,13 @@ pub struct RunState<B: HostObject = Box<dyn HostObject>> {
 }
 
 impl<B: HostObject> Model for RunState<B> {
-    ghost use Rattle.ash_run_steps.specs.RunStates.{State, HoldsRoots, roots_in};
+    ghost use Rattle.ash_run_steps.specs.RunStates.{State, HoldsRoots, roots_in, state_with};
 
     ghost Value = { State B };
 
-    ghost view = { λ s. record {
-      table = s.table;
-      frames = s.stack;
-      globals = s.globals.items;
-      outside = s.outside.items;
-      events = s.events.items;
-      ticks = s.ticks;
-    } };
+    ghost view = { λ s. state_with s.table s.stack s.globals.items s.outside.items s.events.items
+        s.ticks };
 
-    ghost invariant = { λ s. HoldsRoots s.table (roots_in (record {
-      table = s.table;
-      frames = s.stack;
-      globals = s.globals.items;
-      outside = s.outside.items;
-      events = s.events.items;
-      ticks = s.ticks;
-    })) };
+    ghost invariant = { λ s. HoldsRoots s.table (roots_in (state_with s.table s.stack
+        s.globals.items s.outside.items s.events.items s.ticks)) };
 }

@@ -1,6 +1,6 @@
 use Rattle.std.proofs.Common.{◌≡◌, ◌∷◌, [], false, arith, rules}
 use Rattle.ash_host.specs.Objects.{handles}
-use Rattle.ash_run_steps.specs.RunStates.{is_alive_in}
+use Rattle.ash_run_steps.specs.RunStates.{state_with, is_alive_in}
 use Rattle.ash_run_steps.proofs.HoldSteps.{hold_gives, hold_lacks}
 use Rattle.ash_run_steps.proofs.Roots.{few_holds, counts_more, times_holding, holding}
 use Rattle.ash_run_steps.proofs.HoldSteps.{at_table}
@@ -10,20 +10,20 @@ pub returns-then-not-is_alive : goal.returns-then-not-is_alive
 returns-then-not-is_alive g c =
     let s = c.self.inside in
     let lacks : is_alive_in c.args.word s.table ≡ false = search rules in
-    record { held = λ names. rw (← c.self.view_is) (hold_lacks g.B.HostObject names c.args.word (record { table = s.table; frames = s.stack; globals = s.globals.items; outside = s.outside.items; events = s.events.items; ticks = s.ticks }) lacks) }
+    record { held = λ names. rw (← c.self.view_is) (hold_lacks g.B.HostObject names c.args.word (state_with s.table s.stack s.globals.items s.outside.items s.events.items s.ticks) lacks) }
 
 pub hold_word-requires-clause-few : goal.hold_word-requires-clause-few
 hold_word-requires-clause-few g c = λ m.
     let s = c.self.inside in
-    omega (arith, few_holds m (record { table = s.table; frames = s.stack; globals = s.globals.items; outside = s.outside.items; events = s.events.items; ticks = s.ticks }) c.self.invariant, s.globals.ok.0, s.outside.ok.0, c.facts.ensures.few)
+    omega (arith, few_holds m (state_with s.table s.stack s.globals.items s.outside.items s.events.items s.ticks) c.self.invariant, s.globals.ok.0, s.outside.ok.0, c.facts.ensures.few)
 
 pub invariant_of-self-2 : goal.invariant_of-self-2
 invariant_of-self-2 g c =
     let s = c.self.inside in
     let ns = handles (c.args.word ∷ []) in
-    rw c.in_ok-push_handle.ensures.held (counts_more ns (record { table = s.table; frames = s.stack; globals = s.globals.items; outside = s.outside.items; events = s.events.items; ticks = s.ticks }) (at_table c.hold_word.new.table (holding ns (record { table = s.table; frames = s.stack; globals = s.globals.items; outside = s.outside.items; events = s.events.items; ticks = s.ticks }))) c.hold_word.ensures.held (λ m. times_holding m ns (record { table = s.table; frames = s.stack; globals = s.globals.items; outside = s.outside.items; events = s.events.items; ticks = s.ticks })) c.self.invariant)
+    rw c.in_ok-push_handle.ensures.held (counts_more ns (state_with s.table s.stack s.globals.items s.outside.items s.events.items s.ticks) (at_table c.hold_word.new.table (holding ns (state_with s.table s.stack s.globals.items s.outside.items s.events.items s.ticks))) c.hold_word.ensures.held (λ m. times_holding m ns (state_with s.table s.stack s.globals.items s.outside.items s.events.items s.ticks)) c.self.invariant)
 
 pub returns : goal.returns
 returns g c =
     let s = c.self.inside in
-    record { held = λ names. rw (← c.self.view_is, c.in_ok-push_handle.ensures.held) (hold_gives g.B.HostObject names c.args.word (record { table = s.table; frames = s.stack; globals = s.globals.items; outside = s.outside.items; events = s.events.items; ticks = s.ticks }) c.hold_word.new.table c.hold_word.ensures.held.same) }
+    record { held = λ names. rw (← c.self.view_is, c.in_ok-push_handle.ensures.held) (hold_gives g.B.HostObject names c.args.word (state_with s.table s.stack s.globals.items s.outside.items s.events.items s.ticks) c.hold_word.new.table c.hold_word.ensures.held.same) }
