@@ -52,7 +52,7 @@ module _ {B : Type 0} (G : Ghosts B) (names : SlotNames) where
     each : (number : ℕ) → object_at number (shown new) ≡ object_at number (after_sweep held (shown old))
     each number = left_at number (is_reachable held (shown old) number) refl ∙ sym (object_at-after_sweep held (shown old) number)
 
-    all : IsInOrder (shown old) → IsInOrder new.objects → shown new ≡ after_sweep held (shown old)
+    pub all : IsInOrder (shown old) → IsInOrder new.objects → shown new ≡ after_sweep held (shown old)
     all before after =
         same_in_order (shown new) (after_sweep held (shown old)) (in_order-mapped (living_shown G names) new.objects after) (sweep_is_exact held (shown old) before).in_order each
 
@@ -95,7 +95,7 @@ module _ {B : Type 0} (G : Ghosts B) (names : SlotNames) where
         ∙ ap (λ (b : Bool). cond (b && is_none (object_at e.0 (after_sweep held (shown old)))) (e.0 ∷ keys_of rest) (keys_of rest)) (sym (host_shown G names (e.1).body))
         ∙ sym (one_shown (e.0, living_shown G names e.1) rest (is_host (living_shown G names e.1) && is_none (object_at e.0 (after_sweep held (shown old)))))
 
-    dropped : drops (gone_from old.objects new.objects) ≡ map Dropped (drops_of_sweep held (shown old))
+    pub dropped : drops (gone_from old.objects new.objects) ≡ map Dropped (drops_of_sweep held (shown old))
     dropped = ap (map Dropped) (dropped_in old.objects)
 
   -- the laws

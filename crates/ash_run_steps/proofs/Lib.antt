@@ -1,5 +1,6 @@
 pub mod Bare
 pub mod Composed
+pub mod EnterSteps
 pub mod HoldSteps
 pub mod LocalSteps
 pub mod Roots

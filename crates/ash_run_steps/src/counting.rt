@@ -1,5 +1,6 @@
 //! Holds in the table.
 ghost use Rattle.std.specs.Prelude.{◌≡◌, ◌<◌, ◌≤◌, ◌+◌, ◌^◌, ◌∷◌, [], ℕ, true, length, All, IsTrue};
+ghost use Rattle.std.specs.List.{list_all};
 ghost use Rattle.ash_host.specs.Objects.{handle, handles};
 ghost use Rattle.ash_objects.specs.Table.{holds_of};
 ghost use Rattle.ash_run_steps.specs.RunStates.{HoldsMore, HoldsLess, is_alive_in, times};
@@ -25,6 +26,18 @@ pub(crate) fn is_alive<B: HostObject>(table: &Objects<B>, word: Word) -> bool
         Some(number) => table.slot(number).is_some(),
         None => true,
     }
+}
+
+/// Whether each of these words is a handle only to an object that lives.
+pub(crate) fn are_alive<B: HostObject>(table: &Objects<B>, words: &[Word]) -> bool
+    ensures alive { result ≡ list_all (λ word. is_alive_in word table.now) words.now }
+{
+    for word in words {
+        if !is_alive(table, *word) {
+            return false;
+        }
+    }
+    true
 }
 
 /// Holds what a word is a handle to once more.

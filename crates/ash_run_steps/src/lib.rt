@@ -2,6 +2,7 @@
 #![tactic(auto)]
 
 mod counting;
+pub mod entering;
 pub mod holding;
 pub mod locals;
 pub mod releasing;

@@ -1,0 +1,41 @@
+//! Frames that are entered.
+ghost use Rattle.std.specs.Prelude.{◌≤◌, ◌+◌, length, take, drop};
+ghost use Rattle.ash_run_steps.specs.Becoming.{Comes};
+ghost use Rattle.ash_run_steps.specs.GuardedSteps.{enter};
+ghost use Rattle.ash_run_steps.specs.RunStates.{Names};
+
+use crate::counting::{are_alive, hold_word, hold_words, is_alive};
+use crate::state::RunState;
+use crate::stop::Stop;
+use ash_host::{HostObject, Word};
+
+impl<B: HostObject> RunState<B> {
+    /// Enters a frame of a function at a line. Its slots are those of its caller from one on, and its arguments, which
+    /// are its first locals, are in the first of them.
+    pub fn enter(
+        &mut self,
+        function: usize,
+        line: u32,
+        this: Word,
+        at: usize,
+        count: usize,
+    ) -> Result<(), Stop>
+        requires above { self.old.frames.frame.count ≤ at }
+        requires within { at + count ≤ length self.old.frames.frame.slots }
+        ensures entered { (names : Names) → Comes B.HostObject names
+            (enter (names.functions function) line this
+            (take count (drop at self.old.frames.frame.slots))) self.old result self.new }
+    {
+        if !is_alive(&self.table, this) {
+            return Err(Stop::Unsound);
+        }
+        if !are_alive(&self.table, self.stack.slots_from(at, count)) {
+            return Err(Stop::Unsound);
+        }
+        self.stack.facts();
+        self.stack.enter(function, line, this, at, count)?;
+        hold_word(&mut self.table, this);
+        hold_words(&mut self.table, self.stack.locals());
+        Ok(())
+    }
+}
