@@ -2,6 +2,7 @@ pub mod Bare
 pub mod Composed
 pub mod EnterSteps
 pub mod HoldSteps
+pub mod LeaveSteps
 pub mod LocalSteps
 pub mod Roots
 pub mod Stacking

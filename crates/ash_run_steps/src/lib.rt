@@ -4,6 +4,7 @@
 mod counting;
 pub mod entering;
 pub mod holding;
+pub mod leaving;
 pub mod locals;
 pub mod releasing;
 pub mod stack;

@@ -211,23 +211,23 @@ impl Stack {
         Ok(())
     }
 
-    /// Leaves the frame that runs, if it has a caller, which gets its slots back behind its own. The frame's objects
-    /// are given up before, or pass to the caller.
-    pub fn leave(&mut self) -> bool
-        ensures left { IsTrue result → (caller : StackFrame) × (callers : List StackFrame)
-            × (self.old.callers ≡ caller ∷ callers) × (self.new ≡ record {
+    /// Leaves the frame that runs. Its caller gets its slots back behind its own. The frame's objects are given up
+    /// before, or pass to the caller.
+    pub fn leave(&mut self)
+        requires called { 0 < length self.old.callers }
+        ensures left { (caller : StackFrame) × (callers : List StackFrame)
+            × (self.old.callers ≡ caller ∷ callers) × (caller.count ≤ length caller.slots)
+            × (self.new ≡ record {
               frame = record caller {
                 slots = caller.slots ++ self.old.frame.slots;
                 held = self.old.frame.held ++ caller.held;
               };
               callers = callers;
             }) }
-        ensures first { result ≡ false → (self.new ≡ self.old) × (self.old.callers ≡ []) }
     {
         let Some(caller) = self.callers.pop() else {
-            return false;
+            unreachable!()
         };
         self.frame = caller;
-        true
     }
 }
