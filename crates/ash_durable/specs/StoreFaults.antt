@@ -12,6 +12,8 @@ code_of (faults.Create fault) = create_code fault
 code_of (faults.Open fault) = open_code fault
 code_of faults.OtherInterface = codes "504 OtherInterface"
 code_of faults.GenerationSpent = codes "511 GenerationSpent"
+code_of (faults.PoolShort kind) = codes "505 PoolShort"
+code_of (faults.RestoreRefused number) = codes "506 RestoreRefused"
 
 -- a device failed
 abbrev pub IsFailed : StoreFault → Type 0
@@ -25,8 +27,9 @@ IsMishap (faults.Open opening.NoMemory) = Unit {0}
 IsMishap (faults.Open opening.DeviceFailed) = Unit {0}
 IsMishap _ = ⊥
 
--- Why an opening may be refused where a host with the same registry made the store: memory ran out, a disk failed, or
--- the store is of version 1 and the number of its generation is the last.
+-- Why an opening may be refused where a host with the same registry made the store, and boxes are handed over with
+-- which it can be opened: memory ran out, a disk failed, or the store is of version 1 and the number of its generation
+-- is the last.
 abbrev pub MayRefuse : StoreFault → Type 0
 MayRefuse faults.GenerationSpent = Unit {0}
 MayRefuse fault = IsMishap fault
