@@ -229,7 +229,7 @@ HostReplies device G budget request None old reply new = (reply ≡ reply_stoppe
 pub record Handles {D B : Type 0} (device : Device D) (G : Ghosts B) (budget : ℕ) (request : Request)
     (old : Hosted D B) (reply : Reply SourceFault) (new : Hosted D B) : Type 0 where
   pub replies : HostReplies device G budget request old.live old reply new
-  pub sound : RunsSound G new
+  pub sound : RunsSound G old → RunsSound G new
   pub saved : IsSaved device old → IsSaved device new
   pub failures : CountsFailures (IsDeviceFailed reply) (device.failures (first old)) (device.failures (second old))
       (device.failures (first new)) (device.failures (second new))

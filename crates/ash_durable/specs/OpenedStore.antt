@@ -255,6 +255,15 @@ pub record FailedToSettle {D : Type 0} (device : Device D) (was : Journal D) (re
       → Extends device (first_disk was) (second_disk was) (first_disk journal) (second_disk journal) NoContents
   pub disks : HandsBack device (Unit {0}) (first_disk was) (second_disk was) (first_disk journal) (second_disk journal)
 
+-- A state that was stored lives again in an engine, with these boxes; or the fault of the boxes, the first that holds;
+-- or memory was refused.
+abbrev pub Revives : {B : Type 0} → Ghosts B → HostState → List B → List B → Result (EngineState B) StoreFault → Type 0
+Revives G state pool services (Ok engine) = LivesAgain G state pool services engine
+Revives G state pool services (Err (faults.PoolShort kind)) = IsShort G state pool services kind
+Revives G state pool services (Err (faults.RestoreRefused number)) = IsRefused G state pool services number
+Revives G state pool services (Err (faults.Open opening.NoMemory)) = Unit {0}
+Revives G state pool services (Err _) = ⊥
+
 -- an engine with a state that was read of a journal, and what became of the gates
 abbrev pub Repairs : {D B : Type 0} → Device D → EngineState B → Journal D → Result (Found D B) (OpenRefused D) → Type 0
 Repairs device engine was (Ok found) = (found.engine ≡ engine) × HasSettled device was found.journal

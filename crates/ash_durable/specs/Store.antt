@@ -25,6 +25,7 @@ use Rattle.ash_durable.specs.declared.fault.StoreFault.{StoreFault}
 use Rattle.ash_durable.specs.declared.fault.StoreFault.TheVariants as faults
 use Rattle.ash_durable.specs.declared.header.Header.{Header}
 use Rattle.ash_durable.specs.declared.store.First.{First}
+use Rattle.ash_durable.specs.declared.store.Found.{Found}
 
 -- how a file begins: its length, and its first byte, which is 0 where there is none
 pub record IsHeader (header : Header) (bytes : List ℕ) : Type 0 where
@@ -90,11 +91,6 @@ pub record WasNotMade {D : Type 0} (device : Device D) (Lacks : ℕ → Type 0) 
   pub moments : MakesOrNot device state a b refused.a refused.b
   pub disks : HandsBack device (IsFailed refused.fault) a b refused.a refused.b
 
--- A store of a state is made on two disks, or both are handed back.
-abbrev pub Makes : {D : Type 0} → Device D → HostState → D → D → Result (Journal D) (OpenRefused D) → Type 0
-Makes device state a b (Ok journal) = WasMade device state a b journal
-Makes device state a b (Err refused) = WasNotMade device (λ kind. ⊥) state a b refused
-
 -- A host was made with this registered, these free boxes and these services: it runs in the state before any request,
 -- in which no object lives, and which its disks keep. Services beyond those that are registered are dropped.
 pub record WasCreated {D B : Type 0} (device : Device D) (G : Ghosts B) (registered : List Registration)
@@ -111,6 +107,19 @@ abbrev pub WasNotCreated : {D B : Type 0} → Device D → Ghosts B → List Reg
     → Type 0
 WasNotCreated device G registered services a b refused =
     WasNotMade device (LacksService G registered services) (first_state G registered services) a b refused
+
+-- A store was made, and an engine in the state that it holds: the one before any request, with these boxes.
+pub record HasMade {D B : Type 0} (device : Device D) (G : Ghosts B) (registered : List Registration)
+    (pool services : List B) (a b : D) (made : Found D B) : Type 0 where
+  pub has : HasServices G registered services
+  pub engine_is : made.engine ≡ record { registered = registered; live = Some (begin G registered pool services) }
+  pub made : WasMade device (first_state G registered services) a b made.journal
+
+-- A store is made on two disks, or both are handed back.
+abbrev pub Makes : {D B : Type 0} → Device D → Ghosts B → List Registration → List B → List B → D → D
+    → Result (Found D B) (OpenRefused D) → Type 0
+Makes device G registered pool services a b (Ok made) = HasMade device G registered pool services a b made
+Makes device G registered pool services a b (Err refused) = WasNotCreated device G registered services a b refused
 
 -- A host is made on two disks, or both are handed back.
 abbrev pub Creates : {D B : Type 0} → Device D → Ghosts B → List Registration → List B → List B → D → D

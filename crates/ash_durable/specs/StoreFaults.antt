@@ -3,6 +3,8 @@ use Rattle.std.specs.Prelude.{ℕ, List, codes}
 use Rattle.ash_journal.specs.JournalCodes.{create_code, open_code}
 use Rattle.ash_journal.specs.declared.error.CreateFault.TheVariants as creating
 use Rattle.ash_journal.specs.declared.error.OpenFault.TheVariants as opening
+use Rattle.ash_objects.specs.declared.restoring.TableFault.{TableFault}
+use Rattle.ash_objects.specs.declared.restoring.TableFault.TheVariants as boxes
 use Rattle.ash_durable.specs.declared.fault.StoreFault.{StoreFault}
 use Rattle.ash_durable.specs.declared.fault.StoreFault.TheVariants as faults
 
@@ -14,6 +16,12 @@ code_of faults.OtherInterface = codes "504 OtherInterface"
 code_of faults.GenerationSpent = codes "511 GenerationSpent"
 code_of (faults.PoolShort kind) = codes "505 PoolShort"
 code_of (faults.RestoreRefused number) = codes "506 RestoreRefused"
+
+-- the fault of boxes that were handed over, as one of the store; memory is refused by a fault of its own
+abbrev pub fault_of_boxes : StoreFault → TableFault → StoreFault
+fault_of_boxes out_of_memory (boxes.PoolShort kind) = faults.PoolShort kind
+fault_of_boxes out_of_memory (boxes.RestoreRefused number) = faults.RestoreRefused number
+fault_of_boxes out_of_memory boxes.NoMemory = out_of_memory
 
 -- a device failed
 abbrev pub IsFailed : StoreFault → Type 0
