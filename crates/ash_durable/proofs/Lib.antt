@@ -20,6 +20,7 @@ pub mod Opened
 pub mod OpenedJournals
 pub mod Outcomes
 pub mod Prefixes
+pub mod QuietSteps
 pub mod Reading
 pub mod Refusing
 pub mod RequestOutcomes

@@ -10,7 +10,7 @@ use Rattle.ash_states.specs.StateSteps.{task_of}
 use Rattle.ash_engine.specs.LiveStates.{LiveState}
 use Rattle.ash_engine.specs.LiveSteps.{LiveSteps}
 use Rattle.ash_durable.specs.Saving.{last_generation}
-use Rattle.ash_durable.specs.Hosting.{Hosted, WantsInstall, Handles, reply_stopped}
+use Rattle.ash_durable.specs.Hosting.{Hosted, IsRunning, WantsInstall, Handles, reply_stopped}
 
 -- why a new generation that was wanted could not be made, with no device failing: the number of the current one is the
 -- last, or it is not, and memory was refused
@@ -83,6 +83,6 @@ pub record RunsUntilFailure {D B : Type 0} (device : Device D) (G : Ghosts B) (b
 -- there is one. Where it had to be reopened, it still has to be, and nothing changed.
 pub record RunsToFailure {D B : Type 0} (device : Device D) (G : Ghosts B) (budget : ℕ) (old : Hosted D B)
     (requests : List Request) (replies : List (Reply SourceFault)) (new : Hosted D B) : Type 0 where
-  pub running : (live : LiveState B) → old.live ≡ Some live → HostRuns device G budget old requests replies new
-      ⊎ RunsUntilFailure device G budget old requests replies new
+  pub running : (live : LiveState B) → old.live ≡ Some live → IsRunning live.durable old
+      → HostRuns device G budget old requests replies new ⊎ RunsUntilFailure device G budget old requests replies new
   pub stopped : old.live ≡ None → (replies ≡ replies_until_reopened requests old.seq) × (new ≡ old)

@@ -142,9 +142,12 @@ impl<D: Disk, B: HostObject> Host<D, B> {
         })
     }
 
-    /// What is known of a host that runs: its boxes are those of its state. The function does nothing.
+    /// What is known of a host that runs: its boxes are those of its state, and the state has what is registered with the
+    /// host. The function does nothing.
     pub fn facts(&self)
         ensures sound { RunsSound B.HostObject self.now }
+        ensures runs { (live : LiveState B) → self.now.live ≡ Some live
+            → IsRunning live.durable self.now }
     {
         self.engine.facts();
     }
@@ -207,6 +210,7 @@ impl<D: Disk, B: HostObject> Host<D, B> {
         ensures runs { (live : LiveState B) → self.now.live ≡ Some live
             → IsRunning live.durable self.now }
     {
+        self.engine.facts();
         self.journal.record_bytes() >= FULL_RECORD_BYTES
     }
 
