@@ -7,6 +7,7 @@ pub mod CrashedDisks
 pub mod Faultless
 pub mod Finding
 pub mod GoingOn
+pub mod HandedOver
 pub mod HandledRequests
 pub mod Handling
 pub mod LifeEvents

@@ -100,7 +100,8 @@ module _ {D : Type 0} (device : Device D) where
       )
 
   -- and then a journal was created, or it was not
-  module _ (state : HostState) (image : List ℕ) (depicts : IsImageIn Two image state) (a b one two : D)
+  module _ (Lacks : ℕ → Type 0) (state : HostState) (image : List ℕ) (depicts : IsImageIn Two image state)
+      (a b one two : D)
       (read : WereOnlyRead device a b one two) (back : HandsBack device ⊥ a b one two)
       (closed : AreHonest device a b → AreClosed device a b) where
     creates : (a' b' : D) → ((p q : ℕ) → IsTrue (device.honest one) → IsTrue (device.honest two)
@@ -148,7 +149,7 @@ module _ {D : Type 0} (device : Device D) where
     cause : (fault : CreateFault) (a' b' : D)
         → (IsTrue (device.honest one) → IsTrue (device.honest two)
         → CreateFaultIs fault (device.seen one) (device.seen two) (IsOnlyRead device one a' × IsOnlyRead device two b'))
-        → NotMadeFor device a b (faults.Create fault) a' b'
+        → NotMadeFor device Lacks a b (faults.Create fault) a' b'
     cause creating.DeviceFailed a' b' is = λ honest. inl (closed honest)
     cause creating.AlreadyThere a' b' is = λ honest.
         let still = honest_read a b one two read honest in
@@ -182,9 +183,9 @@ module _ {D : Type 0} (device : Device D) where
         → device.honest a' ≡ device.honest one → device.honest b' ≡ device.honest two
         → CountsFailures (fault ≡ creating.DeviceFailed) (device.failures one) (device.failures two)
         (device.failures a') (device.failures b')
-        → WasNotMade device state a b (record { fault = reported; a = a'; b = b' })
+        → WasNotMade device Lacks state a b (record { fault = reported; a = a'; b = b' })
     not_made fault reported a' b' is why moments honesty_first honesty_second counts =
-        subst (λ (f : StoreFault). WasNotMade device state a b (record { fault = f; a = a'; b = b' })) (sym is)
+        subst (λ (f : StoreFault). WasNotMade device Lacks state a b (record { fault = f; a = a'; b = b' })) (sym is)
         (record {
           cause = cause fault a' b' why;
           moments = creates a' b' moments;
