@@ -37,6 +37,12 @@ pub live_there : {B : Type 0} (known : Option (LiveState B)) (state : HostState)
 live_there None state is = absurd (cc)
 live_there (Some live) state is = (live, refl, cc)
 
+-- a host that has room has the live state that it had
+pub room_same : {D B : Type 0} (device : Device D) (request : Request) (live : LiveState B) (old between : Hosted D B)
+    → MakesRoomFor device request live.durable old between → between.live ≡ old.live
+room_same {D} {B} device request live old between (inl none) = ap (λ (host : Hosted D B). host.live) none.1
+room_same device request live old between (inr some) = some.1.live_same
+
 -- ---- disks
 
 module _ {D B : Type 0} (device : Device D) where

@@ -89,15 +89,21 @@ module _ {D : Type 0} (device : Device D) where
   }
 
   -- disks that were only read have no file open where they have rested
-  pub read_makes : (state : HostState) (a b a' b' : D) → WereOnlyRead device a b a' b'
-      → MakesOrNot device state a b a' b'
-  read_makes state a b a' b' read p q honest rested_a rested_b s t x y from_p to_a from_q to_b left_x left_y =
+  pub read_idle : (a b a' b' : D) → WereOnlyRead device a b a' b' → (p q : ℕ) → AreHonest device a b
+      → WasUnused device p a → WasUnused device q b
+      → EveryMomentSince device p q a' b' (λ x y. IsClosed x × IsClosed y)
+  read_idle a b a' b' read p q honest rested_a rested_b s t x y from_p to_a from_q to_b left_x left_y =
       let one = rested_read device p a a' honest.honest_first read.read_first rested_a in
-      let two = rested_read device q b b' honest.honest_second read.read_second rested_b in
-      inl (
+      let two = rested_read device q b b' honest.honest_second read.read_second rested_b in (
         idle_closed (device.leaves a' s) (one.idle s from_p to_a) x left_x,
         idle_closed (device.leaves b' t) (two.idle t from_q to_b) y left_y,
       )
+
+  -- so no store is made there
+  pub read_makes : (state : HostState) (a b a' b' : D) → WereOnlyRead device a b a' b'
+      → MakesOrNot device state a b a' b'
+  read_makes state a b a' b' read p q honest rested_a rested_b s t x y from_p to_a from_q to_b left_x left_y =
+      inl (read_idle a b a' b' read p q honest rested_a rested_b s t x y from_p to_a from_q to_b left_x left_y)
 
   -- and then a journal was created, or it was not
   module _ (Lacks : ℕ → Type 0) (state : HostState) (image : List ℕ) (depicts : IsImageIn Two image state)

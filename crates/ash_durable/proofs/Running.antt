@@ -8,22 +8,17 @@ use Rattle.ash_requests.specs.TaskResults.{TaskChangesState}
 use Rattle.ash_sources.specs.SourceFaults.{SourceFault}
 use Rattle.ash_states.specs.StateSteps.{task_of}
 use Rattle.ash_engine.specs.LiveStates.{LiveState}
-use Rattle.ash_durable.specs.Hosting.{Hosted, IsRunning, WantsInstall, InstallRefused, WasLost, HasStopped, MakesRoomFor}
+use Rattle.ash_durable.specs.Hosting.{Hosted, IsRunning, WantsInstall, InstallRefused, WasLost, HasStopped}
 use Rattle.ash_durable.specs.Hosting.{Handles, HostReplies, HandlesAll, reply_stopped}
 use Rattle.ash_durable.specs.RequestRuns.{HostSteps, HostRuns, replies_until_reopened, LosesAnswer}
 use Rattle.ash_durable.specs.RequestRuns.{RunsUntilFailure, RunsToFailure}
+use Rattle.ash_durable.proofs.Composing.{room_same}
 
 loses_answer : {D : Type 0} (old : Journal D) (reply : Reply SourceFault) (new : Journal D) → WasLost old reply new
     → LosesAnswer reply
 loses_answer old (Refused DeviceFailed) new lost = tt
 loses_answer old (Refused NoMemory) new lost = tt
 loses_answer old _ new lost = absurd lost
-
--- a host that has room has the live state that it had
-pub room_same : {D B : Type 0} (device : Device D) (request : Request) (live : LiveState B) (old between : Hosted D B)
-    → MakesRoomFor device request live.durable old between → between.live ≡ old.live
-room_same {D} {B} device request live old between (inl none) = ap (λ (host : Hosted D B). host.live) none.1
-room_same device request live old between (inr some) = some.1.live_same
 
 module _ {D B : Type 0} (device : Device D) (G : Ghosts B) (budget : ℕ) where
   -- a host that must be reopened

@@ -230,9 +230,9 @@ pub data Life {D B : Type 0} (device : Device D) (G : Ghosts B) (start : Reached
       (device.clock (second_found device G others pool services a b result opens)) (first_of result)
       (second_of result) a' b' → Life device G start events (OnDisks a' b')
   -- a host is to be created where the store is, and is refused
-  NotCreated : (events : List StoreEvent) (others : List Registration) (services : List B) (a b : D)
+  NotCreated : (events : List StoreEvent) (others : List Registration) (pool services : List B) (a b : D)
       (refused : OpenRefused D) → Life device G start events (OnDisks a b)
-      → WasNotCreated device G others services a b refused
+      → WasNotCreated device G others pool services a b refused
       → Life device G start events (OnDisks refused.a refused.b)
   -- a crash while a host is to be created there
   CrashedNotCreating : (events : List StoreEvent) (others : List Registration) (pool services : List B) (a b : D)

@@ -18,7 +18,7 @@ use Rattle.ash_engine.specs.LiveStates.{begin}
 use Rattle.ash_engine.specs.RestoredBoxes.{HasServices, LacksService}
 use Rattle.ash_durable.specs.HandedBoxes.{first_state}
 use Rattle.ash_durable.specs.StoreFaults.{IsFailed}
-use Rattle.ash_durable.specs.Hosting.{Hosted, IsRunning, IsSaved, RunsSound}
+use Rattle.ash_durable.specs.Hosting.{Hosted, IsRunning, IsSaved, IsSound, RunsSound}
 use Rattle.ash_durable.specs.StoredStates.{AreHonest, HoldsState, IsOne, HaveState}
 use Rattle.ash_durable.specs.declared.fault.OpenRefused.{OpenRefused}
 use Rattle.ash_durable.specs.declared.fault.StoreFault.{StoreFault}
@@ -103,29 +103,32 @@ pub record WasCreated {D B : Type 0} (device : Device D) (G : Ghosts B) (registe
   pub saved : IsSaved device host
 
 -- No host was made, and both disks are handed back: a service may lack, beside what stops the making of a store.
-abbrev pub WasNotCreated : {D B : Type 0} → Device D → Ghosts B → List Registration → List B → D → D → OpenRefused D
-    → Type 0
-WasNotCreated device G registered services a b refused =
-    WasNotMade device (LacksService G registered services) (first_state G registered services) a b refused
+-- Nothing was written, unless the live state is sound whose store was begun.
+pub record WasNotCreated {D B : Type 0} (device : Device D) (G : Ghosts B) (registered : List Registration)
+    (pool services : List B) (a b : D) (refused : OpenRefused D) : Type 0 where
+  pub not_made : WasNotMade device (LacksService G registered services) (first_state G registered services) a b refused
+  pub begun : WereOnlyRead device a b refused.a refused.b ⊎ IsSound G (begin G registered pool services)
 
 -- A store was made, and an engine in the state that it holds: the one before any request, with these boxes.
 pub record HasMade {D B : Type 0} (device : Device D) (G : Ghosts B) (registered : List Registration)
     (pool services : List B) (a b : D) (made : Found D B) : Type 0 where
   pub has : HasServices G registered services
   pub engine_is : made.engine ≡ record { registered = registered; live = Some (begin G registered pool services) }
+  pub sound : IsSound G (begin G registered pool services)
   pub made : WasMade device (first_state G registered services) a b made.journal
 
 -- A store is made on two disks, or both are handed back.
 abbrev pub Makes : {D B : Type 0} → Device D → Ghosts B → List Registration → List B → List B → D → D
     → Result (Found D B) (OpenRefused D) → Type 0
 Makes device G registered pool services a b (Ok made) = HasMade device G registered pool services a b made
-Makes device G registered pool services a b (Err refused) = WasNotCreated device G registered services a b refused
+Makes device G registered pool services a b (Err refused) = WasNotCreated device G registered pool services a b refused
 
 -- A host is made on two disks, or both are handed back.
 abbrev pub Creates : {D B : Type 0} → Device D → Ghosts B → List Registration → List B → List B → D → D
     → Result (Hosted D B) (OpenRefused D) → Type 0
 Creates device G registered pool services a b (Ok host) = WasCreated device G registered pool services a b host
-Creates device G registered pool services a b (Err refused) = WasNotCreated device G registered services a b refused
+Creates device G registered pool services a b (Err refused) =
+    WasNotCreated device G registered pool services a b refused
 
 -- ---- the steps of the making
 
@@ -158,6 +161,7 @@ abbrev pub PreparesWith : {D B : Type 0} → Device D → Ghosts B → List Regi
 PreparesWith device G registered pool services a b (Ok first) a' b' =
     HasServices G registered services
     × (first.engine ≡ record { registered = registered; live = Some (begin G registered pool services) })
+    × IsSound G (begin G registered pool services)
     × IsImageIn Two first.image.items (first_state G registered services) × (length first.image.items < 2 ^ 32)
     × (AreHonest device a b → AreClosed device a b)
 PreparesWith device G registered pool services a b (Err fault) a' b' =

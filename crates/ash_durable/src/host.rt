@@ -96,7 +96,6 @@ impl<D: Disk, B: HostObject> Host<D, B> {
             services.items a b result }
     {
         let made = make(alloc, registry, pool, services, a, b)?;
-        made.engine.facts();
         Ok(Host {
             alloc,
             engine: made.engine,

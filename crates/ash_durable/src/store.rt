@@ -72,6 +72,7 @@ fn prepare_first<D: Disk, B: HostObject>(
     let Ok(image) = engine.image() else {
         return Err(out_of_memory);
     };
+    engine.facts();
     Ok(First { engine, image })
 }
 
