@@ -1,6 +1,6 @@
 -- The tests of objects decide what objects are.
 use Rattle.std.proofs.Common.{◌≡◌, ℕ, Bool, true, false, List, [], ◌∷◌, length, refl, ap, subst, ◌∙◌, nat_eq, nat_le, map}
-use Rattle.std.specs.Prelude.{Option, Some, None, Contains, option_map, IsSome, is_some, if◌then◌else◌}
+use Rattle.std.specs.Prelude.{Option, Some, None, option_map, IsSome, is_some, if◌then◌else◌}
 use Rattle.std.specs.List.{list_all}
 use Rattle.std.specs.Option.{option_map_or}
 use Rattle.std.proofs.lemmas.Option.{same_Some}
@@ -10,7 +10,6 @@ use Rattle.ash_host.specs.Reach.{is_among}
 use Rattle.ash_host.specs.Limits.{max_elements, max_state_bytes}
 use Rattle.ash_host.proofs.Membership.{and_both, both_and}
 use Rattle.ash_host.proofs.Order.{object_here, object_later, none_after, in_order_after}
-use Rattle.ash_tree.specs.declared.tree.types.Primitive.{Primitive}
 use Rattle.ash_typed.specs.Modules.{Class}
 use Rattle.ash_typed.specs.Signatures as signatures
 use Rattle.ash_typed.specs.Signatures.{type_declared}
@@ -21,7 +20,7 @@ use Rattle.ash_admission.specs.Places.{class_at}
 use Rattle.ash_admission.specs.Values.{are_values}
 use Rattle.ash_admission.specs.Contents.{program_of_name, known_in, is_script, are_elements, is_object, are_objects}
 use Rattle.ash_admission.specs.Admission.{Constructs}
-use Rattle.ash_admission.proofs.Tests.{le_says, le_yes, none_in}
+use Rattle.ash_admission.proofs.Tests.{le_says, le_yes}
 use Rattle.ash_admission.proofs.PlaceLaws.{class_there, class_found}
 use Rattle.ash_admission.proofs.ValueLaws.{values_say, values_yes}
 use Rattle.ash_admission.proofs.ElementLaws.{has_the_name, known_is, array_says, array_yes}

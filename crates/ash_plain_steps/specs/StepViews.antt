@@ -18,7 +18,7 @@ use Rattle.ash_requests.specs.Steps.{Step, answered, replied, step, TakesMemory}
 use Rattle.ash_plain_steps.specs.declared.state.LoadedModule.{LoadedModule}
 use Rattle.ash_plain_steps.specs.declared.step.Step as code_step
 use Rattle.ash_plain_steps.specs.StateViews.{modules_seen, state_seen, hosts_seen}
-use Rattle.ash_requests.specs.TaskResults.{TakesMemoryToFind}
+use Rattle.ash_requests.specs.TaskResults.{TakesMemoryToFind, TaskChangesState}
 
 -- a step with what it leaves
 abbrev pub step_seen : {Code Fault : Type 0} → (Code → Fault) → code_step.Step Code → Step Fault

@@ -13,6 +13,7 @@ use Rattle.ash_meaning.specs.Classes.{dotted}
 use Rattle.ash_requests.specs.Requests.{ObjectContents, Fields, HostState, Elements}
 use Rattle.ash_requests.specs.Tasks.{Task, Initialize, Invoke, Remove, Read, Show, Count, Rewrite, TaskResult}
 use Rattle.ash_requests.specs.Tasks.{class_placed, shown_fields}
+use Rattle.ash_requests.specs.TaskResults.{TakesMemoryToFind}
 use Rattle.ash_plain_steps.specs.declared.state.LoadedModule.{LoadedModule}
 use Rattle.ash_requests.specs.declared.refusal.Refusal as refusal
 use Rattle.ash_requests.specs.declared.refusal.Refusal.TheVariants as refusals
