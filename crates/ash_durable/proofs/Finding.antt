@@ -84,9 +84,9 @@ settled_cause G registered pool services opened (faults.Open (opening.Damaged at
 settled_cause G registered pool services opened faults.OtherInterface x y is marked others =
     (contents_of opened, is, others)
 settled_cause G registered pool services opened (faults.PoolShort kind) x y is marked short =
-    (contents_of opened, is, short)
+    (contents_of opened, is, short.0, short.1, short.2, short.3)
 settled_cause G registered pool services opened (faults.RestoreRefused number) x y is marked refused =
-    (contents_of opened, is, refused)
+    (contents_of opened, is, refused.0, refused.1, refused.2, refused.3)
 settled_cause G registered pool services opened faults.GenerationSpent x y is marked spent = record {
   contents = contents_of opened;
   represented = is;

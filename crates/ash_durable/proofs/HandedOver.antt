@@ -1,7 +1,7 @@
 -- Boxes that are handed over: with such as a state can be opened with, no box lacks and none refuses.
 use Rattle.std.proofs.Common.{◌≡◌, inl, inr, ℕ, zero, suc, Bool, true, false, nat_eq, List, [], ◌∷◌, map, take, length}
 use Rattle.std.proofs.Common.{get_or, slice_get, remove, position, option_map, Option, Some, None, refl, sym, ◌∙◌, ap}
-use Rattle.std.proofs.Common.{subst, arith}
+use Rattle.std.proofs.Common.{subst, arith, if◌then◌else◌}
 use Rattle.std.specs.Option.{option_and_then}
 use Rattle.std.specs.List.{AllByRecursion, cons_option}
 use Rattle.std.proofs.lemmas.Bool.Decides.{nat_tests}
@@ -63,11 +63,12 @@ all_remove P (x ∷ xs) (suc i) all = (all.0, all_remove P xs i all.1)
 all_at : {A : Type 0} (P : A → Type 0) (number : ℕ) (es : List (ℕ × A)) (x : A)
     → AllByRecursion (λ (e : ℕ × A). P e.1) es → object_at number es ≡ Some x → P x
 all_at P number [] x all is = absurd (cc)
-all_at {A} P number (e ∷ es) x all is = by (nat_eq number e.0) refl is
+all_at {A} P number (e ∷ es) x all is = by (nat_eq number e.0) is (all_at P number es x all.1)
   where
-    by : (b : Bool) → nat_eq number e.0 ≡ b → object_at number (e ∷ es) ≡ Some x → P x
-    by true here at = let same : e.1 ≡ x = grind in subst P same all.0
-    by false other at = let later : object_at number es ≡ Some x = grind in all_at P number es x all.1 later
+    by : (b : Bool) → (if b then Some e.1 else object_at number es) ≡ Some x → (object_at number es ≡ Some x → P x)
+        → P x
+    by true at later = let same : e.1 ≡ x = cc in subst P same all.0
+    by false at later = later at
 
 same_number : (a b : ℕ) → nat_eq a b ≡ true → a ≡ b
 same_number a b e = grind (arith, nat_tests)
@@ -115,45 +116,47 @@ module _ {B : Type 0} (G : Ghosts B) (P : B → Type 0) where
       → draw_all G wanted pool ≡ Enough drawn left → AreDrawn wanted drawn
   drawn_all [] pool drawn left all is =
       let same : [] ≡ drawn = cc in subst (λ (ds : List (ℕ × B)). AreDrawn [] ds) same tt
-  drawn_all (w ∷ wanted) pool drawn left all is = at (draw_box G w.1 pool) refl is
+  drawn_all (w ∷ wanted) pool drawn left all is =
+      at (draw_box G w.1 pool) refl is (λ rest boxes l. drawn_all wanted rest boxes l)
     where
+      Later : Type 0
+      Later = (rest : List B) (boxes : List (ℕ × B)) (l : List B) → AllByRecursion P rest
+          → draw_all G wanted rest ≡ Enough boxes l → AreDrawn wanted boxes
+
       rest : (taken : B × List B) (others : Drawing B) → draw_box G w.1 pool ≡ Some taken
-          → draw_all G wanted taken.1 ≡ others → with_first w.0 taken.0 others ≡ Enough drawn left
+          → draw_all G wanted taken.1 ≡ others → with_first w.0 taken.0 others ≡ Enough drawn left → Later
           → AreDrawn (w ∷ wanted) drawn
-      rest taken (Short kind) took others_are first = absurd (cc)
-      rest taken (Enough boxes l) took others_are first =
+      rest taken (Short kind) took others_are first later = absurd (cc)
+      rest taken (Enough boxes l) took others_are first later =
           let same : (w.0, taken.0) ∷ boxes ≡ drawn = cc in
           let one = draw_one w.1 pool taken all took in
           subst (λ (ds : List (ℕ × B)). AreDrawn (w ∷ wanted) ds) same
-          (refl, one.0, one.1, drawn_all wanted taken.1 boxes l one.2 others_are)
+          (refl, one.0, one.1, later taken.1 boxes l one.2 others_are)
 
       at : (found : Option (B × List B)) → draw_box G w.1 pool ≡ found
-          → draw_then w.0 w.1 found (λ rest_left. draw_all G wanted rest_left) ≡ Enough drawn left
+          → draw_then w.0 w.1 found (λ rest_left. draw_all G wanted rest_left) ≡ Enough drawn left → Later
           → AreDrawn (w ∷ wanted) drawn
-      at None took drawn_is = absurd (cc)
-      at (Some taken) took drawn_is = rest taken (draw_all G wanted taken.1) took refl drawn_is
+      at None took drawn_is later = absurd (cc)
+      at (Some taken) took drawn_is later = rest taken (draw_all G wanted taken.1) took refl drawn_is later
 
   -- the box that a number took is of the kind that it wants
   took_kind : (wanted : List (ℕ × ℕ)) (drawn : List (ℕ × B)) (number kind : ℕ) (box : B) → AreDrawn wanted drawn
       → object_at number wanted ≡ Some kind → object_at number drawn ≡ Some box → (G.kind_of box ≡ kind) × P box
   took_kind [] drawn number kind box are wants took = absurd (cc)
   took_kind (w ∷ wanted) [] number kind box are wants took = absurd are
-  took_kind (w ∷ wanted) (d ∷ drawn) number kind box are wants took = by (nat_eq number w.0) refl
+  took_kind (w ∷ wanted) (d ∷ drawn) number kind box are wants took =
+      by (nat_eq number w.0) wants (subst (λ (n : ℕ). (if nat_eq number n then Some d.1 else object_at number drawn)
+      ≡ Some box) are.0 took) (took_kind wanted drawn number kind box are.3)
     where
-      same : d.0 ≡ w.0
-      same = are.0
-
-      by : (b : Bool) → nat_eq number w.0 ≡ b → (G.kind_of box ≡ kind) × P box
-      by true here =
-          let there : nat_eq number d.0 ≡ true = subst (λ (n : ℕ). nat_eq number n ≡ true) (sym same) here in
-          let kind_is : w.1 ≡ kind = grind in
-          let box_is : d.1 ≡ box = grind in
+      by : (b : Bool) → (if b then Some w.1 else object_at number wanted) ≡ Some kind
+          → (if b then Some d.1 else object_at number drawn) ≡ Some box
+          → (object_at number wanted ≡ Some kind → object_at number drawn ≡ Some box → (G.kind_of box ≡ kind) × P box)
+          → (G.kind_of box ≡ kind) × P box
+      by true wants_it took_it later =
+          let kind_is : w.1 ≡ kind = cc in
+          let box_is : d.1 ≡ box = cc in
           (subst (λ (b : B). G.kind_of b ≡ kind) box_is (are.1 ∙ kind_is), subst P box_is are.2)
-      by false other =
-          let there : nat_eq number d.0 ≡ false = subst (λ (n : ℕ). nat_eq number n ≡ false) (sym same) other in
-          let wants_later : object_at number wanted ≡ Some kind = grind in
-          let took_later : object_at number drawn ≡ Some box = grind in
-          took_kind wanted drawn number kind box are.3 wants_later took_later
+      by false wants_it took_it later = later wants_it took_it
 
 -- ---- none refuses
 

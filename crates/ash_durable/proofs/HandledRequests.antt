@@ -1,6 +1,6 @@
 -- What a request of a host does that finds room: one that is not answered, one that is, if the answer is stored, and
 -- one that loses the state.
-use Rattle.std.proofs.Common.{◌≡◌, inl, inr, ℕ, Option, Some, None, unwrap_or, Result, Ok, Err}
+use Rattle.std.proofs.Common.{◌≡◌, inl, inr, ℕ, List, Option, Some, None, unwrap_or, Result, Ok, Err}
 use Rattle.std.proofs.Common.{refl, sym, ◌∙◌, ap, subst}
 use Rattle.ash_disk.specs.Device.{Device}
 use Rattle.ash_journal.specs.declared.journal.Journal.{Journal}
@@ -57,9 +57,12 @@ pub seen_in : {D B : Type 0} (engine : EngineState B) (live : LiveState B) (jour
     → engine.live ≡ Some live → HasRegistered engine → seen_host None engine journal ≡ host_in live journal
 seen_in {D} {B} engine live journal is has =
     let reg : engine.registered ≡ live.durable.registered = sym (has live is) in
-    let one : seen_host None engine journal ≡ seen_host None (record { registered = live.durable.registered; live = engine.live }) journal =
-    ap (λ (r : List Registration). seen_host {D} {B} None (record { registered = r; live = engine.live }) journal) reg in
-    one ∙ ap (λ (l : Option (LiveState B)). seen_host {D} {B} None (record { registered = live.durable.registered; live = l }) journal) is
+    ap (λ (r : List Registration). with_these r engine.live) reg
+    ∙ ap (λ (l : Option (LiveState B)). with_these live.durable.registered l) is
+  where
+    with_these : List Registration → Option (LiveState B) → Hosted D B
+    with_these registered known =
+        record { registered = registered; live = known; seq = seq_in known; journal = journal }
 
 pub running_seen : {D B : Type 0} (live : LiveState B) (journal : Journal D)
     → IsRunning live.durable (host_in live journal)

@@ -354,7 +354,7 @@ module _ {D B : Type 0} (device : Device D) (G : Ghosts B) (start : Reached) whe
       was.saved was.live_is was.running (was.sound (begin G registered pool services) was.live_is) (sym begins)
 
   -- no file is open, or they settle on the state before any request, which is sound
-  abbrev IsClosedOrBegun : List Registration → List B → List B → List ℕ → List ℕ → Type 0
+  abbrev pub IsClosedOrBegun : List Registration → List B → List B → List ℕ → List ℕ → Type 0
   IsClosedOrBegun registered pool services x y = (IsClosed x × IsClosed y)
       ⊎ (IsSound G (begin G registered pool services)
       × SettleOn (HaveState (IsOne (first_state G registered services))) x y)
@@ -391,7 +391,7 @@ module _ {D B : Type 0} (device : Device D) (G : Ghosts B) (start : Reached) whe
             other.3)
       ]
 
-  open_begun : (registered : List Registration) (pool services : List B) (x y : List ℕ) → IsOpen x ⊎ IsOpen y
+  pub open_begun : (registered : List Registration) (pool services : List B) (x y : List ℕ) → IsOpen x ⊎ IsOpen y
       → IsClosedOrBegun registered pool services x y
       → IsSound G (begin G registered pool services)
       × SettleOn (HaveState (IsOne (first_state G registered services))) x y

@@ -111,16 +111,16 @@ pub record WasNotCreated {D B : Type 0} (device : Device D) (G : Ghosts B) (regi
 
 -- A store was made, and an engine in the state that it holds: the one before any request, with these boxes.
 pub record HasMade {D B : Type 0} (device : Device D) (G : Ghosts B) (registered : List Registration)
-    (pool services : List B) (a b : D) (made : Found D B) : Type 0 where
+    (pool services : List B) (a b : D) (store : Found D B) : Type 0 where
   pub has : HasServices G registered services
-  pub engine_is : made.engine ≡ record { registered = registered; live = Some (begin G registered pool services) }
+  pub engine_is : store.engine ≡ record { registered = registered; live = Some (begin G registered pool services) }
   pub sound : IsSound G (begin G registered pool services)
-  pub made : WasMade device (first_state G registered services) a b made.journal
+  pub made : WasMade device (first_state G registered services) a b store.journal
 
 -- A store is made on two disks, or both are handed back.
 abbrev pub Makes : {D B : Type 0} → Device D → Ghosts B → List Registration → List B → List B → D → D
     → Result (Found D B) (OpenRefused D) → Type 0
-Makes device G registered pool services a b (Ok made) = HasMade device G registered pool services a b made
+Makes device G registered pool services a b (Ok store) = HasMade device G registered pool services a b store
 Makes device G registered pool services a b (Err refused) = WasNotCreated device G registered pool services a b refused
 
 -- A host is made on two disks, or both are handed back.
