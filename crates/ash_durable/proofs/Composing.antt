@@ -1,6 +1,6 @@
 -- How what a host's files settle on goes on over the parts of a request: a new generation first, where one is wanted,
 -- and then a record more.
-use Rattle.std.proofs.Common.{◌≡◌, inl, inr, ℕ, Option, Some, None, Ok, refl, sym, ◌∙◌, ap, subst, arith, IsTrue}
+use Rattle.std.proofs.Common.{◌≡◌, inl, inr, ℕ, IsSome, Option, Some, None, Ok, refl, sym, ◌∙◌, ap, subst, arith, IsTrue}
 use Rattle.ash_disk.specs.Device.{Device}
 use Rattle.ash_journal.specs.JournalFailures.{CountsFailures}
 use Rattle.ash_requests.specs.Requests.{Request}
@@ -30,6 +30,11 @@ pub live_runs : {D B : Type 0} (host : Hosted D B) (live : LiveState B) (state :
 live_runs {D} {B} host live state is runs =
     let h : Some live.durable ≡ Some state =
     sym (ap (λ (l : Option (LiveState B)). durable_in l) is) ∙ runs.state_is in cc
+
+-- what is there
+pub some_known : {A : Type 0} (known : Option A) → IsSome known → (x : A) × (known ≡ Some x)
+some_known None there = absurd (cc)
+some_known (Some x) there = (x, refl)
 
 -- of a state in which a host runs there is a live state
 pub live_there : {B : Type 0} (known : Option (LiveState B)) (state : HostState) → durable_in known ≡ Some state

@@ -1,5 +1,5 @@
 -- What a host has that was made or opened.
-use Rattle.std.proofs.Common.{◌≡◌, inl, inr, zero, List, [], Some, Result, Ok, Err, refl, sym, ◌∙◌, ap, subst, arith}
+use Rattle.std.proofs.Common.{◌≡◌, inl, inr, zero, List, [], None, Some, Result, Ok, Err, refl, sym, ◌∙◌, ap, subst, arith}
 use Rattle.std.specs.Bool.{IsTrue}
 use Rattle.ash_disk.specs.Device.{Device}
 use Rattle.ash_journal.specs.declared.journal.Journal.{Journal}
@@ -10,15 +10,17 @@ use Rattle.ash_image.specs.declared.version.Version.TheVariants.{One, Two}
 use Rattle.ash_states.specs.HostStates.{HostState}
 use Rattle.ash_host.specs.declared.host_object.HostObject.{Ghosts}
 use Rattle.ash_registry.specs.AcceptedRegistrations.{Registration}
-use Rattle.ash_engine.specs.LiveStates.{LiveState, begin}
+use Rattle.ash_engine.specs.LiveStates.{LiveState, EngineState, begin}
 use Rattle.ash_engine.specs.RestoredBoxes.{HasServices, Restores}
 use Rattle.ash_durable.specs.HandedBoxes.{first_state, AreSaved}
 use Rattle.ash_durable.specs.StoreFaults.{IsMishap}
 use Rattle.ash_durable.specs.Hosting.{Hosted, first, second, IsRunning, IsSound, RunsSound}
-use Rattle.ash_durable.specs.OpenedStore.{WasFound, Keeps, WasKept, WasOpened, Opens, OpensAgain, NotFound, LeftThere}
+use Rattle.ash_durable.specs.OpenedStore.{HasFound, WasFound, Keeps, WasKept, WasOpened, Opens, OpensAgain, NotFound, LeftThere}
 use Rattle.ash_durable.specs.StoredStates.{AreHonest, HoldsState, SettleNow, IsOne, IsEither}
-use Rattle.ash_durable.specs.Store.{HandsBack, WasMade, WasCreated}
+use Rattle.ash_durable.specs.Store.{HandsBack, HasMade, WasMade, WasCreated}
 use Rattle.ash_durable.specs.declared.fault.OpenRefused.{OpenRefused}
+use Rattle.ash_durable.specs.declared.store.Found.{Found}
+use Rattle.ash_durable.proofs.HandledRequests.{seen_host, host_in, running_seen}
 use Rattle.ash_durable.proofs.ContentsStates.{alone_in, state_of_alone}
 use Rattle.ash_durable.proofs.OpenedJournals.{handed_on}
 use Rattle.ash_durable.proofs.Composing.{live_there}
@@ -172,3 +174,34 @@ module _ {D B : Type 0} (device : Device D) (G : Ghosts B) (stays : (disk : D) �
       holds.is_state has can (none.cause honest))
   opens_again host (Err refused) sound (LeftThere left) = λ state honest runs saved can.
       subst IsMishap (sym left.left.fault_is) tt
+
+  -- the host of a store that was found
+  pub opened_found : (registered : List Registration) (a b : D) (found : Found D B)
+      → HasFound device G registered pool services a b found
+      → WasOpened device G registered pool services a b (seen_host None found.engine found.journal)
+  opened_found registered a b found has =
+      let live = has.lives.live in
+      let is : host_in live found.journal ≡ seen_host None found.engine found.journal =
+      ap (λ (r : List Registration). seen_with r live found.journal)
+      (ap (λ (s : HostState). s.registered) has.lives.restored.durable)
+      ∙ ap (λ (e : EngineState B). seen_host None e found.journal) (sym has.lives.engine_is) in
+      subst (λ (host : Hosted D B). WasOpened device G registered pool services a b host) is
+      (opened registered a b has.state live (host_in live found.journal)
+      (subst (λ (s : HostState). IsRunning s (host_in live found.journal)) has.lives.restored.durable
+      (running_seen live found.journal)) refl has.lives.restored has.lives.sound has.kept)
+    where
+      seen_with : List Registration → LiveState B → Journal D → Hosted D B
+      seen_with r live journal =
+          record { registered = r; live = Some live; seq = live.durable.state.seq; journal = journal }
+
+-- the host of a store that was made
+pub created_made : {D B : Type 0} (device : Device D) (G : Ghosts B) (registered : List Registration)
+    (pool services : List B) (a b : D) (store : Found D B) → HasMade device G registered pool services a b store
+    → WasCreated device G registered pool services a b (seen_host None store.engine store.journal)
+created_made {D} {B} device G registered pool services a b store has =
+    subst (λ (e : EngineState B). WasCreated device G registered pool services a b (seen_host None e store.journal))
+    (sym has.engine_is)
+    (created device G registered pool services a b (host_in (begin G registered pool services) store.journal) has.has
+    refl (λ live is. let h : Some (begin G registered pool services) ≡ Some live = is in
+    let same : begin G registered pool services ≡ live = cc in subst (IsSound G) same has.sound)
+    (running_seen (begin G registered pool services) store.journal) has.made)

@@ -1,5 +1,5 @@
 -- What becomes of a journal that was opened: its state is read, or not, and its gates are written over.
-use Rattle.std.proofs.Common.{◌≡◌, inl, inr, ℕ, List, Result, Ok, Err, refl, sym, ◌∙◌, subst, arith}
+use Rattle.std.proofs.Common.{◌≡◌, inl, inr, ℕ, List, Some, Result, Ok, Err, refl, sym, ◌∙◌, ap, subst, arith}
 use Rattle.ash_disk.specs.Device.{Device}
 use Rattle.ash_journal.specs.declared.error.OpenFault.TheVariants as opening
 use Rattle.ash_journal.specs.declared.journal.Journal.{Journal}
@@ -310,3 +310,13 @@ module _ {D B : Type 0} (device : Device D) (G : Ghosts B) (registered : List Re
     settled = record { registered_is = with_it; reads = reads; settled = left.1 };
     left = left.2;
   })
+
+-- what became of an engine in which a state lives again, said of that state
+pub moved_by : {D B : Type 0} (device : Device D) (G : Ghosts B) (state : HostState) (pool services : List B)
+    (engine : EngineState B) (was : Journal D) (result : Result (Found D B) (OpenRefused D))
+    → LivesAgain G state pool services engine
+    → ((live : LiveState B) → engine.live ≡ Some live → Moves device live.durable engine was result)
+    → Moves device state engine was result
+moved_by {D} {B} device G state pool services engine was result lives moves =
+    subst (λ (s : HostState). Moves device s engine was result) lives.restored.durable
+    (moves lives.live (ap (λ (e : EngineState B). e.live) lives.engine_is))

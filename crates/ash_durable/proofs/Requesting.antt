@@ -1,17 +1,19 @@
 -- What the parts of a request do to a host, by what they do to its journal.
 use Rattle.std.proofs.Common.{◌≡◌, ◌⊎◌, inl, inr, ℕ, Option, Some, None, IsSome, Result, Ok, Err, OnOk, refl, subst}
-use Rattle.std.proofs.Common.{sym, ap, arith}
+use Rattle.std.proofs.Common.{List, sym, ◌∙◌, ap, arith}
 use Rattle.std.proofs.lemmas.Bool.{cases_lt}
 use Rattle.ash_disk.specs.Device.{Device}
 use Rattle.ash_journal.specs.declared.journal.Journal.{Journal}
-use Rattle.ash_journal.specs.Journal.{record_bytes}
+use Rattle.ash_journal.specs.Journal.{record_bytes, IsReady}
+use Rattle.ash_host.specs.declared.host_object.HostObject.{Ghosts}
 use Rattle.ash_requests.specs.Requests.{Request, Load, Call, Discard, Get, Object, Seq, Snapshot}
 use Rattle.ash_requests.specs.declared.refusal.Refusal.TheVariants as the
+use Rattle.ash_registry.specs.AcceptedRegistrations.{Registration}
 use Rattle.ash_states.specs.HostStates.{HostState}
 use Rattle.ash_engine.specs.LiveStates.{LiveState, EngineState}
 use Rattle.ash_durable.specs.StoredStates.{HoldsState, ExtendsHistory}
 use Rattle.ash_durable.specs.Saving.{HostRefusal, AddsWith, Adds, InstallsWith, Installs}
-use Rattle.ash_durable.specs.Hosting.{Hosted, IsRunning, IsHonest, IsFull, full_record_bytes, MayAdd}
+use Rattle.ash_durable.specs.Hosting.{Hosted, IsReadyUnless, IsSound, RunsSound, IsRunning, IsHonest, IsFull, full_record_bytes, MayAdd}
 use Rattle.ash_durable.specs.Hosting.{WantsInstall, Settles, WasInstalled, InstallRefused, WasLost}
 use Rattle.ash_durable.specs.HostReplies.{refused_by}
 use Rattle.ash_durable.specs.HostRequests.{InstallsInto, TriesInstall, MakesRoom, CommitsWith, Commits}
@@ -205,6 +207,12 @@ runs_seen {D} {B} None engine journal has live is =
     (running_seen live journal)
 runs_seen (Some seq) engine journal has live is = let h : None ≡ Some live = is in absurd (cc)
 
+pub sound_seen : {D B : Type 0} (G : Ghosts B) (stopped : Option ℕ) (engine : EngineState B) (journal : Journal D)
+    → ((live : LiveState B) → engine.live ≡ Some live → IsSound G live)
+    → RunsSound G (seen_host stopped engine journal)
+sound_seen G None engine journal sound live is = sound live is
+sound_seen G (Some seq) engine journal sound live is = let h : None ≡ Some live = is in absurd (cc)
+
 pub some_live : {B : Type 0} (known : Option (LiveState B)) → IsSome known → (live : LiveState B) × (known ≡ Some live)
 some_live None runs = absurd (cc)
 some_live (Some live) runs = (live, refl)
@@ -234,3 +242,91 @@ room_wanted device request host result new has runs wants tries =
           (tries.installs known.0.durable (runs known.0 known.1)).0;
       disks = tries.disks;
     }
+
+-- ---- a host as it is seen
+
+-- A host that is seen so has a live state.
+pub record Sees {D B : Type 0} (stopped : Option ℕ) (engine : EngineState B) (journal : Journal D)
+    (host : Hosted D B) : Type 0 where
+  pub live : LiveState B
+  pub runs : stopped ≡ None
+  pub live_is : engine.live ≡ Some live
+  pub registered_is : live.durable.registered ≡ engine.registered
+  pub seen : host_in live journal ≡ host
+  pub later : (new : Journal D) → host_in live new ≡ seen_host stopped engine new
+
+pub sees : {D B : Type 0} (stopped : Option ℕ) (engine : EngineState B) (journal : Journal D) (host : Hosted D B)
+    → IsSome host.live → seen_host stopped engine journal ≡ host → HasRegistered engine
+    → Sees stopped engine journal host
+sees {D} {B} (Some seq) engine journal host has is registered =
+    let known = some_live host.live has in
+    let h : None ≡ Some known.0 = ap (λ (other : Hosted D B). other.live) is ∙ known.1 in
+    absurd (cc)
+sees {D} {B} None engine journal host has is registered =
+    let known = some_live host.live has in
+    let live_is : engine.live ≡ Some known.0 = ap (λ (other : Hosted D B). other.live) is ∙ known.1 in
+    record {
+      live = known.0;
+      runs = refl;
+      live_is = live_is;
+      registered_is = registered known.0 live_is;
+      seen = sym (seen_in engine known.0 journal live_is registered) ∙ is;
+      later = λ new. sym (seen_in engine known.0 new live_is registered);
+    }
+
+module _ {D B : Type 0} (stopped : Option ℕ) (engine : EngineState B) (old new : Journal D) (host : Hosted D B)
+    (seen : Sees stopped engine old host) where
+  -- it may write on
+  pub ready_seen : IsReady new → IsReadyUnless stopped engine.live new
+  ready_seen ready =
+      subst (λ (s : Option ℕ). IsReadyUnless s engine.live new) (sym seen.runs)
+      (subst (λ (l : Option (LiveState B)). IsSome l) (sym seen.live_is) refl, ready)
+
+  -- the host that has to be reopened, as it is seen
+  stopped_seen : (seq : ℕ) → host_stopped B seen.live.durable.registered seq new ≡ seen_host (Some seq) engine new
+  stopped_seen seq = ap (λ (r : List Registration). host_stopped B r seq new) seen.registered_is
+
+  module _ (device : Device D) where
+    pub commit_seen : (seq : ℕ)
+        → ((live : LiveState B) → engine.live ≡ Some live → Adds device live.durable old (Ok tt) new)
+        → Commits device seq host (Ok tt) (seen_host stopped engine new)
+    commit_seen seq adds =
+        subst (λ (h : Hosted D B). Commits device seq h (Ok tt) (seen_host stopped engine new)) seen.seen
+        (subst (λ (h : Hosted D B). Commits device seq (host_in seen.live old) (Ok tt) h) (seen.later new)
+        (commit_ok device seen.live old new seq (adds seen.live seen.live_is)))
+
+    pub commit_lost : (seq : ℕ) (refusal : HostRefusal)
+        → ((live : LiveState B) → engine.live ≡ Some live → Adds device live.durable old (Err refusal) new)
+        → Commits device seq host (Err refusal) (seen_host (Some seq) engine new)
+    commit_lost seq refusal adds =
+        subst (λ (h : Hosted D B). Commits device seq h (Err refusal) (seen_host (Some seq) engine new)) seen.seen
+        (subst (λ (h : Hosted D B). Commits device seq (host_in seen.live old) (Err refusal) h) (stopped_seen seq)
+        (commit_err device seen.live old new seq refusal (adds seen.live seen.live_is)))
+
+    pub install_seen : ((live : LiveState B) → engine.live ≡ Some live → Installs device live.durable old (Ok tt) new)
+        → TriesInstall device host (Ok tt) (seen_host stopped engine new)
+    install_seen installs =
+        subst (λ (h : Hosted D B). TriesInstall device h (Ok tt) (seen_host stopped engine new)) seen.seen
+        (subst (λ (h : Hosted D B). TriesInstall device (host_in seen.live old) (Ok tt) h) (seen.later new)
+        (install_ok device seen.live old new (installs seen.live seen.live_is)))
+
+    pub install_put_off : (refusal : HostRefusal) → (refusal ≡ the.DeviceFailed → ⊥)
+        → ((live : LiveState B) → engine.live ≡ Some live → Installs device live.durable old (Err refusal) new)
+        → TriesInstall device host (Err refusal) (seen_host stopped engine new)
+    install_put_off refusal not installs =
+        subst (λ (h : Hosted D B). TriesInstall device h (Err refusal) (seen_host stopped engine new)) seen.seen
+        (subst (λ (h : Hosted D B). TriesInstall device (host_in seen.live old) (Err refusal) h) (seen.later new)
+        (install_refused device seen.live old new refusal not (installs seen.live seen.live_is)))
+
+    pub install_lost : (seq : ℕ) → ((live : LiveState B) → engine.live ≡ Some live → seq ≡ live.durable.state.seq)
+        → ((live : LiveState B) → engine.live ≡ Some live
+        → Installs device live.durable old (Err the.DeviceFailed) new)
+        → TriesInstall device host (Err the.DeviceFailed) (seen_host (Some seq) engine new)
+    install_lost seq seq_is installs =
+        subst (λ (h : Hosted D B). TriesInstall device h (Err the.DeviceFailed) (seen_host (Some seq) engine new))
+        seen.seen
+        (subst (λ (h : Hosted D B). TriesInstall device (host_in seen.live old) (Err the.DeviceFailed) h)
+        (stopped_seen seq)
+        (subst (λ (n : ℕ). TriesInstall device (host_in seen.live old) (Err the.DeviceFailed)
+        (host_stopped B seen.live.durable.registered n new)) (sym (seq_is seen.live seen.live_is))
+        (install_failed device seen.live old new (installs seen.live seen.live_is))))

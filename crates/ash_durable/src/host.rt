@@ -191,6 +191,7 @@ impl<D: Disk, B: HostObject> Host<D, B> {
         requires live { IsSome self.old.live }
         ensures tries_install { TriesInstall D.Disk self.old result self.new }
     {
+        self.engine.facts();
         match install_state(&self.engine, &mut self.journal) {
             Ok(()) => Ok(()),
             Err(refusal) => match refusal {
@@ -245,6 +246,7 @@ impl<D: Disk, B: HostObject> Host<D, B> {
         requires room { IsFull self.old → ⊥ }
         ensures commits { Commits D.Disk last self.old result self.new }
     {
+        self.engine.facts();
         match add_state(&self.engine, &mut self.journal) {
             Ok(()) => Ok(()),
             Err(refusal) => {

@@ -21,7 +21,7 @@ loop-record-preserved c =
     AllByRecursion (IsBodyWith version (text_of before.registered)) (bodies_of l))
     left c.loop-record.invariant.shaped.1 in
     let on : LeadsOn before.registered r.body.items r.gate (Ok next) =
-    (c.in_ok-state.ensures.leads_on.0 ∙ ap (λ (s : HostState). s.registered) c.into_parts.ensures.same, c.in_ok-state.ensures.leads_on.1) in
+    (c.in_ok-state.ensures.leads_on.0 ∙ (ap (λ (s : HostState). s.registered) c.into_parts-registry.ensures.same), c.in_ok-state.ensures.leads_on.1) in
     record {
       shaped = (
         version,
@@ -43,7 +43,7 @@ returns-in_err-state c = record {
       let fault = c.in_err-state.field-0.0 in
       let reported : c.from_residual.result ≡ Err fault = search rules in
       let on : LeadsOn before.registered r.body.items r.gate (Err fault) =
-      subst (λ (of : List Registration). LeadsOn of r.body.items r.gate (Err fault)) ap (λ (s : HostState). s.registered) c.into_parts.ensures.same
+      subst (λ (of : List Registration). LeadsOn of r.body.items r.gate (Err fault)) (ap (λ (s : HostState). s.registered) c.into_parts-registry.ensures.same)
       c.in_err-state.ensures.leads_on in
       rw reported (c.loop-record.invariant.leads (Err fault)
       (subst (λ (l : List Record). LeadsThrough before l (Err fault)) (sym left)
