@@ -19,7 +19,8 @@ use Rattle.ash_states.specs.StateSteps.{task_of, FailsInChange}
 use Rattle.ash_engine.specs.LiveStates.{LiveState, EngineState}
 use Rattle.ash_engine.specs.LiveSteps.{LiveSteps, Handled}
 use Rattle.ash_durable.specs.Saving.{HostRefusal}
-use Rattle.ash_durable.specs.Hosting.{Hosted, first, second, IsRunning, IsSaved, IsFull, WantsInstall, IsSound, RunsSound}
+use Rattle.ash_durable.specs.Hosting.{Hosted, first, second, live_unless, IsRunning, IsSaved, IsFull, WantsInstall}
+use Rattle.ash_durable.specs.Hosting.{IsSound, RunsSound}
 use Rattle.ash_durable.specs.Hosting.{InstallRefused, IsAnswer, IsInstalled, HostReplies, Handles}
 use Rattle.ash_durable.specs.HostReplies.{refused_by, done_of}
 use Rattle.ash_durable.specs.HostRequests.{TriesInstall, MakesRoom, Commits}
@@ -90,6 +91,12 @@ found_room {D} {B} device request None engine journal old between runs made is =
         let one : live ≡ other = cc in
         subst (λ (l : LiveState B). l.durable.registered ≡ engine.registered) one (sym same)
 
+-- so it has a live state
+pub found_live : {D B : Type 0} {device : Device D} {request : Request} {old : Hosted D B} {stopped : Option ℕ}
+    {engine : EngineState B} {journal : Journal D} → FoundRoom device request old stopped engine journal
+    → IsSome engine.live
+found_live {D} {B} found = subst (λ (l : Option (LiveState B)). IsSome l) (sym found.live_is) refl
+
 -- ---- a request that is handled once room was made
 
 -- a request that has no end changes the state
@@ -116,6 +123,9 @@ module _ {D B : Type 0} (device : Device D) (G : Ghosts B) (budget : ℕ) (reque
     handled_runs =
         let after = handled_ok G budget request found.live reply later.live handled in
         subst (λ (l : Option (LiveState B)). IsSome l) (sym after.1) refl
+
+    pub handled_live : IsSome (live_unless stopped later.live)
+    handled_live = subst (λ (s : Option ℕ). IsSome (live_unless s later.live)) (sym found.runs) handled_runs
 
     -- it is seen in the live state after the request
     seen_after : (after : LiveState B) → later.live ≡ Some after

@@ -1,4 +1,4 @@
-use Rattle.ash_durable.proofs.Requesting.{Sees, sees, install_seen, install_put_off, install_lost}
+use Rattle.ash_durable.proofs.Requesting.{Sees, sees, ready_seen, install_seen, install_put_off, install_lost}
 use Rattle.ash_durable.proofs.host.Host.install.Goals as goal
 
 pub returns-in-Ok : goal.returns-in-Ok
@@ -33,3 +33,12 @@ returns-in_default g c = record {
       install_put_off c.self.inside.stopped engine old c.install_state.new.journal c.args.self.now seen g.D.Disk
       c.in-Err.refusal c.in_default.not-DeviceFailed c.in-Err.ensures.installs;
 }
+
+pub invariant_of-self : goal.invariant_of-self
+invariant_of-self g c =
+    let engine = c.self.inside.engine in
+    let old = c.self.inside.journal in
+    let seen = sees c.self.inside.stopped engine old c.args.self.now c.requires.live c.self.view_is
+    c.facts.ensures.registered in
+    ready_seen c.self.inside.stopped engine old c.install_state.new.journal c.args.self.now seen
+    ((c.in-Ok.ensures.installs seen.live seen.live_is).outcome.0)
