@@ -262,10 +262,9 @@ snapshot_installed device live old (Err refusal) new runs tries = tt
 -- ---- the number of requests
 
 pub handles_seq : {D B : Type 0} (device : Device D) (G : Ghosts B) (budget : ℕ) (live : LiveState B)
-    (journal : Journal D)
-    → Handles device G budget Seq (host_in live journal) (Number live.durable.state.seq) (host_in live journal)
-handles_seq device G budget live journal =
-    handles_as_it_is device G budget Seq live (host_in live journal) (host_in live journal)
-    (Number live.durable.state.seq)
-    (room_as_it_is device Seq live.durable (host_in live journal) (λ wants. wants.0) (running_seen live journal)) refl
-    (λ given. given) (inl (seq_step G budget live))
+    (host : Hosted D B) → host.live ≡ Some live → IsRunning live.durable host
+    → Handles device G budget Seq host (Number live.durable.state.seq) host
+handles_seq device G budget live host is runs =
+    handles_as_it_is device G budget Seq live host host (Number live.durable.state.seq)
+    (room_as_it_is device Seq live.durable host (λ wants. wants.0) runs) is (λ given. given)
+    (inl (seq_step G budget live))

@@ -330,3 +330,20 @@ module _ {D B : Type 0} (stopped : Option ℕ) (engine : EngineState B) (old new
         (subst (λ (n : ℕ). TriesInstall device (host_in seen.live old) (Err the.DeviceFailed)
         (host_stopped B seen.live.durable.registered n new)) (sym (seq_is seen.live seen.live_is))
         (install_failed device seen.live old new (installs seen.live seen.live_is))))
+
+-- a host that is seen to run has a live state
+pub seen_some : {D B : Type 0} (stopped : Option ℕ) (engine : EngineState B) (journal : Journal D) (host : Hosted D B)
+    → stopped ≡ None → IsReadyUnless stopped engine.live journal → seen_host stopped engine journal ≡ host
+    → (live : LiveState B) × (engine.live ≡ Some live) × (host.live ≡ Some live)
+seen_some (Some seq) engine journal host runs ready is = absurd (cc)
+seen_some {D} {B} None engine journal host runs ready is =
+    let known = some_live engine.live ready.0 in
+    (known.0, known.1, sym (ap (λ (h : Hosted D B). h.live) is) ∙ known.1)
+
+-- where no device failed a new generation that was not installed left the journal as it was
+pub unchanged_for : {D : Type 0} (refusal : HostRefusal) (old new : Journal D) → (refusal ≡ the.DeviceFailed → ⊥)
+    → InstallsWith old (Err refusal) new → new ≡ old
+unchanged_for the.GenerationSpent old new not outcome = outcome.1
+unchanged_for the.NoMemory old new not outcome = outcome.1
+unchanged_for the.DeviceFailed old new not outcome = absurd (not refl)
+unchanged_for _ old new not outcome = absurd outcome

@@ -384,6 +384,7 @@ impl<D: Disk, B: HostObject> Host<D, B> {
             self.new }
         ensures installed { OnOk result (IsInstalled self.old self.new) }
     {
+        self.facts();
         match self.stopped {
             None => self.install(),
             Some(_) => Err(Refusal::Reopen),
@@ -396,6 +397,7 @@ impl<D: Disk, B: HostObject> Host<D, B> {
         ensures handled { (budget : ℕ) → Handles D.Disk B.HostObject budget Seq self.now (Number result)
             self.now }
     {
+        self.facts();
         match self.stopped {
             Some(seq) => seq,
             None => self.engine.seq(),

@@ -1,4 +1,4 @@
-use Rattle.ash_durable.proofs.Requesting.{Sees, sees, ready_seen, commit_seen, commit_lost}
+use Rattle.ash_durable.proofs.Requesting.{sees, ready_seen, commit_seen, commit_lost}
 use Rattle.ash_durable.proofs.host.Host.commit.Goals as goal
 
 pub returns-in-Ok : goal.returns-in-Ok

@@ -73,8 +73,8 @@ commit-requires-clause-live g c =
     let found = found_room g.D.Disk request stopped engine journal c.args.self.now c.make_room.new.self
     c.requires.live c.in_ok-make_room.ensures.makes_room c.self.view_is in
     handled_live g.D.Disk g.B.HostObject c.args.budget request stopped engine c.handle.new.self journal
-      c.args.self.now found c.in-Ok.ensures.registered c.in-Ok.reply
-      (c.in-Ok.ensures.handled found.live found.live_is) c.facts.ensures.registered
+    c.args.self.now found c.in-Ok.ensures.registered c.in-Ok.reply
+    (c.in-Ok.ensures.handled found.live found.live_is) c.facts.ensures.registered
 
 pub commit-requires-clause-room : goal.commit-requires-clause-room
 commit-requires-clause-room g c =
@@ -85,8 +85,8 @@ commit-requires-clause-room g c =
     let found = found_room g.D.Disk request stopped engine journal c.args.self.now c.make_room.new.self
     c.requires.live c.in_ok-make_room.ensures.makes_room c.self.view_is in
     handled_room g.D.Disk g.B.HostObject c.args.budget request stopped engine c.handle.new.self journal
-      c.args.self.now found c.in-Ok.ensures.registered c.in-Ok.reply
-      (c.in-Ok.ensures.handled found.live found.live_is) c.facts.ensures.registered
+    c.args.self.now found c.in-Ok.ensures.registered c.in-Ok.reply
+    (c.in-Ok.ensures.handled found.live found.live_is) c.facts.ensures.registered
     c.make_room.new.self c.in_ok-make_room.ensures.makes_room c.self.view_is (c.is_answer.ensures.exact.0 c.if-not-is_answer.false)
 
 pub returns-in_err-commit : goal.returns-in_err-commit

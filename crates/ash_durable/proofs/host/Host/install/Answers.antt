@@ -1,4 +1,7 @@
-use Rattle.ash_durable.proofs.Requesting.{Sees, sees, ready_seen, install_seen, install_put_off, install_lost}
+use Rattle.std.proofs.Common.{sym, subst}
+use Rattle.ash_journal.specs.declared.journal.Journal.{Journal}
+use Rattle.ash_durable.specs.Hosting.{IsReadyUnless}
+use Rattle.ash_durable.proofs.Requesting.{sees, ready_seen, install_seen, install_put_off, install_lost, unchanged_for}
 use Rattle.ash_durable.proofs.host.Host.install.Goals as goal
 
 pub returns-in-Ok : goal.returns-in-Ok
@@ -42,3 +45,13 @@ invariant_of-self g c =
     c.facts.ensures.registered in
     ready_seen c.self.inside.stopped engine old c.install_state.new.journal c.args.self.now seen
     ((c.in-Ok.ensures.installs seen.live seen.live_is).outcome.0)
+
+pub invariant_of-self-in_default : goal.invariant_of-self-in_default
+invariant_of-self-in_default g c =
+    let stopped = c.self.inside.stopped in
+    let engine = c.self.inside.engine in
+    let old = c.self.inside.journal in
+    let seen = sees stopped engine old c.args.self.now c.requires.live c.self.view_is c.facts.ensures.registered in
+    let same = unchanged_for c.in-Err.refusal old c.install_state.new.journal c.in_default.not-DeviceFailed
+    ((c.in-Err.ensures.installs seen.live seen.live_is).outcome) in
+    subst (λ (j : Journal g.row.D.Denot). IsReadyUnless stopped engine.live j) (sym same) c.self.invariant
