@@ -156,9 +156,9 @@ fn next_generation<D: Disk, B: HostObject>(
     if journal.generation() == u64::MAX {
         return Err(StoreFault::GenerationSpent);
     }
-    let image = engine
-        .image()
-        .map_err(|_| StoreFault::Open(OpenFault::NoMemory))?;
+    let Ok(image) = engine.image() else {
+        return Err(StoreFault::Open(OpenFault::NoMemory));
+    };
     match journal.next_generation(&image) {
         Ok(next) => Ok(next),
         Err(_) => Err(StoreFault::Open(OpenFault::NoMemory)),
