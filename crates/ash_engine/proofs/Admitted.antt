@@ -7,8 +7,8 @@ use Rattle.ash_host.specs.Records.{HostRecord}
 use Rattle.ash_host.specs.Words.{IsAnswer}
 use Rattle.ash_soundness.specs.WellFormed.{IsState, AreAnswers}
 use Rattle.ash_registry.specs.AcceptedRegistrations.{Registration}
-use Rattle.ash_requests.specs.States.{State, Hosts}
-use Rattle.ash_requests.specs.Requests.{Request, Reply}
+use Rattle.ash_requests.specs.States.{Hosts}
+use Rattle.ash_requests.specs.Requests.{Request}
 use Rattle.ash_requests.specs.Steps.{Step, performed}
 use Rattle.ash_requests.specs.Steps as steps
 use Rattle.ash_soundness.specs.WellFormedLaws.{OffersNothing, a_function, a_construction, a_method, a_property}
@@ -20,9 +20,9 @@ use Rattle.ash_sources.specs.SourceFaults.{SourceFault}
 use Rattle.ash_sources.specs.Sources.{admitting_unregistered}
 use Rattle.ash_sources.proofs.SourceLaws.{read_sound}
 use Rattle.ash_image.specs.Image.{max_services}
-use Rattle.ash_states.specs.HostStates.{HostState, IsAdmitted, service_kinds, embedding_for, offered_to}
+use Rattle.ash_states.specs.HostStates.{HostState, IsAdmitted, embedding_for, offered_to}
 use Rattle.ash_engine.specs.LiveStates.{Boxes, LiveState}
-use Rattle.ash_engine.specs.LiveSteps.{Reached, StepsFor, IsReached, StepsKeepReached, reached_by, box_at, IsValidOf, LiveStepsKeepReached}
+use Rattle.ash_engine.specs.LiveSteps.{IsReached, StepsKeepReached, reached_by, box_at, IsValidOf, LiveStepsKeepReached}
 use Rattle.ash_engine.proofs.Untouched.{steps_keep_hosts}
 
 -- nothing is offered to the scripts that are admitted

@@ -1,5 +1,5 @@
 -- A step of plain data that takes no box is one of the live state.
-use Rattle.std.proofs.Common.{◌≡◌, ◌⊎◌, ℕ, List, [], ◌∷◌, map, length, slice_get, Option, Some, None, Ok, option_map, refl, sym, ap, ◌∙◌, subst, inl, inr}
+use Rattle.std.proofs.Common.{◌≡◌, ℕ, List, [], ◌∷◌, map, slice_get, Option, Some, None, Ok, option_map, refl, sym, ap, ◌∙◌, subst, inl, inr}
 use Rattle.std.specs.List.{AllByRecursion, cons_option}
 use Rattle.ash_host.specs.declared.answer.HostAnswer.{HostAnswer}
 use Rattle.ash_host.specs.declared.host_object.HostObject.{Ghosts}
@@ -7,7 +7,6 @@ use Rattle.ash_host.specs.Calls.{HostCall, SameRelation}
 use Rattle.ash_host.specs.Objects.{Plain, Script, Array, Host, LiveObjects, object_at}
 use Rattle.ash_registry.specs.AcceptedRegistrations.{Registration}
 use Rattle.ash_meaning.specs.Activity.{FreeBox}
-use Rattle.ash_plain_world.specs.declared.activity.FreeBox as code_box
 use Rattle.ash_plain_world.specs.ActivityViews.{box_seen}
 use Rattle.ash_requests.specs.States.{State, Hosts}
 use Rattle.ash_requests.specs.Requests.{Request, Reply}
@@ -19,18 +18,17 @@ use Rattle.ash_plain_steps.specs.StateViews.{state_seen, hosts_seen}
 use Rattle.ash_requests.specs.RequestViews.{reply_seen}
 use Rattle.ash_plain_steps.specs.StepViews.{step_seen}
 use Rattle.ash_plain_steps.specs.StepViews.{IsStep}
-use Rattle.ash_soundness.specs.WellFormed.{shape_of, shape_at, OfKind}
+use Rattle.ash_soundness.specs.WellFormed.{shape_of}
 use Rattle.ash_soundness.proofs.Values.{none_in}
 use Rattle.ash_sources.specs.declared.fault.SourceFault as code_fault
 use Rattle.ash_sources.specs.SourceFaults.{SourceFault, fault_of}
 use Rattle.ash_sources.specs.SourceFaults as faults
-use Rattle.ash_states.specs.HostStates.{HostState, IsAdmitted, embedding_for, offered_to}
+use Rattle.ash_states.specs.HostStates.{HostState, IsAdmitted, embedding_for}
 use Rattle.ash_states.specs.Holding.{held_with}
 use Rattle.ash_states.proofs.Lists.{all_more, each_at}
 use Rattle.ash_engine.specs.declared.live.Live.{Live}
-use Rattle.ash_engine.specs.declared.steps.LiveStep.{LiveStep}
-use Rattle.ash_engine.specs.LiveStates.{Boxes, LiveState, AreOf, host_in, hosts_in, plain_box}
-use Rattle.ash_engine.specs.LiveSteps.{drawn_in, StepsFor, reached_by, Answered, IsStill, IsNoAnswer, TakesStep, LiveSteps}
+use Rattle.ash_engine.specs.LiveStates.{LiveState, host_in, hosts_in}
+use Rattle.ash_engine.specs.LiveSteps.{drawn_in, Answered, IsStill, TakesStep, LiveSteps}
 use Rattle.ash_engine.proofs.Untouched.{steps_keep_hosts}
 use Rattle.ash_engine.specs.PlainSteps.{only_boxes, TakesNoBox, IsPlainStep, BoxesFit, live_seen, IsLive, IsStepOf}
 

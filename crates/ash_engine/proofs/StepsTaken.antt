@@ -5,7 +5,7 @@ use Rattle.std.proofs.lemmas.List.{length-map}
 use Rattle.ash_host.specs.Records.{HostRecord}
 use Rattle.ash_registry.specs.AcceptedRegistrations.{Registration}
 use Rattle.ash_meaning.specs.Activity.{FreeBox}
-use Rattle.ash_requests.specs.States.{State, Hosts}
+use Rattle.ash_requests.specs.States.{Hosts}
 use Rattle.ash_requests.specs.Requests.{Request}
 use Rattle.ash_requests.specs.Steps.{Step}
 use Rattle.ash_requests.specs.Steps as steps

@@ -1,6 +1,5 @@
 -- A host may be in the state before any request.
 use Rattle.std.proofs.Common.{◌≡◌, ℕ, List, [], subst, sym}
-use Rattle.std.specs.List.{AllByRecursion}
 use Rattle.ash_registry.specs.AcceptedRegistrations.{Registration}
 use Rattle.ash_requests.specs.States.{State}
 use Rattle.ash_requests.specs.States as states

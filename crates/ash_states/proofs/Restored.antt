@@ -1,5 +1,5 @@
 -- What was stored is restored exactly where a host may be in it.
-use Rattle.std.proofs.Common.{◌≡◌, ℕ, List, map, length, sym, ap, ◌∙◌, subst, arith}
+use Rattle.std.proofs.Common.{◌≡◌, ℕ, List, length, sym, ap, ◌∙◌, subst, arith}
 use Rattle.std.specs.Prelude.{Some, None}
 use Rattle.std.specs.List.{AllByRecursion}
 use Rattle.std.proofs.lemmas.List.{length-map}
@@ -16,7 +16,7 @@ use Rattle.ash_plain_steps.specs.Consistency.{AreConsistent}
 use Rattle.ash_plain_steps.specs.Consistency as code
 use Rattle.ash_image.specs.Snapshots.{Loaded, Snapshot}
 use Rattle.ash_image.specs.Rules.{IsShaped}
-use Rattle.ash_states.specs.HostStates.{HostState, IsAdmitted, service_kinds, embedding_for, offered_to}
+use Rattle.ash_states.specs.HostStates.{HostState, IsAdmitted, embedding_for, offered_to}
 use Rattle.ash_states.specs.Images.{loaded_of, loaded_modules_of, state_of, HasServices, IsImageRefused}
 use Rattle.ash_states.specs.Holding.{held_with}
 use Rattle.ash_states.specs.StateRestoring.{HasTree, ReadsModules, RestoresHostState}

@@ -1,11 +1,11 @@
 -- The snapshot of a state that a host may be in keeps the rules, and is of that state.
-use Rattle.std.proofs.Common.{◌≡◌, ℕ, Bool, true, List, [], map, length, refl, sym, ap, ◌∙◌, subst}
+use Rattle.std.proofs.Common.{◌≡◌, ℕ, true, List, [], map, length, refl, sym, ap, ◌∙◌, subst}
 use Rattle.std.specs.Prelude.{Option, Some, None, Contains}
 use Rattle.std.specs.List.{AllByRecursion, list_all}
 use Rattle.std.specs.Option.{option_map_or}
 use Rattle.std.proofs.lemmas.List.{length-map}
 use Rattle.ash_host.specs.declared.word.Word.{Word}
-use Rattle.ash_host.specs.Objects.{LiveObjects, Elements, Plain, Host, object_at, handles, fields_of, Lives}
+use Rattle.ash_host.specs.Objects.{LiveObjects, Elements, Plain, object_at, handles, fields_of, Lives}
 use Rattle.ash_host.specs.Reach.{ReachableIn, NoneDangles}
 use Rattle.ash_integers.specs.declared.int_type.IntType.TheVariants as ints
 use Rattle.ash_registry.specs.AcceptedRegistrations.{Registration}

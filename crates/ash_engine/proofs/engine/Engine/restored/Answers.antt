@@ -1,4 +1,4 @@
-use Rattle.std.proofs.Common.{◌≡◌, List, [], Some, Err, ap, subst, map}
+use Rattle.std.proofs.Common.{◌≡◌, List, [], Some, Err, ap, subst}
 use Rattle.std.proofs.lemmas.Result.{err_from_is_err_and}
 use Rattle.ash_objects.specs.declared.restoring.TableFault.{TableFault}
 use Rattle.ash_objects.specs.Restoring.{RestoresServices, ServiceRefused}
@@ -10,6 +10,12 @@ use Rattle.ash_engine.specs.RestoredBoxes.{IsRefused, Restores}
 use Rattle.ash_engine.specs.PlainSteps.{live_seen}
 use Rattle.ash_engine.proofs.Started.{restores, refuses}
 use Rattle.ash_engine.proofs.engine.Engine.restored.Goals as goal
+
+pub returns-in_err-live-clause-short : goal.returns-in_err-live-clause-short
+returns-in_err-live-clause-short g c = λ kind is.
+    let p = err_from_is_err_and c.from_residual-in_err-live.result c.from_residual-in_err-live.ensures.1 in
+    let reported : c.in_err-live.field-0.0 ≡ TableFault.PoolShort kind = cc in
+    absurd (c.in_err-live.ensures.enough kind (ap Err reported))
 
 pub returns-in_err-live-clause-refused : goal.returns-in_err-live-clause-refused
 returns-in_err-live-clause-refused g c = λ number is.

@@ -1,4 +1,4 @@
-use Rattle.std.proofs.Common.{rules, ◌≡◌, ◌≤◌, map, length, subst, sym, ◌∙◌}
+use Rattle.std.proofs.Common.{rules, ◌≡◌, ◌≤◌, map, length}
 use Rattle.std.proofs.lemmas.List.{length-map}
 use Rattle.ash_registry.specs.RegistryViews.{registered}
 use Rattle.ash_image.specs.Image.{max_services}
