@@ -19,13 +19,13 @@ use Rattle.ash_plain_steps.specs.StateViews.{loaded_seen, modules_seen}
 use Rattle.ash_plain_steps.specs.Consistency.{IsReadFromSource, AreConsistent}
 use Rattle.ash_soundness.specs.WellFormedStates.{IsLoaded, known_of}
 use Rattle.ash_admission.specs.Contents.{program_of_name, known_in, are_objects}
-use Rattle.ash_admission.specs.Admission.{ConstructsNothing, program_of, HasTypedGlobals, AreWellTypedObjects, IsWellTypedAsRead, is_loaded, is_well_typed}
+use Rattle.ash_admission.specs.Admission.{Constructs, program_of, HasTypedGlobals, AreWellTypedObjects, IsWellTypedAsRead, is_loaded, is_well_typed}
 use Rattle.ash_admission.proofs.ValueLaws.{values_say, values_yes}
 use Rattle.ash_admission.proofs.ContentLaws.{objects_say, objects_yes}
 
 -- the test
 
-module _ (all : plain.LiveObjects (List ℕ)) where
+module _ (kinds : List ℕ) (all : plain.LiveObjects (List ℕ)) where
   globals_say : (ms : List LoadedModule) → list_all (is_loaded all) ms ≡ true → AllByRecursion (HasTypedGlobals all) ms
   globals_say [] h = tt
   globals_say (m ∷ ms) h =
@@ -36,17 +36,17 @@ module _ (all : plain.LiveObjects (List ℕ)) where
   globals_yes [] h = refl
   globals_yes (m ∷ ms) h = both_and (is_loaded all m) (list_all (is_loaded all) ms) (values_yes (program_of m) all h.0) (globals_yes ms h.1)
 
-  pub test_says : (host : HostSignatures) (ms : List LoadedModule) → ConstructsNothing host → is_well_typed ms all ≡ true → AreWellTypedObjects host ms all
-  test_says host ms nothing h =
-      let both = and_both (are_objects (map program_of ms) all) (list_all (is_loaded all) ms) h in
-      let objects = objects_say (map program_of ms) all host nothing both.0 in
+  pub test_says : (host : HostSignatures) (ms : List LoadedModule) → Constructs host kinds → is_well_typed kinds ms all ≡ true → AreWellTypedObjects host ms all
+  test_says host ms offers h =
+      let both = and_both (are_objects kinds (map program_of ms) all) (list_all (is_loaded all) ms) h in
+      let objects = objects_say kinds (map program_of ms) all host offers both.0 in
       (globals_say ms both.1, objects.0, objects.1)
 
-  pub test_yes : (host : HostSignatures) (ms : List LoadedModule) → ConstructsNothing host → IsInOrder all → AreWellTypedObjects host ms all → is_well_typed ms all ≡ true
-  test_yes host ms nothing order h = both_and (are_objects (map program_of ms) all) (list_all (is_loaded all) ms) (objects_yes (map program_of ms) all host nothing order h.1 h.2) (globals_yes ms h.0)
+  pub test_yes : (host : HostSignatures) (ms : List LoadedModule) → Constructs host kinds → IsInOrder all → AreWellTypedObjects host ms all → is_well_typed kinds ms all ≡ true
+  test_yes host ms offers order h = both_and (are_objects kinds (map program_of ms) all) (list_all (is_loaded all) ms) (objects_yes kinds (map program_of ms) all host offers order h.1 h.2) (globals_yes ms h.0)
 
-  pub decides : (host : HostSignatures) (ms : List LoadedModule) (b : Bool) → b ≡ is_well_typed ms all → IsInOrder all → ConstructsNothing host → (b ≡ true) ↔ AreWellTypedObjects host ms all
-  decides host ms b is order nothing = (λ h. test_says host ms nothing (sym is ∙ h), λ h. is ∙ test_yes host ms nothing order h)
+  pub decides : (host : HostSignatures) (ms : List LoadedModule) (b : Bool) → b ≡ is_well_typed kinds ms all → IsInOrder all → Constructs host kinds → (b ≡ true) ↔ AreWellTypedObjects host ms all
+  decides host ms b is order offers = (λ h. test_says host ms offers (sym is ∙ h), λ h. is ∙ test_yes host ms offers order h)
 
 -- sources
 

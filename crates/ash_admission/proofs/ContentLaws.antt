@@ -1,15 +1,15 @@
--- The tests of objects decide what objects are, where the host constructs none.
+-- The tests of objects decide what objects are.
 use Rattle.std.proofs.Common.{◌≡◌, ℕ, Bool, true, false, List, [], ◌∷◌, length, refl, ap, subst, ◌∙◌, nat_eq, nat_le, map}
-use Rattle.std.specs.Prelude.{Option, Some, None, Contains, option_map, IsSome, is_some, if◌then◌else◌}
+use Rattle.std.specs.Prelude.{Option, Some, None, option_map, IsSome, is_some, if◌then◌else◌}
 use Rattle.std.specs.List.{list_all}
 use Rattle.std.specs.Option.{option_map_or}
 use Rattle.std.proofs.lemmas.Option.{same_Some}
 use Rattle.ash_host.specs.declared.word.Word.{Word}
 use Rattle.ash_host.specs.Objects.{Elements, Plain, Script, Array, Host, LiveObjects, object_at, IsInOrder}
-use Rattle.ash_host.specs.Limits.{max_elements}
+use Rattle.ash_host.specs.Reach.{is_among}
+use Rattle.ash_host.specs.Limits.{max_elements, max_state_bytes}
 use Rattle.ash_host.proofs.Membership.{and_both, both_and}
 use Rattle.ash_host.proofs.Order.{object_here, object_later, none_after, in_order_after}
-use Rattle.ash_tree.specs.declared.tree.types.Primitive.{Primitive}
 use Rattle.ash_typed.specs.Modules.{Class}
 use Rattle.ash_typed.specs.Signatures as signatures
 use Rattle.ash_typed.specs.Signatures.{type_declared}
@@ -19,13 +19,13 @@ use Rattle.ash_soundness.specs.WellFormed.{Shape, OfKind, shape_of, shape_at, Ar
 use Rattle.ash_admission.specs.Places.{class_at}
 use Rattle.ash_admission.specs.Values.{are_values}
 use Rattle.ash_admission.specs.Contents.{program_of_name, known_in, is_script, are_elements, is_object, are_objects}
-use Rattle.ash_admission.specs.Admission.{ConstructsNothing}
-use Rattle.ash_admission.proofs.Tests.{le_says, le_yes, none_in}
+use Rattle.ash_admission.specs.Admission.{Constructs}
+use Rattle.ash_admission.proofs.Tests.{le_says, le_yes}
 use Rattle.ash_admission.proofs.PlaceLaws.{class_there, class_found}
 use Rattle.ash_admission.proofs.ValueLaws.{values_say, values_yes}
 use Rattle.ash_admission.proofs.ElementLaws.{has_the_name, known_is, array_says, array_yes}
 
-module _ (ps : List Program) (all : LiveObjects (List ℕ)) where
+module _ (kinds : List ℕ) (ps : List Program) (all : LiveObjects (List ℕ)) where
   -- script objects
 
   fields_from : (owner : List ℕ) (place : ℕ) (fields : List Word) (p : Program) → program_of_name owner ps ≡ Some p → (o : Option Class) → class_at p.tree place ≡ o → option_map_or (λ (c : Class). are_values p all (map type_declared c.fields) fields) o false ≡ true → IsScript (known_in ps) all owner place fields
@@ -56,12 +56,12 @@ module _ (ps : List Program) (all : LiveObjects (List ℕ)) where
 
   -- objects
 
-  object_says : (o : Plain (List ℕ)) → is_object ps all o ≡ true → IsObject (known_in ps) all o
+  object_says : (o : Plain (List ℕ)) → is_object kinds ps all o ≡ true → IsObject (known_in ps) all o
   object_says (Script owner place fields) h = formed.is_script (script_from owner place fields (program_of_name owner ps) refl h)
   object_says (Array of ws) h =
       let both = and_both (nat_le (length ws) max_elements) (are_elements ps all of ws) h in
       formed.is_array (array_says ps all of ws (le_says (length ws) max_elements both.0) both.1)
-  object_says (Host kind state) h = absurd (cc)
+  object_says (Host kind state) h = formed.is_host (le_says (length state) max_state_bytes (and_both (nat_le (length state) max_state_bytes) (is_among kinds kind) h).0)
 
   array_in : {of : Elements (List ℕ)} {ws : List Word} → IsObject (known_in ps) all (Array of ws) → formed.IsArray (known_in ps) all of ws
   array_in (formed.is_array a) = a
@@ -69,12 +69,15 @@ module _ (ps : List Program) (all : LiveObjects (List ℕ)) where
   script_in : {owner : List ℕ} {place : ℕ} {fields : List Word} → IsObject (known_in ps) all (Script owner place fields) → IsScript (known_in ps) all owner place fields
   script_in (formed.is_script s) = s
 
-  object_yes : (o : Plain (List ℕ)) → IsObject (known_in ps) all o → ((kind : ℕ) → shape_of o ≡ OfKind kind → ⊥) → is_object ps all o ≡ true
-  object_yes (Script owner place fields) h none = script_yes owner place fields (script_in h)
-  object_yes (Array of ws) h none =
+  state_in : {kind : ℕ} {state : List ℕ} → IsObject (known_in ps) all (Host kind state) → formed.IsState state
+  state_in (formed.is_host s) = s
+
+  object_yes : (o : Plain (List ℕ)) → IsObject (known_in ps) all o → ((kind : ℕ) → shape_of o ≡ OfKind kind → is_among kinds kind ≡ true) → is_object kinds ps all o ≡ true
+  object_yes (Script owner place fields) h offers = script_yes owner place fields (script_in h)
+  object_yes (Array of ws) h offers =
       let a = array_in h in
       both_and (nat_le (length ws) max_elements) (are_elements ps all of ws) (le_yes (length ws) max_elements a.few) (array_yes ps all of ws a)
-  object_yes (Host kind state) h none = absurd (none kind refl)
+  object_yes (Host kind state) h offers = both_and (nat_le (length state) max_state_bytes) (is_among kinds kind) (le_yes (length state) max_state_bytes (state_in h)) (offers kind refl)
 
 -- entries by number
 
@@ -98,27 +101,25 @@ each_passes P (x ∷ entries) order h =
     (each_passes P entries (in_order_after x entries order) (λ number o at.
     h number o (object_later number x entries (none_after x entries number order (some_object (object_at number entries) o at)) ∙ at)))
 
-module _ (ps : List Program) (all : LiveObjects (List ℕ)) (host : signatures.HostSignatures) (nothing : ConstructsNothing host) where
-  -- no kind is offered
-  not_offered : (kind : ℕ) → IsOffered host kind → ⊥
-  not_offered kind (parameters, inside) = none_in parameters (subst (λ (l : List (List Primitive)). Contains l parameters) (nothing kind) inside)
+module _ (kinds : List ℕ) (ps : List Program) (all : LiveObjects (List ℕ)) (host : signatures.HostSignatures) (offers : Constructs host kinds) where
+  host_says : (o : Plain (List ℕ)) (kind : ℕ) → shape_of o ≡ OfKind kind → is_object kinds ps all o ≡ true → is_among kinds kind ≡ true
+  host_says (Script owner place fields) kind e h = absurd (cc)
+  host_says (Array of ws) kind e h = absurd (cc)
+  host_says (Host other state) kind e h =
+      let same : other ≡ kind = cc in
+      subst (λ (k : ℕ). is_among kinds k ≡ true) same (and_both (nat_le (length state) max_state_bytes) (is_among kinds other) h).1
 
-  host_fails : (o : Plain (List ℕ)) (kind : ℕ) → shape_of o ≡ OfKind kind → is_object ps all o ≡ true → ⊥
-  host_fails (Script owner place fields) kind e h = cc
-  host_fails (Array of ws) kind e h = cc
-  host_fails (Host other state) kind e h = cc
+  of_kind : (number kind : ℕ) (o : Option (Plain (List ℕ))) → object_at number all ≡ o → are_objects kinds ps all ≡ true → option_map shape_of o ≡ Some (OfKind kind) → is_among kinds kind ≡ true
+  of_kind number kind None e h is = absurd (cc)
+  of_kind number kind (Some x) e h is = host_says x kind (same_Some (shape_of x) (OfKind kind) is) (found_from (is_object kinds ps all) number all x h e)
 
-  none_of_kind : (number kind : ℕ) (o : Option (Plain (List ℕ))) → object_at number all ≡ o → are_objects ps all ≡ true → option_map shape_of o ≡ Some (OfKind kind) → ⊥
-  none_of_kind number kind None e h is = cc
-  none_of_kind number kind (Some x) e h is = host_fails x kind (same_Some (shape_of x) (OfKind kind) is) (found_from (is_object ps all) number all x h e)
-
-  pub objects_say : are_objects ps all ≡ true → AreObjects (known_in ps) all × AreOffered host all
+  pub objects_say : are_objects kinds ps all ≡ true → AreObjects (known_in ps) all × AreOffered host all
   objects_say h = (
-    record { each = λ number o at. object_says ps all o (found_from (is_object ps all) number all o h at) },
-    record { each = λ number kind at. absurd (none_of_kind number kind (object_at number all) refl h at) },
+    record { each = λ number o at. object_says kinds ps all o (found_from (is_object kinds ps all) number all o h at) },
+    record { each = λ number kind at. (offers kind).0 (of_kind number kind (object_at number all) refl h at) },
   )
 
-  pub objects_yes : IsInOrder all → AreObjects (known_in ps) all → AreOffered host all → are_objects ps all ≡ true
+  pub objects_yes : IsInOrder all → AreObjects (known_in ps) all → AreOffered host all → are_objects kinds ps all ≡ true
   objects_yes order living offered =
-      each_passes (is_object ps all) all order (λ number o at.
-      object_yes ps all o (living.each number o at) (λ kind is. not_offered kind (offered.each number kind (ap (option_map shape_of) at ∙ ap (λ (s : Shape). Some s) is))))
+      each_passes (is_object kinds ps all) all order (λ number o at.
+      object_yes kinds ps all o (living.each number o at) (λ kind is. (offers kind).1 (offered.each number kind (ap (option_map shape_of) at ∙ ap (λ (s : Shape). Some s) is))))

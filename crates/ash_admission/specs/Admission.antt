@@ -1,20 +1,21 @@
 -- Whether what a state stores is of the types of its modules' sources.
-use Rattle.std.specs.Prelude.{◌≡◌, ℕ, Bool, ◌&&◌, List, [], map, string_bytes}
+use Rattle.std.specs.Prelude.{◌≡◌, ◌↔◌, ℕ, Bool, true, ◌&&◌, List, map, string_bytes}
 use Rattle.std.specs.List.{AllByRecursion, list_all}
 use Rattle.ash_host.specs.Objects as plain
+use Rattle.ash_host.specs.Reach.{is_among}
 use Rattle.ash_typed.specs.Modules.{module_of}
 use Rattle.ash_typed.specs.Signatures.{HostSignatures, types_of_globals}
 use Rattle.ash_meaning.specs.Classes.{Program}
-use Rattle.ash_soundness.specs.WellFormed.{AreValues, AreObjects, AreOffered}
+use Rattle.ash_soundness.specs.WellFormed.{AreValues, AreObjects, IsOffered, AreOffered}
 use Rattle.ash_requests.specs.States.{Embedding, LoadedModule as Loaded}
 use Rattle.ash_plain_steps.specs.declared.state.LoadedModule.{LoadedModule}
 use Rattle.ash_soundness.specs.WellFormedStates.{IsLoaded, known_of}
 use Rattle.ash_admission.specs.Values.{are_values}
 use Rattle.ash_admission.specs.Contents.{known_in, are_objects}
 
--- the host constructs no objects
-abbrev pub ConstructsNothing : HostSignatures → Type 0
-ConstructsNothing host = (kind : ℕ) → host.factories kind ≡ []
+-- these are the kinds of which the host constructs objects
+abbrev pub Constructs : HostSignatures → List ℕ → Type 0
+Constructs host kinds = (kind : ℕ) → (is_among kinds kind ≡ true) ↔ IsOffered host kind
 
 -- a module by its name and its typed tree
 abbrev pub program_of : LoadedModule → Program
@@ -36,10 +37,10 @@ abbrev pub IsWellTypedAsRead : {Fault : Type 0} → Embedding Fault → HostSign
 IsWellTypedAsRead embedding host ms all =
     AllByRecursion (IsLoaded embedding all) ms × AreObjects (known_of embedding ms) all × AreOffered host all
 
--- as tests, where the host constructs no objects
+-- as tests, where these are the kinds of which the host constructs objects
 
 abbrev pub is_loaded : plain.LiveObjects (List ℕ) → LoadedModule → Bool
 is_loaded all m = are_values (program_of m) all (types_of_globals (module_of m.tree).globals) m.globals.items
 
-abbrev pub is_well_typed : List LoadedModule → plain.LiveObjects (List ℕ) → Bool
-is_well_typed ms all = are_objects (map program_of ms) all && list_all (is_loaded all) ms
+abbrev pub is_well_typed : List ℕ → List LoadedModule → plain.LiveObjects (List ℕ) → Bool
+is_well_typed kinds ms all = are_objects kinds (map program_of ms) all && list_all (is_loaded all) ms

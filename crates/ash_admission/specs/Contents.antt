@@ -7,7 +7,8 @@ use Rattle.std.specs.Str.{bytes_eq}
 use Rattle.ash_host.specs.declared.word.Word.{Word}
 use Rattle.ash_host.specs.Objects.{Elements, Bools, Ints, Uints, Int64s, Uint64s, Handles}
 use Rattle.ash_host.specs.Objects.{Hosts, Plain, Script, Array, Host, LiveObjects}
-use Rattle.ash_host.specs.Limits.{max_elements}
+use Rattle.ash_host.specs.Reach.{is_among}
+use Rattle.ash_host.specs.Limits.{max_elements, max_state_bytes}
 use Rattle.ash_integers.specs.declared.int_type.IntType.TheVariants as ints
 use Rattle.ash_typed.specs.declared.types.ObjectType.TheVariants as objects
 use Rattle.ash_typed.specs.Modules.{Interface, Class}
@@ -58,13 +59,13 @@ are_elements ps all Uint64s ws = list_all (is_integer ints.Uint64) ws
 are_elements ps all (Handles owner place) ws = option_map_or (are_handles all place ws) (program_of_name owner ps) false
 are_elements ps all (Hosts kind) ws = list_all (is_reference all (is_of_kind kind)) ws
 
--- whether an object is well-formed among the living ones, where the host constructs none: a host object never is
-abbrev pub is_object : List Program → LiveObjects (List ℕ) → Plain (List ℕ) → Bool
-is_object ps all (Script owner place fields) =
+-- whether an object is well-formed among the living ones, where the host constructs objects of these kinds
+abbrev pub is_object : List ℕ → List Program → LiveObjects (List ℕ) → Plain (List ℕ) → Bool
+is_object kinds ps all (Script owner place fields) =
     option_map_or (is_script all place fields) (program_of_name owner ps) false
-is_object ps all (Array of ws) = nat_le (length ws) max_elements && are_elements ps all of ws
-is_object ps all (Host kind state) = false
+is_object kinds ps all (Array of ws) = nat_le (length ws) max_elements && are_elements ps all of ws
+is_object kinds ps all (Host kind state) = nat_le (length state) max_state_bytes && is_among kinds kind
 
 -- whether each object is
-abbrev pub are_objects : List Program → LiveObjects (List ℕ) → Bool
-are_objects ps all = list_all (λ (e : ℕ × Plain (List ℕ)). is_object ps all e.1) all
+abbrev pub are_objects : List ℕ → List Program → LiveObjects (List ℕ) → Bool
+are_objects kinds ps all = list_all (λ (e : ℕ × Plain (List ℕ)). is_object kinds ps all e.1) all

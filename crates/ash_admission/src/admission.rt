@@ -9,7 +9,7 @@ ghost use Rattle.ash_requests.specs.States.{Embedding};
 ghost use Rattle.ash_plain_steps.specs.declared.state.LoadedModule as loaded_module;
 ghost use Rattle.ash_plain_steps.specs.StateViews.{modules_seen};
 ghost use Rattle.ash_plain_steps.specs.Consistency.{AreConsistent};
-ghost use Rattle.ash_admission.specs.Admission.{ConstructsNothing, AreWellTypedObjects, IsWellTypedAsRead};
+ghost use Rattle.ash_admission.specs.Admission.{Constructs, AreWellTypedObjects, IsWellTypedAsRead};
 ghost use Rattle.ash_admission.specs.Admission.{is_loaded};
 ghost use Rattle.ash_admission.specs.Admission.{is_well_typed};
 
@@ -31,21 +31,22 @@ fn are_loaded(modules: &[LoadedModule], objects: &ObjectMap) -> bool
 }
 
 /// Whether each object is well-formed, and what the globals of each module hold is of their types.
-fn is_of_its_types(modules: &[LoadedModule], objects: &ObjectMap) -> bool
-    ensures both { result ≡ is_well_typed modules.now objects.now }
+fn is_of_its_types(kinds: &[u16], modules: &[LoadedModule], objects: &ObjectMap) -> bool
+    ensures both { result ≡ is_well_typed kinds.now modules.now objects.now }
     ensures in_order { IsInOrder objects.now }
 {
-    are_objects(modules, objects) && are_loaded(modules, objects)
+    are_objects(kinds, modules, objects) && are_loaded(modules, objects)
 }
 
-/// Whether what is stored is of the types that the sources of the modules say, where the host constructs no objects:
-/// the globals are values of their types, each object is as its class or its elements say, and none is a host object.
-pub fn is_well_typed(modules: &[LoadedModule], objects: &ObjectMap) -> bool
+/// Whether what is stored is of the types that the sources of the modules say, where the host constructs objects of
+/// these kinds: the globals are values of their types, each object is as its class or its elements say, and each host
+/// object is of one of the kinds, with a state that is no longer than a state may be.
+pub fn is_well_typed(kinds: &[u16], modules: &[LoadedModule], objects: &ObjectMap) -> bool
     ensures exact { (host : HostSignatures)
-        → ConstructsNothing host
+        → Constructs host kinds.now
         → (IsTrue result ↔ (AreWellTypedObjects host modules.now objects.now)) }
 {
-    is_of_its_types(modules, objects)
+    is_of_its_types(kinds, modules, objects)
 }
 
 /// Where the typed trees are what the sources are read as, this is so of what is stored as the sources are read. The

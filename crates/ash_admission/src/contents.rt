@@ -2,6 +2,7 @@
 
 ghost use Rattle.std.specs.Prelude.{◌≡◌, map, option_map};
 ghost use Rattle.ash_host.specs.Objects.{IsInOrder};
+ghost use Rattle.ash_host.specs.Reach.{is_among};
 ghost use Rattle.ash_plain_data.specs.ObjectViews.{element_seen, object_seen};
 ghost use Rattle.ash_admission.specs.Contents.{program_of_name, is_script, are_elements};
 ghost use Rattle.ash_admission.specs.Contents.{is_object, are_objects};
@@ -10,7 +11,7 @@ ghost use Rattle.ash_admission.specs.Admission.{program_of};
 use crate::elements::{are_handles, are_integers, are_of_kind, are_truths};
 use crate::places::class_at;
 use crate::values::are_values;
-use ash_host::{MAX_ELEMENTS, Word};
+use ash_host::{MAX_ELEMENTS, MAX_STATE_BYTES, Word};
 use ash_plain_data::object::{Elements, Object};
 use ash_plain_steps::state::LoadedModule;
 use ash_plain_world::objects::ObjectMap;
@@ -63,10 +64,22 @@ fn are_elements(
     }
 }
 
-/// Whether an object is well-formed among the living ones. A host object never is, since the host constructs none.
-fn is_object(modules: &[LoadedModule], objects: &ObjectMap, object: &Object) -> bool
+/// Whether a kind is one of these.
+fn is_of_kinds(kinds: &[u16], kind: u16) -> bool
+    ensures value { result ≡ is_among kinds.now kind }
+{
+    for other in kinds {
+        if kind == *other {
+            return true;
+        }
+    }
+    false
+}
+
+/// Whether an object is well-formed among the living ones, where the host constructs objects of these kinds.
+fn is_object(kinds: &[u16], modules: &[LoadedModule], objects: &ObjectMap, object: &Object) -> bool
     ensures value { result
-        ≡ is_object (map program_of modules.now) objects.now (object_seen object.now) }
+        ≡ is_object kinds.now (map program_of modules.now) objects.now (object_seen object.now) }
 {
     match object {
         Object::Script {
@@ -80,17 +93,19 @@ fn is_object(modules: &[LoadedModule], objects: &ObjectMap, object: &Object) -> 
         Object::Array { of, elements } => {
             elements.len() <= MAX_ELEMENTS && are_elements(modules, objects, of, elements)
         }
-        Object::Host { .. } => false,
+        Object::Host { kind, state } => {
+            state.len() <= MAX_STATE_BYTES && is_of_kinds(kinds, *kind)
+        }
     }
 }
 
 /// Whether each object is well-formed among the living ones.
-pub(crate) fn are_objects(modules: &[LoadedModule], objects: &ObjectMap) -> bool
-    ensures each { result ≡ are_objects (map program_of modules.now) objects.now }
+pub(crate) fn are_objects(kinds: &[u16], modules: &[LoadedModule], objects: &ObjectMap) -> bool
+    ensures each { result ≡ are_objects kinds.now (map program_of modules.now) objects.now }
     ensures in_order { IsInOrder objects.now }
 {
     for (_, object) in objects.iter() {
-        if !is_object(modules, objects, object) {
+        if !is_object(kinds, modules, objects, object) {
             return false;
         }
     }

@@ -1,10 +1,11 @@
--- What the step of a request comes to: what is not an answer leaves the state, an answer comes of a task that changes
--- it, and no step is refused for a device.
-use Rattle.std.proofs.Common.{◌≡◌, inl, inr, ℕ, Bool, true, false, nat_lt, not, List, length, Option, Some, None}
+-- What the step of a request comes to: what is not an answer leaves the live state, an answer comes of a task that
+-- changes it, and no step is refused for a device.
+use Rattle.std.proofs.Common.{◌≡◌, inl, inr, ℕ, Bool, true, false, nat_lt, not, List, length, [], Option, Some, None}
 use Rattle.std.proofs.Common.{is_some}
 use Rattle.std.proofs.Common.{option_map, position, slice_get, Result, Ok, Err, refl, sym, ◌∙◌, ap, subst}
 use Rattle.std.specs.Option.{option_and_then}
 use Rattle.std.specs.Str.{bytes_eq}
+use Rattle.ash_host.specs.declared.host_object.HostObject.{Ghosts}
 use Rattle.ash_host.specs.Objects.{object_at}
 use Rattle.ash_typed.specs.Modules.{Function, Module}
 use Rattle.ash_meaning.specs.Activity.{World}
@@ -12,7 +13,7 @@ use Rattle.ash_meaning.specs.Ends.{End, Finished, Threw, Aborted}
 use Rattle.ash_requests.specs.declared.argument.Arg.{Arg}
 use Rattle.ash_requests.specs.States.{LoadedModule, State, Hosts, Embedding, find_module}
 use Rattle.ash_requests.specs.Requests.{Request, Load, Call, Discard, Get, Object, Seq, Snapshot, Refusal, Reply, Value}
-use Rattle.ash_requests.specs.Requests.{ShownAs}
+use Rattle.ash_requests.specs.Requests.{Answered, ShownAs}
 use Rattle.ash_requests.specs.Requests.{Number, Done, Refused, SequenceSpent, BadName, ModuleTaken, TooManyModules}
 use Rattle.ash_requests.specs.Requests.{NoModule}
 use Rattle.ash_requests.specs.Requests.{NoFunction, NotCallable, BadArguments, NoGlobal, NoObject, DeviceFailed}
@@ -25,7 +26,9 @@ use Rattle.ash_requests.specs.Steps as steps
 use Rattle.ash_requests.specs.TaskResults.{TaskChangesState}
 use Rattle.ash_sources.specs.SourceFaults.{SourceFault}
 use Rattle.ash_states.specs.HostStates.{HostState, embedding_for}
-use Rattle.ash_states.specs.StateSteps.{StateSteps, task_of, step, outcome_of, no_hosts}
+use Rattle.ash_states.specs.StateSteps.{task_of}
+use Rattle.ash_engine.specs.LiveStates.{LiveState}
+use Rattle.ash_engine.specs.LiveSteps.{IsNoAnswer, LiveSteps}
 use Rattle.ash_durable.specs.Hosting.{IsAnswer, IsDeviceFailed}
 
 -- ---- options
@@ -47,37 +50,6 @@ load_answers : (name source : List ℕ) (old : State) (end : End) (world : World
 load_answers name source old (Finished value) world = tt
 load_answers name source old (Threw exception function line) world = tt
 load_answers name source old (Aborted function line) world = tt
-
--- what is not an answer leaves the state
-answer_leaves : (old : State) (made one : Step SourceFault) → made ≡ one → IsAnswer made.reply
-    → (IsAnswer one.reply → ⊥) → one.state ≡ old
-answer_leaves old made one is answers not = absurd (not (subst (λ (s : Step SourceFault). IsAnswer s.reply) is answers))
-
-perform_leaves : (budget : ℕ) (task : Task) (old : State) (hosts : Hosts) (one : Step SourceFault)
-    → perform budget task old hosts ≡ Some one → (IsAnswer one.reply → ⊥) → one.state ≡ old
-perform_leaves budget (Initialize name source tree) old hosts one is =
-    let ran = mapped_some (after_load {Fault = SourceFault} name source old) _ one is in
-    answer_leaves old (after_load name source old ran.0) one ran.2
-    (load_answers name source old (ran.0).end (ran.0).world)
-perform_leaves budget (Invoke loaded tree function args) old hosts one is =
-    let ran = mapped_some (after_call {Fault = SourceFault} loaded old) _ one is in
-    answer_leaves old (after_call loaded old ran.0) one ran.2 tt
-perform_leaves budget (Remove name) old hosts one is =
-    answer_leaves old (after_discard name old hosts) one (some_once (after_discard name old hosts) one is) tt
-perform_leaves budget (Read word) old hosts one is =
-    λ not. sym (ap (λ (s : Step SourceFault). s.state) (some_once (steps.replied (Value word) old hosts) one is))
-perform_leaves budget (Show shown) old hosts one is =
-    λ not. sym (ap (λ (s : Step SourceFault). s.state) (some_once (steps.replied (ShownAs shown) old hosts) one is))
-perform_leaves budget Count old hosts one is =
-    λ not. sym (ap (λ (s : Step SourceFault). s.state) (some_once (steps.replied (Number old.seq) old hosts) one is))
-perform_leaves budget Rewrite old hosts one is =
-    λ not. sym (ap (λ (s : Step SourceFault). s.state) (some_once (steps.replied Done old hosts) one is))
-
-leaves_by : (budget : ℕ) (result : TaskResult SourceFault) (old : State) (hosts : Hosts) (one : Step SourceFault)
-    → unless_refused budget result old hosts ≡ Some one → (IsAnswer one.reply → ⊥) → one.state ≡ old
-leaves_by budget (Ok task) old hosts one is = perform_leaves budget task old hosts one is
-leaves_by budget (Err refusal) old hosts one is =
-    λ not. sym (ap (λ (s : Step SourceFault). s.state) (some_once (steps.replied (Refused refusal) old hosts) one is))
 
 -- where a task changes nothing, it is not answered
 changes_by : (budget : ℕ) (result : TaskResult SourceFault) (old : State) (hosts : Hosts) (one : Step SourceFault)
@@ -201,65 +173,45 @@ fine_by budget (Err refusal) old hosts one fine is =
     made_fine (steps.replied (Refused refusal) old hosts) one
     (some_once (steps.replied (Refused refusal) old hosts) one is) (refused_fine refusal fine)
 
--- ---- steps of a host
+-- ---- steps of a live state
 
--- another state for the same registrations
-abbrev with_state : HostState → State → HostState
-with_state old s = record { registered = old.registered; state = s }
+-- what is not an answer to a request is none that raises the number
+pub no_answer : (reply : Reply SourceFault) → (IsAnswer reply → ⊥) → IsNoAnswer reply
+no_answer (Answered end seq happened) not = not tt
+no_answer (Value word) not = tt
+no_answer (ShownAs shown) not = tt
+no_answer (Number seq) not = tt
+no_answer Done not = tt
+no_answer (Refused refusal) not = tt
 
--- a step of a host is one of the state that it is in
-record IsStepOf (budget : ℕ) (request : Request) (old : HostState) (reply : Reply SourceFault)
-    (new : HostState) : Type 0 where
-  one : Step SourceFault
-  stepped : unless_refused budget (task_of request old) old.state no_hosts ≡ Some one
-  reply_is : one.reply ≡ reply
-  new_is : with_state old one.state ≡ new
+module _ {B : Type 0} (G : Ghosts B) (budget : ℕ) (request : Request) (old new : LiveState B)
+    (reply : Reply SourceFault) where
+  -- a step that is not an answer leaves the live state
+  pub leaves : LiveSteps G budget request old reply new → (IsAnswer reply → ⊥) → new ≡ old
+  leaves (inl took) not = took.unchanged (no_answer reply not)
+  leaves (inr out) not = out.unchanged
 
-step_of : (budget : ℕ) (request : Request) (old new : HostState) (reply : Reply SourceFault)
-    → step budget request old ≡ Some (reply, new) → IsStepOf budget request old reply new
-step_of budget request old new reply is =
-    let found = mapped_some (outcome_of old.registered)
-    (unless_refused budget (task_of request old) old.state no_hosts) (reply, new) is in
-    record {
-      one = found.0;
-      stepped = found.1;
-      reply_is = ap (λ (x : Reply SourceFault × HostState). x.0) found.2;
-      new_is = ap (λ (x : Reply SourceFault × HostState). x.1) found.2;
-    }
+  -- no request changes what is registered
+  pub steps_registered : LiveSteps G budget request old reply new
+      → (new.durable).registered ≡ (old.durable).registered
+  steps_registered (inl took) = took.taken.registered
+  steps_registered (inr out) = ap (λ (l : LiveState B). l.durable.registered) out.unchanged
 
--- a step that is not an answer leaves the state
-pub leaves : (budget : ℕ) (request : Request) (old new : HostState) (reply : Reply SourceFault)
-    → StateSteps budget request old reply new → (IsAnswer reply → ⊥) → new ≡ old
-leaves budget request old new reply (inl stepped) not =
-    let by = step_of budget request old new reply stepped in
-    let same : (by.one).state ≡ old.state =
-    leaves_by budget (task_of request old) old.state no_hosts by.one by.stepped
-    (λ answers. not (subst IsAnswer by.reply_is answers)) in
-    sym by.new_is ∙ ap (with_state old) same
-leaves budget request old new reply (inr out) not = out.unchanged
+  -- no step is refused for a device
+  pub steps_fine : LiveSteps G budget request old reply new → IsDeviceFailed reply → ⊥
+  steps_fine (inl took) failed =
+      fine_by budget (task_of request old.durable) (old.durable).state
+      (record { pool = old.pool; answers = took.answers })
+      (record { reply = reply; state = (new.durable).state; hosts = record { pool = new.pool; answers = [] } })
+      (task_fine (embedding_for (old.durable).registered) request (old.durable).state) took.taken.stepped failed
+  steps_fine (inr out) failed = subst IsDeviceFailed out.reply_is failed
 
--- no request changes what is registered
-pub steps-registered : (budget : ℕ) (request : Request) (old new : HostState) (reply : Reply SourceFault)
-    → StateSteps budget request old reply new → new.registered ≡ old.registered
-steps-registered budget request old new reply (inl stepped) =
-    sym (ap (λ (s : HostState). s.registered) (step_of budget request old new reply stepped).new_is)
-steps-registered budget request old new reply (inr out) = ap (λ (s : HostState). s.registered) out.unchanged
-
--- no step is refused for a device
-pub steps-fine : (budget : ℕ) (request : Request) (old new : HostState) (reply : Reply SourceFault)
-    → StateSteps budget request old reply new → IsDeviceFailed reply → ⊥
-steps-fine budget request old new reply (inl stepped) failed =
-    let by = step_of budget request old new reply stepped in
-    fine_by budget (task_of request old) old.state no_hosts by.one
-    (task_fine (embedding_for old.registered) request old.state) by.stepped
-    (subst IsDeviceFailed (sym by.reply_is) failed)
-steps-fine budget request old new reply (inr out) failed = subst IsDeviceFailed out.reply_is failed
-
--- where a request is answered, its task changes the state
-pub answer_changes : (budget : ℕ) (request : Request) (old new : HostState) (reply : Reply SourceFault) → IsAnswer reply
-    → StateSteps budget request old reply new → TaskChangesState (task_of request old)
-answer_changes budget request old new reply answers (inl stepped) =
-    let by = step_of budget request old new reply stepped in
-    changes_by budget (task_of request old) old.state no_hosts by.one by.stepped
-    (subst IsAnswer (sym by.reply_is) answers)
-answer_changes budget request old new reply answers (inr out) = absurd (subst IsAnswer out.reply_is answers)
+  -- where a request is answered, its task changes the state
+  pub answer_changes : IsAnswer reply → LiveSteps G budget request old reply new
+      → TaskChangesState (task_of request old.durable)
+  answer_changes answers (inl took) =
+      changes_by budget (task_of request old.durable) (old.durable).state
+      (record { pool = old.pool; answers = took.answers })
+      (record { reply = reply; state = (new.durable).state; hosts = record { pool = new.pool; answers = [] } })
+      took.taken.stepped answers
+  answer_changes answers (inr out) = absurd (subst IsAnswer out.reply_is answers)

@@ -1,8 +1,8 @@
 -- Which requests change the state, and which take no ticks.
 use Rattle.std.proofs.Common.{◌≡◌, inl, inr, ℕ, nat_lt, List, Option, Some, None, Ok, Err, refl, ◌∙◌, ap, subst}
-use Rattle.std.proofs.Common.{option_map}
 use Rattle.std.specs.Option.{option_and_then}
 use Rattle.ash_disk.specs.Device.{Device}
+use Rattle.ash_host.specs.declared.host_object.HostObject.{Ghosts}
 use Rattle.ash_host.specs.Objects.{object_at}
 use Rattle.ash_requests.specs.States.{State, Hosts, Embedding, find_module}
 use Rattle.ash_requests.specs.Requests.{Request, Load, Call, Discard, Get, Object, Seq, Snapshot, Reply, SequenceSpent}
@@ -15,7 +15,9 @@ use Rattle.ash_requests.specs.Steps.{Step, unless_refused}
 use Rattle.ash_requests.specs.TaskResults.{TaskChangesState}
 use Rattle.ash_sources.specs.SourceFaults.{SourceFault}
 use Rattle.ash_states.specs.HostStates.{HostState, embedding_for}
-use Rattle.ash_states.specs.StateSteps.{StateSteps, step, task_of, outcome_of, no_hosts}
+use Rattle.ash_states.specs.StateSteps.{task_of}
+use Rattle.ash_engine.specs.LiveStates.{LiveState}
+use Rattle.ash_engine.specs.LiveSteps.{LiveSteps, TakesStep}
 use Rattle.ash_durable.specs.Hosting.{Hosted, IsAnswer, MayAdd, WantsInstall, MakesRoomFor, HostReplies, Handles}
 use Rattle.ash_durable.proofs.Answering.{required, required_some, answer_changes}
 
@@ -49,44 +51,44 @@ change_adds (Object number) state changes =
 change_adds Seq state changes = absurd changes
 change_adds Snapshot state changes = absurd changes
 
-pub change_may_add : (budget : ℕ) (request : Request) (old new : HostState) (reply : Reply SourceFault) → IsAnswer reply
-    → StateSteps budget request old reply new → MayAdd request
-change_may_add budget request old new reply answers steps =
-    change_adds request old (answer_changes budget request old new reply answers steps)
+pub change_may_add : {B : Type 0} (G : Ghosts B) (budget : ℕ) (request : Request) (old new : LiveState B)
+    (reply : Reply SourceFault) → IsAnswer reply → LiveSteps G budget request old reply new → MayAdd request
+change_may_add G budget request old new reply answers steps =
+    change_adds request old.durable (answer_changes G budget request old new reply answers steps)
 
 -- ---- hosts that are as they were
 
 -- a host that installs nothing handles a request as it is
-pub as_it_is : {D : Type 0} (device : Device D) (request : Request) (state : HostState) (old between : Hosted D)
+pub as_it_is : {D B : Type 0} (device : Device D) (request : Request) (state : HostState) (old between : Hosted D B)
     → (WantsInstall request old → ⊥) → MakesRoomFor device request state old between → between ≡ old
 as_it_is device request state old between not (inl none) = none.1
 as_it_is device request state old between not (inr some) = absurd (not some.0)
 
 -- a request that only reads leaves the host as it was
-pub reads_only : {D : Type 0} (device : Device D) (budget : ℕ) (request : Request) (old : Hosted D)
-    (reply : Reply SourceFault) (new : Hosted D) → (MayAdd request → ⊥) → (WantsInstall request old → ⊥)
-    → Handles device budget request old reply new → new ≡ old
-reads_only {D} device budget request old reply new adds not handled = by old.state refl
+pub reads_only : {D B : Type 0} (device : Device D) (G : Ghosts B) (budget : ℕ) (request : Request) (old : Hosted D B)
+    (reply : Reply SourceFault) (new : Hosted D B) → (MayAdd request → ⊥) → (WantsInstall request old → ⊥)
+    → Handles device G budget request old reply new → new ≡ old
+reads_only {D} {B} device G budget request old reply new adds not handled = by old.live refl
   where
     none : (state : HostState) → TaskChangesState (task_of request state) → ⊥
     none state changes = adds (change_adds request state changes)
 
-    by : (known : Option HostState) → old.state ≡ known → new ≡ old
+    by : (known : Option (LiveState B)) → old.live ≡ known → new ≡ old
     by None is =
-        let replies : HostReplies device budget request None old reply new =
-        subst (λ (s : Option HostState). HostReplies device budget request s old reply new) is handled.replies in
+        let replies : HostReplies device G budget request None old reply new =
+        subst (λ (l : Option (LiveState B)). HostReplies device G budget request l old reply new) is handled.replies in
         replies.1
-    by (Some state) is =
-        let replies : HostReplies device budget request (Some state) old reply new =
-        subst (λ (s : Option HostState). HostReplies device budget request s old reply new) is handled.replies in
+    by (Some live) is =
+        let replies : HostReplies device G budget request (Some live) old reply new =
+        subst (λ (l : Option (LiveState B)). HostReplies device G budget request l old reply new) is handled.replies in
         elim replies [
           | inl took ↦
-              took.untouched (λ answers. none state
-              (answer_changes budget request state took.after reply answers (inl took.stepped)))
-              ∙ as_it_is device request state old took.between not took.room
-          | inr (inl out) ↦ as_it_is device request state old new not out.room
-          | inr (inr (inl lost)) ↦ absurd (none state lost.changes)
-          | inr (inr (inr (inl lost))) ↦ absurd (none state lost.changes)
+              took.untouched (λ answers. none live.durable
+              (answer_changes G budget request live took.after reply answers (inl took.stepped)))
+              ∙ as_it_is device request live.durable old took.between not took.room
+          | inr (inl out) ↦ as_it_is device request live.durable old new not out.room
+          | inr (inr (inl lost)) ↦ absurd (none live.durable lost.changes)
+          | inr (inr (inr (inl lost))) ↦ absurd (none live.durable lost.changes)
           | inr (inr (inr (inr refused))) ↦ absurd (not refused.wanted)
         ]
 
@@ -130,47 +132,59 @@ same_at b c (Ok Count) s hosts without = refl
 same_at b c (Ok Rewrite) s hosts without = refl
 same_at b c (Err refusal) s hosts without = refl
 
-step_at : (b c : ℕ) (request : Request) (state : HostState) → TakesNoTicks request
-    → step b request state ≡ step c request state
-step_at b c request state takes =
-    ap (λ (made : Option (Step SourceFault)). option_map (outcome_of state.registered) made)
-    (same_at b c (task_of request state) state.state no_hosts
-    (task_without (embedding_for state.registered) request state.state takes))
+takes_at : {B : Type 0} (G : Ghosts B) (b c : ℕ) (request : Request) (old : LiveState B) (reply : Reply SourceFault)
+    (new : LiveState B) → TakesNoTicks request → TakesStep G b request old reply new
+    → TakesStep G c request old reply new
+takes_at G b c request old reply new takes step = record {
+  answers = step.answers;
+  taken = record {
+    stepped = same_at c b (task_of request old.durable) (old.durable).state
+        (record { pool = old.pool; answers = step.answers })
+        (task_without (embedding_for (old.durable).registered) request (old.durable).state takes) ∙ step.taken.stepped;
+    registered = step.taken.registered;
+  };
+  gave = step.gave;
+  unchanged = step.unchanged;
+}
 
-replies_at : {D : Type 0} (device : Device D) (b c : ℕ) (request : Request) (known : Option HostState) (old : Hosted D)
-    (reply : Reply SourceFault) (new : Hosted D) → TakesNoTicks request
-    → HostReplies device b request known old reply new → HostReplies device c request known old reply new
-replies_at device b c request None old reply new takes h = h
-replies_at device b c request (Some state) old reply new takes (inl took) = inl (record {
+replies_at : {D B : Type 0} (device : Device D) (G : Ghosts B) (b c : ℕ) (request : Request)
+    (known : Option (LiveState B)) (old : Hosted D B) (reply : Reply SourceFault) (new : Hosted D B)
+    → TakesNoTicks request
+    → HostReplies device G b request known old reply new → HostReplies device G c request known old reply new
+replies_at device G b c request None old reply new takes h = h
+replies_at device G b c request (Some live) old reply new takes (inl took) = inl (record {
   between = took.between;
   room = took.room;
   after = took.after;
-  stepped = step_at c b request state takes ∙ took.stepped;
+  stepped = takes_at G b c request live reply took.after takes took.stepped;
+  live_is = took.live_is;
   running = took.running;
   added = took.added;
   untouched = took.untouched;
   settles = took.settles;
 })
-replies_at device b c request (Some state) old reply new takes (inr (inl out)) = inr (inl out)
-replies_at device b c request (Some state) old reply new takes (inr (inr (inl lost))) = inr (inr (inl (record {
+replies_at device G b c request (Some live) old reply new takes (inr (inl out)) = inr (inl out)
+replies_at device G b c request (Some live) old reply new takes (inr (inr (inl lost))) = inr (inr (inl (record {
   between = lost.between;
   room = lost.room;
   changes = lost.changes;
   answer = lost.answer;
   after = lost.after;
-  stepped = step_at c b request state takes ∙ lost.stepped;
+  stepped = takes_at G b c request live lost.answer lost.after takes lost.stepped;
+  sound = lost.sound;
   lost = lost.lost;
   stopped = lost.stopped;
   settles = lost.settles;
 })))
-replies_at device b c request (Some state) old reply new takes (inr (inr (inr other))) = inr (inr (inr other))
+replies_at device G b c request (Some live) old reply new takes (inr (inr (inr other))) = inr (inr (inr other))
 
 -- a host handles them with any number of ticks
-pub handles_at : {D : Type 0} (device : Device D) (b c : ℕ) (request : Request) (old : Hosted D)
-    (reply : Reply SourceFault) (new : Hosted D) → TakesNoTicks request → Handles device b request old reply new
-    → Handles device c request old reply new
-handles_at device b c request old reply new takes h = record {
-  replies = replies_at device b c request old.state old reply new takes h.replies;
+pub handles_at : {D B : Type 0} (device : Device D) (G : Ghosts B) (b c : ℕ) (request : Request) (old : Hosted D B)
+    (reply : Reply SourceFault) (new : Hosted D B) → TakesNoTicks request → Handles device G b request old reply new
+    → Handles device G c request old reply new
+handles_at device G b c request old reply new takes h = record {
+  replies = replies_at device G b c request old.live old reply new takes h.replies;
+  sound = h.sound;
   saved = h.saved;
   failures = h.failures;
   honesty_first = h.honesty_first;

@@ -161,7 +161,7 @@ same_image s u contents image s_of u_of is =
       is.1,
       record {
         text_is = is.2.text_is ∙ sym both.2.text_is ∙ both.1.text_is;
-        no_services = is.2.no_services;
+        services_are = is.2.services_are ∙ sym both.2.services_are ∙ both.1.services_are;
         state_is = is.2.state_is ∙ sym both.2.state_is ∙ both.1.state_is;
         admitted = both.1.admitted;
       },

@@ -17,6 +17,7 @@ use Rattle.ash_journal.proofs.LayoutLaws.{solid_mark}
 use Rattle.ash_image.specs.declared.version.Version.{Version}
 use Rattle.ash_image.specs.declared.version.Version.TheVariants.{One}
 use Rattle.ash_states.specs.HostStates.{HostState}
+use Rattle.ash_host.specs.declared.host_object.HostObject.{Ghosts}
 use Rattle.ash_registry.specs.AcceptedRegistrations.{Registration}
 use Rattle.ash_durable.specs.StoreFaults.{IsFailed}
 use Rattle.ash_durable.specs.OpenedStore.{StoreFaultIs, WasFound, WasNotFound, OpensState, contents_of, AreInPlace}
@@ -62,35 +63,43 @@ opening_counts opening.NoMemory f s f' s' counts = record {
 }
 
 -- a fault of a journal is one of the store
-opening_cause : (registered : List Registration) (fault : OpenFault) (x y : List ℕ) → FaultIs fault x y
-    → StoreFaultIs registered (faults.Open fault) x y
-opening_cause registered opening.DeviceFailed x y cause = cause
-opening_cause registered opening.NoGeneration x y cause = cause
-opening_cause registered opening.NoMemory x y cause = cause
-opening_cause registered (opening.Damaged at) x y cause = inl cause
+opening_cause : {B : Type 0} (G : Ghosts B) (registered : List Registration) (pool services : List B)
+    (fault : OpenFault) (x y : List ℕ) → FaultIs fault x y
+    → StoreFaultIs G registered pool services (faults.Open fault) x y
+opening_cause G registered pool services opening.DeviceFailed x y cause = cause
+opening_cause G registered pool services opening.NoGeneration x y cause = cause
+opening_cause G registered pool services opening.NoMemory x y cause = cause
+opening_cause G registered pool services (opening.Damaged at) x y cause = inl cause
 
 -- why a journal's state is of no use, as a fault of its files
-settled_cause : {D : Type 0} (registered : List Registration) (opened : OpenedJournal D) (fault : StoreFault)
-    (x y : List ℕ) → Represent (contents_of opened) x y
+settled_cause : {D B : Type 0} (G : Ghosts B) (registered : List Registration) (pool services : List B)
+    (opened : OpenedJournal D) (fault : StoreFault) (x y : List ℕ) → Represent (contents_of opened) x y
     → (generation opened.journal ≡ last_generation → HasMark last_generation x ⊎ HasMark last_generation y)
-    → UnsettledFor registered opened fault → StoreFaultIs registered fault x y
-settled_cause registered opened (faults.Open opening.DeviceFailed) x y is marked cause = tt
-settled_cause registered opened (faults.Open opening.NoMemory) x y is marked cause =
+    → UnsettledFor G registered pool services opened fault → StoreFaultIs G registered pool services fault x y
+settled_cause G registered pool services opened (faults.Open opening.DeviceFailed) x y is marked cause = tt
+settled_cause G registered pool services opened (faults.Open opening.NoMemory) x y is marked cause =
     represent_current (contents_of opened) x y is
-settled_cause registered opened (faults.Open (opening.Damaged at)) x y is marked wrong =
+settled_cause G registered pool services opened (faults.Open (opening.Damaged at)) x y is marked wrong =
     inr (contents_of opened, is, wrong)
-settled_cause registered opened faults.OtherInterface x y is marked others = (contents_of opened, is, others)
-settled_cause registered opened faults.GenerationSpent x y is marked spent = record {
+settled_cause G registered pool services opened faults.OtherInterface x y is marked others =
+    (contents_of opened, is, others)
+settled_cause G registered pool services opened (faults.PoolShort kind) x y is marked short =
+    (contents_of opened, is, short.0, short.1, short.2, short.3)
+settled_cause G registered pool services opened (faults.RestoreRefused number) x y is marked refused =
+    (contents_of opened, is, refused.0, refused.1, refused.2, refused.3)
+settled_cause G registered pool services opened faults.GenerationSpent x y is marked spent = record {
   contents = contents_of opened;
   represented = is;
   state = spent.state;
   registered_is = spent.registered_is;
   is_state = spent.is_state;
   in_one = spent.in_one;
+  live = spent.live;
+  restored = spent.restored;
   last = marked spent.last;
 }
-settled_cause registered opened (faults.Open opening.NoGeneration) x y is marked none = absurd none
-settled_cause registered opened (faults.Create fault) x y is marked none = absurd none
+settled_cause G registered pool services opened (faults.Open opening.NoGeneration) x y is marked none = absurd none
+settled_cause G registered pool services opened (faults.Create fault) x y is marked none = absurd none
 
 module _ {D : Type 0} (device : Device D) where
   -- ---- two disks whose journal was opened
@@ -166,12 +175,14 @@ module _ {D : Type 0} (device : Device D) where
         (second_disk journal) (opened_back a b opened is) settled.settled.disks;
   }
 
-  not_found : (registered : List Registration) (a b : D) (opened : OpenedJournal D) (refused : OpenRefused D)
-      → IsOpened a b opened
-      → WasNotSettled device registered opened refused → WasNotFound device registered a b refused
-  not_found registered a b opened refused is settled = record {
-    cause = λ honest. settled_cause registered opened refused.fault (device.seen a) (device.seen b)
-        (is.represents honest) (marked a b opened is honest) (settled.cause (is.placed honest));
+module _ {D B : Type 0} (device : Device D) (G : Ghosts B) (registered : List Registration) (pool services : List B)
+    (a b : D) where
+  not_found : (opened : OpenedJournal D) (refused : OpenRefused D) → IsOpened device a b opened
+      → WasNotSettled device G registered pool services opened refused
+      → WasNotFound device G registered pool services a b refused
+  not_found opened refused is settled = record {
+    cause = λ honest. settled_cause G registered pool services opened refused.fault (device.seen a) (device.seen b)
+        (is.represents honest) (marked device a b opened is honest) (settled.cause (is.placed honest));
     read = λ not.
         let same = settled.read not in
         record {
@@ -194,38 +205,43 @@ module _ {D : Type 0} (device : Device D) where
           on.3,
         );
     disks = handed_on device (IsFailed refused.fault) a b (first_disk opened.journal) (second_disk opened.journal)
-        refused.a refused.b (opened_back a b opened is) settled.disks;
+        refused.a refused.b (opened_back device a b opened is) settled.disks;
   }
 
-  pub finds : (registered : List Registration) (a b : D) (opened : OpenedJournal D)
-      (result : Result (Found D) (OpenRefused D))
-      → IsOpened a b opened → Settled device registered opened result → OpensState device registered a b result
-  finds registered a b opened (Ok one) is settled = record {
-    version = settled.version;
-    old = settled.old;
-    found = found registered a b opened settled.version one.state settled.old is settled.settled;
-    keeps = settled.keeps;
-  }
-  finds registered a b opened (Err refused) is (inl none) =
-      NotFound (not_found registered a b opened refused is none)
-  finds registered a b opened (Err refused) is (inr settled) = LeftThere (record {
+  pub finds : (opened : OpenedJournal D) (result : Result (Found D B) (OpenRefused D)) → IsOpened device a b opened
+      → Settled device G registered pool services opened result
+      → OpensState device G registered pool services a b result
+  finds opened (Ok one) is settled = record {
     state = settled.state;
+    lives = settled.lives;
+    kept = record {
+      version = settled.version;
+      old = settled.old;
+      found = found device registered a b opened settled.version settled.state settled.old is settled.settled;
+      keeps = settled.keeps;
+    };
+  }
+  finds opened (Err refused) is (inl none) = NotFound (not_found opened refused is none)
+  finds opened (Err refused) is (inr settled) = LeftThere (record {
+    state = settled.state;
+    live = settled.live;
+    restored = settled.restored;
     old = settled.old;
-    found = found registered a b opened One settled.state settled.old is settled.settled;
+    found = found device registered a b opened One settled.state settled.old is settled.settled;
     left = settled.left;
   })
 
   -- ---- two disks whose journal was not
 
-  pub not_opened : (registered : List Registration) (a b a' b' : D) (fault : OpenFault) (reported : StoreFault)
+  pub not_opened : (a' b' : D) (fault : OpenFault) (reported : StoreFault)
       → reported ≡ faults.Open fault → (AreHonest device a b → FaultIs fault (device.seen a) (device.seen b))
       → (AreHonest device a b → Extends device a b a' b' NoContents) → IsOnlyRead device a a' → IsOnlyRead device b b'
       → CountsFailures (fault ≡ opening.DeviceFailed) (device.failures a) (device.failures b) (device.failures a')
-      (device.failures b') → WasNotFound device registered a b (record { fault = reported; a = a'; b = b' })
-  not_opened registered a b a' b' fault reported is cause extends read_first read_second counts =
-      subst (λ (f : StoreFault). WasNotFound device registered a b (record { fault = f; a = a'; b = b' })) (sym is)
+      (device.failures b') → WasNotFound device G registered pool services a b (record { fault = reported; a = a'; b = b' })
+  not_opened a' b' fault reported is cause extends read_first read_second counts =
+      subst (λ (f : StoreFault). WasNotFound device G registered pool services a b (record { fault = f; a = a'; b = b' })) (sym is)
       (record {
-        cause = λ honest. opening_cause registered fault (device.seen a) (device.seen b) (cause honest);
+        cause = λ honest. opening_cause G registered pool services fault (device.seen a) (device.seen b) (cause honest);
         read = λ not. record { read_first = read_first; read_second = read_second };
         moments = extends;
         repaired = λ failed. inl (record { read_first = read_first; read_second = read_second });

@@ -7,6 +7,7 @@ pub mod CrashedDisks
 pub mod Faultless
 pub mod Finding
 pub mod GoingOn
+pub mod HandedOver
 pub mod HandledRequests
 pub mod Handling
 pub mod LifeEvents
@@ -20,6 +21,7 @@ pub mod Opened
 pub mod OpenedJournals
 pub mod Outcomes
 pub mod Prefixes
+pub mod QuietSteps
 pub mod Reading
 pub mod Refusing
 pub mod RequestOutcomes

@@ -2,15 +2,18 @@
 use Rattle.std.proofs.Common.{◌≡◌, ◌⊎◌, inl, inr, ℕ, List, [], ◌∷◌, ◌++◌, Option, Some, None, refl, sym, ◌∙◌, ap, subst}
 use Rattle.std.proofs.Common.{append_assoc}
 use Rattle.ash_disk.specs.Device.{Device}
+use Rattle.ash_host.specs.declared.event.Event.{Event as HostEvent}
+use Rattle.ash_host.specs.declared.host_object.HostObject.{Ghosts}
+use Rattle.ash_meaning.specs.Ends.{End}
 use Rattle.ash_requests.specs.Requests.{Request, Reply, Answered, Value, ShownAs, Number, Done, Refused}
 use Rattle.ash_sources.specs.SourceFaults.{SourceFault}
-use Rattle.ash_states.specs.HostStates.{HostState}
-use Rattle.ash_registry.specs.AcceptedRegistrations.{Registration}
-use Rattle.ash_durable.specs.Hosting.{Hosted, IsAnswer, Handles, HandlesAll}
+use Rattle.ash_engine.specs.LiveStates.{LiveState}
+use Rattle.ash_engine.specs.LiveSteps.{Reached}
+use Rattle.ash_durable.specs.Hosting.{Hosted, IsAnswer, TookStep, HostReplies, Handles, HandlesAll}
 use Rattle.ash_durable.specs.RequestRuns.{LosesAnswer}
 use Rattle.ash_durable.specs.Lives.{StoreEvent, Acknowledged, InDoubt, UnderHost, Life, Replied, Unanswered, Failed, Records}
 use Rattle.ash_durable.specs.Lives.{LivesOn}
-use Rattle.ash_durable.proofs.RequestOutcomes.{handled_or_stopped}
+use Rattle.ash_durable.proofs.RequestOutcomes.{handled_or_stopped, stopped_answer}
 
 -- the events of a request that is not answered
 abbrev MayRecord : ℕ → Request → Reply SourceFault → List StoreEvent → Type 0
@@ -22,88 +25,117 @@ records_other : (budget : ℕ) (request : Request) (reply : Reply SourceFault) (
 records_other budget request (Answered end seq happened) events not may = absurd (not tt)
 records_other budget request _ events not may = may
 
--- a host that ran and has stopped had a failure
-stops_by : {D : Type 0} (device : Device D) (budget : ℕ) (request : Request) (old : Hosted D)
-    (reply : Reply SourceFault)
-    (new : Hosted D) (state : HostState) → old.state ≡ Some state → new.state ≡ None
-    → Handles device budget request old reply new → LosesAnswer reply
-stops_by device budget request old reply new state ran none handled =
-    elim (handled_or_stopped device budget request old reply new handled) [
-      | inl stopped ↦ let h : None ≡ Some state = sym stopped.0 ∙ ran in absurd (cc)
-      | inr some ↦ elim some.2.ending [
-        | inl on ↦ let h : None ≡ Some some.2.after = sym none ∙ on.0.state_is in absurd (cc)
-        | inr (inl same) ↦ let h : None ≡ Some state = sym none ∙ ap (λ (host : Hosted _). host.state) same.1 ∙ ran in
-            absurd (cc)
-        | inr (inr lost) ↦ lost.1
+module _ {D B : Type 0} (device : Device D) (G : Ghosts B) (budget : ℕ) where
+  -- a host that ran and has stopped had a failure
+  stops_by : (request : Request) (old : Hosted D B) (reply : Reply SourceFault) (new : Hosted D B) (live : LiveState B)
+      → old.live ≡ Some live → new.live ≡ None → Handles device G budget request old reply new → LosesAnswer reply
+  stops_by request old reply new live ran none handled =
+      elim (handled_or_stopped device G budget request old reply new handled) [
+        | inl stopped ↦ let h : None ≡ Some live = sym stopped.0 ∙ ran in absurd (cc)
+        | inr some ↦ elim some.2.ending [
+          | inl on ↦ let h : None ≡ Some some.2.after = sym none ∙ on.0 in absurd (cc)
+          | inr (inl same) ↦ let h : None ≡ Some live = sym none
+              ∙ ap (λ (host : Hosted D B). host.live) same.1 ∙ ran in absurd (cc)
+          | inr (inr lost) ↦ lost.1
+        ]
       ]
-    ]
 
--- a life that goes on with one request
-abbrev LivesOnce : {D : Type 0} → Device D → List Registration → ℕ → Request → List StoreEvent → Reply SourceFault → Hosted D
-    → Type 0
-LivesOnce device registered budget request events reply new =
-    (one : List StoreEvent) × Life device registered (one ++ events) (UnderHost new) × Records budget request reply one
+  -- a host that gave an answer took a step for it
+  took_step : (request : Request) (old : Hosted D B) (end : End) (seq : ℕ) (happened : List HostEvent)
+      (new : Hosted D B) → Handles device G budget request old (Answered end seq happened) new
+      → (live : LiveState B) × (old.live ≡ Some live)
+      × TookStep device G budget request live old (Answered end seq happened) new
+  took_step request old end seq happened new handled = from old.live refl
+    where
+      reply : Reply SourceFault
+      reply = Answered end seq happened
 
-other_once : {D : Type 0} (device : Device D) (registered : List Registration) (budget : ℕ) (request : Request)
-    (events : List StoreEvent) (old : Hosted D) (reply : Reply SourceFault) (new : Hosted D)
-    → Life device registered events (UnderHost old) → Handles device budget request old reply new → (IsAnswer reply → ⊥)
-    → LivesOnce device registered budget request events reply new
-other_once {D} device registered budget request events old reply new life handled not = by new.state old.state refl refl
-  where
-    goes_on : (new.state ≡ None → old.state ≡ None) → LivesOnce device registered budget request events reply new
-    goes_on only = (
-      [],
-      Unanswered events budget request old reply new life handled not only,
-      records_other budget request reply [] not (inl refl),
-    )
+      by : (live : LiveState B) → old.live ≡ Some live → HostReplies device G budget request (Some live) old reply new
+          → (one : LiveState B) × (old.live ≡ Some one) × TookStep device G budget request one old reply new
+      by live is (inl took) = (live, is, took)
+      by live is (inr (inl out)) = absurd (subst IsAnswer out.ran_out.reply_is tt)
+      by live is (inr (inr (inl lost))) = absurd lost.lost
+      by live is (inr (inr (inr (inl lost)))) = absurd (subst IsAnswer lost.reply_is tt)
+      by live is (inr (inr (inr (inr none)))) = absurd none.refused
 
-    by : (is was : Option HostState) → new.state ≡ is → old.state ≡ was
-        → LivesOnce device registered budget request events reply new
-    by (Some state) was runs before = goes_on (λ none. let h : None ≡ Some state = sym none ∙ runs in absurd (cc))
-    by None None none before = goes_on (λ again. before)
-    by None (Some state) none before =
-        let ran : old.state ≡ None → ⊥ = λ stopped. let h : None ≡ Some state = sym stopped ∙ before in absurd (cc) in (
-          InDoubt budget request ∷ [],
-          Failed events budget request old reply new life handled not ran none,
-          records_other budget request reply (InDoubt budget request ∷ []) not
-              (inr (stops_by device budget request old reply new state before none handled, refl)),
+      from : (was : Option (LiveState B)) → old.live ≡ was
+          → (one : LiveState B) × (old.live ≡ Some one) × TookStep device G budget request one old reply new
+      from None none =
+          let replies : HostReplies device G budget request None old reply new =
+          subst (λ (l : Option (LiveState B)). HostReplies device G budget request l old reply new) none
+          handled.replies in
+          absurd (stopped_answer request old.seq (subst IsAnswer replies.0 tt))
+      from (Some live) some =
+          by live some (subst (λ (l : Option (LiveState B)). HostReplies device G budget request l old reply new) some
+          handled.replies)
+
+  module _ (start : Reached) where
+    -- a life that goes on with one request
+    abbrev LivesOnce : Request → List StoreEvent → Reply SourceFault → Hosted D B → Type 0
+    LivesOnce request events reply new =
+        (one : List StoreEvent) × Life device G start (one ++ events) (UnderHost new)
+        × Records budget request reply one
+
+    other_once : (request : Request) (events : List StoreEvent) (old : Hosted D B) (reply : Reply SourceFault)
+        (new : Hosted D B) → Life device G start events (UnderHost old) → Handles device G budget request old reply new
+        → (IsAnswer reply → ⊥) → LivesOnce request events reply new
+    other_once request events old reply new life handled not = by new.live old.live refl refl
+      where
+        goes_on : (new.live ≡ None → old.live ≡ None) → LivesOnce request events reply new
+        goes_on only = (
+          [],
+          Unanswered events budget request old reply new life handled not only,
+          records_other budget request reply [] not (inl refl),
         )
 
-lives_once : {D : Type 0} (device : Device D) (registered : List Registration) (budget : ℕ) (request : Request)
-    (events : List StoreEvent) (old : Hosted D) (reply : Reply SourceFault) (new : Hosted D)
-    → Life device registered events (UnderHost old) → Handles device budget request old reply new
-    → LivesOnce device registered budget request events reply new
-lives_once device registered budget request events old (Answered end seq happened) new life handled =
-    (Acknowledged budget request end seq happened ∷ [], Replied events budget request old end seq happened new life handled, refl)
-lives_once device registered budget request events old (Value word) new life handled =
-    other_once device registered budget request events old (Value word) new life handled (λ no. no)
-lives_once device registered budget request events old (ShownAs shown) new life handled =
-    other_once device registered budget request events old (ShownAs shown) new life handled (λ no. no)
-lives_once device registered budget request events old (Number seq) new life handled =
-    other_once device registered budget request events old (Number seq) new life handled (λ no. no)
-lives_once device registered budget request events old Done new life handled =
-    other_once device registered budget request events old Done new life handled (λ no. no)
-lives_once device registered budget request events old (Refused refusal) new life handled =
-    other_once device registered budget request events old (Refused refusal) new life handled (λ no. no)
+        by : (is was : Option (LiveState B)) → new.live ≡ is → old.live ≡ was → LivesOnce request events reply new
+        by (Some live) was runs before = goes_on (λ none. let h : None ≡ Some live = sym none ∙ runs in absurd (cc))
+        by None None none before = goes_on (λ again. before)
+        by None (Some live) none before =
+            let ran : old.live ≡ None → ⊥ = λ stopped. let h : None ≡ Some live = sym stopped ∙ before in
+            absurd (cc) in (
+              InDoubt budget request ∷ [],
+              Failed events budget request old reply new life handled not ran none,
+              records_other budget request reply (InDoubt budget request ∷ []) not
+                  (inr (stops_by request old reply new live before none handled, refl)),
+            )
 
-pub lives_on : {D : Type 0} (device : Device D) (budget : ℕ) (old : Hosted D) (requests : List Request)
-    (replies : List (Reply SourceFault)) (new : Hosted D) → HandlesAll device budget old requests replies new
-    → LivesOn device budget old requests replies new
-lives_on {D} device budget old [] [] new all =
-    λ registered events life. (
-      [],
-      subst (λ (host : Hosted D). Life device registered events (UnderHost host)) (sym all)
-          life,
-      refl,
-    )
-lives_on device budget old (request ∷ requests) (reply ∷ replies) new all =
-    λ registered events life.
-    let one = lives_once device registered budget request events old reply all.0 life all.1 in
-    let more = lives_on device budget all.0 requests replies new all.2 registered (one.0 ++ events) one.1 in (
-      more.0 ++ one.0,
-      subst (λ (later : List StoreEvent). Life device registered later (UnderHost new))
-          (sym (append_assoc more.0 one.0 events)) more.1,
-      (more.0, one.0, one.2, more.2, refl),
-    )
-lives_on device budget old [] (reply ∷ replies) new all = absurd all
-lives_on device budget old (request ∷ requests) [] new all = absurd all
+    lives_once : (request : Request) (events : List StoreEvent) (old : Hosted D B) (reply : Reply SourceFault)
+        (new : Hosted D B) → Life device G start events (UnderHost old) → Handles device G budget request old reply new
+        → LivesOnce request events reply new
+    lives_once request events old (Answered end seq happened) new life handled =
+        let took = took_step request old end seq happened new handled in (
+          Acknowledged budget request end seq happened took.2.stepped.answers ∷ [],
+          Replied events budget request old took.0 end seq happened new life took.1 handled took.2,
+          (took.2.stepped.answers, refl),
+        )
+    lives_once request events old (Value word) new life handled =
+        other_once request events old (Value word) new life handled (λ no. no)
+    lives_once request events old (ShownAs shown) new life handled =
+        other_once request events old (ShownAs shown) new life handled (λ no. no)
+    lives_once request events old (Number seq) new life handled =
+        other_once request events old (Number seq) new life handled (λ no. no)
+    lives_once request events old Done new life handled =
+        other_once request events old Done new life handled (λ no. no)
+    lives_once request events old (Refused refusal) new life handled =
+        other_once request events old (Refused refusal) new life handled (λ no. no)
+
+  pub lives_on : (old : Hosted D B) (requests : List Request) (replies : List (Reply SourceFault)) (new : Hosted D B)
+      → HandlesAll device G budget old requests replies new → LivesOn device G budget old requests replies new
+  lives_on old [] [] new all =
+      λ start events life. (
+        [],
+        subst (λ (host : Hosted D B). Life device G start events (UnderHost host)) (sym all) life,
+        refl,
+      )
+  lives_on old (request ∷ requests) (reply ∷ replies) new all =
+      λ start events life.
+      let one = lives_once start request events old reply all.0 life all.1 in
+      let more = lives_on all.0 requests replies new all.2 start (one.0 ++ events) one.1 in (
+        more.0 ++ one.0,
+        subst (λ (later : List StoreEvent). Life device G start later (UnderHost new))
+            (sym (append_assoc more.0 one.0 events)) more.1,
+        (more.0, one.0, one.2, more.2, refl),
+      )
+  lives_on old [] (reply ∷ replies) new all = absurd all
+  lives_on old (request ∷ requests) [] new all = absurd all

@@ -5,6 +5,7 @@ use Rattle.std.proofs.Common.{ap, ◌∙◌, subst, arith, Option, Some, None, R
 use Rattle.std.proofs.lemmas.Bool.Decides.{nat_tests}
 use Rattle.std.proofs.lemmas.Grind.{common_steps}
 use Rattle.ash_disk.specs.Device.{Device}
+use Rattle.ash_host.specs.declared.host_object.HostObject.{Ghosts}
 use Rattle.ash_lex.specs.declared.faults.LexFault.TheVariants.{SourceTooLong}
 use Rattle.ash_registry.specs.AcceptedRegistrations.{Registration}
 use Rattle.ash_typed.specs.Modules.{Module}
@@ -20,7 +21,9 @@ use Rattle.ash_sources.specs.Sources.{admitted_as}
 use Rattle.ash_sources.specs.declared.sources.AdmittedScripts.TheVariants.{UsingNothingRegistered}
 use Rattle.ash_sources.proofs.CheckedSourceLaws.{of_no_tokens}
 use Rattle.ash_states.specs.HostStates.{HostState, embedding_for}
-use Rattle.ash_states.specs.StateSteps.{task_of, step, outcome_of, no_hosts}
+use Rattle.ash_states.specs.StateSteps.{task_of}
+use Rattle.ash_engine.specs.LiveStates.{LiveState}
+use Rattle.ash_engine.specs.LiveSteps.{TakesStep}
 use Rattle.ash_durable.specs.Hosting.{Hosted, HostReplies, Handles}
 
 take-all : (n : ℕ) (xs : List ℕ) → length xs ≤ n → take n xs ≡ xs
@@ -77,34 +80,44 @@ pub task_of_prefix : (name prefix source : List ℕ) (state : HostState) → pre
 task_of_prefix name prefix source state e = ap (λ (x : List ℕ). task_of (Load name x) state) e
     ∙ by-length name source state (nat_lt 65536 (length source)) refl
 
-step_of_prefix : (budget : ℕ) (name prefix source : List ℕ) (state : HostState) → prefix ≡ take 65537 source
-    → step budget (Load name source) state ≡ step budget (Load name prefix) state
-step_of_prefix budget name prefix source state e =
-    ap (λ (result : TaskResult SourceFault). option_map (outcome_of state.registered)
-    (unless_refused budget result state.state no_hosts)) (sym (task_of_prefix name prefix source state e))
+takes_of_prefix : {B : Type 0} (G : Ghosts B) (budget : ℕ) (name prefix source : List ℕ) (old : LiveState B)
+    (reply : Reply SourceFault) (new : LiveState B) → prefix ≡ take 65537 source
+    → TakesStep G budget (Load name prefix) old reply new → TakesStep G budget (Load name source) old reply new
+takes_of_prefix G budget name prefix source old reply new e step = record {
+  answers = step.answers;
+  taken = record {
+    stepped = ap (λ (result : TaskResult SourceFault). unless_refused budget result (old.durable).state
+        (record { pool = old.pool; answers = step.answers })) (sym (task_of_prefix name prefix source old.durable e))
+        ∙ step.taken.stepped;
+    registered = step.taken.registered;
+  };
+  gave = step.gave;
+  unchanged = step.unchanged;
+}
 
-replies_of_prefix : {D : Type 0} (device : Device D) (budget : ℕ) (name prefix source : List ℕ)
-    (state : Option HostState) (old : Hosted D) (reply : Reply SourceFault) (new : Hosted D)
-    → prefix ≡ take 65537 source → HostReplies device budget (Load name prefix) state old reply new
-    → HostReplies device budget (Load name source) state old reply new
-replies_of_prefix device budget name prefix source None old reply new e h = h
-replies_of_prefix device budget name prefix source (Some state) old reply new e (inl h) =
+replies_of_prefix : {D B : Type 0} (device : Device D) (G : Ghosts B) (budget : ℕ) (name prefix source : List ℕ)
+    (known : Option (LiveState B)) (old : Hosted D B) (reply : Reply SourceFault) (new : Hosted D B)
+    → prefix ≡ take 65537 source → HostReplies device G budget (Load name prefix) known old reply new
+    → HostReplies device G budget (Load name source) known old reply new
+replies_of_prefix device G budget name prefix source None old reply new e h = h
+replies_of_prefix device G budget name prefix source (Some live) old reply new e (inl h) =
     inl (record {
       between = h.between;
       room = h.room;
       after = h.after;
-      stepped = step_of_prefix budget name prefix source state e ∙ h.stepped;
+      stepped = takes_of_prefix G budget name prefix source live reply h.after e h.stepped;
+      live_is = h.live_is;
       running = h.running;
       added = h.added;
       untouched = h.untouched;
       settles = h.settles;
     })
-replies_of_prefix device budget name prefix source (Some state) old reply new e (inr (inl out)) =
+replies_of_prefix device G budget name prefix source (Some live) old reply new e (inr (inl out)) =
     inr (inl (record {
       room = out.room;
       ran_out = record {
         takes = tt;
-        finds = subst (TakesMemoryToFind sources.MayTakeMemory) (task_of_prefix name prefix source state e)
+        finds = subst (TakesMemoryToFind sources.MayTakeMemory) (task_of_prefix name prefix source live.durable e)
             out.ran_out.finds;
         reply_is = out.ran_out.reply_is;
         unchanged = out.ran_out.unchanged;
@@ -112,37 +125,40 @@ replies_of_prefix device budget name prefix source (Some state) old reply new e 
       running = out.running;
       settles = out.settles;
     }))
-replies_of_prefix device budget name prefix source (Some state) old reply new e (inr (inr (inl lost))) =
+replies_of_prefix device G budget name prefix source (Some live) old reply new e (inr (inr (inl lost))) =
     inr (inr (inl (record {
       between = lost.between;
       room = lost.room;
-      changes = subst TaskChangesState (task_of_prefix name prefix source state e) lost.changes;
+      changes = subst TaskChangesState (task_of_prefix name prefix source live.durable e) lost.changes;
       answer = lost.answer;
       after = lost.after;
-      stepped = step_of_prefix budget name prefix source state e ∙ lost.stepped;
+      stepped = takes_of_prefix G budget name prefix source live lost.answer lost.after e lost.stepped;
+      sound = lost.sound;
       lost = lost.lost;
       stopped = lost.stopped;
       settles = lost.settles;
     })))
-replies_of_prefix device budget name prefix source (Some state) old reply new e (inr (inr (inr (inl lost)))) =
+replies_of_prefix device G budget name prefix source (Some live) old reply new e (inr (inr (inr (inl lost)))) =
     inr (inr (inr (inl (record {
       between = lost.between;
       room = lost.room;
-      changes = subst TaskChangesState (task_of_prefix name prefix source state e) lost.changes;
+      changes = subst TaskChangesState (task_of_prefix name prefix source live.durable e) lost.changes;
       reply_is = lost.reply_is;
       journal_same = lost.journal_same;
       stopped = lost.stopped;
       settles = lost.settles;
     }))))
-replies_of_prefix device budget name prefix source (Some state) old reply new e (inr (inr (inr (inr none)))) =
+replies_of_prefix device G budget name prefix source (Some live) old reply new e (inr (inr (inr (inr none)))) =
     inr (inr (inr (inr (record { wanted = none.wanted; refused = none.refused; settles = none.settles }))))
 
 -- and so does a host
-pub handles_prefix : {D : Type 0} (device : Device D) (budget : ℕ) (name prefix source : List ℕ) (old : Hosted D)
-    (reply : Reply SourceFault) (new : Hosted D) → prefix ≡ take 65537 source
-    → Handles device budget (Load name prefix) old reply new → Handles device budget (Load name source) old reply new
-handles_prefix device budget name prefix source old reply new e h = record {
-  replies = replies_of_prefix device budget name prefix source old.state old reply new e h.replies;
+pub handles_prefix : {D B : Type 0} (device : Device D) (G : Ghosts B) (budget : ℕ) (name prefix source : List ℕ)
+    (old : Hosted D B) (reply : Reply SourceFault) (new : Hosted D B) → prefix ≡ take 65537 source
+    → Handles device G budget (Load name prefix) old reply new
+    → Handles device G budget (Load name source) old reply new
+handles_prefix device G budget name prefix source old reply new e h = record {
+  replies = replies_of_prefix device G budget name prefix source old.live old reply new e h.replies;
+  sound = h.sound;
   saved = h.saved;
   failures = h.failures;
   honesty_first = h.honesty_first;

@@ -89,18 +89,25 @@ module _ {D : Type 0} (device : Device D) where
   }
 
   -- disks that were only read have no file open where they have rested
-  pub read_makes : (state : HostState) (a b a' b' : D) → WereOnlyRead device a b a' b'
-      → MakesOrNot device state a b a' b'
-  read_makes state a b a' b' read p q honest rested_a rested_b s t x y from_p to_a from_q to_b left_x left_y =
+  pub read_idle : (a b a' b' : D) → WereOnlyRead device a b a' b' → (p q : ℕ) → AreHonest device a b
+      → WasUnused device p a → WasUnused device q b
+      → EveryMomentSince device p q a' b' (λ x y. IsClosed x × IsClosed y)
+  read_idle a b a' b' read p q honest rested_a rested_b s t x y from_p to_a from_q to_b left_x left_y =
       let one = rested_read device p a a' honest.honest_first read.read_first rested_a in
-      let two = rested_read device q b b' honest.honest_second read.read_second rested_b in
-      inl (
+      let two = rested_read device q b b' honest.honest_second read.read_second rested_b in (
         idle_closed (device.leaves a' s) (one.idle s from_p to_a) x left_x,
         idle_closed (device.leaves b' t) (two.idle t from_q to_b) y left_y,
       )
 
+  -- so no store is made there
+  pub read_makes : (state : HostState) (a b a' b' : D) → WereOnlyRead device a b a' b'
+      → MakesOrNot device state a b a' b'
+  read_makes state a b a' b' read p q honest rested_a rested_b s t x y from_p to_a from_q to_b left_x left_y =
+      inl (read_idle a b a' b' read p q honest rested_a rested_b s t x y from_p to_a from_q to_b left_x left_y)
+
   -- and then a journal was created, or it was not
-  module _ (state : HostState) (image : List ℕ) (depicts : IsImageIn Two image state) (a b one two : D)
+  module _ (Lacks : ℕ → Type 0) (state : HostState) (image : List ℕ) (depicts : IsImageIn Two image state)
+      (a b one two : D)
       (read : WereOnlyRead device a b one two) (back : HandsBack device ⊥ a b one two)
       (closed : AreHonest device a b → AreClosed device a b) where
     creates : (a' b' : D) → ((p q : ℕ) → IsTrue (device.honest one) → IsTrue (device.honest two)
@@ -148,7 +155,7 @@ module _ {D : Type 0} (device : Device D) where
     cause : (fault : CreateFault) (a' b' : D)
         → (IsTrue (device.honest one) → IsTrue (device.honest two)
         → CreateFaultIs fault (device.seen one) (device.seen two) (IsOnlyRead device one a' × IsOnlyRead device two b'))
-        → NotMadeFor device a b (faults.Create fault) a' b'
+        → NotMadeFor device Lacks a b (faults.Create fault) a' b'
     cause creating.DeviceFailed a' b' is = λ honest. inl (closed honest)
     cause creating.AlreadyThere a' b' is = λ honest.
         let still = honest_read a b one two read honest in
@@ -182,9 +189,9 @@ module _ {D : Type 0} (device : Device D) where
         → device.honest a' ≡ device.honest one → device.honest b' ≡ device.honest two
         → CountsFailures (fault ≡ creating.DeviceFailed) (device.failures one) (device.failures two)
         (device.failures a') (device.failures b')
-        → WasNotMade device state a b (record { fault = reported; a = a'; b = b' })
+        → WasNotMade device Lacks state a b (record { fault = reported; a = a'; b = b' })
     not_made fault reported a' b' is why moments honesty_first honesty_second counts =
-        subst (λ (f : StoreFault). WasNotMade device state a b (record { fault = f; a = a'; b = b' })) (sym is)
+        subst (λ (f : StoreFault). WasNotMade device Lacks state a b (record { fault = f; a = a'; b = b' })) (sym is)
         (record {
           cause = cause fault a' b' why;
           moments = creates a' b' moments;

@@ -1,5 +1,5 @@
 -- What becomes of a journal that was opened: its state is read, or not, and its gates are written over.
-use Rattle.std.proofs.Common.{◌≡◌, inl, inr, ℕ, List, Result, Ok, Err, refl, sym, ◌∙◌, subst, arith}
+use Rattle.std.proofs.Common.{◌≡◌, inl, inr, ℕ, List, Some, Result, Ok, Err, refl, sym, ◌∙◌, ap, subst, arith}
 use Rattle.ash_disk.specs.Device.{Device}
 use Rattle.ash_journal.specs.declared.error.OpenFault.TheVariants as opening
 use Rattle.ash_journal.specs.declared.journal.Journal.{Journal}
@@ -13,11 +13,14 @@ use Rattle.ash_journal.specs.SettledSince.{Extends, NoContents}
 use Rattle.ash_journal.proofs.RunLaws.{same_extends}
 use Rattle.ash_image.specs.declared.version.Version.TheVariants.{One, Two}
 use Rattle.ash_states.specs.HostStates.{HostState}
+use Rattle.ash_host.specs.declared.host_object.HostObject.{Ghosts}
 use Rattle.ash_registry.specs.AcceptedRegistrations.{Registration}
+use Rattle.ash_engine.specs.LiveStates.{LiveState, EngineState}
+use Rattle.ash_engine.specs.RestoredBoxes.{Restores}
 use Rattle.ash_durable.specs.Contents.{after_image, ReadsAs}
 use Rattle.ash_durable.specs.StoreFaults.{IsFailed}
 use Rattle.ash_durable.specs.OpenedStore.{contents_of, AreInPlace, OnlySettled, WasNotSettled, Settled, HasSettled}
-use Rattle.ash_durable.specs.OpenedStore.{FailedToSettle, Repairs, Moves, MayNotMove, UnsettledFor, WasSettledIn}
+use Rattle.ash_durable.specs.OpenedStore.{FailedToSettle, LivesAgain, Revives, Repairs, Moves, MayNotMove, UnsettledFor}
 use Rattle.ash_durable.specs.StoredStates.{AreIn, IsStateOf}
 use Rattle.ash_durable.specs.Store.{HandsBack}
 use Rattle.ash_durable.specs.declared.contents.StateRead.{StateRead}
@@ -54,12 +57,13 @@ uncounted failed f s not = record {
 }
 
 -- contents that are read as no state are of no use
-read_unsettled : {D : Type 0} (registered : List Registration) (opened : OpenedJournal D) (fault : StoreFault)
-    → ReadsAs registered (contents_of opened) (Err fault) → UnsettledFor registered opened fault
-read_unsettled registered opened (faults.Open (opening.Damaged at)) reads = reads
-read_unsettled registered opened faults.OtherInterface reads = reads
-read_unsettled registered opened (faults.Open opening.NoMemory) reads = tt
-read_unsettled registered opened _ reads = absurd reads
+read_unsettled : {D B : Type 0} (G : Ghosts B) (registered : List Registration) (pool services : List B)
+    (opened : OpenedJournal D) (fault : StoreFault) → ReadsAs registered (contents_of opened) (Err fault)
+    → UnsettledFor G registered pool services opened fault
+read_unsettled G registered pool services opened (faults.Open (opening.Damaged at)) reads = reads
+read_unsettled G registered pool services opened faults.OtherInterface reads = reads
+read_unsettled G registered pool services opened (faults.Open opening.NoMemory) reads = tt
+read_unsettled G registered pool services opened _ reads = absurd reads
 
 -- what an image and records are read as, what the journal holds is read as
 pub read_as : {D : Type 0} (opened : OpenedJournal D) (registered : List Registration)
@@ -168,20 +172,23 @@ module _ {D : Type 0} (device : Device D) where
       subst (λ (x : D). Extends device a b x refused.b NoContents) (sym a_is)
       (subst (λ (y : D). Extends device a b a' y NoContents) (sym b_is) extends)
 
+module _ {D B : Type 0} (device : Device D) (G : Ghosts B) (registered : List Registration) (pool services : List B)
+    (opened : OpenedJournal D) where
   -- nothing was written
-  unwritten : (registered : List Registration) (opened : OpenedJournal D) (refused : OpenRefused D)
+  unwritten : (refused : OpenRefused D)
       → refused.a ≡ first_disk opened.journal → refused.b ≡ second_disk opened.journal
-      → (IsFailed refused.fault → ⊥) → (AreInPlace opened → UnsettledFor registered opened refused.fault)
-      → WasNotSettled device registered opened refused
-  unwritten registered opened refused a_is b_is not cause =
+      → (IsFailed refused.fault → ⊥)
+      → (AreInPlace opened → UnsettledFor G registered pool services opened refused.fault)
+      → WasNotSettled device G registered pool services opened refused
+  unwritten refused a_is b_is not cause =
       let a = first_disk opened.journal in
       let b = second_disk opened.journal in
       record {
         cause = cause;
         read = λ never. (a_is, b_is);
-        extends = λ holds. extends_to a b a b refused a_is b_is (same_extends device a b NoContents);
+        extends = λ holds. extends_to device a b a b refused a_is b_is (same_extends device a b NoContents);
         only = λ failed. absurd (not failed);
-        disks = handed refused ⊥ a b a b not (λ is. absurd is) a_is b_is (record {
+        disks = handed device refused ⊥ a b a b not (λ is. absurd is) a_is b_is (record {
           failures = uncounted ⊥ (device.failures a) (device.failures b) (λ is. is);
           honesty_first = refl;
           honesty_second = refl;
@@ -189,31 +196,55 @@ module _ {D : Type 0} (device : Device D) where
       }
 
   -- it is read as no state
-  pub not_read : (registered : List Registration) (opened : OpenedJournal D) (fault : StoreFault)
-      (refused : OpenRefused D)
+  pub not_read : (fault : StoreFault) (refused : OpenRefused D)
       → refused.fault ≡ fault → refused.a ≡ first_disk opened.journal → refused.b ≡ second_disk opened.journal
       → (IsFailed fault → ⊥) → (AreInPlace opened → ReadsAs registered (contents_of opened) (Err fault))
-      → WasNotSettled device registered opened refused
-  not_read registered opened fault refused fault_is a_is b_is not reads =
-      unwritten registered opened refused a_is b_is
+      → WasNotSettled device G registered pool services opened refused
+  not_read fault refused fault_is a_is b_is not reads =
+      unwritten refused a_is b_is
       (λ failed. not (subst IsFailed fault_is failed))
-      (λ placed. subst (UnsettledFor registered opened) (sym fault_is)
-      (read_unsettled registered opened fault (reads placed)))
+      (λ placed. subst (UnsettledFor G registered pool services opened) (sym fault_is)
+      (read_unsettled G registered pool services opened fault (reads placed)))
+
+  -- as a state that the boxes did not take
+  boxes_fail : (state : HostState) (fault : StoreFault) → Revives G state pool services (Err fault) → IsFailed fault → ⊥
+  boxes_fail state (faults.PoolShort kind) why failed = failed
+  boxes_fail state (faults.RestoreRefused number) why failed = failed
+  boxes_fail state (faults.Open opening.NoMemory) why failed = failed
+  boxes_fail state _ why failed = why
+
+  not_taken : (state : HostState) (fault : StoreFault) → state.registered ≡ registered
+      → IsStateOf state (contents_of opened) → Revives G state pool services (Err fault)
+      → UnsettledFor G registered pool services opened fault
+  not_taken state (faults.PoolShort kind) with_it is_state why = (state, with_it, is_state, why)
+  not_taken state (faults.RestoreRefused number) with_it is_state why = (state, with_it, is_state, why)
+  not_taken state (faults.Open opening.NoMemory) with_it is_state why = tt
+  not_taken state _ with_it is_state why = absurd why
+
+  pub not_revived : (state : HostState) (fault : StoreFault) (refused : OpenRefused D) → state.registered ≡ registered
+      → (AreInPlace opened → IsStateOf state (contents_of opened))
+      → refused.fault ≡ fault → refused.a ≡ first_disk opened.journal → refused.b ≡ second_disk opened.journal
+      → Revives G state pool services (Err fault)
+      → WasNotSettled device G registered pool services opened refused
+  not_revived state fault refused with_it reads fault_is a_is b_is why =
+      unwritten refused a_is b_is (λ failed. boxes_fail state fault why (subst IsFailed fault_is failed))
+      (λ placed. subst (UnsettledFor G registered pool services opened) (sym fault_is)
+      (not_taken state fault with_it (reads placed) why))
 
   -- as a state, and a device failed then
-  unsettled : (registered : List Registration) (opened : OpenedJournal D) (refused : OpenRefused D)
-      → FailedToSettle device opened.journal refused → WasNotSettled device registered opened refused
-  unsettled registered opened refused failed =
+  unsettled : (refused : OpenRefused D) → FailedToSettle device opened.journal refused
+      → WasNotSettled device G registered pool services opened refused
+  unsettled refused failed =
       let a = first_disk opened.journal in
       let b = second_disk opened.journal in
       let is_failed : IsFailed refused.fault = subst IsFailed (sym failed.fault_is) tt in
       record {
-        cause = λ placed. subst (UnsettledFor registered opened) (sym failed.fault_is) tt;
+        cause = λ placed. subst (UnsettledFor G registered pool services opened) (sym failed.fault_is) tt;
         read = λ not. absurd (not is_failed);
-        extends = λ holds. extends_to a b (first_disk failed.journal) (second_disk failed.journal) refused
+        extends = λ holds. extends_to device a b (first_disk failed.journal) (second_disk failed.journal) refused
             failed.first_is failed.second_is (failed.extends (contents_of opened) holds);
         only = λ is. (failed.journal, failed.only, failed.first_is, failed.second_is);
-        disks = handed refused (Unit {0}) a b (first_disk failed.journal) (second_disk failed.journal)
+        disks = handed device refused (Unit {0}) a b (first_disk failed.journal) (second_disk failed.journal)
             (λ is. tt) (λ is. is_failed) failed.first_is failed.second_is failed.disks;
       }
 
@@ -223,56 +254,69 @@ module _ {D : Type 0} (device : Device D) where
   may_fail was (faults.Open opening.NoMemory) may failed = failed
   may_fail was _ may failed = may
 
-  may_not_move : (registered : List Registration) (opened : OpenedJournal D) (fault : StoreFault) (state : HostState)
-      → state.registered ≡ registered → IsStateOf state (contents_of opened) → AreIn One (contents_of opened)
-      → MayNotMove opened.journal fault → UnsettledFor registered opened fault
-  may_not_move registered opened faults.GenerationSpent state with_it is_state in_one last = record {
+  may_not_move : (fault : StoreFault) (state : HostState) (live : LiveState B) → state.registered ≡ registered
+      → IsStateOf state (contents_of opened) → AreIn One (contents_of opened) → Restores G state pool services live
+      → MayNotMove opened.journal fault → UnsettledFor G registered pool services opened fault
+  may_not_move faults.GenerationSpent state live with_it is_state in_one restored last = record {
     state = state;
     registered_is = with_it;
     is_state = is_state;
     in_one = in_one;
+    live = live;
+    restored = restored;
     last = last;
   }
-  may_not_move registered opened (faults.Open opening.NoMemory) state with_it is_state in_one may = tt
-  may_not_move registered opened _ state with_it is_state in_one may = absurd may
+  may_not_move (faults.Open opening.NoMemory) state live with_it is_state in_one restored may = tt
+  may_not_move _ state live with_it is_state in_one restored may = absurd may
 
   -- in version 2, and it is kept
-  pub settles_two : (registered : List Registration) (opened : OpenedJournal D) (state : HostState)
-      (result : Result (Found D) (OpenRefused D)) → state.registered ≡ registered
+  pub settles_two : (state : HostState) (engine : EngineState B) (result : Result (Found D B) (OpenRefused D))
+      → state.registered ≡ registered → LivesAgain G state pool services engine
       → (AreInPlace opened → IsStateOf state (contents_of opened) × AreIn Two (contents_of opened))
-      → Repairs device state opened.journal result → Settled device registered opened result
-  settles_two registered opened state (Ok one) with_it reads repairs =
-      subst (λ (s : HostState). WasSettledIn device registered opened s one.journal) (sym repairs.0) (record {
-        version = Two;
-        old = one.journal;
-        settled = record { registered_is = with_it; reads = reads; settled = repairs.1 };
-        keeps = refl;
-      })
-  settles_two registered opened state (Err refused) with_it reads failed =
-      inl (unsettled registered opened refused failed)
+      → Repairs device engine opened.journal result → Settled device G registered pool services opened result
+  settles_two state engine (Ok one) with_it lives reads repairs = record {
+    version = Two;
+    state = state;
+    lives = subst (LivesAgain G state pool services) (sym repairs.0) lives;
+    old = one.journal;
+    settled = record { registered_is = with_it; reads = reads; settled = repairs.1 };
+    keeps = refl;
+  }
+  settles_two state engine (Err refused) with_it lives reads failed = inl (unsettled refused failed)
 
   -- in version 1, and it is moved
-  pub settles_one : (registered : List Registration) (opened : OpenedJournal D) (state : HostState)
-      (result : Result (Found D) (OpenRefused D)) → state.registered ≡ registered
+  pub settles_one : (state : HostState) (engine : EngineState B) (result : Result (Found D B) (OpenRefused D))
+      → state.registered ≡ registered → LivesAgain G state pool services engine
       → (AreInPlace opened → IsStateOf state (contents_of opened) × AreIn One (contents_of opened))
-      → Moves device state opened.journal result → Settled device registered opened result
-  settles_one registered opened state (Ok one) with_it reads moves =
-      subst (λ (s : HostState). WasSettledIn device registered opened s one.journal) (sym moves.0) (record {
-        version = One;
-        old = moves.1;
-        settled = record { registered_is = with_it; reads = reads; settled = moves.2 };
-        keeps = moves.3;
-      })
-  settles_one registered opened state (Err refused) with_it reads (inl begun) =
-      inl (unwritten registered opened refused begun.first_same begun.second_same
-      (may_fail opened.journal refused.fault begun.cause)
-      (λ placed. let is = reads placed in
-      may_not_move registered opened refused.fault state with_it is.0 is.1 begun.cause))
-  settles_one registered opened state (Err refused) with_it reads (inr (inl failed)) =
-      inl (unsettled registered opened refused failed)
-  settles_one registered opened state (Err refused) with_it reads (inr (inr left)) = inr (record {
+      → Moves device state engine opened.journal result → Settled device G registered pool services opened result
+  settles_one state engine (Ok one) with_it lives reads moves = record {
+    version = One;
     state = state;
+    lives = subst (LivesAgain G state pool services) (sym moves.0) lives;
+    old = moves.1;
+    settled = record { registered_is = with_it; reads = reads; settled = moves.2 };
+    keeps = moves.3;
+  }
+  settles_one state engine (Err refused) with_it lives reads (inl begun) =
+      inl (unwritten refused begun.first_same begun.second_same (may_fail opened.journal refused.fault begun.cause)
+      (λ placed. let is = reads placed in
+      may_not_move refused.fault state lives.live with_it is.0 is.1 lives.restored begun.cause))
+  settles_one state engine (Err refused) with_it lives reads (inr (inl failed)) = inl (unsettled refused failed)
+  settles_one state engine (Err refused) with_it lives reads (inr (inr left)) = inr (record {
+    state = state;
+    live = lives.live;
+    restored = lives.restored;
     old = left.0;
     settled = record { registered_is = with_it; reads = reads; settled = left.1 };
     left = left.2;
   })
+
+-- what became of an engine in which a state lives again, said of that state
+pub moved_by : {D B : Type 0} (device : Device D) (G : Ghosts B) (state : HostState) (pool services : List B)
+    (engine : EngineState B) (was : Journal D) (result : Result (Found D B) (OpenRefused D))
+    → LivesAgain G state pool services engine
+    → ((live : LiveState B) → engine.live ≡ Some live → Moves device live.durable engine was result)
+    → Moves device state engine was result
+moved_by {D} {B} device G state pool services engine was result lives moves =
+    subst (λ (s : HostState). Moves device s engine was result) lives.restored.durable
+    (moves lives.live (ap (λ (e : EngineState B). e.live) lives.engine_is))

@@ -17,7 +17,7 @@ use Rattle.ash_image.specs.Snapshots.{Snapshot}
 use Rattle.ash_image.specs.Rules.{IsImage, IsImageBody, IsShaped}
 use Rattle.ash_image.specs.SnapshotViews.{image_read}
 use Rattle.ash_states.specs.HostStates.{HostState}
-use Rattle.ash_states.specs.Images.{IsDepicted, IsImageOf, IsImageRestored, state_of}
+use Rattle.ash_states.specs.Images.{HasServices, IsDepicted, IsImageOf, IsImageRestored, state_of}
 use Rattle.ash_durable.specs.StoredStates.{IsBodyAs, AreIn, Leads, LeadAll, IsStateOf}
 use Rattle.ash_durable.specs.Contents.{IsImageWith, IsBodyWith, AreShaped, IsAdmittedImage, IsAdmittedBody}
 use Rattle.ash_durable.specs.Contents.{IsNoImage, FirstWithout, after_image, IsMisshapen, IsNotAdmitted, ReadsAs}
@@ -106,7 +106,7 @@ depicted : (registered : List Registration) (s : Snapshot) (state : HostState) �
     → IsImageRestored registered s (Some state) → IsDepicted s state
 depicted registered s state text restored = record {
   text_is = text ∙ ap text_of (sym restored.0);
-  no_services = restored.2;
+  services_are = subst (λ (r : List Registration). HasServices r s) (sym restored.0) restored.2;
   state_is = restored.1;
   admitted = restored.3;
 }
@@ -116,7 +116,8 @@ undepicted : (registered : List Registration) (s t : Snapshot) (state : HostStat
     → t ≡ s → state.registered ≡ registered → IsDepicted t state → ⊥
 undepicted registered s t state none same with_it is =
     none state with_it (subst (λ (x : Snapshot). state_of x ≡ state.state) same is.state_is)
-    (subst (λ (x : Snapshot). x.services ≡ []) same is.no_services) is.admitted
+    (subst (HasServices registered) same (subst (λ (r : List Registration). HasServices r t) with_it is.services_are))
+    is.admitted
 
 no_image : (registered : List Registration) (image : List ℕ) (version : Version) (s : Snapshot)
     → IsImage image version s → IsImageRestored registered s None → IsAdmittedImage registered image → ⊥

@@ -1,148 +1,142 @@
 -- What the parts of a request do to a host, by what they do to its journal.
 use Rattle.std.proofs.Common.{◌≡◌, ◌⊎◌, inl, inr, ℕ, Option, Some, None, IsSome, Result, Ok, Err, OnOk, refl, subst}
-use Rattle.std.proofs.Common.{ap, arith}
+use Rattle.std.proofs.Common.{List, sym, ◌∙◌, ap, arith}
 use Rattle.std.proofs.lemmas.Bool.{cases_lt}
 use Rattle.ash_disk.specs.Device.{Device}
 use Rattle.ash_journal.specs.declared.journal.Journal.{Journal}
-use Rattle.ash_journal.specs.Journal.{record_bytes}
+use Rattle.ash_journal.specs.Journal.{record_bytes, IsReady}
+use Rattle.ash_host.specs.declared.host_object.HostObject.{Ghosts}
 use Rattle.ash_requests.specs.Requests.{Request, Load, Call, Discard, Get, Object, Seq, Snapshot}
 use Rattle.ash_requests.specs.declared.refusal.Refusal.TheVariants as the
+use Rattle.ash_registry.specs.AcceptedRegistrations.{Registration}
 use Rattle.ash_states.specs.HostStates.{HostState}
+use Rattle.ash_engine.specs.LiveStates.{LiveState, EngineState}
 use Rattle.ash_durable.specs.StoredStates.{HoldsState, ExtendsHistory}
 use Rattle.ash_durable.specs.Saving.{HostRefusal, AddsWith, Adds, InstallsWith, Installs}
-use Rattle.ash_durable.specs.Hosting.{Hosted, state_unless, IsRunning, IsHonest, IsFull, full_record_bytes, MayAdd}
+use Rattle.ash_durable.specs.Hosting.{Hosted, IsReadyUnless, IsSound, RunsSound, IsRunning, IsHonest, IsFull, full_record_bytes, MayAdd}
 use Rattle.ash_durable.specs.Hosting.{WantsInstall, Settles, WasInstalled, InstallRefused, WasLost}
 use Rattle.ash_durable.specs.HostReplies.{refused_by}
 use Rattle.ash_durable.specs.HostRequests.{InstallsInto, TriesInstall, MakesRoom, CommitsWith, Commits}
 use Rattle.ash_durable.proofs.Composing.{runs_in, honest_before, untouched_disks}
-use Rattle.ash_durable.proofs.HandledRequests.{seen_host, running_seen}
+use Rattle.ash_durable.proofs.HandledRequests.{seen_host, host_in, host_stopped, HasRegistered, seen_in, running_seen}
 
 -- at each state in which a host runs, of which there is one
-at_each : {D : Type 0} (state : HostState) (journal : Journal D) (P : HostState → Type 0) → P state
-    → (other : HostState)
-    → IsRunning other (seen_host None state journal) → P other
-at_each state journal P here other runs = subst P
-    (runs_in (seen_host None state journal) state other (running_seen state journal) runs) here
+at_each : {D B : Type 0} (live : LiveState B) (journal : Journal D) (P : HostState → Type 0) → P live.durable
+    → (other : HostState) → IsRunning other (host_in live journal) → P other
+at_each live journal P here other runs = subst P
+    (runs_in (host_in live journal) live.durable other (running_seen live journal) runs) here
 
 -- ---- a new generation
 
-installed : {D : Type 0} (device : Device D) (state : HostState) (old new : Journal D)
-    → Installs device state old (Ok tt) new → WasInstalled device state (seen_host None state old)
-    (seen_host None state new)
-installed device state old new installs = record {
-  running = running_seen state new;
-  higher = installs.outcome.1;
-  emptied = installs.outcome.2;
-  saved = λ was honest other runs.
-      let honest_then : IsHonest device (seen_host None state old) =
-      honest_before device (seen_host None state old) (seen_host None state new)
-      installs.honesty_first installs.honesty_second honest in
-      at_each state new (λ (s : HostState). HoldsState device s new)
-      (installs.holds (was honest_then state (running_seen state old))) other runs;
-}
+module _ {D B : Type 0} (device : Device D) (live : LiveState B) (old new : Journal D) where
+  installed : Installs device live.durable old (Ok tt) new
+      → WasInstalled device live.durable (host_in live old) (host_in live new)
+  installed installs = record {
+    running = running_seen live new;
+    live_same = refl;
+    higher = installs.outcome.1;
+    emptied = installs.outcome.2;
+    saved = λ was honest other runs.
+        let honest_then : IsHonest device (host_in live old) =
+        honest_before device (host_in live old) (host_in live new)
+        installs.honesty_first installs.honesty_second honest in
+        at_each live new (λ (s : HostState). HoldsState device s new)
+        (installs.holds (was honest_then live.durable (running_seen live old))) other runs;
+  }
 
-pub install_ok : {D : Type 0} (device : Device D) (stopped : Option ℕ) (state : HostState) (old new : Journal D)
-    → IsSome (state_unless stopped state) → Installs device state old (Ok tt) new
-    → TriesInstall device (seen_host stopped state old) (Ok tt) (seen_host stopped state new)
-install_ok device (Some seq) state old new runs installs = absurd (cc)
-install_ok device None state old new runs installs = record {
-  installs = λ other runs_too.
-      at_each state old (λ (s : HostState). WasInstalled device s (seen_host None state old) (seen_host None state new)
-      × Settles device s s (seen_host None state old) (seen_host None state new)) (
-        installed device state old new installs,
-        λ honest was. installs.moments (was honest state (running_seen state old)),
-      ) other runs_too;
-  disks = record {
-    failures = installs.failures;
-    honesty_first = installs.honesty_first;
-    honesty_second = installs.honesty_second;
-    registered = refl;
-  };
-}
+  pub install_ok : Installs device live.durable old (Ok tt) new
+      → TriesInstall device (host_in live old) (Ok tt) (host_in live new)
+  install_ok installs = record {
+    installs = λ other runs_too.
+        at_each live old (λ (s : HostState). WasInstalled device s (host_in live old) (host_in live new)
+        × Settles device s s (host_in live old) (host_in live new)) (
+          installed installs,
+          λ honest was. installs.moments (was honest live.durable (running_seen live old)),
+        ) other runs_too;
+    disks = record {
+      failures = installs.failures;
+      honesty_first = installs.honesty_first;
+      honesty_second = installs.honesty_second;
+      registered = refl;
+    };
+  }
 
--- no device failed, and nothing changed
-refused_for : {D : Type 0} (state : HostState) (refusal : HostRefusal) (old new : Journal D)
-    → (refusal ≡ the.DeviceFailed → ⊥) → InstallsWith old (Err refusal) new
-    → InstallRefused (seen_host None state old) (refused_by refusal) (seen_host None state new)
-refused_for state the.GenerationSpent old new not outcome = (outcome.0, ap (seen_host None state) outcome.1)
-refused_for state the.NoMemory old new not outcome = (outcome.0, ap (seen_host None state) outcome.1)
-refused_for state the.DeviceFailed old new not outcome = absurd (not refl)
-refused_for state _ old new not outcome = absurd outcome
+  -- no device failed, and nothing changed
+  refused_for : (refusal : HostRefusal) → (refusal ≡ the.DeviceFailed → ⊥) → InstallsWith old (Err refusal) new
+      → InstallRefused (host_in live old) (refused_by refusal) (host_in live new)
+  refused_for the.GenerationSpent not outcome = (outcome.0, ap (host_in live) outcome.1)
+  refused_for the.NoMemory not outcome = (outcome.0, ap (host_in live) outcome.1)
+  refused_for the.DeviceFailed not outcome = absurd (not refl)
+  refused_for _ not outcome = absurd outcome
 
-pub install_refused : {D : Type 0} (device : Device D) (stopped : Option ℕ) (state : HostState) (refusal : HostRefusal)
-    (old new : Journal D) → IsSome (state_unless stopped state) → (refusal ≡ the.DeviceFailed → ⊥)
-    → Installs device state old (Err refusal) new
-    → TriesInstall device (seen_host stopped state old) (Err refusal) (seen_host stopped state new)
-install_refused device (Some seq) state refusal old new runs not installs = absurd (cc)
-install_refused device None state refusal old new runs not installs = record {
-  installs = λ other runs_too.
-      at_each state old (λ (s : HostState).
-      InstallRefused (seen_host None state old) (refused_by refusal) (seen_host None state new)
-      × Settles device s s (seen_host None state old) (seen_host None state new)) (
-        refused_for state refusal old new not installs.outcome,
-        λ honest was. installs.moments (was honest state (running_seen state old)),
-      ) other runs_too;
-  disks = record {
-    failures = installs.failures;
-    honesty_first = installs.honesty_first;
-    honesty_second = installs.honesty_second;
-    registered = refl;
-  };
-}
+  pub install_refused : (refusal : HostRefusal) → (refusal ≡ the.DeviceFailed → ⊥)
+      → Installs device live.durable old (Err refusal) new
+      → TriesInstall device (host_in live old) (Err refusal) (host_in live new)
+  install_refused refusal not installs = record {
+    installs = λ other runs_too.
+        at_each live old (λ (s : HostState).
+        InstallRefused (host_in live old) (refused_by refusal) (host_in live new)
+        × Settles device s s (host_in live old) (host_in live new)) (
+          refused_for refusal not installs.outcome,
+          λ honest was. installs.moments (was honest live.durable (running_seen live old)),
+        ) other runs_too;
+    disks = record {
+      failures = installs.failures;
+      honesty_first = installs.honesty_first;
+      honesty_second = installs.honesty_second;
+      registered = refl;
+    };
+  }
 
--- a device failed
-pub install_failed : {D : Type 0} (device : Device D) (seq : ℕ) (stopped : Option ℕ) (state : HostState)
-    (old new : Journal D) → IsSome (state_unless stopped state) → seq ≡ state.state.seq
-    → Installs device state old (Err the.DeviceFailed) new
-    → TriesInstall device (seen_host stopped state old) (Err the.DeviceFailed) (seen_host (Some seq) state new)
-install_failed device seq (Some number) state old new runs seq_is installs = absurd (cc)
-install_failed device seq None state old new runs seq_is installs = record {
-  installs = λ other runs_too.
-      at_each state old (λ (s : HostState).
-      InstallRefused (seen_host None state old) (refused_by the.DeviceFailed) (seen_host (Some seq) state new)
-      × Settles device s s (seen_host None state old) (seen_host (Some seq) state new)) (
-        (installs.outcome.0, record { stopped = refl; seq_same = seq_is }),
-        λ honest was. installs.moments (was honest state (running_seen state old)),
-      ) other runs_too;
-  disks = record {
-    failures = installs.failures;
-    honesty_first = installs.honesty_first;
-    honesty_second = installs.honesty_second;
-    registered = refl;
-  };
-}
+  -- a device failed, and the host has to be reopened
+  pub install_failed : Installs device live.durable old (Err the.DeviceFailed) new
+      → TriesInstall device (host_in live old) (Err the.DeviceFailed)
+      (host_stopped B live.durable.registered live.durable.state.seq new)
+  install_failed installs = record {
+    installs = λ other runs_too.
+        at_each live old (λ (s : HostState).
+        InstallRefused (host_in live old) (refused_by the.DeviceFailed)
+        (host_stopped B live.durable.registered live.durable.state.seq new)
+        × Settles device s s (host_in live old) (host_stopped B live.durable.registered live.durable.state.seq new)) (
+          (installs.outcome.0, record { stopped = refl; seq_same = refl }),
+          λ honest was. installs.moments (was honest live.durable (running_seen live old)),
+        ) other runs_too;
+    disks = record {
+      failures = installs.failures;
+      honesty_first = installs.honesty_first;
+      honesty_second = installs.honesty_second;
+      registered = refl;
+    };
+  }
 
 -- ---- a record more
 
-commits_moments : {D : Type 0} (device : Device D) (state : HostState) (old new : Journal D)
-    (done : Result (Unit {0}) HostRefusal) → Adds device state old done new → (before other : HostState)
-    → IsRunning other (seen_host None state old) → before.registered ≡ other.registered → HoldsState device before old
-    → ExtendsHistory device before other old new
-commits_moments device state old new done adds before other runs =
-    at_each state old (λ (s : HostState). before.registered ≡ s.registered → HoldsState device before old
-    → ExtendsHistory device before s old new) (adds.moments before) other runs
+module _ {D B : Type 0} (device : Device D) (live : LiveState B) (old new : Journal D) where
+  commits_moments : (done : Result (Unit {0}) HostRefusal) → Adds device live.durable old done new
+      → (before other : HostState) → IsRunning other (host_in live old) → before.registered ≡ other.registered
+      → HoldsState device before old → ExtendsHistory device before other old new
+  commits_moments done adds before other runs =
+      at_each live old (λ (s : HostState). before.registered ≡ s.registered → HoldsState device before old
+      → ExtendsHistory device before s old new) (adds.moments before) other runs
 
--- the record is there
-pub commit_ok : {D : Type 0} (device : Device D) (seq : ℕ) (stopped : Option ℕ) (state : HostState)
-    (old new : Journal D)
-    → IsSome (state_unless stopped state) → Adds device state old (Ok tt) new
-    → Commits device seq (seen_host stopped state old) (Ok tt) (seen_host stopped state new)
-commit_ok device seq (Some number) state old new runs adds = absurd (cc)
-commit_ok device seq None state old new runs adds = record {
-  outcome = λ other runs_too.
-      at_each state old (λ (s : HostState). CommitsWith seq s (seen_host None state old) (Ok tt)
-      (seen_host None state new)) (running_seen state new, adds.outcome.1) other runs_too;
-  holds = λ before other runs_too.
-      at_each state old (λ (s : HostState). before.registered ≡ s.registered → HoldsState device before old
-      → HoldsState device s new) (adds.holds before) other runs_too;
-  moments = λ before other runs_too. commits_moments device state old new (Ok tt) adds before other runs_too;
-  disks = record {
-    failures = adds.failures;
-    honesty_first = adds.honesty_first;
-    honesty_second = adds.honesty_second;
-    registered = refl;
-  };
-}
+  -- the record is there
+  pub commit_ok : (seq : ℕ) → Adds device live.durable old (Ok tt) new
+      → Commits device seq (host_in live old) (Ok tt) (host_in live new)
+  commit_ok seq adds = record {
+    outcome = λ other runs_too.
+        at_each live old (λ (s : HostState). CommitsWith seq s (host_in live old) (Ok tt) (host_in live new))
+        (running_seen live new, refl, adds.outcome.1) other runs_too;
+    holds = λ before other runs_too.
+        at_each live old (λ (s : HostState). before.registered ≡ s.registered → HoldsState device before old
+        → HoldsState device s new) (adds.holds before) other runs_too;
+    moments = λ before other runs_too. commits_moments (Ok tt) adds before other runs_too;
+    disks = record {
+      failures = adds.failures;
+      honesty_first = adds.honesty_first;
+      honesty_second = adds.honesty_second;
+      registered = refl;
+    };
+  }
 
 lost_for : {D : Type 0} (state : HostState) (refusal : HostRefusal) (old new : Journal D)
     → AddsWith state old (Err refusal) new → WasLost old (refused_by refusal) new
@@ -151,17 +145,16 @@ lost_for state the.DeviceFailed old new outcome = tt
 lost_for state _ old new outcome = absurd outcome
 
 -- it is not, or it is in doubt
-pub commit_err : {D : Type 0} (device : Device D) (seq : ℕ) (stopped : Option ℕ) (state : HostState)
-    (refusal : HostRefusal) (old new : Journal D) → IsSome (state_unless stopped state)
-    → Adds device state old (Err refusal) new
-    → Commits device seq (seen_host stopped state old) (Err refusal) (seen_host (Some seq) state new)
-commit_err device seq (Some number) state refusal old new runs adds = absurd (cc)
-commit_err device seq None state refusal old new runs adds = record {
+pub commit_err : {D B : Type 0} (device : Device D) (live : LiveState B) (old new : Journal D) (seq : ℕ)
+    (refusal : HostRefusal) → Adds device live.durable old (Err refusal) new
+    → Commits device seq (host_in live old) (Err refusal) (host_stopped B live.durable.registered seq new)
+commit_err {D} {B} device live old new seq refusal adds = record {
   outcome = λ other runs_too.
-      at_each state old (λ (s : HostState). CommitsWith seq s (seen_host None state old) (Err refusal)
-      (seen_host (Some seq) state new)) (refl, refl, lost_for state refusal old new adds.outcome) other runs_too;
+      at_each live old (λ (s : HostState). CommitsWith seq s (host_in live old) (Err refusal)
+      (host_stopped B live.durable.registered seq new))
+      (refl, refl, lost_for live.durable refusal old new adds.outcome) other runs_too;
   holds = tt;
-  moments = λ before other runs_too. commits_moments device state old new (Err refusal) adds before other runs_too;
+  moments = λ before other runs_too. commits_moments device live old new (Err refusal) adds before other runs_too;
   disks = record {
     failures = adds.failures;
     honesty_first = adds.honesty_first;
@@ -172,35 +165,27 @@ commit_err device seq None state refusal old new runs adds = record {
 
 -- ---- room
 
--- a host that has a state runs in it
-pub runs_seen : {D : Type 0} (stopped : Option ℕ) (state : HostState) (journal : Journal D) (other : HostState)
-    → state_unless stopped state ≡ Some other → IsRunning other (seen_host stopped state journal)
-runs_seen {D} None state journal other is =
-    let same : state ≡ other = cc in
-    subst (λ (s : HostState). IsRunning s (seen_host None state journal)) same (running_seen state journal)
-runs_seen (Some seq) state journal other is = let h : None ≡ Some other = is in absurd (cc)
-
 -- what was installed has no records
-empty_room : {D : Type 0} (device : Device D) (request : Request) (state : HostState) (old : Hosted D)
-    (result : Result (Unit {0}) HostRefusal) (new : Hosted D) → InstallsInto device state old result new
+empty_room : {D B : Type 0} (device : Device D) (request : Request) (state : HostState) (old : Hosted D B)
+    (result : Result (Unit {0}) HostRefusal) (new : Hosted D B) → InstallsInto device state old result new
     → OnOk result (MayAdd request → IsFull new → ⊥)
 empty_room device request state old (Ok done) new into = λ adds full. omega (arith, into.emptied, full)
 empty_room device request state old (Err refusal) new into = tt
 
 -- a request that may add a record wants a new generation where the records are long enough
-pub full_wants : {D : Type 0} (request : Request) (host : Hosted D) → MayAdd request → IsFull host
+pub full_wants : {D B : Type 0} (request : Request) (host : Hosted D B) → MayAdd request → IsFull host
     → WantsInstall request host
 full_wants Snapshot host adds full = tt
 full_wants request host adds full = (adds, full)
 
 -- a host may want a new generation before a request, or not
-full_or_not : {D : Type 0} (host : Hosted D) → (Unit {0} × IsFull host → ⊥) ⊎ (Unit {0} × IsFull host)
+full_or_not : {D B : Type 0} (host : Hosted D B) → (Unit {0} × IsFull host → ⊥) ⊎ (Unit {0} × IsFull host)
 full_or_not host = elim (cases_lt (record_bytes host.journal) full_record_bytes) [
   | inl small ↦ inl (λ wants. let full = wants.1 in omega (arith, small, full))
   | inr full ↦ inr (tt, full)
 ]
 
-pub wants_or_not : {D : Type 0} (request : Request) (host : Hosted D) → (WantsInstall request host → ⊥)
+pub wants_or_not : {D B : Type 0} (request : Request) (host : Hosted D B) → (WantsInstall request host → ⊥)
     ⊎ WantsInstall request host
 wants_or_not (Load name source) host = full_or_not host
 wants_or_not (Call module_name function arguments) host = full_or_not host
@@ -210,16 +195,30 @@ wants_or_not (Object number) host = inl (λ wants. wants.0)
 wants_or_not Seq host = inl (λ wants. wants.0)
 wants_or_not Snapshot host = inr tt
 
--- each state that a host has is the one that it runs in
-abbrev pub RunsInIts : {D : Type 0} → Hosted D → Type 0
-RunsInIts host = (state : HostState) → host.state ≡ Some state → IsRunning state host
+-- each live state that a host has is of the state in which it runs
+abbrev pub RunsInIts : {D B : Type 0} → Hosted D B → Type 0
+RunsInIts {D} {B} host = (live : LiveState B) → host.live ≡ Some live → IsRunning live.durable host
 
-pub some_state : (known : Option HostState) → IsSome known → (state : HostState) × (known ≡ Some state)
-some_state None runs = absurd (cc)
-some_state (Some state) runs = (state, refl)
+-- a host as it is seen does
+pub runs_seen : {D B : Type 0} (stopped : Option ℕ) (engine : EngineState B) (journal : Journal D)
+    → HasRegistered engine → RunsInIts (seen_host stopped engine journal)
+runs_seen {D} {B} None engine journal has live is =
+    subst (λ (host : Hosted D B). IsRunning live.durable host) (sym (seen_in engine live journal is has))
+    (running_seen live journal)
+runs_seen (Some seq) engine journal has live is = let h : None ≡ Some live = is in absurd (cc)
+
+pub sound_seen : {D B : Type 0} (G : Ghosts B) (stopped : Option ℕ) (engine : EngineState B) (journal : Journal D)
+    → ((live : LiveState B) → engine.live ≡ Some live → IsSound G live)
+    → RunsSound G (seen_host stopped engine journal)
+sound_seen G None engine journal sound live is = sound live is
+sound_seen G (Some seq) engine journal sound live is = let h : None ≡ Some live = is in absurd (cc)
+
+pub some_live : {B : Type 0} (known : Option (LiveState B)) → IsSome known → (live : LiveState B) × (known ≡ Some live)
+some_live None runs = absurd (cc)
+some_live (Some live) runs = (live, refl)
 
 -- there is room
-pub room_enough : {D : Type 0} (device : Device D) (request : Request) (host : Hosted D) → RunsInIts host
+pub room_enough : {D B : Type 0} (device : Device D) (request : Request) (host : Hosted D B) → RunsInIts host
     → (WantsInstall request host → ⊥) → MakesRoom device request host (Ok tt) host
 room_enough device request host runs not = record {
   runs = runs;
@@ -230,15 +229,121 @@ room_enough device request host runs not = record {
 }
 
 -- there is none, and a new generation was to be installed
-pub room_wanted : {D : Type 0} (device : Device D) (request : Request) (host : Hosted D)
-    (result : Result (Unit {0}) HostRefusal) (new : Hosted D) → IsSome host.state → RunsInIts host
+pub room_wanted : {D B : Type 0} (device : Device D) (request : Request) (host : Hosted D B)
+    (result : Result (Unit {0}) HostRefusal) (new : Hosted D B) → IsSome host.live → RunsInIts host
     → WantsInstall request host → TriesInstall device host result new → MakesRoom device request host result new
 room_wanted device request host result new has runs wants tries =
-    let known = some_state host.state has in
+    let known = some_live host.live has in
     record {
       runs = runs;
       enough = λ other running none. absurd (none wants);
       wanted = λ other running again. tries;
-      room = empty_room device request known.0 host result new (tries.installs known.0 (runs known.0 known.1)).0;
+      room = empty_room device request known.0.durable host result new
+          (tries.installs known.0.durable (runs known.0 known.1)).0;
       disks = tries.disks;
     }
+
+-- ---- a host as it is seen
+
+-- A host that is seen so has a live state.
+pub record Sees {D B : Type 0} (stopped : Option ℕ) (engine : EngineState B) (journal : Journal D)
+    (host : Hosted D B) : Type 0 where
+  pub live : LiveState B
+  pub runs : stopped ≡ None
+  pub live_is : engine.live ≡ Some live
+  pub registered_is : live.durable.registered ≡ engine.registered
+  pub seen : host_in live journal ≡ host
+  pub later : (new : Journal D) → host_in live new ≡ seen_host stopped engine new
+
+pub sees : {D B : Type 0} (stopped : Option ℕ) (engine : EngineState B) (journal : Journal D) (host : Hosted D B)
+    → IsSome host.live → seen_host stopped engine journal ≡ host → HasRegistered engine
+    → Sees stopped engine journal host
+sees {D} {B} (Some seq) engine journal host has is registered =
+    let known = some_live host.live has in
+    let h : None ≡ Some known.0 = ap (λ (other : Hosted D B). other.live) is ∙ known.1 in
+    absurd (cc)
+sees {D} {B} None engine journal host has is registered =
+    let known = some_live host.live has in
+    let live_is : engine.live ≡ Some known.0 = ap (λ (other : Hosted D B). other.live) is ∙ known.1 in
+    record {
+      live = known.0;
+      runs = refl;
+      live_is = live_is;
+      registered_is = registered known.0 live_is;
+      seen = sym (seen_in engine known.0 journal live_is registered) ∙ is;
+      later = λ new. sym (seen_in engine known.0 new live_is registered);
+    }
+
+module _ {D B : Type 0} (stopped : Option ℕ) (engine : EngineState B) (old new : Journal D) (host : Hosted D B)
+    (seen : Sees stopped engine old host) where
+  -- it may write on
+  pub ready_seen : IsReady new → IsReadyUnless stopped engine.live new
+  ready_seen ready =
+      subst (λ (s : Option ℕ). IsReadyUnless s engine.live new) (sym seen.runs)
+      (subst (λ (l : Option (LiveState B)). IsSome l) (sym seen.live_is) refl, ready)
+
+  -- the host that has to be reopened, as it is seen
+  stopped_seen : (seq : ℕ) → host_stopped B seen.live.durable.registered seq new ≡ seen_host (Some seq) engine new
+  stopped_seen seq = ap (λ (r : List Registration). host_stopped B r seq new) seen.registered_is
+
+  module _ (device : Device D) where
+    pub commit_seen : (seq : ℕ)
+        → ((live : LiveState B) → engine.live ≡ Some live → Adds device live.durable old (Ok tt) new)
+        → Commits device seq host (Ok tt) (seen_host stopped engine new)
+    commit_seen seq adds =
+        subst (λ (h : Hosted D B). Commits device seq h (Ok tt) (seen_host stopped engine new)) seen.seen
+        (subst (λ (h : Hosted D B). Commits device seq (host_in seen.live old) (Ok tt) h) (seen.later new)
+        (commit_ok device seen.live old new seq (adds seen.live seen.live_is)))
+
+    pub commit_lost : (seq : ℕ) (refusal : HostRefusal)
+        → ((live : LiveState B) → engine.live ≡ Some live → Adds device live.durable old (Err refusal) new)
+        → Commits device seq host (Err refusal) (seen_host (Some seq) engine new)
+    commit_lost seq refusal adds =
+        subst (λ (h : Hosted D B). Commits device seq h (Err refusal) (seen_host (Some seq) engine new)) seen.seen
+        (subst (λ (h : Hosted D B). Commits device seq (host_in seen.live old) (Err refusal) h) (stopped_seen seq)
+        (commit_err device seen.live old new seq refusal (adds seen.live seen.live_is)))
+
+    pub install_seen : ((live : LiveState B) → engine.live ≡ Some live → Installs device live.durable old (Ok tt) new)
+        → TriesInstall device host (Ok tt) (seen_host stopped engine new)
+    install_seen installs =
+        subst (λ (h : Hosted D B). TriesInstall device h (Ok tt) (seen_host stopped engine new)) seen.seen
+        (subst (λ (h : Hosted D B). TriesInstall device (host_in seen.live old) (Ok tt) h) (seen.later new)
+        (install_ok device seen.live old new (installs seen.live seen.live_is)))
+
+    pub install_put_off : (refusal : HostRefusal) → (refusal ≡ the.DeviceFailed → ⊥)
+        → ((live : LiveState B) → engine.live ≡ Some live → Installs device live.durable old (Err refusal) new)
+        → TriesInstall device host (Err refusal) (seen_host stopped engine new)
+    install_put_off refusal not installs =
+        subst (λ (h : Hosted D B). TriesInstall device h (Err refusal) (seen_host stopped engine new)) seen.seen
+        (subst (λ (h : Hosted D B). TriesInstall device (host_in seen.live old) (Err refusal) h) (seen.later new)
+        (install_refused device seen.live old new refusal not (installs seen.live seen.live_is)))
+
+    pub install_lost : (seq : ℕ) → ((live : LiveState B) → engine.live ≡ Some live → seq ≡ live.durable.state.seq)
+        → ((live : LiveState B) → engine.live ≡ Some live
+        → Installs device live.durable old (Err the.DeviceFailed) new)
+        → TriesInstall device host (Err the.DeviceFailed) (seen_host (Some seq) engine new)
+    install_lost seq seq_is installs =
+        subst (λ (h : Hosted D B). TriesInstall device h (Err the.DeviceFailed) (seen_host (Some seq) engine new))
+        seen.seen
+        (subst (λ (h : Hosted D B). TriesInstall device (host_in seen.live old) (Err the.DeviceFailed) h)
+        (stopped_seen seq)
+        (subst (λ (n : ℕ). TriesInstall device (host_in seen.live old) (Err the.DeviceFailed)
+        (host_stopped B seen.live.durable.registered n new)) (sym (seq_is seen.live seen.live_is))
+        (install_failed device seen.live old new (installs seen.live seen.live_is))))
+
+-- a host that is seen to run has a live state
+pub seen_some : {D B : Type 0} (stopped : Option ℕ) (engine : EngineState B) (journal : Journal D) (host : Hosted D B)
+    → stopped ≡ None → IsReadyUnless stopped engine.live journal → seen_host stopped engine journal ≡ host
+    → (live : LiveState B) × (engine.live ≡ Some live) × (host.live ≡ Some live)
+seen_some (Some seq) engine journal host runs ready is = absurd (cc)
+seen_some {D} {B} None engine journal host runs ready is =
+    let known = some_live engine.live ready.0 in
+    (known.0, known.1, sym (ap (λ (h : Hosted D B). h.live) is) ∙ known.1)
+
+-- where no device failed a new generation that was not installed left the journal as it was
+pub unchanged_for : {D : Type 0} (refusal : HostRefusal) (old new : Journal D) → (refusal ≡ the.DeviceFailed → ⊥)
+    → InstallsWith old (Err refusal) new → new ≡ old
+unchanged_for the.GenerationSpent old new not outcome = outcome.1
+unchanged_for the.NoMemory old new not outcome = outcome.1
+unchanged_for the.DeviceFailed old new not outcome = absurd (not refl)
+unchanged_for _ old new not outcome = absurd outcome

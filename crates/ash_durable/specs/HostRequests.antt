@@ -4,6 +4,7 @@ use Rattle.ash_disk.specs.Device.{Device}
 use Rattle.ash_journal.specs.JournalFailures.{CountsFailures}
 use Rattle.ash_requests.specs.Requests.{Request}
 use Rattle.ash_states.specs.HostStates.{HostState}
+use Rattle.ash_engine.specs.LiveStates.{LiveState}
 use Rattle.ash_durable.specs.StoredStates.{HoldsState, ExtendsHistory}
 use Rattle.ash_durable.specs.Saving.{HostRefusal, FailsBy, HasOneMore}
 use Rattle.ash_durable.specs.Hosting.{Hosted, first, second, IsRunning, IsFull, MayAdd, WantsInstall, Settles}
@@ -11,8 +12,8 @@ use Rattle.ash_durable.specs.Hosting.{WasInstalled, InstallRefused, WasLost}
 use Rattle.ash_durable.specs.HostReplies.{refused_by}
 
 -- a call counted the failures of a host's disks, changed neither their honesty nor what is registered
-pub record PreservesDisks {D T : Type 0} (device : Device D) (old : Hosted D) (result : Result T HostRefusal)
-    (new : Hosted D) : Type 0 where
+pub record PreservesDisks {D B T : Type 0} (device : Device D) (old : Hosted D B) (result : Result T HostRefusal)
+    (new : Hosted D B) : Type 0 where
   pub failures : CountsFailures (FailsBy result) (device.failures (first old)) (device.failures (second old))
       (device.failures (first new)) (device.failures (second new))
   pub honesty_first : device.honest (first new) ≡ device.honest (first old)
@@ -20,22 +21,22 @@ pub record PreservesDisks {D T : Type 0} (device : Device D) (old : Hosted D) (r
   pub registered : new.registered ≡ old.registered
 
 -- what came of a new generation that was to hold the state of a host that runs
-abbrev pub InstallsInto : {D : Type 0} → Device D → HostState → Hosted D → Result (Unit {0}) HostRefusal → Hosted D
+abbrev pub InstallsInto : {D B : Type 0} → Device D → HostState → Hosted D B → Result (Unit {0}) HostRefusal → Hosted D B
     → Type 0
 InstallsInto device state old (Ok done) new = WasInstalled device state old new
 InstallsInto device state old (Err refusal) new = InstallRefused old (refused_by refusal) new
 
 -- A new generation was to hold the state of a host that runs.
-pub record TriesInstall {D : Type 0} (device : Device D) (old : Hosted D) (result : Result (Unit {0}) HostRefusal)
-    (new : Hosted D) : Type 0 where
+pub record TriesInstall {D B : Type 0} (device : Device D) (old : Hosted D B) (result : Result (Unit {0}) HostRefusal)
+    (new : Hosted D B) : Type 0 where
   pub installs : (state : HostState) → IsRunning state old → InstallsInto device state old result new
       × Settles device state state old new
   pub disks : PreservesDisks device old result new
 
 -- Room was to be made for a request of a host that runs: a new generation is installed where one is wanted.
-pub record MakesRoom {D : Type 0} (device : Device D) (request : Request) (old : Hosted D)
-    (result : Result (Unit {0}) HostRefusal) (new : Hosted D) : Type 0 where
-  pub runs : (state : HostState) → old.state ≡ Some state → IsRunning state old
+pub record MakesRoom {D B : Type 0} (device : Device D) (request : Request) (old : Hosted D B)
+    (result : Result (Unit {0}) HostRefusal) (new : Hosted D B) : Type 0 where
+  pub runs : (live : LiveState B) → old.live ≡ Some live → IsRunning live.durable old
   pub enough : (state : HostState) → IsRunning state old → (WantsInstall request old → ⊥)
       → (result ≡ Ok tt) × (new ≡ old)
   pub wanted : (state : HostState) → IsRunning state old → WantsInstall request old → TriesInstall device old result new
@@ -43,15 +44,16 @@ pub record MakesRoom {D : Type 0} (device : Device D) (request : Request) (old :
   pub disks : PreservesDisks device old result new
 
 -- what came of one record more that was to hold the state of a host
-abbrev pub CommitsWith : {D : Type 0} → ℕ → HostState → Hosted D → Result (Unit {0}) HostRefusal → Hosted D → Type 0
-CommitsWith seq state old (Ok done) new = IsRunning state new × HasOneMore state old.journal new.journal
+abbrev pub CommitsWith : {D B : Type 0} → ℕ → HostState → Hosted D B → Result (Unit {0}) HostRefusal → Hosted D B → Type 0
+CommitsWith seq state old (Ok done) new =
+    IsRunning state new × (new.live ≡ old.live) × HasOneMore state old.journal new.journal
 CommitsWith seq state old (Err refusal) new =
-    (new.state ≡ None) × (new.seq ≡ seq) × WasLost old.journal (refused_by refusal) new.journal
+    (new.live ≡ None) × (new.seq ≡ seq) × WasLost old.journal (refused_by refusal) new.journal
 
 -- The state of a host, which a request has changed, was to be stored before the answer is returned, beside the one
 -- before it that the files held.
-pub record Commits {D : Type 0} (device : Device D) (seq : ℕ) (old : Hosted D) (result : Result (Unit {0}) HostRefusal)
-    (new : Hosted D) : Type 0 where
+pub record Commits {D B : Type 0} (device : Device D) (seq : ℕ) (old : Hosted D B) (result : Result (Unit {0}) HostRefusal)
+    (new : Hosted D B) : Type 0 where
   pub outcome : (state : HostState) → IsRunning state old → CommitsWith seq state old result new
   pub holds : OnOk result ((before state : HostState) → IsRunning state old → before.registered ≡ state.registered
       → HoldsState device before old.journal → HoldsState device state new.journal)

@@ -1,11 +1,12 @@
+pub mod StoredStates
 pub mod Contents
+pub mod Saving
+pub mod HandedBoxes
 pub mod StoreFaults
 pub mod Hosting
-pub mod Lives
-pub mod OpenedStore
 pub mod HostReplies
 pub mod HostRequests
 pub mod RequestRuns
-pub mod Saving
-pub mod StoredStates
 pub mod Store
+pub mod OpenedStore
+pub mod Lives

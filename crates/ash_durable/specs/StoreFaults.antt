@@ -3,6 +3,8 @@ use Rattle.std.specs.Prelude.{ℕ, List, codes}
 use Rattle.ash_journal.specs.JournalCodes.{create_code, open_code}
 use Rattle.ash_journal.specs.declared.error.CreateFault.TheVariants as creating
 use Rattle.ash_journal.specs.declared.error.OpenFault.TheVariants as opening
+use Rattle.ash_objects.specs.declared.restoring.TableFault.{TableFault}
+use Rattle.ash_objects.specs.declared.restoring.TableFault.TheVariants as boxes
 use Rattle.ash_durable.specs.declared.fault.StoreFault.{StoreFault}
 use Rattle.ash_durable.specs.declared.fault.StoreFault.TheVariants as faults
 
@@ -12,6 +14,14 @@ code_of (faults.Create fault) = create_code fault
 code_of (faults.Open fault) = open_code fault
 code_of faults.OtherInterface = codes "504 OtherInterface"
 code_of faults.GenerationSpent = codes "511 GenerationSpent"
+code_of (faults.PoolShort kind) = codes "505 PoolShort"
+code_of (faults.RestoreRefused number) = codes "506 RestoreRefused"
+
+-- the fault of boxes that were handed over, as one of the store; memory is refused by a fault of its own
+abbrev pub fault_of_boxes : StoreFault → TableFault → StoreFault
+fault_of_boxes out_of_memory (boxes.PoolShort kind) = faults.PoolShort kind
+fault_of_boxes out_of_memory (boxes.RestoreRefused number) = faults.RestoreRefused number
+fault_of_boxes out_of_memory boxes.NoMemory = out_of_memory
 
 -- a device failed
 abbrev pub IsFailed : StoreFault → Type 0
@@ -25,8 +35,9 @@ IsMishap (faults.Open opening.NoMemory) = Unit {0}
 IsMishap (faults.Open opening.DeviceFailed) = Unit {0}
 IsMishap _ = ⊥
 
--- Why an opening may be refused where a host with the same registry made the store: memory ran out, a disk failed, or
--- the store is of version 1 and the number of its generation is the last.
+-- Why an opening may be refused where a host with the same registry made the store, and boxes are handed over with
+-- which it can be opened: memory ran out, a disk failed, or the store is of version 1 and the number of its generation
+-- is the last.
 abbrev pub MayRefuse : StoreFault → Type 0
 MayRefuse faults.GenerationSpent = Unit {0}
 MayRefuse fault = IsMishap fault

@@ -119,7 +119,8 @@ fn last_state(alloc: Global, first: HostState, records: &[Record]) -> Result<Hos
 {
     let mut state = first;
     for record in records {
-        state = next_state(alloc, state.into_registry(), record)?;
+        let (registry, _) = state.into_parts();
+        state = next_state(alloc, registry, record)?;
     }
     Ok(state)
 }

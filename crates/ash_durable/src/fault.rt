@@ -23,13 +23,19 @@ pub enum StoreFault {
     /// of version 2.
     #[error("the store is of version 1, and no generation is left for one of version 2")]
     GenerationSpent,
+    /// Too few boxes of a kind were handed over: no service of it is in its place, or no free box of it is left.
+    #[error("there are too few boxes of kind {0}")]
+    PoolShort(u16),
+    /// The host object of a number does not take the state that is stored; a service, where the number is 0.
+    #[error("the host object {0} does not take its state")]
+    RestoreRefused(u64),
 }
 
 impl StoreFault {
     ghost use Rattle.std.specs.Prelude.{◌≡◌};
     ghost use Rattle.ash_durable.specs.StoreFaults.{code_of};
 
-    /// The code by which it is reported: its number and its name, without the offset.
+    /// The code by which it is reported: its number and its name, without an offset, a kind or the number of an object.
     pub fn code(self) -> &'static str
         ensures coded { result.now ≡ code_of self }
     {
@@ -38,6 +44,8 @@ impl StoreFault {
             StoreFault::Open(fault) => fault.code(),
             StoreFault::OtherInterface => "504 OtherInterface",
             StoreFault::GenerationSpent => "511 GenerationSpent",
+            StoreFault::PoolShort(_) => "505 PoolShort",
+            StoreFault::RestoreRefused(_) => "506 RestoreRefused",
         }
     }
 }
@@ -64,7 +72,7 @@ impl From<OpenFault> for StoreFault {
     }
 }
 
-/// A refused `create` or `open`, which hands both disks back. The registry is dropped.
+/// A refused `create` or `open`, which hands both disks back. The registry and the boxes are dropped.
 #[derive(Drop)]
 pub struct OpenRefused<D> {
     pub fault: StoreFault,

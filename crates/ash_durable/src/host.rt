@@ -5,10 +5,10 @@ ghost use Rattle.ash_registry.specs.RegistryViews.{registered};
 ghost use Rattle.ash_requests.specs.Requests.{Call, Discard, Get, Load, Number, Object, Seq, Snapshot};
 ghost use Rattle.ash_requests.specs.RequestViews.{request_seen, reply_seen};
 ghost use Rattle.ash_sources.specs.SourceFaults.{fault_of};
-ghost use Rattle.ash_states.specs.HostStates.{HostState};
+ghost use Rattle.ash_engine.specs.LiveStates.{LiveState};
 ghost use Rattle.ash_durable.specs.Hosting.{first, second, Handles, HandlesAll, IsAnswer, IsFull};
-ghost use Rattle.ash_durable.specs.Hosting.{IsInstalled, IsRunning, RefusesFirst, WantsInstall};
-ghost use Rattle.ash_durable.specs.Hosting.{reply_stopped};
+ghost use Rattle.ash_durable.specs.Hosting.{IsInstalled, IsRunning, RefusesFirst, RunsSound};
+ghost use Rattle.ash_durable.specs.Hosting.{WantsInstall, reply_stopped};
 ghost use Rattle.ash_durable.specs.Lives.{LivesOn};
 ghost use Rattle.ash_durable.specs.OpenedStore.{Opens, OpensAgain};
 ghost use Rattle.ash_durable.specs.HostReplies.{done_of, reply_of};
@@ -20,10 +20,12 @@ use crate::fault::OpenRefused;
 use crate::saving::{add_state, install_state};
 use crate::store::{find, make};
 use ash_disk::Disk;
+use ash_engine::engine::Engine;
+use ash_host::HostObject;
 use ash_journal::Journal;
 use ash_registry::Registry;
 use ash_requests::{Arg, Refusal, Reply, Request};
-use ash_states::state::{HostRefusal, HostReply, HostState};
+use ash_states::state::{HostRefusal, HostReply};
 use std::alloc::{AllocError, Global};
 use std::marker::Model;
 
@@ -41,78 +43,115 @@ pub const FULL_RECORD_BYTES: u64 = 16_777_216;
 ///
 /// A `load`, a `call` or a `discard` that finds 16,777,216 bytes of records or more in the current generation first
 /// installs the state as a new one, without records, in the file that isn't current.
+///
+/// It owns the boxes of host objects that it is handed: those that are free, in the pool, those of the host objects that
+/// live, and one for each service that is registered. Write `B: HostObject` on what holds a host; only who makes the
+/// boxes names their type.
 #[derive(Drop)]
-pub struct Host<D> {
+pub struct Host<D, B: HostObject = Box<dyn HostObject>> {
     alloc: Global,
-    state: HostState,
+    engine: Engine<B>,
     /// Where the host must be reopened, the number after the last request that was answered.
     stopped: Option<u64>,
     journal: Journal<D>,
 }
 
-impl<D> Model for Host<D> {
-    ghost use Rattle.ash_durable.specs.Hosting.{Hosted, IsReadyUnless, state_unless};
+impl<D, B: HostObject> Model for Host<D, B> {
+    ghost use Rattle.ash_durable.specs.Hosting.{Hosted, IsReadyUnless, live_unless, seq_in};
     ghost use Rattle.std.specs.Prelude.{unwrap_or};
 
-    ghost Value = { Hosted D };
+    ghost Value = { Hosted D B };
 
     ghost view = { λ h. record {
-      registered = h.state.registered;
-      state = state_unless h.stopped h.state;
-      seq = unwrap_or h.stopped h.state.state.seq;
+      registered = h.engine.registered;
+      live = live_unless h.stopped h.engine.live;
+      seq = unwrap_or h.stopped (seq_in h.engine.live);
       journal = h.journal;
     } };
 
-    // A host that runs may write to its journal.
-    ghost invariant = { λ h. IsReadyUnless h.stopped h.journal };
+    // A host that runs has a live state, and may write to its journal.
+    ghost invariant = { λ h. IsReadyUnless h.stopped h.engine.live h.journal };
 }
 
-impl<D: Disk> Host<D> {
-    /// Makes a store on two disks, and a host with this registry and no module, before any request. The first
-    /// generation, on the disk `a`, holds that state.
+impl<D: Disk, B: HostObject> Host<D, B> {
+    /// Makes a store on two disks, and a host with this registry and no module, before any request. It has these free
+    /// boxes, and these services: the one at a place must be of the kind that is registered there, and those beyond the
+    /// last are dropped. No host object lives. The first generation, on the disk `a`, holds that state, with the states
+    /// of the services.
     ///
-    /// Faults, each a `StoreFault::Create`, the first that holds: `DeviceFailed`, `AlreadyThere` where a file is open,
-    /// `NoMemory`. Nothing is written where one of the last two is returned. A crash on the way leaves no file open, or
-    /// the store of a host that has answered nothing, where each file had one byte at the most before, or 0 for its
-    /// first.
-    pub fn create(alloc: Global, a: D, b: D, registry: Registry) -> Result<Host<D>, OpenRefused<D>>
-        ensures created { Creates D.Disk (registered registry) a b result }
+    /// Faults, the first that holds: `DeviceFailed` and `AlreadyThere` where a file is open, each a
+    /// `StoreFault::Create`; `PoolShort` with the first kind for which no service is in its place;
+    /// `StoreFault::Create(NoMemory)`. Nothing is written except before `DeviceFailed`. A crash on the way leaves no
+    /// file open, or the store of a host that has answered nothing, where each file had one byte at the most before, or
+    /// 0 for its first.
+    pub fn create(
+        alloc: Global,
+        a: D,
+        b: D,
+        registry: Registry,
+        pool: Vec<B>,
+        services: Vec<B>,
+    ) -> Result<Host<D, B>, OpenRefused<D>>
+        ensures created { Creates D.Disk B.HostObject (registered registry) pool.items
+            services.items a b result }
     {
-        let state = HostState::new(alloc, registry);
-        let journal = make(alloc, &state, a, b)?;
+        let made = make(alloc, registry, pool, services, a, b)?;
         Ok(Host {
             alloc,
-            state,
+            engine: made.engine,
             stopped: None,
-            journal,
+            journal: made.journal,
         })
     }
 
-    /// Opens the store on two disks, and gives a host with this registry in the state of which the files are. It
-    /// reads the current generation once, and last of all writes 0 over gates that a crash has left half written, with
-    /// a sync for each. That is all it writes where the generation is of version 2: the files hold the same image and
-    /// the same records as before. A generation of version 1 is then moved: one of version 2 with the same state,
-    /// without records, is installed in the other file, and a crash on the way leaves the one or the other.
+    /// Opens the store on two disks, and gives a host with this registry in the state of which the files are. Its
+    /// services take the states that are stored, and each host object lives in the first free box of its kind, by
+    /// ascending number. It reads the current generation once, and last of all writes 0 over gates that a crash has
+    /// left half written, with a sync for each. That is all it writes where the generation is of version 2: the files
+    /// hold the same image and the same records as before. A generation of version 1 is then moved: one of version 2
+    /// with the same state, without records, is installed in the other file, and a crash on the way leaves the one or
+    /// the other.
     ///
-    /// Faults, each a `StoreFault::Open` but `OtherInterface` and `GenerationSpent`, the first that holds:
-    /// `DeviceFailed`; `NoGeneration` where no file is open; `Damaged` where bytes have not the shape of a generation,
-    /// an image or a record, or a record has not its image's version; `OtherInterface` where the store was made with a
-    /// registry of another text; `Damaged` where no host with the registry may be in a state; `GenerationSpent` where
-    /// the generation is of version 1, and its number is 2^64 - 1. `NoMemory` where there is none to read into, or none
-    /// for the generation of version 2. But for `DeviceFailed` in the last steps, both disks read as before.
-    pub fn open(alloc: Global, a: D, b: D, registry: Registry) -> Result<Host<D>, OpenRefused<D>>
-        ensures opened { Opens D.Disk (registered registry) a b result }
+    /// Faults, each a `StoreFault::Open` except `OtherInterface`, `PoolShort`, `RestoreRefused` and `GenerationSpent`,
+    /// the first that holds: `DeviceFailed`; `NoGeneration` where no file is open; `Damaged` where bytes have not the
+    /// shape of a generation, an image or a record, or a record has not its image's version; `OtherInterface` where the
+    /// store was made with a registry of another text; `Damaged` where no host with the registry may be in a state;
+    /// `PoolShort` with the kind of a service that is not in its place, and then with the kind of a host object for
+    /// which no free box is left; `RestoreRefused` with 0 for a service, and then with the number of a host object,
+    /// that does not take its state; `GenerationSpent` where the generation is of version 1, and its number is
+    /// 2^64 - 1. `NoMemory` where there is none to read into, none for the boxes, or none for the generation of version
+    /// 2. Except for `DeviceFailed` in the last steps, both disks read as before.
+    pub fn open(
+        alloc: Global,
+        a: D,
+        b: D,
+        registry: Registry,
+        pool: Vec<B>,
+        services: Vec<B>,
+    ) -> Result<Host<D, B>, OpenRefused<D>>
+        ensures opened { Opens D.Disk B.HostObject (registered registry) pool.items services.items
+            a b result }
     {
-        let found = find(alloc, registry, a, b)?;
+        let found = find(alloc, registry, pool, services, a, b)?;
         Ok(Host {
             alloc,
-            state: found.state,
+            engine: found.engine,
             stopped: None,
             journal: found.journal,
         })
     }
 
-    /// Gives the disks back, as they are.
+    /// What is known of a host that runs: its boxes are those of its state, and the state has what is registered with the
+    /// host. The function does nothing.
+    pub fn facts(&self)
+        ensures sound { RunsSound B.HostObject self.now }
+        ensures runs { (live : LiveState B) → self.now.live ≡ Some live
+            → IsRunning live.durable self.now }
+    {
+        self.engine.facts();
+    }
+
+    /// Gives the disks back, as they are. The boxes are dropped.
     pub fn close(self) -> (D, D)
         ensures first { result.0 ≡ first self }
         ensures second { result.1 ≡ second self }
@@ -127,34 +166,37 @@ impl<D: Disk> Host<D> {
         ensures second { result.2 ≡ second self }
     {
         let (first, second) = self.journal.close();
-        (self.state.into_registry(), first, second)
+        (self.engine.into_registry(), first, second)
     }
 
-    /// Closes the host and opens its store again with the same registry, as a host needs that must be reopened. A host
-    /// that ran is then in the state in which it was.
+    /// Closes the host and opens its store again with the same registry and with fresh boxes, as a host needs that must
+    /// be reopened. A host that ran is then in the state in which it was.
     ///
     /// It is what `open` gives of the disks that are handed back, whether the host ran or not.
     ///
     /// Faults are those of `open`.
-    pub fn reopen(self) -> Result<Host<D>, OpenRefused<D>>
-        ensures opens { Opens D.Disk self.registered (first self) (second self) result }
-        ensures again { OpensAgain D.Disk self result }
+    pub fn reopen(self, pool: Vec<B>, services: Vec<B>) -> Result<Host<D, B>, OpenRefused<D>>
+        ensures opens { Opens D.Disk B.HostObject self.registered pool.items services.items
+            (first self) (second self) result }
+        ensures again { OpensAgain D.Disk B.HostObject pool.items services.items self result }
     {
+        self.facts();
         let alloc = self.alloc;
         let (registry, first, second) = self.into_parts();
-        Host::open(alloc, first, second, registry)
+        Host::open(alloc, first, second, registry, pool, services)
     }
 
     /// Installs the state of a host that runs as a new generation.
     fn install(&mut self) -> Result<(), HostRefusal>
-        requires state { IsSome self.old.state }
+        requires live { IsSome self.old.live }
         ensures tries_install { TriesInstall D.Disk self.old result self.new }
     {
-        match install_state(&self.state, &mut self.journal) {
+        self.engine.facts();
+        match install_state(&self.engine, &mut self.journal) {
             Ok(()) => Ok(()),
             Err(refusal) => match refusal {
                 Refusal::DeviceFailed => {
-                    self.stopped = Some(self.state.seq());
+                    self.stopped = Some(self.engine.seq());
                     Err(Refusal::DeviceFailed)
                 }
                 refusal => Err(refusal),
@@ -165,17 +207,18 @@ impl<D: Disk> Host<D> {
     /// The records of the current generation are so long that no more is added.
     fn is_full(&self) -> bool
         ensures full { IsTrue result ↔ IsFull self.now }
-        ensures runs { (state : HostState) → self.now.state ≡ Some state
-            → IsRunning state self.now }
+        ensures runs { (live : LiveState B) → self.now.live ≡ Some live
+            → IsRunning live.durable self.now }
     {
+        self.engine.facts();
         self.journal.record_bytes() >= FULL_RECORD_BYTES
     }
 
     /// The state is installed as a new generation before a request.
     fn wants_install(&self, request: &Request<'_>) -> bool
         ensures wanted { IsTrue result ↔ WantsInstall (request_seen request.now) self.now }
-        ensures runs { (state : HostState) → self.now.state ≡ Some state
-            → IsRunning state self.now }
+        ensures runs { (live : LiveState B) → self.now.live ≡ Some live
+            → IsRunning live.durable self.now }
     {
         let is_full = self.is_full();
         match *request {
@@ -187,7 +230,7 @@ impl<D: Disk> Host<D> {
 
     /// Makes room for a request of a host that runs, which may add a record.
     fn make_room(&mut self, request: &Request<'_>) -> Result<(), HostRefusal>
-        requires state { IsSome self.old.state }
+        requires live { IsSome self.old.live }
         ensures makes_room { MakesRoom D.Disk (request_seen request.now) self.old result self.new }
     {
         if !self.wants_install(request) {
@@ -199,11 +242,12 @@ impl<D: Disk> Host<D> {
     /// Stores what a request has changed, before it is answered. `last` is the number of the last answer before it,
     /// which stays where this is not stored: from then on the host must be reopened.
     fn commit(&mut self, last: u64) -> Result<(), HostRefusal>
-        requires running { IsSome self.old.state }
+        requires live { IsSome self.old.live }
         requires room { IsFull self.old → ⊥ }
         ensures commits { Commits D.Disk last self.old result self.new }
     {
-        match add_state(&self.state, &mut self.journal) {
+        self.engine.facts();
+        match add_state(&self.engine, &mut self.journal) {
             Ok(()) => Ok(()),
             Err(refusal) => {
                 self.stopped = Some(last);
@@ -219,14 +263,13 @@ impl<D: Disk> Host<D> {
         request: &Request<'_>,
         budget: u64,
     ) -> Result<HostReply, HostRefusal>
-        requires state { IsSome self.old.state }
-        ensures handles { Handles D.Disk budget (request_seen request.now) self.old
-            (reply_of result)
-            self.new }
+        requires live { IsSome self.old.live }
+        ensures handles { Handles D.Disk B.HostObject budget (request_seen request.now) self.old
+            (reply_of result) self.new }
     {
         self.make_room(request)?;
-        let seq = self.state.seq();
-        let reply = match self.state.handle(request, budget) {
+        let seq = self.engine.seq();
+        let reply = match self.engine.handle(request, budget) {
             Ok(reply) => reply,
             // The state is lost: memory was refused while it changed.
             Err(_) => {
@@ -234,6 +277,7 @@ impl<D: Disk> Host<D> {
                 return Err(Refusal::NoMemory);
             }
         };
+        self.engine.facts();
         if !is_answer(&reply) {
             return Ok(reply);
         }
@@ -253,7 +297,7 @@ impl<D: Disk> Host<D> {
     /// An `object`: `NoObject`, `NoMemory`. A snapshot: `GenerationSpent`, `NoMemory`, `DeviceFailed`. At
     /// `DeviceFailed`, and at `NoMemory` where the state was changed, the host must be reopened from then on.
     pub fn handle(&mut self, request: &Request<'_>, budget: u64) -> HostReply
-        ensures handled { Handles D.Disk budget (request_seen request.now) self.old
+        ensures handled { Handles D.Disk B.HostObject budget (request_seen request.now) self.old
             (reply_seen fault_of result) self.new }
         ensures refused { RefusesFirst (request_seen request.now) self.old
             (reply_seen fault_of result) self.new }
@@ -270,7 +314,7 @@ impl<D: Disk> Host<D> {
     /// Loads a source as a module of this name: reads it and runs its initializers, with a budget in ticks. The
     /// module is stored where they finish. Refusals are those of `handle`.
     pub fn load(&mut self, module: &str, source: &[u8], budget: u64) -> HostReply
-        ensures handled { Handles D.Disk budget (Load module.now source.now) self.old
+        ensures handled { Handles D.Disk B.HostObject budget (Load module.now source.now) self.old
             (reply_seen fault_of result) self.new }
         ensures refused { RefusesFirst (Load module.now source.now) self.old
             (reply_seen fault_of result) self.new }
@@ -286,7 +330,7 @@ impl<D: Disk> Host<D> {
         arguments: &[Arg],
         budget: u64,
     ) -> HostReply
-        ensures handled { Handles D.Disk budget (Call module.now function.now arguments.now)
+        ensures handled { Handles D.Disk B.HostObject budget (Call module.now function.now arguments.now)
             self.old (reply_seen fault_of result) self.new }
         ensures refused { RefusesFirst (Call module.now function.now arguments.now) self.old
             (reply_seen fault_of result) self.new }
@@ -303,7 +347,7 @@ impl<D: Disk> Host<D> {
 
     /// Removes a module, with its globals. Refusals are those of `handle`.
     pub fn discard(&mut self, module: &str) -> HostReply
-        ensures handled { (budget : ℕ) → Handles D.Disk budget (Discard module.now) self.old
+        ensures handled { (budget : ℕ) → Handles D.Disk B.HostObject budget (Discard module.now) self.old
             (reply_seen fault_of result) self.new }
         ensures refused { RefusesFirst (Discard module.now) self.old (reply_seen fault_of result)
             self.new }
@@ -313,7 +357,7 @@ impl<D: Disk> Host<D> {
 
     /// What a global of a module holds. It takes no memory, and touches no disk. Refusals are those of `handle`.
     pub fn global(&mut self, module: &str, name: &str) -> HostReply
-        ensures handled { (budget : ℕ) → Handles D.Disk budget (Get module.now name.now) self.old
+        ensures handled { (budget : ℕ) → Handles D.Disk B.HostObject budget (Get module.now name.now) self.old
             (reply_seen fault_of result) self.new }
         ensures unchanged { self.new ≡ self.old }
     {
@@ -323,7 +367,7 @@ impl<D: Disk> Host<D> {
     /// The object of a number: its type, how many handles there are to it, and what is in it. It touches no disk.
     /// Refusals are those of `handle`.
     pub fn object(&mut self, number: u64) -> HostReply
-        ensures handled { (budget : ℕ) → Handles D.Disk budget (Object number) self.old
+        ensures handled { (budget : ℕ) → Handles D.Disk B.HostObject budget (Object number) self.old
             (reply_seen fault_of result) self.new }
         ensures unchanged { self.new ≡ self.old }
     {
@@ -336,10 +380,11 @@ impl<D: Disk> Host<D> {
     /// Refusals, the first that holds: `Reopen`; `GenerationSpent` where the generation's number is 2^64 - 1;
     /// `NoMemory`; these change nothing. After `DeviceFailed` the host must be reopened.
     pub fn snapshot(&mut self) -> Result<(), HostRefusal>
-        ensures handled { (budget : ℕ) → Handles D.Disk budget Snapshot self.old (done_of result)
+        ensures handled { (budget : ℕ) → Handles D.Disk B.HostObject budget Snapshot self.old (done_of result)
             self.new }
         ensures installed { OnOk result (IsInstalled self.old self.new) }
     {
+        self.facts();
         match self.stopped {
             None => self.install(),
             Some(_) => Err(Refusal::Reopen),
@@ -349,10 +394,14 @@ impl<D: Disk> Host<D> {
     /// How many requests have been answered.
     pub fn seq(&self) -> u64
         ensures number { result ≡ self.now.seq }
-        ensures handled { (budget : ℕ) → Handles D.Disk budget Seq self.now (Number result)
+        ensures handled { (budget : ℕ) → Handles D.Disk B.HostObject budget Seq self.now (Number result)
             self.now }
     {
-        self.stopped.unwrap_or(self.state.seq())
+        self.facts();
+        match self.stopped {
+            Some(seq) => seq,
+            None => self.engine.seq(),
+        }
     }
 
     /// Handles requests in order, each with a budget in ticks. They are a run of the written steps up to the first
@@ -363,11 +412,11 @@ impl<D: Disk> Host<D> {
         requests: &[Request<'_>],
         budget: u64,
     ) -> Result<Vec<HostReply>, AllocError>
-        ensures run { IfOk result (λ replies. HandlesAll D.Disk budget self.old
+        ensures run { IfOk result (λ replies. HandlesAll D.Disk B.HostObject budget self.old
             (map request_seen requests.now) (map (reply_seen fault_of) replies.items) self.new) }
-        ensures defined { IfOk result (λ replies. RunsToFailure budget self.old
+        ensures defined { IfOk result (λ replies. RunsToFailure D.Disk B.HostObject budget self.old
             (map request_seen requests.now) (map (reply_seen fault_of) replies.items) self.new) }
-        ensures lives { IfOk result (λ replies. LivesOn D.Disk budget self.old
+        ensures lives { IfOk result (λ replies. LivesOn D.Disk B.HostObject budget self.old
             (map request_seen requests.now) (map (reply_seen fault_of) replies.items) self.new) }
         ensures err { OnErr result (self.new ≡ self.old) }
     {

@@ -1,16 +1,17 @@
 //! The life of a store, as a theorem.
 
 ghost use Rattle.std.specs.Prelude.{ℕ, List, ◌∷◌, ◌++◌};
+ghost use Rattle.ash_engine.specs.LiveSteps.{Reached};
 ghost use Rattle.ash_durable.specs.StoreFaults.{MayRefuse};
-ghost use Rattle.ash_durable.specs.Lives.{AreLeft, BeginWith, Crashed, StoreEvent, IsPrefixAt, LeadBy};
-ghost use Rattle.ash_durable.specs.Lives.{Life, OnDisks, Outlives, StoreLocation, first_at, second_at};
+ghost use Rattle.ash_durable.specs.Lives.{AreLeft, BeginWith, CanOpenAfter, Crashed, StoreEvent};
+ghost use Rattle.ash_durable.specs.Lives.{IsPrefixAt, LeadBy, Life, OnDisks, Outlives};
+ghost use Rattle.ash_durable.specs.Lives.{StoreLocation, first_at, second_at};
 ghost use Rattle.ash_durable.specs.OpenedStore.{WasRefused};
 ghost use Rattle.ash_durable.specs.StoredStates.{AreHonest, SettleNow};
 ghost use Rattle.ash_durable.specs.declared.fault.OpenRefused.{OpenRefused};
-ghost use Rattle.ash_registry.specs.AcceptedRegistrations.{Registration};
-ghost use Rattle.ash_states.specs.HostStates.{empty};
 
 use ash_disk::Disk;
+use ash_host::HostObject;
 
 /// In every life of a store on honest disks, whatever happens to it and as often as it does (requests, failures of the
 /// devices, out of memory, snapshots, closing and opening, refused openings and creations, the end of the process or of
@@ -26,25 +27,27 @@ use ash_disk::Disk;
 /// those after a prefix of the requests that holds every acknowledged one. The newest alone may be in doubt, and where
 /// it is no host runs.
 ///
-/// `opens`: a store is never refused to a host with the same registry, but because memory ran out, because a disk
-/// failed, or because the store is of version 1 and the number of its generation is the last.
+/// `opens`: a store is never refused to a host with the same registry, with boxes with which each state can be opened to
+/// which the events lead, except because memory ran out, because a disk failed, or because the store is of version 1 and
+/// the number of its generation is the last.
 ///
 /// It does nothing: the clauses are the theorem. Each step of a life is what the contract of a public call says.
-pub fn nothing_acknowledged_is_lost<D: Disk>()
-    ensures whole { (registered : List Registration) (events : List StoreEvent)
-        (place : StoreLocation D)
-        → Life D.Disk registered events place → Outlives D.Disk registered events place }
-    ensures each { (registered : List Registration) (later : List StoreEvent) (event : StoreEvent)
-        (earlier : List StoreEvent) (place : StoreLocation D)
-        → Life D.Disk registered (later ++ event ∷ earlier) place
+pub fn nothing_acknowledged_is_lost<D: Disk, B: HostObject>()
+    ensures whole { (start : Reached) (events : List StoreEvent) (place : StoreLocation D B)
+        → Life D.Disk B.HostObject start events place
+        → Outlives D.Disk B.HostObject start events place }
+    ensures each { (start : Reached) (later : List StoreEvent) (event : StoreEvent)
+        (earlier : List StoreEvent) (place : StoreLocation D B)
+        → Life D.Disk B.HostObject start (later ++ event ∷ earlier) place
         → SettleNow D.Disk (first_at place) (second_at place)
-        (LeadBy later event earlier (empty registered)) }
-    ensures prefix { (registered : List Registration) (events : List StoreEvent)
-        (place : StoreLocation D)
-        → Life D.Disk registered events place → IsPrefixAt events place }
-    ensures opens { (registered : List Registration) (events : List StoreEvent) (a b : D)
+        (LeadBy B.HostObject later event earlier start) }
+    ensures prefix { (start : Reached) (events : List StoreEvent) (place : StoreLocation D B)
+        → Life D.Disk B.HostObject start events place → IsPrefixAt events place }
+    ensures opens { (start : Reached) (events : List StoreEvent) (pool services : List B) (a b : D)
         (refused : OpenRefused D)
-        → Life D.Disk registered events (OnDisks a b) → WasRefused D.Disk registered a b refused
+        → Life D.Disk B.HostObject start events (OnDisks a b)
+        → CanOpenAfter B.HostObject pool services events start
+        → WasRefused D.Disk B.HostObject start.durable.registered pool services a b refused
         → MayRefuse refused.fault }
 {}
 

@@ -1,24 +1,32 @@
 //! Keeping a state in a journal: as one record more, or as a new generation.
 
-ghost use Rattle.std.specs.Prelude.{◌<◌};
+ghost use Rattle.std.specs.Prelude.{◌≡◌, ◌<◌, Some, IsSome};
 ghost use Rattle.ash_journal.specs.Journal.{IsReady, record_bytes, record_bytes_limit};
+ghost use Rattle.ash_engine.specs.LiveStates.{LiveState};
 ghost use Rattle.ash_durable.specs.Saving.{Adds, Installs};
 
 use ash_disk::Disk;
+use ash_engine::engine::Engine;
+use ash_host::HostObject;
 use ash_journal::{AppendError, InstallError, Journal};
 use ash_requests::Refusal;
-use ash_states::state::{HostRefusal, HostState};
+use ash_states::state::HostRefusal;
 
-/// Adds a state to a journal that is ready, as one record more. At `Ok` every crash leaves it.
+/// Adds the state of an engine to a journal that is ready, as one record more. At `Ok` every crash leaves it.
 ///
 /// `NoMemory` comes before any call of a device, and changes nothing. After `DeviceFailed` the record is there or not,
 /// and the journal is to be opened again.
-pub fn add_state<D: Disk>(state: &HostState, journal: &mut Journal<D>) -> Result<(), HostRefusal>
+pub fn add_state<D: Disk, B: HostObject>(
+    engine: &Engine<B>,
+    journal: &mut Journal<D>,
+) -> Result<(), HostRefusal>
+    requires live { IsSome engine.now.live }
     requires ready { IsReady journal.old }
     requires room { record_bytes journal.old < record_bytes_limit }
-    ensures adds { Adds D.Disk state.now journal.old result journal.new }
+    ensures adds { (live : LiveState B) → engine.now.live ≡ Some live
+        → Adds D.Disk live.durable journal.old result journal.new }
 {
-    let body = state.body()?;
+    let body = engine.body()?;
     match journal.append(&body) {
         Ok(()) => Ok(()),
         Err(AppendError::NoMemory) => Err(Refusal::NoMemory),
@@ -26,21 +34,24 @@ pub fn add_state<D: Disk>(state: &HostState, journal: &mut Journal<D>) -> Result
     }
 }
 
-/// Writes a state that a journal holds into it as a new generation without records, in the file that isn't current.
+/// Writes the state of an engine, which a journal holds, into it as a new generation without records, in the file that
+/// isn't current.
 ///
 /// Refusals, the first that holds: `GenerationSpent`, `NoMemory`; both come before any call of a device, and change
 /// nothing. After `DeviceFailed` the old generation is current or the new one, and the journal is to be opened again.
-pub fn install_state<D: Disk>(
-    state: &HostState,
+pub fn install_state<D: Disk, B: HostObject>(
+    engine: &Engine<B>,
     journal: &mut Journal<D>,
 ) -> Result<(), HostRefusal>
+    requires live { IsSome engine.now.live }
     requires ready { IsReady journal.old }
-    ensures installs { Installs D.Disk state.now journal.old result journal.new }
+    ensures installs { (live : LiveState B) → engine.now.live ≡ Some live
+        → Installs D.Disk live.durable journal.old result journal.new }
 {
     if journal.generation() == u64::MAX {
         return Err(Refusal::GenerationSpent);
     }
-    let image = state.image()?;
+    let image = engine.image()?;
     match journal.install(&image) {
         Ok(()) => Ok(()),
         Err(InstallError::GenerationSpent) => Err(Refusal::GenerationSpent),

@@ -1,5 +1,5 @@
 -- Each state that a host may be in has an image.
-use Rattle.std.proofs.Common.{◌≡◌, ◌≤◌, ℕ, List, [], ◌∷◌, map, refl, sym, ap, ◌∙◌, subst, arith}
+use Rattle.std.proofs.Common.{◌≡◌, ◌<◌, ◌≤◌, ◌^◌, ℕ, List, [], ◌∷◌, map, refl, sym, ap, ◌∙◌, subst, arith}
 use Rattle.std.specs.Prelude.{Ok, length}
 use Rattle.std.specs.List.{AllByRecursion}
 use Rattle.std.specs.Str.{IsUtf8}
@@ -10,16 +10,19 @@ use Rattle.ash_sources.specs.Sources.{admitting_unregistered}
 use Rattle.ash_sources.proofs.SourceLaws.{read_sound, admitted_exact}
 use Rattle.ash_sources.proofs.TypedSourceLaws.{typed_rules}
 use Rattle.ash_image.specs.declared.version.Version.TheVariants.{Two}
+use Rattle.ash_image.specs.declared.parts.HostParts.{HostParts}
 use Rattle.ash_image.specs.declared.parts.ModuleParts.{ModuleParts}
 use Rattle.ash_image.specs.declared.parts.ObjectParts.{ObjectParts}
 use Rattle.ash_image.specs.Snapshots.{Loaded, Snapshot}
-use Rattle.ash_image.specs.SnapshotViews.{modules_in, object_in, objects_in}
+use Rattle.ash_image.specs.SnapshotViews.{services_in, modules_in, object_in, objects_in}
+use Rattle.ash_image.specs.ObjectBytes.{FitsHost}
 use Rattle.ash_image.specs.Image.{FitsVersion, FitsText, image_of}
-use Rattle.ash_states.specs.HostStates.{HostState, IsAdmitted, embedding_for, offered_to}
+use Rattle.ash_soundness.specs.WellFormed.{IsState}
+use Rattle.ash_states.specs.HostStates.{HostState, IsAdmitted, service_kinds, embedding_for, offered_to}
 use Rattle.ash_states.specs.Images.{IsDepicted, IsImageIn}
-use Rattle.ash_states.specs.Indexes.{index_in, plain_indexed, entry_indexed, snapshot_for, IsPlainIndexed, HasKind, HaveKinds, HaveImages}
+use Rattle.ash_states.specs.Indexes.{index_in, plain_indexed, entry_indexed, snapshot_for, IsPlainIndexed, HasKind, HaveKinds, HaveServiceKinds, HaveImages}
 use Rattle.ash_states.specs.Writing.{AreWrittenIn}
-use Rattle.ash_states.proofs.Lists.{all_more, all_map}
+use Rattle.ash_states.proofs.Lists.{all_more, all_map, zip_firsts, zip_all, zip_short}
 use Rattle.ash_states.proofs.Fitting.{modules_fit, objects_fit}
 use Rattle.ash_states.proofs.SnapshotRules.{IsWritten, each_written, rules, same_state}
 
@@ -27,12 +30,15 @@ module _ (s : HostState) (h : IsAdmitted s) where
   short : (source : List ℕ) (tree : Module) → (embedding_for s.registered).read source ≡ Ok tree → length source ≤ 65536
   short source tree read = ((typed_rules [] source tree ((admitted_exact s.registered source tree).0 read).1).lexed.0).short
 
-  pub snapshot_fits : FitsText (text_of s.registered) → HaveKinds (snapshot_for s).objects → FitsVersion Two (snapshot_for s)
-  snapshot_fits text kinds = record {
+  pub snapshot_fits : FitsText (text_of s.registered) → HaveServiceKinds (service_kinds s.registered) → HaveKinds (snapshot_for s).objects → FitsVersion Two (snapshot_for s)
+  snapshot_fits text services kinds = record {
     text = text;
     seq = omega (arith, (h.formed).seq);
     last = omega (arith, (h.formed).last);
-    services = record { few = omega arith; each = tt };
+    services = record {
+      few = omega (arith, zip_short (service_kinds s.registered) (s.state).services, h.few);
+      each = zip_all (λ (kind : ℕ). kind < 2 ^ 16) IsState (λ (e : ℕ × List ℕ). FitsHost e.0 e.1) (λ kind state fits short. record { kind_fits = fits; short = short }) (service_kinds s.registered) (s.state).services services (h.formed).services;
+    };
     modules = modules_fit (embedding_for s.registered) (offered_to s.registered) (read_sound (admitting_unregistered s.registered)) short s.state h.formed;
     objects = objects_fit (embedding_for s.registered) (offered_to s.registered) (read_sound (admitting_unregistered s.registered)) short s.state h.formed kinds;
   }
@@ -40,8 +46,8 @@ module _ (s : HostState) (h : IsAdmitted s) where
   pub depicted : IsDepicted (snapshot_for s) s
   depicted = record {
     text_is = refl;
-    no_services = refl;
-    state_is = same_state (embedding_for s.registered) (offered_to s.registered) (read_sound (admitting_unregistered s.registered)) s.state h.formed s.registered h.no_services;
+    services_are = zip_firsts (service_kinds s.registered) (s.state).services h.served;
+    state_is = same_state (embedding_for s.registered) (offered_to s.registered) (read_sound (admitting_unregistered s.registered)) s.state h.formed s.registered h.served;
     admitted = h;
   }
 
@@ -68,8 +74,8 @@ kinds_indexed index [] ks = tt
 kinds_indexed index (e ∷ os) ks = (kind_indexed index e.1 ks.0, kinds_indexed index os ks.1)
 
 pub has_image : HaveImages
-has_image s h text kinds =
-    (image_of (snapshot_for s), image_is s h (image_of (snapshot_for s)) (snapshot_fits s h text (kinds_indexed (index_in (s.state).modules) (s.state).objects kinds)) refl)
+has_image s h text services kinds =
+    (image_of (snapshot_for s), image_is s h (image_of (snapshot_for s)) (snapshot_fits s h text services (kinds_indexed (index_in (s.state).modules) (s.state).objects kinds)) refl)
 
 -- what the code lists and writes
 
@@ -88,16 +94,16 @@ all_indexed s h =
     (each_written (embedding_for s.registered) (offered_to s.registered) (read_sound (admitting_unregistered s.registered)) s.state h.formed)
 
 -- a snapshot of the parts that the code lists
-abbrev pub listed_snapshot : HostState → List ℕ → List ModuleParts → List ObjectParts → Snapshot
-listed_snapshot s text modules objects = record { registered = text; seq = (s.state).seq; last = (s.state).last; services = []; modules = modules_in modules; objects = objects_in objects }
+abbrev pub listed_snapshot : HostState → List ℕ → List HostParts → List ModuleParts → List ObjectParts → Snapshot
+listed_snapshot s text services modules objects = record { registered = text; seq = (s.state).seq; last = (s.state).last; services = services_in services; modules = modules_in modules; objects = objects_in objects }
 
 -- has a spelling, where the text of what is registered has one
-pub parts_fit : (s : HostState) → IsAdmitted s → (modules : List ModuleParts) (objects : List ObjectParts) → AreWrittenIn s modules objects → (text : List ℕ) → text ≡ text_of s.registered → IsUtf8 text → length text ≤ 1048576 → FitsVersion Two (listed_snapshot s text modules objects)
-parts_fit s h modules objects listed text is utf8 short_text =
-    subst (FitsVersion Two) (sym same) (snapshot_fits s h (subst FitsText is (record { utf8 = utf8; short = short_text })) kinds)
+pub parts_fit : (s : HostState) → IsAdmitted s → (services : List HostParts) (modules : List ModuleParts) (objects : List ObjectParts) → AreWrittenIn s services modules objects → (text : List ℕ) → text ≡ text_of s.registered → IsUtf8 text → length text ≤ 1048576 → FitsVersion Two (listed_snapshot s text services modules objects)
+parts_fit s h services modules objects listed text is utf8 short_text =
+    subst (FitsVersion Two) (sym same) (snapshot_fits s h (subst FitsText is (record { utf8 = utf8; short = short_text })) listed.service_kinds kinds)
   where
-    same : listed_snapshot s text modules objects ≡ snapshot_for s
-    same = snapshot_same (listed_snapshot s text modules objects) (snapshot_for s) is refl refl refl listed.same_modules listed.same_objects
+    same : listed_snapshot s text services modules objects ≡ snapshot_for s
+    same = snapshot_same (listed_snapshot s text services modules objects) (snapshot_for s) is refl refl listed.same_services listed.same_modules listed.same_objects
 
     kinds : HaveKinds (snapshot_for s).objects
     kinds = subst (λ (os : LiveObjects ℕ). HaveKinds os) listed.same_objects (all_map object_in (λ (e : ℕ × Plain ℕ). HasKind e.1) objects listed.kinds)

@@ -12,9 +12,11 @@ use Rattle.ash_soundness.specs.WellFormed.{AreObjects, AreOffered, IsState}
 use Rattle.ash_soundness.specs.WellFormedStates.{known_of, IsLoaded, IsWellFormedState}
 use Rattle.ash_image.specs.declared.version.Version.{Version}
 use Rattle.ash_image.specs.Snapshots.{Loaded, Snapshot}
+use Rattle.ash_image.specs.ObjectBytes.{FitsHost}
 use Rattle.ash_image.specs.Image.{FitsVersion}
 use Rattle.ash_image.specs.Rules.{held_by, KeepsRules}
 use Rattle.ash_states.specs.Images.{name_at, plain_named, entry_named, loaded_of, loaded_modules_of, state_of}
+use Rattle.ash_states.proofs.Lists.{all_more, all_map}
 use Rattle.ash_states.proofs.Names.{valid_names, ascend_of}
 use Rattle.ash_states.proofs.Renamed.{lives_same, reached, numbered}
 
@@ -47,11 +49,13 @@ module _ {Fault : Type 0} (embedding : Embedding Fault) (host : signatures.HostS
       (reached (plain_named names) (fields_named names) s.objects n
       (keeps.reached n (sym (lives_same (plain_named names) (fields_named names) n s.objects) ∙ lives)))
 
-  no_states : (services : List (ℕ × List ℕ)) → services ≡ [] → AllByRecursion IsState (map (λ (service : ℕ × List ℕ). service.1) services)
-  no_states services none = subst (λ (all : List (ℕ × List ℕ)). AllByRecursion IsState (map (λ (service : ℕ × List ℕ). service.1) all)) (sym none) tt
+  states : AllByRecursion IsState (map (λ (service : ℕ × List ℕ). service.1) s.services)
+  states =
+      all_map (λ (service : ℕ × List ℕ). service.1) IsState s.services
+      (all_more (λ (service : ℕ × List ℕ). FitsHost service.0 service.1) (λ (service : ℕ × List ℕ). IsState service.1) (λ service fit. fit.short) s.services (fits.services).each)
 
-  pub formed : s.services ≡ [] → AllByRecursion (IsLoaded embedding objects) ms → AreObjects (known_of embedding ms) objects → AreOffered host objects → IsWellFormedState embedding host (state_of s)
-  formed none loaded living offered = record {
+  pub formed : AllByRecursion (IsLoaded embedding objects) ms → AreObjects (known_of embedding ms) objects → AreOffered host objects → IsWellFormedState embedding host (state_of s)
+  formed loaded living offered = record {
     ascending = ascend_of s.modules (fits.modules).order;
     valid = valid_names s.modules (fits.modules).each;
     few_modules = omega (arith, length-map s.modules loaded_of, (fits.modules).few);
@@ -61,7 +65,7 @@ module _ {Fault : Type 0} (embedding : Embedding Fault) (host : signatures.HostS
     few = omega (arith, length-map s.objects (entry_named names), (fits.objects).few);
     living = living;
     offered = offered;
-    services = no_states s.services none;
+    services = states;
     seq = omega (arith, fits.seq);
     reached = all_reached;
   }

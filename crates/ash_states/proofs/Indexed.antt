@@ -8,7 +8,7 @@ use Rattle.std.proofs.lemmas.Option.{same_Some, slice_get_within, get_or_from_sl
 use Rattle.std.proofs.lemmas.List.Folds.{find_at}
 use Rattle.std.proofs.lemmas.List.Sums.{passes_at_first, sum_by-cons}
 use Rattle.ash_host.specs.declared.word.Word.{Word}
-use Rattle.ash_host.specs.Objects.{LiveObjects, Elements, Handles, Plain, Script, Array, Host}
+use Rattle.ash_host.specs.Objects.{LiveObjects, Elements, Handles, Plain, Script, Array}
 use Rattle.ash_host.proofs.RecordLaws.{bytes_decide}
 use Rattle.ash_integers.specs.declared.int_type.IntType.TheVariants as ints
 use Rattle.ash_typed.specs.declared.types.Element as typed_element

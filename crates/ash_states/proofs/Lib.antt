@@ -7,10 +7,8 @@ pub mod Restored
 pub mod Indexed
 pub mod Fitting
 pub mod SnapshotRules
-pub mod NoServices
 pub mod Admitted
 pub mod Depicted
 pub mod OneImage
-pub mod StepsTaken
 pub mod Placed
 pub mod Typed

@@ -1,7 +1,7 @@
 -- Lists of which something holds of each.
-use Rattle.std.proofs.Common.{◌≡◌, ℕ, true, List, [], ◌∷◌, map, ltb, Less, refl, sym, ap, ◌∙◌, subst, arith}
+use Rattle.std.proofs.Common.{◌≡◌, ◌≤◌, ℕ, true, List, [], ◌∷◌, map, length, ltb, Less, refl, sym, ap, ◌∙◌, subst, arith}
 use Rattle.std.specs.Prelude.{Option, Some, IsSome}
-use Rattle.std.specs.List.{AllByRecursion}
+use Rattle.std.specs.List.{AllByRecursion, zip}
 use Rattle.std.specs.List.Sorted.{IsStrictlySortedBy}
 use Rattle.std.specs.Ordering.{nat_cmp}
 use Rattle.std.proofs.lemmas.Bool.Decides.{nat_tests}
@@ -31,6 +31,30 @@ map_twice {C = C} g f (x ∷ xs) = ap (λ (ys : List C). g (f x) ∷ ys) (map_tw
 pub map_same : {A : Type 0} (f : A → A) (xs : List A) → AllByRecursion (λ (x : A). f x ≡ x) xs → map f xs ≡ xs
 map_same f [] h = refl
 map_same {A} f (x ∷ xs) h = ap (λ (y : A). y ∷ map f xs) h.0 ∙ ap (λ (ys : List A). x ∷ ys) (map_same f xs h.1)
+
+-- what is listed in pairs
+
+pub zip_firsts : {A B : Type 0} (xs : List A) (ys : List B) → length ys ≡ length xs → map (λ (p : A × B). p.0) (zip xs ys) ≡ xs
+zip_firsts [] ys e = refl
+zip_firsts (x ∷ xs) [] e = absurd (omega (arith, e))
+zip_firsts {A} (x ∷ xs) (y ∷ ys) e = ap (λ (all : List A). x ∷ all) (zip_firsts xs ys (omega (arith, e)))
+
+pub zip_seconds : {A B : Type 0} (xs : List A) (ys : List B) → length ys ≡ length xs → map (λ (p : A × B). p.1) (zip xs ys) ≡ ys
+zip_seconds [] [] e = refl
+zip_seconds [] (y ∷ ys) e = absurd (omega (arith, e))
+zip_seconds (x ∷ xs) [] e = absurd (omega (arith, e))
+zip_seconds {B = B} (x ∷ xs) (y ∷ ys) e = ap (λ (all : List B). y ∷ all) (zip_seconds xs ys (omega (arith, e)))
+
+-- what holds of each first and of each second holds of each pair
+pub zip_all : {A B : Type 0} (P : A → Type 0) (Q : B → Type 0) (R : A × B → Type 0) → ((x : A) (y : B) → P x → Q y → R (x, y)) → (xs : List A) (ys : List B) → AllByRecursion P xs → AllByRecursion Q ys → AllByRecursion R (zip xs ys)
+zip_all P Q R both [] ys ps qs = tt
+zip_all P Q R both (x ∷ xs) [] ps qs = tt
+zip_all P Q R both (x ∷ xs) (y ∷ ys) ps qs = (both x y ps.0 qs.0, zip_all P Q R both xs ys ps.1 qs.1)
+
+pub zip_short : {A B : Type 0} (xs : List A) (ys : List B) → length (zip xs ys) ≤ length ys
+zip_short [] ys = omega arith
+zip_short (x ∷ xs) [] = omega arith
+zip_short (x ∷ xs) (y ∷ ys) = omega (arith, zip_short xs ys)
 
 -- in order, each entry is the one that is found at its number
 pub each_at : {A : Type 0} (es : List (ℕ × A)) → IsInOrder es → AllByRecursion (λ (e : ℕ × A). object_at e.0 es ≡ Some e.1) es

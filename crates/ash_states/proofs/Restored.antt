@@ -1,7 +1,8 @@
 -- What was stored is restored exactly where a host may be in it.
-use Rattle.std.proofs.Common.{◌≡◌, ℕ, List, [], map, sym, ap, ◌∙◌, subst}
+use Rattle.std.proofs.Common.{◌≡◌, ℕ, List, length, sym, ap, ◌∙◌, subst, arith}
 use Rattle.std.specs.Prelude.{Some, None}
 use Rattle.std.specs.List.{AllByRecursion}
+use Rattle.std.proofs.lemmas.List.{length-map}
 use Rattle.ash_host.specs.Objects.{LiveObjects}
 use Rattle.ash_registry.specs.AcceptedRegistrations.{Registration}
 use Rattle.ash_requests.specs.States.{LoadedModule, State, Embedding}
@@ -16,7 +17,7 @@ use Rattle.ash_plain_steps.specs.Consistency as code
 use Rattle.ash_image.specs.Snapshots.{Loaded, Snapshot}
 use Rattle.ash_image.specs.Rules.{IsShaped}
 use Rattle.ash_states.specs.HostStates.{HostState, IsAdmitted, embedding_for, offered_to}
-use Rattle.ash_states.specs.Images.{loaded_of, loaded_modules_of, state_of, IsImageRefused}
+use Rattle.ash_states.specs.Images.{loaded_of, loaded_modules_of, state_of, HasServices, IsImageRefused}
 use Rattle.ash_states.specs.Holding.{held_with}
 use Rattle.ash_states.specs.StateRestoring.{HasTree, ReadsModules, RestoresHostState}
 use Rattle.ash_states.proofs.Lists.{all_more, all_unmap}
@@ -50,20 +51,20 @@ module _ (registered : List Registration) (snapshot : Snapshot) where
   has_tree : (objects : LiveObjects (List ℕ)) (m : Loaded) → IsLoaded embedding objects (loaded_of m) → HasTree embedding m
   has_tree objects m l = (l.tree, l.is)
 
-  -- there is a service
-  pub served : (snapshot.services ≡ [] → ⊥) → IsImageRefused registered snapshot
-  served not s at is none h = not none
+  -- the services are not of the kinds that are registered
+  pub misserved : (HasServices registered snapshot → ⊥) → IsImageRefused registered snapshot
+  misserved not s at is has h = not has
 
   -- a source has no typed tree
   pub unread : ReadsModules embedding snapshot.modules None → IsImageRefused registered snapshot
-  unread not s at is none h =
+  unread not s at is has h =
       let there = admitted_at s at is h in
       not (all_more (λ (m : Loaded). IsLoaded embedding (state_of snapshot).objects (loaded_of m)) (HasTree embedding) (has_tree (state_of snapshot).objects) snapshot.modules
       (all_unmap loaded_of (IsLoaded embedding (state_of snapshot).objects) snapshot.modules ((there.formed).loaded)))
 
   -- something that is stored is not of its type
   pub mistyped : (Typed registered (state_of snapshot).modules (state_of snapshot).objects → ⊥) → IsImageRefused registered snapshot
-  mistyped not s at is none h =
+  mistyped not s at is has h =
       let there = admitted_at s at is h in
       not ((there.formed).loaded, (there.formed).living, (there.formed).offered)
 
@@ -86,20 +87,21 @@ module _ (registered : List Registration) (snapshot : Snapshot) where
   typed_read ms objects same_modules same_objects typed =
       subst (λ (all : List LoadedModule). Typed registered all (state_of snapshot).objects) same_modules (subst (Typed registered ms) same_objects typed)
 
-  pub restored : IsShaped snapshot → snapshot.services ≡ [] → (s : PlainState) → (state_seen s).services ≡ [] → ReadsModules embedding snapshot.modules (Some s.modules.items) → s.objects ≡ (state_of snapshot).objects → s.last ≡ snapshot.last → s.seq ≡ snapshot.seq → Typed registered (state_of snapshot).modules (state_of snapshot).objects → RestoresHostState registered snapshot (Some s)
-  restored (version, fits, keeps) none s empty read objects last seq typed =
-      (same, none, record { admitted = admitted; consistent = read_consistent (version, fits, keeps) s.modules.items read })
+  pub restored : IsShaped snapshot → HasServices registered snapshot → (s : PlainState) → (state_seen s).services ≡ (state_of snapshot).services → ReadsModules embedding snapshot.modules (Some s.modules.items) → s.objects ≡ (state_of snapshot).objects → s.last ≡ snapshot.last → s.seq ≡ snapshot.seq → Typed registered (state_of snapshot).modules (state_of snapshot).objects → RestoresHostState registered snapshot (Some s)
+  restored (version, fits, keeps) has s services read objects last seq typed =
+      (same, has, record { admitted = admitted; consistent = read_consistent (version, fits, keeps) s.modules.items read })
     where
-      no_services : (state_of snapshot).services ≡ []
-      no_services = ap (map (λ (service : ℕ × List ℕ). service.1)) none
+      many : length (state_of snapshot).services ≡ length snapshot.services
+      many = length-map snapshot.services (λ (service : ℕ × List ℕ). service.1)
 
       same : state_seen s ≡ state_of snapshot
-      same = state_same (state_seen s) (state_of snapshot) read.0 objects (empty ∙ sym no_services) last seq
+      same = state_same (state_seen s) (state_of snapshot) read.0 objects services last seq
 
       well : IsAdmitted (record { registered = registered; state = state_of snapshot })
       well = record {
-        formed = formed embedding (offered_to registered) version snapshot fits keeps none typed.0 typed.1 typed.2;
-        no_services = no_services;
+        formed = formed embedding (offered_to registered) version snapshot fits keeps typed.0 typed.1 typed.2;
+        served = many ∙ sym (length-map snapshot.services (λ (service : ℕ × List ℕ). service.0)) ∙ ap (length {A = ℕ}) has;
+        few = omega (arith, many, (fits.services).few);
       }
 
       admitted : IsAdmitted (held_with registered s)

@@ -1,11 +1,11 @@
 -- The snapshot of a state that a host may be in keeps the rules, and is of that state.
-use Rattle.std.proofs.Common.{◌≡◌, ℕ, Bool, true, List, [], map, length, refl, sym, ap, ◌∙◌, subst}
+use Rattle.std.proofs.Common.{◌≡◌, ℕ, true, List, [], map, length, refl, sym, ap, ◌∙◌, subst}
 use Rattle.std.specs.Prelude.{Option, Some, None, Contains}
 use Rattle.std.specs.List.{AllByRecursion, list_all}
 use Rattle.std.specs.Option.{option_map_or}
 use Rattle.std.proofs.lemmas.List.{length-map}
 use Rattle.ash_host.specs.declared.word.Word.{Word}
-use Rattle.ash_host.specs.Objects.{LiveObjects, Elements, Plain, Host, object_at, handles, fields_of, Lives}
+use Rattle.ash_host.specs.Objects.{LiveObjects, Elements, Plain, object_at, handles, fields_of, Lives}
 use Rattle.ash_host.specs.Reach.{ReachableIn, NoneDangles}
 use Rattle.ash_integers.specs.declared.int_type.IntType.TheVariants as ints
 use Rattle.ash_registry.specs.AcceptedRegistrations.{Registration}
@@ -21,9 +21,10 @@ use Rattle.ash_soundness.proofs.Values.{none_in, values_live, all_live}
 use Rattle.ash_soundness.specs.WellFormedStates.{known_of, IsLoaded, IsWellFormedState}
 use Rattle.ash_soundness.proofs.Named.{from_globals, rec_of}
 use Rattle.ash_image.specs.Rules.{held_by, IsPlaced, is_element, are_elements, KeepsRules}
+use Rattle.ash_states.specs.HostStates.{service_kinds}
 use Rattle.ash_states.specs.Images.{name_at, entry_named, loaded_modules_of, state_of}
 use Rattle.ash_states.specs.Indexes.{index_in, element_indexed, plain_indexed, entry_indexed, stored_of, stored_modules_of, snapshot_for}
-use Rattle.ash_states.proofs.Lists.{all_more, all_map, map_twice, map_same, each_at}
+use Rattle.ash_states.proofs.Lists.{all_more, all_map, map_twice, map_same, each_at, zip_seconds}
 use Rattle.ash_states.proofs.Names.{stored_same}
 use Rattle.ash_states.proofs.Renamed.{numbered, none_dangles, reached, lives_same}
 use Rattle.ash_states.proofs.Formed.{held_same}
@@ -116,7 +117,7 @@ module _ {Fault : Type 0} (embedding : Embedding Fault) (host : signatures.HostS
       ∙ map_twice (entry_named (name_at s.modules)) (entry_indexed index) s.objects
       ∙ map_same (λ (e : ℕ × Plain (List ℕ)). entry_named (name_at s.modules) (entry_indexed index e)) s.objects (all_more (IsWritten s.modules) _ back s.objects each_written)
 
-  pub same_state : (registered : List Registration) → s.services ≡ [] → state_of (snapshot_for (record { registered = registered; state = s })) ≡ s
-  same_state registered none =
+  pub same_state : (registered : List Registration) → length s.services ≡ length (service_kinds registered) → state_of (snapshot_for (record { registered = registered; state = s })) ≡ s
+  same_state registered served =
       state_same (state_of (snapshot_for (record { registered = registered; state = s }))) s
-      (stored_same s.modules) (same_objects (loaded_modules_of (stored_modules_of s.modules)) (stored_same s.modules)) (sym none) refl refl
+      (stored_same s.modules) (same_objects (loaded_modules_of (stored_modules_of s.modules)) (stored_same s.modules)) (zip_seconds (service_kinds registered) s.services served) refl refl

@@ -9,7 +9,7 @@ use Rattle.ash_requests.specs.States.{LoadedModule, State}
 use Rattle.ash_image.specs.declared.version.Version.{Version}
 use Rattle.ash_image.specs.Snapshots.{Loaded, Snapshot}
 use Rattle.ash_image.specs.Rules.{IsImage}
-use Rattle.ash_states.specs.HostStates.{HostState, IsAdmitted}
+use Rattle.ash_states.specs.HostStates.{HostState, IsAdmitted, service_kinds}
 
 -- The state that a snapshot is of, whatever is registered.
 
@@ -52,10 +52,18 @@ state_of s = record {
   seq = s.seq;
 }
 
--- The snapshot is of a state that a host may be in, with the text of what is registered, and has no service.
+-- the kinds of services
+abbrev pub kinds_in : List (ℕ × List ℕ) → List ℕ
+kinds_in services = map (λ (service : ℕ × List ℕ). service.0) services
+
+-- The services of a snapshot are of the kinds that are registered, in order.
+abbrev pub HasServices : List Registration → Snapshot → Type 0
+HasServices registered snapshot = kinds_in snapshot.services ≡ service_kinds registered
+
+-- The snapshot is of a state that a host may be in, with the text of what is registered, and each service has its kind.
 pub record IsDepicted (snapshot : Snapshot) (s : HostState) : Type 0 where
   pub text_is : snapshot.registered ≡ text_of s.registered
-  pub no_services : snapshot.services ≡ []
+  pub services_are : HasServices s.registered snapshot
   pub state_is : state_of snapshot ≡ s.state
   pub admitted : IsAdmitted s
 
@@ -74,13 +82,13 @@ IsBodyIn version body s = (image : List ℕ) × (body ≡ 1 ∷ image) × IsImag
 -- No host with these registrations may be in the state of the snapshot.
 abbrev pub IsImageRefused : List Registration → Snapshot → Type 0
 IsImageRefused registered snapshot =
-    (s : HostState) → s.registered ≡ registered → state_of snapshot ≡ s.state → snapshot.services ≡ [] → IsAdmitted s
-    → ⊥
+    (s : HostState) → s.registered ≡ registered → state_of snapshot ≡ s.state → HasServices registered snapshot
+    → IsAdmitted s → ⊥
 
 -- What is restored of a snapshot with these registrations: the one state that it is of, where a host may be in it.
 abbrev pub IsImageRestored : List Registration → Snapshot → Option HostState → Type 0
 IsImageRestored registered snapshot (Some s) =
-    (s.registered ≡ registered) × (state_of snapshot ≡ s.state) × (snapshot.services ≡ []) × IsAdmitted s
+    (s.registered ≡ registered) × (state_of snapshot ≡ s.state) × HasServices registered snapshot × IsAdmitted s
 IsImageRestored registered snapshot None = IsImageRefused registered snapshot
 
 -- Bytes are the image of one state where these are the registrations, whoever reads them.

@@ -1,5 +1,5 @@
 -- The snapshot that is written of a state: each module by its index.
-use Rattle.std.specs.Prelude.{ℕ, ◌<◌, ◌^◌, List, [], map, position, unwrap_or}
+use Rattle.std.specs.Prelude.{ℕ, ◌<◌, ◌^◌, List, map, zip, position, unwrap_or}
 use Rattle.std.specs.List.{AllByRecursion}
 use Rattle.ash_host.specs.Objects.{Elements, Bools, Ints, Uints, Int64s, Uint64s}
 use Rattle.ash_host.specs.Objects.{Handles, Hosts, Plain, Script, Array, Host}
@@ -8,7 +8,7 @@ use Rattle.ash_requests.specs.States.{LoadedModule, has_name}
 use Rattle.ash_image.specs.Snapshots.{Loaded, Snapshot}
 use Rattle.ash_image.specs.declared.version.Version.TheVariants.{Two}
 use Rattle.ash_image.specs.Image.{FitsText}
-use Rattle.ash_states.specs.HostStates.{HostState, IsAdmitted}
+use Rattle.ash_states.specs.HostStates.{HostState, IsAdmitted, service_kinds}
 use Rattle.ash_states.specs.Images.{IsImageIn}
 
 -- the index of the module of a name; 0 where no module has it
@@ -47,7 +47,7 @@ snapshot_for s = record {
   registered = text_of s.registered;
   seq = (s.state).seq;
   last = (s.state).last;
-  services = [];
+  services = zip (service_kinds s.registered) (s.state).services;
   modules = stored_modules_of (s.state).modules;
   objects = map (entry_indexed (index_in (s.state).modules)) (s.state).objects;
 }
@@ -81,8 +81,13 @@ HasKind (Host kind state) = kind < 2 ^ 16
 abbrev pub HaveKinds : {M : Type 0} → List (ℕ × Plain M) → Type 0
 HaveKinds {M} objects = AllByRecursion (λ (e : ℕ × Plain M). HasKind e.1) objects
 
+-- the kinds of services in two bytes
+abbrev pub HaveServiceKinds : List ℕ → Type 0
+HaveServiceKinds kinds = AllByRecursion (λ kind. kind < 2 ^ 16) kinds
+
 -- Each state that a host may be in has an image in version 2, where the text of what is registered has a spelling, and
--- so have the kinds that objects name.
+-- so have the kinds of services and those that objects name.
 abbrev pub HaveImages : Type 0
-HaveImages = (s : HostState) → IsAdmitted s → FitsText (text_of s.registered) → HaveKinds (s.state).objects
+HaveImages = (s : HostState) → IsAdmitted s → FitsText (text_of s.registered)
+    → HaveServiceKinds (service_kinds s.registered) → HaveKinds (s.state).objects
     → (bytes : List ℕ) × IsImageIn Two bytes s

@@ -10,7 +10,7 @@ use Rattle.ash_plain_steps.specs.declared.state.PlainState.{PlainState}
 use Rattle.ash_plain_steps.specs.StateViews.{loaded_seen, modules_seen, state_seen}
 use Rattle.ash_plain_steps.specs.Consistency.{IsReadFromSource}
 use Rattle.ash_image.specs.Snapshots.{Loaded, Snapshot}
-use Rattle.ash_states.specs.Images.{loaded_of, loaded_modules_of, state_of, IsImageRefused}
+use Rattle.ash_states.specs.Images.{loaded_of, loaded_modules_of, state_of, HasServices, IsImageRefused}
 use Rattle.ash_states.specs.Holding.{IsHeld}
 
 -- a source has a typed tree
@@ -37,5 +37,5 @@ with_all objects (e ∷ more) = with_all (with_at e.0 e.1 objects) more
 -- the state of a snapshot, where a host may be in it
 abbrev pub RestoresHostState : List Registration → Snapshot → Option PlainState → Type 0
 RestoresHostState registered snapshot (Some s) =
-    (state_seen s ≡ state_of snapshot) × (snapshot.services ≡ []) × IsHeld registered s
+    (state_seen s ≡ state_of snapshot) × HasServices registered snapshot × IsHeld registered s
 RestoresHostState registered snapshot None = IsImageRefused registered snapshot

@@ -1,21 +1,12 @@
 //! The laws of the states of hosts. A function without a body does nothing: its contract is the law.
 
-ghost use Rattle.std.specs.Prelude.{List};
-ghost use Rattle.ash_registry.specs.AcceptedRegistrations.{Registration};
-ghost use Rattle.ash_states.specs.HostStates.{IsAdmitted, empty};
-ghost use Rattle.ash_states.specs.StateSteps.{StepsKeepAdmitted, HaveSteps};
+ghost use Rattle.ash_states.specs.HostStates.{FirstIsAdmitted};
 ghost use Rattle.ash_states.specs.Images.{IsImageOfOneState};
 ghost use Rattle.ash_states.specs.Indexes.{HaveImages};
 
-/// A host may be in the state before any request, and in what a request leaves of a state that a host may be in.
-pub fn hosts_stay_admitted()
-    ensures first { (registered : List Registration) → IsAdmitted (empty registered) }
-    ensures steps { StepsKeepAdmitted }
-{}
-
-/// Each request has a step, within any budget, in a state that a host may be in.
-pub fn requests_have_steps()
-    ensures steps { HaveSteps }
+/// A host may be in the state before any request, where there is the state of each registered service.
+pub fn first_state_is_admitted()
+    ensures first { FirstIsAdmitted }
 {}
 
 /// Bytes are the image of one state of a host, where these are the registrations.
@@ -24,7 +15,7 @@ pub fn image_of_one_state()
 {}
 
 /// Each state that a host may be in has an image in version 2, where the text of what is registered has a spelling, and
-/// so have the kinds that objects name.
+/// so have the kinds of services and those that objects name.
 pub fn admitted_states_have_images()
     ensures image { HaveImages }
 {}

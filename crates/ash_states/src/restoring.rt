@@ -1,23 +1,26 @@
 //! A state that was stored, restored where a host may be in it.
 
-ghost use Rattle.std.specs.Prelude.{◌≡◌, IfOk};
+ghost use Rattle.std.specs.Prelude.{◌≡◌, ◌↔◌, IfOk, IsTrue};
 ghost use Rattle.ash_registry.specs.RegistryViews.{registered};
 ghost use Rattle.ash_sources.specs.Sources.{rules_of, admitting_unregistered};
 ghost use Rattle.ash_image.specs.Rules.{IsShaped};
-ghost use Rattle.ash_image.specs.SnapshotViews.{snapshot_of};
+ghost use Rattle.ash_image.specs.SnapshotViews.{services_of, snapshot_of};
+ghost use Rattle.ash_states.specs.HostStates.{service_kinds};
+ghost use Rattle.ash_states.specs.Images.{kinds_in};
 ghost use Rattle.ash_states.specs.StateRestoring.{RestoresHostState};
 
 use crate::modules::read_modules;
 use crate::objects::objects_of;
+use crate::services::{stored_kinds, stored_states};
 use ash_admission::admission::is_well_typed;
-use ash_image::stored::StoredState;
+use ash_image::stored::{StoredHost, StoredState};
 use ash_plain_steps::state::PlainState;
 use ash_registry::Registry;
 use ash_sources::sources::{AdmittedScripts, Sources};
 use std::alloc::{AllocError, Global};
 
 /// How a host with this registry reads sources: scripts are admitted that use nothing registered.
-pub(crate) fn sources_for(registry: &Registry) -> Sources<'_>
+pub fn sources_for(registry: &Registry) -> Sources<'_>
     ensures value { rules_of result ≡ admitting_unregistered (registered registry.now) }
 {
     Sources {
@@ -26,8 +29,22 @@ pub(crate) fn sources_for(registry: &Registry) -> Sources<'_>
     }
 }
 
-/// The state that was stored, where a host with this registry may be in it: there are no services, each source has a
-/// typed tree, and what is stored is of the types that the sources say.
+/// Whether the services that were stored are of the kinds that are registered, in order.
+fn has_services(
+    alloc: Global,
+    registry: &Registry,
+    services: &[StoredHost],
+) -> Result<bool, AllocError>
+    ensures exact { IfOk result (λ has. IsTrue has
+        ↔ (kinds_in (services_of services.now) ≡ service_kinds (registered registry.now))) }
+{
+    let stored = stored_kinds(alloc, services)?;
+    let wanted = registry.service_kinds()?;
+    Ok(stored.as_slice() == wanted.as_slice())
+}
+
+/// The state that was stored, where a host with this registry may be in it: its services are of the kinds that are
+/// registered, each source has a typed tree, and what is stored is of the types that the sources say.
 pub(crate) fn restore_state(
     alloc: Global,
     registry: &Registry,
@@ -36,22 +53,23 @@ pub(crate) fn restore_state(
     requires shaped { IsShaped (snapshot_of stored) }
     ensures exact { IfOk result (RestoresHostState (registered registry.now) (snapshot_of stored)) }
 {
-    let sources = sources_for(registry);
-    if !stored.services.is_empty() {
+    if !has_services(alloc, registry, &stored.services)? {
         return Ok(None);
     }
+    let sources = sources_for(registry);
     let Some(modules) = read_modules(alloc, &sources, stored.modules)? else {
         return Ok(None);
     };
     let objects = objects_of(alloc, &modules, stored.objects)?;
-    if !is_well_typed(&modules, &objects) {
+    if !is_well_typed(&[], &modules, &objects) {
         return Ok(None);
     }
+    let services = stored_states(alloc, stored.services)?;
     Ok(Some(PlainState {
         alloc,
         modules,
         objects,
-        services: Vec::new(alloc),
+        services,
         last: stored.last,
         seq: stored.seq,
     }))

@@ -1,26 +1,25 @@
-//! The state of a host: its steps, and its image.
+//! The state of a host, and its image.
 
-ghost use Rattle.std.specs.Prelude.{◌≡◌, ◌<◌, ◌^◌, length, IfOk};
+ghost use Rattle.std.specs.Prelude.{◌≡◌, ◌≤◌, ◌<◌, ◌^◌, length, map, IfOk};
+ghost use Rattle.std.specs.List.{AllByRecursion};
 ghost use Rattle.ash_registry.specs.RegistryViews.{registered};
-ghost use Rattle.ash_requests.specs.RequestViews.{request_seen};
+ghost use Rattle.ash_soundness.specs.WellFormed.{IsState};
+ghost use Rattle.ash_image.specs.Image.{max_services};
 ghost use Rattle.ash_image.specs.Rules.{IsShaped};
 ghost use Rattle.ash_image.specs.SnapshotViews.{snapshot_of};
 ghost use Rattle.ash_image.specs.declared.version.Version.TheVariants.{Two};
-ghost use Rattle.ash_states.specs.HostStates.{empty};
-ghost use Rattle.ash_states.specs.StateSteps.{Handled};
+ghost use Rattle.ash_states.specs.HostStates.{service_kinds, empty};
+ghost use Rattle.ash_states.specs.Holding.{held_with, IsHeld};
 ghost use Rattle.ash_states.specs.Images.{IsImageIn, IsBodyIn, IsImageRestored};
 
 use crate::restoring::restore_state;
-use crate::steps::{first_state, step_of};
 use crate::writing::{body_of, image_of};
 use ash_image::stored::StoredState;
 use ash_plain_steps::state::PlainState;
 use ash_registry::Registry;
-use ash_requests::{Reply, Request, StepError};
 use ash_sources::fault::SourceFault;
 use std::alloc::{AllocError, Global};
 use std::marker::Model;
-use std::mem;
 
 /// Why a request to a host is refused.
 pub type HostRefusal = ash_requests::Refusal<SourceFault>;
@@ -50,13 +49,18 @@ impl Model for HostState {
 }
 
 impl HostState {
-    /// The state before any request, with what is registered.
-    pub fn new(alloc: Global, registry: Registry) -> HostState
-        ensures before_any_request { result ≡ empty (registered registry) }
+    /// The state before any request, with what is registered, and with services in these states, one for each that is
+    /// registered.
+    pub fn new(alloc: Global, registry: Registry, services: Vec<Vec<u8>>) -> HostState
+        requires served { length services.items ≡ length (service_kinds (registered registry)) }
+        requires few { length services.items ≤ max_services }
+        requires fit { AllByRecursion IsState (map (λ state. state.items) services.items) }
+        ensures before_any_request { result
+            ≡ empty (registered registry) (map (λ state. state.items) services.items) }
     {
         HostState {
             registry,
-            state: first_state(alloc),
+            state: PlainState::new(alloc, services),
         }
     }
 
@@ -83,11 +87,12 @@ impl HostState {
         &self.registry
     }
 
-    /// What is registered, taken out of the state.
-    pub fn into_registry(self) -> Registry
-        ensures same { registered result ≡ self.registered }
+    /// What is registered, and what outlives a request.
+    pub fn into_parts(self) -> (Registry, PlainState)
+        ensures same { held_with (registered result.0) result.1 ≡ self }
+        ensures held { IsHeld (registered result.0) result.1 }
     {
-        self.registry
+        (self.registry, self.state)
     }
 
     /// How many requests have been answered.
@@ -113,25 +118,5 @@ impl HostState {
         ensures short { IfOk result (λ body. length body.items < 2 ^ 32) }
     {
         body_of(&self.registry, &self.state)
-    }
-
-    /// One request, with so many ticks.
-    ///
-    /// # Errors
-    ///
-    /// The state is lost, and is as before any request; that comes only of a request that is not refused and changes
-    /// it. `NoMemory` where memory was refused while it changed; never `NoStep`, since each request has a step.
-    pub fn handle(
-        &mut self,
-        request: &Request<'_>,
-        budget: u64,
-    ) -> Result<Reply<SourceFault>, StepError>
-        ensures handled { Handled budget (request_seen request.now) self.old result self.new }
-    {
-        let alloc = self.state.alloc;
-        let state = mem::replace(&mut self.state, first_state(alloc));
-        let step = step_of(&self.registry, request, budget, state)?;
-        self.state = step.state;
-        Ok(step.reply)
     }
 }

@@ -1,9 +1,10 @@
-use Rattle.std.proofs.Common.{rules, ◌≡◌, ◌+◌, ◌∙◌, List, Ok, Err, drop, sym, subst}
+use Rattle.std.proofs.Common.{rules, ◌≡◌, ◌+◌, ◌∙◌, List, Ok, Err, drop, sym, ap, subst}
 use Rattle.std.specs.List.{AllByRecursion}
 use Rattle.ash_journal.specs.declared.record.Record.{Record}
 use Rattle.ash_journal.specs.Reading.{bodies_of}
 use Rattle.ash_registry.specs.AcceptedRegistrations.{Registration}
 use Rattle.ash_registry.specs.RegistryText.{text_of}
+use Rattle.ash_states.specs.HostStates.{HostState}
 use Rattle.ash_durable.specs.Contents.{IsBodyWith, LeadsOn, LeadsThrough}
 use Rattle.ash_durable.proofs.Reading.{left_from, through_more, through_none}
 use Rattle.ash_durable.proofs.contents.last_state.Goals as goal
@@ -20,7 +21,7 @@ loop-record-preserved c =
     AllByRecursion (IsBodyWith version (text_of before.registered)) (bodies_of l))
     left c.loop-record.invariant.shaped.1 in
     let on : LeadsOn before.registered r.body.items r.gate (Ok next) =
-    (c.in_ok-state.ensures.leads_on.0 ∙ c.into_registry.ensures.same, c.in_ok-state.ensures.leads_on.1) in
+    (c.in_ok-state.ensures.leads_on.0 ∙ (ap (λ (s : HostState). s.registered) c.into_parts-registry.ensures.same), c.in_ok-state.ensures.leads_on.1) in
     record {
       shaped = (
         version,
@@ -42,7 +43,7 @@ returns-in_err-state c = record {
       let fault = c.in_err-state.field-0.0 in
       let reported : c.from_residual.result ≡ Err fault = search rules in
       let on : LeadsOn before.registered r.body.items r.gate (Err fault) =
-      subst (λ (of : List Registration). LeadsOn of r.body.items r.gate (Err fault)) c.into_registry.ensures.same
+      subst (λ (of : List Registration). LeadsOn of r.body.items r.gate (Err fault)) (ap (λ (s : HostState). s.registered) c.into_parts-registry.ensures.same)
       c.in_err-state.ensures.leads_on in
       rw reported (c.loop-record.invariant.leads (Err fault)
       (subst (λ (l : List Record). LeadsThrough before l (Err fault)) (sym left)

@@ -8,11 +8,11 @@ use Rattle.ash_durable.proofs.saving.add_state.Goals as goal
 
 pub returns-in-Ok : goal.returns-in-Ok
 returns-in-Ok g c = record {
-  adds =
-      let state = c.args.state.now in
+  adds = λ live is.
+      let state = live.durable in
       let body = c.deref.result.now in
       let is_body : IsBodyIn Two body state = subst (λ (bytes : List ℕ). IsBodyIn Two bytes state) (sym c.deref.ensures.value)
-      c.in_ok-body.ensures.body in
+      (c.in_ok-body.ensures.body live is) in
       let said = c.in-Ok.ensures in
       adds g.D.Disk state c.args.journal.now c.append.new.self body is_body said.extends
       said.acknowledged (said.ready (λ is. cc)) said.number said.longer
@@ -25,11 +25,11 @@ returns-in-Ok g c = record {
 
 pub returns : goal.returns
 returns g c = record {
-  adds =
-      let state = c.args.state.now in
+  adds = λ live is.
+      let state = live.durable in
       let body = c.deref.result.now in
       let is_body : IsBodyIn Two body state = subst (λ (bytes : List ℕ). IsBodyIn Two bytes state) (sym c.deref.ensures.value)
-      c.in_ok-body.ensures.body in
+      (c.in_ok-body.ensures.body live is) in
       let said = c.in-Err-DeviceFailed.ensures in
       let is_failed = ap (λ (e : AppendError). Err e) c.in-Err-DeviceFailed.field-0-is in
       adds_not g.D.Disk state c.args.journal.now c.append.new.self body is_body said.extends

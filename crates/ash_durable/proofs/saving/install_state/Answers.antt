@@ -8,11 +8,11 @@ use Rattle.ash_durable.proofs.saving.install_state.Goals as goal
 
 pub returns-in-Ok : goal.returns-in-Ok
 returns-in-Ok g c = record {
-  installs =
-      let state = c.args.state.now in
+  installs = λ live is.
+      let state = live.durable in
       let image = c.deref.result.now in
       let depicts : IsImageIn Two image state = subst (λ (bytes : List ℕ). IsImageIn Two bytes state)
-      (sym c.deref.ensures.value) c.in_ok-image.ensures.image in
+      (sym c.deref.ensures.value) (c.in_ok-image.ensures.image live is) in
       let said = c.in-Ok.ensures in
       installs g.D.Disk state c.args.journal.now c.install.new.self image depicts said.run said.installed
       (said.ready (λ is. cc)) said.higher said.emptied
@@ -25,11 +25,11 @@ returns-in-Ok g c = record {
 
 pub returns : goal.returns
 returns g c = record {
-  installs =
-      let state = c.args.state.now in
+  installs = λ live is.
+      let state = live.durable in
       let image = c.deref.result.now in
       let depicts : IsImageIn Two image state = subst (λ (bytes : List ℕ). IsImageIn Two bytes state)
-      (sym c.deref.ensures.value) c.in_ok-image.ensures.image in
+      (sym c.deref.ensures.value) (c.in_ok-image.ensures.image live is) in
       let said = c.in-Err-DeviceFailed.ensures in
       let failed_by = c.in-Err-DeviceFailed.field-0-is in
       let is_failed = ap (λ (e : InstallError). Err e) failed_by in

@@ -3,7 +3,7 @@ use Rattle.ash_registry.specs.RegistryViews.{registered}
 use Rattle.ash_image.specs.declared.version.Version.{Version}
 use Rattle.ash_durable.specs.OpenedStore.{contents_of}
 use Rattle.ash_durable.specs.StoredStates.{AreIn}
-use Rattle.ash_durable.proofs.OpenedJournals.{read_as, not_read, settles_one, settles_two}
+use Rattle.ash_durable.proofs.OpenedJournals.{read_as, not_read, not_revived, moved_by, settles_one, settles_two}
 use Rattle.ash_durable.proofs.store.settle.Goals as goal
 
 pub returns-in-Err : goal.returns-in-Err
@@ -11,10 +11,24 @@ returns-in-Err g c = record {
   settled =
       let with_it = registered c.args.registry in
       let e = c.in-Err.ensures in
-      inl (not_read g.D.Disk with_it c.args.opened c.in-Err.fault c.refusal_of.result c.refusal_of.ensures.fault
-      c.refusal_of.ensures.a c.refusal_of.ensures.b e.cause
-      (read_as c.args.opened with_it (Err c.in-Err.fault)
+      inl (not_read g.D.Disk g.B.HostObject with_it c.args.pool.items c.args.services.items c.args.opened
+      c.in-Err.fault c.refusal_of.result c.refusal_of.ensures.fault c.refusal_of.ensures.a c.refusal_of.ensures.b
+      e.cause (read_as c.args.opened with_it (Err c.in-Err.fault)
       c.deref.result.now c.deref-2.result.now c.deref.ensures.value c.deref-2.ensures.value e.reads));
+}
+
+pub returns-in-Err-revive : goal.returns-in-Err-revive
+returns-in-Err-revive g c = record {
+  settled =
+      let with_it = registered c.args.registry in
+      let opened = c.args.opened in
+      let read = c.in-Ok.read in
+      let reads = read_as opened with_it (Ok read)
+      c.deref.result.now c.deref-2.result.now c.deref.ensures.value c.deref-2.ensures.value c.in-Ok.ensures.reads in
+      let refused = c.refusal_of-in-Err-revive in
+      inl (not_revived g.D.Disk g.B.HostObject with_it c.args.pool.items c.args.services.items opened read.state
+      c.in-Err-revive.fault refused.result c.in-Ok.ensures.registered (λ placed. (reads placed).1)
+      refused.ensures.fault refused.ensures.a refused.ensures.b c.in-Err-revive.ensures.revives);
 }
 
 pub returns-in-One : goal.returns-in-One
@@ -25,10 +39,13 @@ returns-in-One g c = record {
       let read = c.in-Ok.read in
       let reads = read_as opened with_it (Ok read)
       c.deref.result.now c.deref-2.result.now c.deref.ensures.value c.deref-2.ensures.value c.in-Ok.ensures.reads in
-      settles_one g.D.Disk with_it opened read.state c.upgrade.result c.in-Ok.ensures.registered
+      let lives = c.in-Ok-revive.ensures.revives in
+      settles_one g.D.Disk g.B.HostObject with_it c.args.pool.items c.args.services.items opened read.state
+      c.in-Ok-revive.engine c.upgrade.result c.in-Ok.ensures.registered lives
       (λ placed. let is = reads placed in
       (is.1, subst (λ (v : Version). AreIn v (contents_of opened)) c.in-One.is is.2))
-      c.upgrade.ensures.moves;
+      (moved_by g.D.Disk g.B.HostObject read.state c.args.pool.items c.args.services.items c.in-Ok-revive.engine
+      opened.journal c.upgrade.result lives c.upgrade.ensures.moves);
 }
 
 pub returns : goal.returns
@@ -39,7 +56,8 @@ returns g c = record {
       let read = c.in-Ok.read in
       let reads = read_as opened with_it (Ok read)
       c.deref.result.now c.deref-2.result.now c.deref.ensures.value c.deref-2.ensures.value c.in-Ok.ensures.reads in
-      settles_two g.D.Disk with_it opened read.state c.repair.result c.in-Ok.ensures.registered
+      settles_two g.D.Disk g.B.HostObject with_it c.args.pool.items c.args.services.items opened read.state
+      c.in-Ok-revive.engine c.repair.result c.in-Ok.ensures.registered c.in-Ok-revive.ensures.revives
       (λ placed. let is = reads placed in
       (is.1, subst (λ (v : Version). AreIn v (contents_of opened)) c.in-Two.is is.2))
       c.repair.ensures.repairs;

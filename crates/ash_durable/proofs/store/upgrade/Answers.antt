@@ -1,18 +1,20 @@
 use Rattle.std.proofs.Common.{◌≡◌, true, false, inl, inr, refl}
 use Rattle.std.proofs.lemmas.Bool.{false≢true}
+use Rattle.ash_durable.proofs.Composing.{some_known}
 use Rattle.ash_durable.proofs.Moving.{next_settled, not_prepared, was_moved, was_not_moved}
 use Rattle.ash_durable.proofs.store.upgrade.Goals as goal
 
 pub returns-in-Err : goal.returns-in-Err
 returns-in-Err g c = record {
-  moves =
-      inl (not_prepared c.args.state c.args.journal c.in-Err.cause c.refusal_of.result c.refusal_of.ensures.fault
-      c.refusal_of.ensures.a c.refusal_of.ensures.b c.in-Err.ensures.prepares);
+  moves = λ live is.
+      inl (not_prepared live.durable c.args.journal c.in-Err.cause c.refusal_of.result c.refusal_of.ensures.fault
+      c.refusal_of.ensures.a c.refusal_of.ensures.b (c.in-Err.ensures.prepares live is));
 }
 
 pub install_next-requires : goal.install_next-requires
 install_next-requires g c =
-    let prepared = c.in-Ok.ensures.prepares in
+    let known = some_known c.args.engine.live c.requires.live in
+    let prepared = c.in-Ok.ensures.prepares known.0 known.1 in
     let settled = c.in_ok-found.ensures.repairs.1 in
     record {
       ready = settled.ready c.requires.not_failed;
@@ -25,8 +27,8 @@ install_next-requires g c =
 
 pub returns-in-Ok-install_next : goal.returns-in-Ok-install_next
 returns-in-Ok-install_next g c = record {
-  moves =
-      let prepared = c.in-Ok.ensures.prepares in
+  moves = λ live is.
+      let prepared = c.in-Ok.ensures.prepares live is in
       let settled = c.in_ok-found.ensures.repairs.1 in
       let e = c.in-Ok-install_next.ensures in
       let old = c.in_ok-found.found.journal in
@@ -34,7 +36,7 @@ returns-in-Ok-install_next g c = record {
         c.in_ok-found.ensures.repairs.0,
         old,
         settled,
-        was_moved g.D.Disk c.args.state old c.install_next.new.self prepared.0 prepared.1 (false ≡ true) false≢true
+        was_moved g.D.Disk live.durable old c.install_next.new.self prepared.0 prepared.1 (false ≡ true) false≢true
             e.ready e.higher e.emptied e.untouched (λ was bodies holds. e.installed prepared.0 was bodies next holds)
             (λ was bodies holds. e.run prepared.0 was bodies next holds) e.cause e.honesty_first e.honesty_second,
       );
@@ -42,8 +44,8 @@ returns-in-Ok-install_next g c = record {
 
 pub returns-in-Err-install_next : goal.returns-in-Err-install_next
 returns-in-Err-install_next g c = record {
-  moves =
-      let prepared = c.in-Ok.ensures.prepares in
+  moves = λ live is.
+      let prepared = c.in-Ok.ensures.prepares live is in
       let settled = c.in_ok-found.ensures.repairs.1 in
       let e = c.in-Err-install_next.ensures in
       let old = c.in_ok-found.found.journal in
@@ -51,7 +53,7 @@ returns-in-Err-install_next g c = record {
       inr (inr (
         old,
         settled,
-        was_not_moved g.D.Disk c.args.state old c.install_next.new.self prepared.0 prepared.1 c.refusal_of-in-Err-install_next.result
+        was_not_moved g.D.Disk live.durable old c.install_next.new.self prepared.0 prepared.1 c.refusal_of-in-Err-install_next.result
             (true ≡ true) refl c.refusal_of-in-Err-install_next.ensures.fault c.refusal_of-in-Err-install_next.ensures.a c.refusal_of-in-Err-install_next.ensures.b e.untouched
             (λ was bodies holds. e.run prepared.0 was bodies next holds) e.cause e.honesty_first e.honesty_second,
       ));

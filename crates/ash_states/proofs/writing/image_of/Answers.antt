@@ -12,5 +12,5 @@ use Rattle.ash_states.proofs.writing.image_of.Goals as goal
 pub object_parts-requires : goal.object_parts-requires
 object_parts-requires c = record {
   indexed = subst (λ (ms : List code_module.LoadedModule). AllByRecursion (λ (e : ℕ × Plain (List ℕ)). IsPlainIndexed (modules_seen ms) e.1) c.args.state.now.objects)
-      (sym c.deref-2.ensures.value) (all_indexed (held_with (registered c.args.registry.now) c.args.state.now) c.requires.held.admitted);
+      (sym c.deref-4.ensures.value) (all_indexed (held_with (registered c.args.registry.now) c.args.state.now) c.requires.held.admitted);
 }

@@ -10,17 +10,17 @@ pub loop-request-preserved : goal.loop-request-preserved
 loop-request-preserved g c = record {
   run = λ replies new rest.
       let grown : c.push.new.self.items ≡ c.loop-request.replies.items ++ c.handle.result ∷ [] = search rules in
-      one_more _ request_seen (reply_seen fault_of) _ _ _ _ new _ _ _ _ _ _ replies c.loop-request-test.true grown
+      one_more _ _ request_seen (reply_seen fault_of) _ _ _ _ new _ _ _ _ _ _ replies c.loop-request-test.true grown
       c.handle.ensures.handled c.loop-request.invariant.run rest;
   count = search rules;
   room = search rules;
 }
 
 pub returns-clause-run : goal.returns-clause-run
-returns-clause-run g c = nothing_left _ request_seen (reply_seen fault_of) _ _ _ _ _ _ (omega arith) c.loop-request.invariant.run
+returns-clause-run g c = nothing_left _ _ request_seen (reply_seen fault_of) _ _ _ _ _ _ (omega arith) c.loop-request.invariant.run
 
 pub returns-clause-defined : goal.returns-clause-defined
-returns-clause-defined g c = runs_to_failure _ _ _ _ _ _ (returns-clause-run g c)
+returns-clause-defined g c = runs_to_failure _ _ _ _ _ _ _ (returns-clause-run g c)
 
 pub returns-clause-lives : goal.returns-clause-lives
-returns-clause-lives g c = lives_on _ _ _ _ _ _ (returns-clause-run g c)
+returns-clause-lives g c = lives_on _ _ _ _ _ _ _ (returns-clause-run g c)

@@ -14,6 +14,6 @@ pub returns : goal.returns
 returns g c = record {
   makes_room =
       room_wanted g.D.Disk (request_seen c.args.request.now) c.args.self.now c.install.result c.install.new.self
-      c.requires.state c.wants_install.ensures.runs (c.wants_install.ensures.wanted.0 c.if-not-wants_install.false)
+      c.requires.live c.wants_install.ensures.runs (c.wants_install.ensures.wanted.0 c.if-not-wants_install.false)
       c.install.ensures.tries_install;
 }

@@ -6,10 +6,10 @@ use Rattle.ash_durable.proofs.host.Host.object.Goals as goal
 
 pub returns-clause-handled : goal.returns-clause-handled
 returns-clause-handled g c budget =
-    handles_at g.D.Disk 0 budget (Object c.args.number) c.args.self.now
+    handles_at g.D.Disk g.B.HostObject 0 budget (Object c.args.number) c.args.self.now
     (reply_seen fault_of c.handle.result) c.handle.new.self tt c.handle.ensures.handled
 
 pub returns-clause-unchanged : goal.returns-clause-unchanged
 returns-clause-unchanged g c =
-    reads_only g.D.Disk 0 (Object c.args.number) c.args.self.now
+    reads_only g.D.Disk g.B.HostObject 0 (Object c.args.number) c.args.self.now
     (reply_seen fault_of c.handle.result) c.handle.new.self (λ no. no) (λ no. no.0) c.handle.ensures.handled

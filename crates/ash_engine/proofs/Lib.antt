@@ -1,0 +1,6 @@
+pub mod Untouched
+pub mod Admitted
+pub mod StepsTaken
+pub mod Alive
+pub mod Served
+pub mod Started

@@ -1,0 +1,149 @@
+-- What a request does to a live state. It is a relation: host objects may answer otherwise another time.
+use Rattle.std.specs.Prelude.{◌≡◌, ◌⊎◌, ℕ, List, [], ◌++◌, filter_map, slice_get, Option, Some, None, Result, Ok, Err}
+use Rattle.std.specs.List.{AllByRecursion}
+use Rattle.ash_host.specs.declared.event.Event.{Event}
+use Rattle.ash_host.specs.declared.event.Event.TheVariants as events
+use Rattle.ash_host.specs.declared.event.Target.{Target}
+use Rattle.ash_host.specs.declared.event.Target.TheVariants as targets
+use Rattle.ash_host.specs.declared.host_object.HostObject.{Ghosts}
+use Rattle.ash_host.specs.Calls.{SameRelation}
+use Rattle.ash_host.specs.Objects.{object_at, numbers}
+use Rattle.ash_host.specs.Records.{HostRecord, IsValidRecord}
+use Rattle.ash_meaning.specs.Activity.{FreeBox}
+use Rattle.ash_requests.specs.Requests.{Request, NoMemory, Reply, Answered as AnsweredWith, Refused}
+use Rattle.ash_requests.specs.Steps.{TakesMemory}
+use Rattle.ash_requests.specs.Steps as steps
+use Rattle.ash_requests.specs.StepLaws.{events_of_reply}
+use Rattle.ash_requests.specs.declared.reply.Reply as code_reply
+use Rattle.ash_requests.specs.declared.step_error.StepError.{StepError}
+use Rattle.ash_requests.specs.RequestViews.{reply_seen}
+use Rattle.ash_requests.specs.TaskResults.{TakesMemoryToFind}
+use Rattle.ash_sources.specs.declared.fault.SourceFault as code_fault
+use Rattle.ash_sources.specs.SourceFaults.{SourceFault, fault_of}
+use Rattle.ash_sources.specs.SourceFaults as faults
+use Rattle.ash_soundness.specs.WellFormed.{IsState, AreAnswers}
+use Rattle.ash_states.specs.HostStates.{HostState, IsAdmitted, embedding_for}
+use Rattle.ash_states.specs.StateSteps.{task_of, FailsInChange}
+use Rattle.ash_engine.specs.LiveStates.{Boxes, LiveState}
+use Rattle.ash_engine.specs.Drawing.{Enough, draw_all, kinds_of}
+
+-- ---- the step, by the answers of host objects
+
+-- What requests lead to, without the boxes: what outlives a request, and the kind and the state of each free box.
+pub record Reached : Type 0 where
+  pub durable : HostState
+  pub pool : List FreeBox
+
+-- a live state without its boxes
+abbrev pub reached_by : {B : Type 0} → LiveState B → Reached
+reached_by live = record { durable = live.durable; pool = live.pool }
+
+-- Where host objects give these answers, the written step of the request has this reply, and leaves this state and this
+-- pool. It takes all of the answers.
+pub record StepsFor (answers : List HostRecord) (budget : ℕ) (request : Request) (before : Reached)
+    (reply : Reply SourceFault) (after : Reached) : Type 0 where
+  pub stepped : steps.step (embedding_for (before.durable).registered) budget request (before.durable).state
+      (record { pool = before.pool; answers = answers })
+      ≡ Some (record {
+        reply = reply;
+        state = (after.durable).state;
+        hosts = record { pool = after.pool; answers = [] };
+      })
+  pub registered : (after.durable).registered ≡ (before.durable).registered
+
+-- A host may be in what outlives a request, and no free box has a state that is longer than a state may be.
+pub record IsReached (reached : Reached) : Type 0 where
+  pub admitted : IsAdmitted reached.durable
+  pub fit : AllByRecursion (λ (box : FreeBox). IsState box.state) reached.pool
+
+-- What a request leads to is what a host may be in, where the answers are such as their types have.
+abbrev pub StepsKeepReached : Type 0
+StepsKeepReached = (answers : List HostRecord) (budget : ℕ) (request : Request) (before : Reached)
+    (reply : Reply SourceFault) (after : Reached) → IsReached before
+    → AreAnswers answers
+    → StepsFor answers budget request before reply after → IsReached after
+
+-- a reply by which the sequence number stays, as that of a refusal or of a look at a global
+abbrev pub IsNoAnswer : {Fault : Type 0} → Reply Fault → Type 0
+IsNoAnswer (AnsweredWith end seq happened) = ⊥
+IsNoAnswer _ = Unit {0}
+
+-- ---- who answered
+
+-- the number of an object that was taken from the pool
+abbrev pub number_drawn : Event → Option ℕ
+number_drawn (events.Drew number) = Some number
+number_drawn _ = None
+
+-- the numbers of the objects that were taken from the pool, in order
+abbrev pub drawn_in : List Event → List ℕ
+drawn_in happened = filter_map number_drawn happened
+
+module _ {B : Type 0} where
+  -- The box that a call goes to: that of a service, of an object that lived, or of one that was drawn since.
+  abbrev pub box_at : Boxes B → List (ℕ × B) → Target → Option B
+  box_at old drawn (targets.Object number) = object_at number (old.objects ++ drawn)
+  box_at old drawn (targets.Service place) = slice_get old.services place
+
+  -- a record is valid for the very box that its call went to
+  abbrev pub IsValidOf : Ghosts B → Option B → HostRecord → Type 0
+  IsValidOf G None r = ⊥
+  IsValidOf G (Some box) r = IsValidRecord G box r
+
+  -- a box is what it was: its kind and its relation are as before, whatever it has answered
+  abbrev pub IsStill : Ghosts B → Option B → B → Type 0
+  IsStill G None after = ⊥
+  IsStill G (Some before) after = (G.kind_of after ≡ G.kind_of before) × SameRelation (G.allows before) (G.allows after)
+
+  -- The boxes gave these answers: each object that was drawn got the first free box of its kind, each record is valid
+  -- for the very box that its call went to, and each box is afterwards what it was.
+  pub record Answered (G : Ghosts B) (old : Boxes B) (happened : List Event) (answers : List HostRecord)
+      (new : Boxes B) : Type 0 where
+    pub drawn : List (ℕ × B)
+    pub in_turn : numbers drawn ≡ drawn_in happened
+    pub first_free : draw_all G (kinds_of G drawn) old.pool ≡ Enough drawn new.pool
+    pub valid : AllByRecursion (λ (r : HostRecord). IsValidOf G (box_at old drawn r.target) r) answers
+    pub objects : (number : ℕ) (box : B) → object_at number new.objects ≡ Some box
+        → IsStill G (box_at old drawn (targets.Object number)) box
+    pub services : (place : ℕ) (box : B) → slice_get new.services place ≡ Some box
+        → IsStill G (box_at old drawn (targets.Service place)) box
+
+  -- ---- the step of a live state
+
+  -- The step of a request was taken: there are answers, each of the very box that gave it, for which it is the written
+  -- one. What is not answered changes nothing.
+  pub record TakesStep (G : Ghosts B) (budget : ℕ) (request : Request) (old : LiveState B) (reply : Reply SourceFault)
+      (new : LiveState B) : Type 0 where
+    pub answers : List HostRecord
+    pub taken : StepsFor answers budget request (reached_by old) reply (reached_by new)
+    pub gave : Answered G old.boxes (events_of_reply reply) answers new.boxes
+    pub unchanged : IsNoAnswer reply → new ≡ old
+
+  -- Memory was refused to a request that takes it, before anything changed. It replaces no cause that is found without
+  -- memory.
+  pub record RanOut (request : Request) (old : LiveState B) (reply : Reply SourceFault) (new : LiveState B)
+      : Type 0 where
+    pub takes : TakesMemory request
+    pub finds : TakesMemoryToFind faults.MayTakeMemory (task_of request old.durable)
+    pub reply_is : reply ≡ Refused NoMemory
+    pub unchanged : new ≡ old
+
+  -- what a request may come to
+  abbrev pub LiveSteps : Ghosts B → ℕ → Request → LiveState B → Reply SourceFault → LiveState B → Type 0
+  LiveSteps G budget request old reply new =
+      TakesStep G budget request old reply new ⊎ RanOut request old reply new
+
+  -- What a request leads to from a live state is what a host may be in, whatever the boxes answer.
+  abbrev pub LiveStepsKeepReached : Ghosts B → Type 0
+  LiveStepsKeepReached G = (budget : ℕ) (request : Request) (old : LiveState B) (reply : Reply SourceFault)
+      (new : LiveState B) → IsReached (reached_by old) → LiveSteps G budget request old reply new
+      → IsReached (reached_by new)
+
+  -- What the code gives for a request. Where it gives an error, the live state is lost: the request is not refused, it
+  -- changes the state, and memory was refused while it did.
+  abbrev pub Handled : Ghosts B → ℕ → Request → LiveState B
+      → Result (code_reply.Reply code_fault.SourceFault) StepError → Option (LiveState B) → Type 0
+  Handled G budget request old (Ok reply) (Some new) =
+      LiveSteps G budget request old (reply_seen fault_of reply) new
+  Handled G budget request old (Ok reply) None = ⊥
+  Handled G budget request old (Err error) new = FailsInChange request old.durable error × (new ≡ None)

@@ -1,0 +1,17 @@
+//! The engine: a live state that takes the steps of requests. A live state is what outlives a request, as `ash_states`
+//! has it, beside the boxes of host objects, which no file holds. It promises that each reply is that of the written
+//! step for some answers of host objects, each within the relation of the very box that gave it, and that a state that
+//! was stored lives with the first free boxes of its kinds, in the states that are stored.
+//!
+//! The definitions are in `specs/`: `LiveStates` (boxes, and whose they are), `Drawing` (boxes taken from a pool),
+//! `LiveSteps` (what a request does), `RestoredBoxes` (what is restored, and what is refused), `PlainSteps` (what the
+//! plain evaluator does for a live state). In reading order: `engine`; `boxes` and `starting` (the boxes that are
+//! handed over); `live` and `steps` (the plain evaluator, at work for a live state); `laws`.
+#![tactic(auto)]
+
+mod boxes;
+pub mod engine;
+pub mod laws;
+mod live;
+mod starting;
+mod steps;
