@@ -16,7 +16,7 @@ use Rattle.ash_states.specs.HostStates.{HostState, IsAdmitted, service_kinds}
 use Rattle.ash_states.specs.Holding.{held_with, IsHeld}
 use Rattle.ash_states.proofs.Admitted.{first_admitted, first_held}
 use Rattle.ash_engine.specs.declared.live.Live.{Live}
-use Rattle.ash_engine.specs.LiveStates.{Boxes, LiveState, hosts_in, services_for, plain_box}
+use Rattle.ash_engine.specs.LiveStates.{Boxes, LiveState, AreOf, hosts_in, services_for, plain_box}
 use Rattle.ash_engine.specs.Drawing.{Enough, draw_all}
 use Rattle.ash_engine.specs.RestoredBoxes.{kinds_wanted, HasServices, Restores, IsRefused, Service}
 use Rattle.ash_engine.specs.PlainSteps.{BoxesFit, IsLive}
@@ -74,10 +74,11 @@ module _ {B : Type 0} (G : Ghosts B) where
     draws_none : draw_all G (kinds_wanted s) pool ≡ Enough [] pool
     draws_none = ap (λ (hosts : List (ℕ × FreeBox)). draw_all G (map (λ (e : ℕ × FreeBox). (e.0, (e.1).kind)) hosts) pool) (no_hosts s h)
 
-    pub restores : (after : List B) (live : LiveState B) → live.durable ≡ s → live.boxes ≡ record { objects = []; pool = pool; services = after }
+    pub restores : (after : List B) (live : LiveState B) → live.durable ≡ s → AreOf G live → live.boxes ≡ record { objects = []; pool = pool; services = after }
         → RestoresServices G (services_for s.registered services) (s.state).services after → Restores G s pool services live
-    restores after live durable boxes restored = record {
+    restores after live durable of_state boxes restored = record {
       durable = durable;
+      boxes = of_state;
       has = has;
       drawn = [];
       first_free = draws_none ∙ ap (λ (b : Boxes B). Enough [] b.pool) (sym boxes);

@@ -6,7 +6,7 @@ use Rattle.ash_meaning.specs.Activity.{FreeBox}
 use Rattle.ash_objects.specs.Restoring.{RestoresState, RestoresServices, ServiceRefused}
 use Rattle.ash_registry.specs.AcceptedRegistrations.{Registration}
 use Rattle.ash_states.specs.HostStates.{HostState, service_kinds}
-use Rattle.ash_engine.specs.LiveStates.{LiveState, hosts_in, services_for}
+use Rattle.ash_engine.specs.LiveStates.{LiveState, AreOf, hosts_in, services_for}
 use Rattle.ash_engine.specs.Drawing.{Short, Enough, draw_all}
 
 -- the host objects of a state by their numbers, each with its kind
@@ -67,6 +67,8 @@ module _ {B : Type 0} where
   -- these boxes and the services took the states that are stored, and the other free boxes are as they were.
   pub record Restores (G : Ghosts B) (s : HostState) (pool services : List B) (live : LiveState B) : Type 0 where
     pub durable : live.durable ≡ s
+    -- each host object of the state has a box, and no other number has one
+    pub boxes : AreOf G live
     pub has : HasServices G s.registered services
     pub drawn : List (ℕ × B)
     pub first_free : draw_all G (kinds_wanted s) pool ≡ Enough drawn (live.boxes).pool

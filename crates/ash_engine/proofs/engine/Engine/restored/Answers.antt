@@ -41,6 +41,7 @@ returns-clause-restored g c =
       subst (λ (t : HostState). Restores G t c.args.pool.items c.args.services.items live) c.into_parts-registry.ensures.same
           (restores G s (c.into_parts-registry.ensures.held).admitted c.args.pool.items c.args.services.items c.in_ok-taken.ensures.has c.in_ok-live.live.services.items live
           (ap (held_with (registered parts.0)) c.in_ok-live.ensures.state)
+          (c.in_ok-live.ensures.live).boxes
           (ap (λ (pool : List B). let b : Boxes B = record { objects = []; pool = pool; services = c.in_ok-live.live.services.items } in b) c.in_ok-live.ensures.pool)
           (subst (λ (services : List B). RestoresServices G services (s.state).services c.in_ok-live.live.services.items) c.in_ok-taken.ensures.taken c.in_ok-live.ensures.services)),
     )
