@@ -1,6 +1,6 @@
 -- A source that is too long is no module, and so is what begins it.
-use Rattle.std.proofs.Common.{◌≡◌, inl, inr, ◌<◌, ◌≤◌, ℕ, nat_lt, Bool, true, false, not, List, [], length, take, refl}
-use Rattle.std.proofs.Common.{sym}
+use Rattle.std.proofs.Common.{◌≡◌, ◌⊎◌, inl, inr, ◌<◌, ◌≤◌, ℕ, nat_lt, Bool, true, false, not, List, [], length, take}
+use Rattle.std.proofs.Common.{refl, sym}
 use Rattle.std.proofs.Common.{ap, ◌∙◌, subst, arith, Option, Some, None, Result, Err, is_some, option_map}
 use Rattle.std.proofs.lemmas.Bool.Decides.{nat_tests}
 use Rattle.std.proofs.lemmas.Grind.{common_steps}
@@ -117,8 +117,8 @@ replies_of_prefix device G budget name prefix source (Some live) old reply new e
       room = out.room;
       ran_out = record {
         takes = tt;
-        finds = subst (TakesMemoryToFind sources.MayTakeMemory) (task_of_prefix name prefix source live.durable e)
-            out.ran_out.finds;
+        finds = subst (λ (t : TaskResult SourceFault). TakesMemoryToFind sources.MayTakeMemory t ⊎ TaskChangesState t)
+            (task_of_prefix name prefix source live.durable e) out.ran_out.finds;
         reply_is = out.ran_out.reply_is;
         unchanged = out.ran_out.unchanged;
       };

@@ -1,5 +1,5 @@
 -- A request that is refused changes nothing of a host that runs and installs nothing before it.
-use Rattle.std.proofs.Common.{◌≡◌, inl, inr, ℕ, [], Option, Some, Ok, Err, sym, ◌∙◌, ap, subst}
+use Rattle.std.proofs.Common.{◌≡◌, ◌⊎◌, inl, inr, ℕ, [], Option, Some, Ok, Err, sym, ◌∙◌, ap, subst}
 use Rattle.std.specs.Result.{result_err}
 use Rattle.ash_disk.specs.Device.{Device}
 use Rattle.ash_host.specs.declared.host_object.HostObject.{Ghosts}
@@ -23,6 +23,13 @@ cause_of : (result : TaskResult SourceFault) (cause : Refusal SourceFault) → r
     → result ≡ Err cause
 cause_of (Ok task) cause is = absurd (cc)
 cause_of (Err first) cause is = let same : first ≡ cause = cc in ap (λ (r : Refusal SourceFault). Err r) same
+
+-- where memory was refused, what is refused takes memory to find
+takes_to_find : (result : TaskResult SourceFault) (cause : Refusal SourceFault) → result ≡ Err cause
+    → TakesMemoryToFind sources.MayTakeMemory result ⊎ TaskChangesState result
+    → TakesMemoryToFind sources.MayTakeMemory (Err cause)
+takes_to_find result cause is (inl finds) = subst (TakesMemoryToFind sources.MayTakeMemory) is finds
+takes_to_find result cause is (inr changes) = absurd (subst TaskChangesState is changes)
 
 stepped_refused : {D B : Type 0} (device : Device D) (G : Ghosts B) (budget : ℕ) (request : Request)
     (live : LiveState B) (old : Hosted D B) (reply : Reply SourceFault) (new : Hosted D B)
@@ -62,7 +69,10 @@ refuses_first {D} {B} device G budget request old reply new handled state cause 
     elim replies [
       | inl took ↦ stepped_refused device G budget request live old reply new cause not is took
       | inr (inl out) ↦ record {
-        reply_is = inr (out.ran_out.reply_is, subst (TakesMemoryToFind sources.MayTakeMemory) is out.ran_out.finds);
+        reply_is = inr (
+          out.ran_out.reply_is,
+          takes_to_find (task_of request live.durable) cause is out.ran_out.finds,
+        );
         unchanged = as_it_is device request live.durable old new not out.room;
       }
       | inr (inr (inl lost)) ↦ absurd (subst TaskChangesState is lost.changes)

@@ -127,7 +127,7 @@ module _ {B : Type 0} (G : Ghosts B) where
         by (inl e) = inl (taken none e)
         by (inr (takes, finds, same)) = inr (record {
           takes = takes;
-          finds = finds;
+          finds = inl finds;
           reply_is = ap (λ (s : Step SourceFault). s.reply) same;
           unchanged = durable_same (ap (λ (s : Step SourceFault). s.state) same) (ap (λ (s : Step SourceFault). s.hosts) same);
         })

@@ -17,7 +17,7 @@ use Rattle.ash_requests.specs.StepLaws.{events_of_reply}
 use Rattle.ash_requests.specs.declared.reply.Reply as code_reply
 use Rattle.ash_requests.specs.declared.step_error.StepError.{StepError}
 use Rattle.ash_requests.specs.RequestViews.{reply_seen}
-use Rattle.ash_requests.specs.TaskResults.{TakesMemoryToFind}
+use Rattle.ash_requests.specs.TaskResults.{TakesMemoryToFind, TaskChangesState}
 use Rattle.ash_sources.specs.declared.fault.SourceFault as code_fault
 use Rattle.ash_sources.specs.SourceFaults.{SourceFault, fault_of}
 use Rattle.ash_sources.specs.SourceFaults as faults
@@ -120,11 +120,12 @@ module _ {B : Type 0} where
     pub unchanged : IsNoAnswer reply → new ≡ old
 
   -- Memory was refused to a request that takes it, before anything changed. It replaces no cause that is found without
-  -- memory.
+  -- memory: it was refused while what the request asks for was found, or before that was begun.
   pub record RanOut (request : Request) (old : LiveState B) (reply : Reply SourceFault) (new : LiveState B)
       : Type 0 where
     pub takes : TakesMemory request
     pub finds : TakesMemoryToFind faults.MayTakeMemory (task_of request old.durable)
+        ⊎ TaskChangesState (task_of request old.durable)
     pub reply_is : reply ≡ Refused NoMemory
     pub unchanged : new ≡ old
 

@@ -179,7 +179,8 @@ impl<B: HostObject> Engine<B> {
         body_of(&self.registry, &live.state)
     }
 
-    /// One request, with so many ticks.
+    /// One request, with so many ticks. If memory is refused before anything changes, the reply is the refusal
+    /// `NoMemory`, and the live state is as it was.
     ///
     /// # Errors
     ///
