@@ -18,9 +18,9 @@ use Rattle.ash_states.specs.HostStates.{HostState, service_kinds}
 use Rattle.ash_states.proofs.Lists.{all_more, each_at}
 use Rattle.ash_engine.specs.Drawing.{Drawing, Short, Enough, with_first, draw_then, draw_all}
 use Rattle.ash_engine.specs.LiveStates.{LiveState, host_in, hosts_in, services_for, plain_box, plain_entry}
-use Rattle.ash_engine.specs.RestoredBoxes.{IsShort, IsRefused, Service, Object, kinds_wanted}
+use Rattle.ash_engine.specs.RestoredBoxes.{HasServices, IsShort, IsRefused, Service, Object, kinds_wanted}
 use Rattle.ash_engine.proofs.Served.{kinds_served}
-use Rattle.ash_durable.specs.HandedBoxes.{IsSavedBy, AreSaved, CanOpen}
+use Rattle.ash_durable.specs.HandedBoxes.{IsSavedBy, AreSaved, CanOpen, RestoreKinds}
 use Rattle.ash_durable.specs.Hosting.{IsSound}
 
 module _ {B : Type 0} (G : Ghosts B) (pool services : List B) (state : HostState) where
@@ -31,7 +31,17 @@ module _ {B : Type 0} (G : Ghosts B) (pool services : List B) (state : HostState
   not_short kind can (inr (has, short)) =
       let h : Enough can.drawn can.left ≡ Short kind = sym can.enough ∙ short in absurd (cc)
 
-  -- and none refuses what an object of its kind has saved
+  -- and none refuses what the state has for it
+  pub not_refused : (number : ℕ) → CanOpen G pool services state → IsRefused G state pool services number → ⊥
+  not_refused _ can (Service drawn left has enough refused) =
+      can.services_take refused.place refused.service refused.bytes refused.there refused.state refused.refused
+  not_refused number can (Object _ drawn left back has enough served refused) =
+      let h : Enough drawn left ≡ Enough can.drawn can.left = sym enough ∙ can.enough in
+      let same : drawn ≡ can.drawn = cc in
+      can.objects_take number refused.host refused.box refused.there
+      (subst (λ (boxes : List (ℕ × B)). object_at number boxes ≡ Some refused.box) same refused.took) refused.refused
+
+  -- a box whose kind restores what it saves refuses none of it
   never_refuses : (box : B) (kind : ℕ) (bytes : List ℕ) → RestoresSaved G box → G.kind_of box ≡ kind
       → IsSavedBy G kind bytes → G.refuses box bytes → ⊥
   never_refuses box kind bytes restores is (object, of, saves) refused =
@@ -158,39 +168,53 @@ module _ {B : Type 0} (G : Ghosts B) (P : B → Type 0) where
           (subst (λ (b : B). G.kind_of b ≡ kind) box_is (are.1 ∙ kind_is), subst P box_is are.2)
       by false wants_it took_it later = later wants_it took_it
 
--- ---- none refuses
+-- ---- boxes whose kinds restore what they save
 
 module _ {B : Type 0} (G : Ghosts B) (pool services : List B) (state : HostState) where
   abbrev kinds : List ℕ
   kinds = service_kinds state.registered
 
   -- a service is of the kind that is registered in its place
-  service_kind_at : CanOpen G pool services state → (place : ℕ) (service : B)
+  service_kind_at : HasServices G state.registered services → (place : ℕ) (service : B)
       → slice_get (services_for state.registered services) place ≡ Some service
       → slice_get kinds place ≡ Some (G.kind_of service)
-  service_kind_at can place service there =
-      let are : map G.kind_of (take (length kinds) services) ≡ kinds = kinds_served G kinds services can.has in
+  service_kind_at has place service there =
+      let are : map G.kind_of (take (length kinds) services) ≡ kinds = kinds_served G kinds services has in
       subst (λ (ks : List ℕ). slice_get ks place ≡ Some (G.kind_of service)) are
       (slice_get-map G.kind_of (take (length kinds) services) place
       ∙ ap (λ (o : Option B). option_map G.kind_of o) there)
 
-  pub not_refused : (number : ℕ) → AreSaved G state → CanOpen G pool services state
-      → IsRefused G state pool services number → ⊥
-  not_refused _ saved can (Service drawn left has enough refused) =
-      let kind = service_kind_at can refused.place refused.service refused.there in
-      never_refuses G pool services state refused.service (G.kind_of refused.service) refused.bytes
-      (all_take (RestoresSaved G) (length kinds) services refused.place refused.service can.services_restore
-      refused.there) refl
-      (saved.services refused.place (G.kind_of refused.service) refused.bytes kind refused.state) refused.refused
-  not_refused number saved can (Object _ drawn left back has enough served refused) =
-      let hosts = hosts_in (state.state).objects in
-      let wants : object_at number (kinds_wanted state) ≡ Some (refused.host).kind =
-      lookup-map_values (λ (host : FreeBox). host.kind) (nat_eq number) hosts
-      ∙ ap (λ (o : Option FreeBox). option_map (λ (host : FreeBox). host.kind) o) refused.there in
-      let took = took_kind G (RestoresSaved G) (kinds_wanted state) drawn number (refused.host).kind refused.box
-      (drawn_all G (RestoresSaved G) (kinds_wanted state) pool drawn left can.pool_restores enough) wants refused.took in
-      never_refuses G pool services state refused.box (refused.host).kind (refused.host).state took.1 took.0
-      (saved.objects number refused.host refused.there) refused.refused
+  service_takes : AreSaved G state → RestoreKinds G pool services state → (place : ℕ) (service : B) (bytes : List ℕ)
+      → slice_get (services_for state.registered services) place ≡ Some service
+      → slice_get (state.state).services place ≡ Some bytes → G.refuses service bytes → ⊥
+  service_takes saved restore place service bytes there has refused =
+      never_refuses G pool services state service (G.kind_of service) bytes
+      (all_take (RestoresSaved G) (length kinds) services place service restore.services_restore there) refl
+      (saved.services place (G.kind_of service) bytes (service_kind_at restore.has place service there) has) refused
+
+  object_takes : AreSaved G state → (restore : RestoreKinds G pool services state) → (number : ℕ) (host : FreeBox)
+      (box : B) → object_at number (hosts_in (state.state).objects) ≡ Some host
+      → object_at number restore.drawn ≡ Some box → G.refuses box host.state → ⊥
+  object_takes saved restore number host box there took refused =
+      let wants : object_at number (kinds_wanted state) ≡ Some host.kind =
+      lookup-map_values (λ (h : FreeBox). h.kind) (nat_eq number) (hosts_in (state.state).objects)
+      ∙ ap (λ (o : Option FreeBox). option_map (λ (h : FreeBox). h.kind) o) there in
+      let of_kind = took_kind G (RestoresSaved G) (kinds_wanted state) restore.drawn number host.kind box
+      (drawn_all G (RestoresSaved G) (kinds_wanted state) pool restore.drawn restore.left restore.pool_restores
+      restore.enough) wants took in
+      never_refuses G pool services state box host.kind host.state of_kind.1 of_kind.0
+      (saved.objects number host there) refused
+
+  -- with such boxes a state lives again of which each host object and each service has what an object of its kind saves
+  pub kinds_open : AreSaved G state → RestoreKinds G pool services state → CanOpen G pool services state
+  kinds_open saved restore = record {
+    has = restore.has;
+    drawn = restore.drawn;
+    left = restore.left;
+    enough = restore.enough;
+    objects_take = object_takes saved restore;
+    services_take = service_takes saved restore;
+  }
 
 -- ---- what live boxes have is saved
 

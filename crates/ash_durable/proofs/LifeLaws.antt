@@ -350,26 +350,29 @@ module _ {D B : Type 0} (device : Device D) (G : Ghosts B) (stays : (disk : D) �
   -- No opening of a store is refused but because memory ran out, a disk failed or its version 1 has no more
   -- generations, where the boxes are such as it can be opened with.
   pub opens : (events : List StoreEvent) (pool services : List B) (a b : D) (r : OpenRefused D)
-      → Life device G start events (OnDisks a b) → CanOpenAfter G pool services events start
+      → Life device G start events (OnDisks a b) → CanOpenAfter device G pool services events start a b
       → WasRefused device G (start.durable).registered pool services a b r → MayRefuse r.fault
   opens events pool services a b r life can (NotFound was) =
       let before = outlives events (OnDisks a b) life in
       let whole = before.whole in
       let one = reads_one device stays a b (IsEither whole.s.durable whole.t.durable) before.honest whole.settled in
       let state = one.1.0 in
-      let known : (state.registered ≡ (start.durable).registered) × AreSaved G state × CanOpen G pool services state =
+      let registered = (start.durable).registered in
+      let known : (state.registered ≡ registered) × CanOpen G pool services state =
       elim one.1.1 [
-        | inl s_is ↦ (
-          ap (λ (s : HostState). s.registered) s_is ∙ s_registered device G start events a b whole,
-          subst (AreSaved G) (sym s_is) whole.s_saved,
-          subst (CanOpen G pool services) (sym s_is) (can whole.s whole.s_led),
-        )
-        | inr t_is ↦ (
-          ap (λ (s : HostState). s.registered) t_is ∙ t_registered device G start events a b whole,
-          subst (AreSaved G) (sym t_is) whole.t_saved,
-          subst (CanOpen G pool services) (sym t_is) (can whole.t whole.t_led),
-        )
+        | inl s_is ↦
+            let with_it = ap (λ (s : HostState). s.registered) s_is ∙ s_registered device G start events a b whole in (
+              with_it,
+              subst (CanOpen G pool services) (sym s_is)
+                  (can whole.s whole.s_led whole.s_saved (one.0, one.2, state, with_it, one.1.2, s_is)),
+            )
+        | inr t_is ↦
+            let with_it = ap (λ (s : HostState). s.registered) t_is ∙ t_registered device G start events a b whole in (
+              with_it,
+              subst (CanOpen G pool services) (sym t_is)
+                  (can whole.t whole.t_led whole.t_saved (one.0, one.2, state, with_it, one.1.2, t_is)),
+            )
       ] in
-      only_mishaps G (start.durable).registered pool services state one.0 r.fault (device.seen a) (device.seen b) known.0
-      one.2 one.1.2 known.1 known.2 (was.cause before.honest)
+      only_mishaps G registered pool services state one.0 r.fault (device.seen a) (device.seen b) known.0
+      one.2 one.1.2 known.1 (was.cause before.honest)
   opens events pool services a b r life can (LeftThere left) = subst MayRefuse (sym left.left.fault_is) tt

@@ -11,7 +11,7 @@ use Rattle.ash_durable.specs.Contents.{ReadsAs}
 use Rattle.ash_durable.specs.StoreFaults.{IsMishap, MayRefuse}
 use Rattle.ash_host.specs.declared.host_object.HostObject.{Ghosts}
 use Rattle.ash_engine.specs.RestoredBoxes.{IsShort, IsRefused}
-use Rattle.ash_durable.specs.HandedBoxes.{AreSaved, CanOpen}
+use Rattle.ash_durable.specs.HandedBoxes.{CanOpen}
 use Rattle.ash_durable.specs.OpenedStore.{AreOfState, StoreFaultIs, IsSpent}
 use Rattle.ash_durable.proofs.HandedOver.{not_short, not_refused}
 use Rattle.ash_durable.specs.StoredStates.{AreIn, IsStateOf}
@@ -41,33 +41,32 @@ module _ {B : Type 0} (G : Ghosts B) (registered : List Registration) (pool serv
 
   pub only_mishaps : (state : HostState) (contents : Contents) (fault : StoreFault) (x y : List ℕ)
       → state.registered ≡ registered → Represent contents x y → IsStateOf state contents
-      → AreSaved G state → CanOpen G pool services state
-      → StoreFaultIs G registered pool services fault x y → MayRefuse fault
-  only_mishaps state contents (faults.Open opening.NoMemory) x y with_it is is_state saved can cause = tt
-  only_mishaps state contents (faults.Open opening.DeviceFailed) x y with_it is is_state saved can cause = tt
-  only_mishaps state contents faults.GenerationSpent x y with_it is is_state saved can cause = tt
-  only_mishaps state contents (faults.PoolShort kind) x y with_it is is_state saved can cause =
+      → CanOpen G pool services state → StoreFaultIs G registered pool services fault x y → MayRefuse fault
+  only_mishaps state contents (faults.Open opening.NoMemory) x y with_it is is_state can cause = tt
+  only_mishaps state contents (faults.Open opening.DeviceFailed) x y with_it is is_state can cause = tt
+  only_mishaps state contents faults.GenerationSpent x y with_it is is_state can cause = tt
+  only_mishaps state contents (faults.PoolShort kind) x y with_it is is_state can cause =
       absurd (boxes_there (λ s. IsShort G s pool services kind) state contents x y with_it is is_state cause
       (λ short. not_short G pool services state kind can short))
-  only_mishaps state contents (faults.RestoreRefused number) x y with_it is is_state saved can cause =
+  only_mishaps state contents (faults.RestoreRefused number) x y with_it is is_state can cause =
       absurd (boxes_there (λ s. IsRefused G s pool services number) state contents x y with_it is is_state cause
-      (λ refused. not_refused G pool services state number saved can refused))
-  only_mishaps state contents (faults.Open opening.NoGeneration) x y with_it is is_state saved can cause =
+      (λ refused. not_refused G pool services state number can refused))
+  only_mishaps state contents (faults.Open opening.NoGeneration) x y with_it is is_state can cause =
       absurd (represent_open contents x y is cause)
-  only_mishaps state contents (faults.Open (opening.Damaged at)) x y with_it is is_state saved can (inl (inl unsound)) =
+  only_mishaps state contents (faults.Open (opening.Damaged at)) x y with_it is is_state can (inl (inl unsound)) =
       absurd (represent_sound contents x y is unsound.0)
-  only_mishaps state contents (faults.Open (opening.Damaged at)) x y with_it is is_state saved can (inl (inr cut)) =
+  only_mishaps state contents (faults.Open (opening.Damaged at)) x y with_it is is_state can (inl (inr cut)) =
       absurd (represent_whole contents x y at is cut)
-  only_mishaps state contents (faults.Open (opening.Damaged at)) x y with_it is is_state saved can
+  only_mishaps state contents (faults.Open (opening.Damaged at)) x y with_it is is_state can
       (inr (other, other_is, wrong)) =
       let same : faults.Open (opening.Damaged at) ≡ faults.Open opening.NoMemory =
       misread registered state contents other (faults.Open (opening.Damaged at)) x y with_it is is_state other_is
       wrong in absurd (cc)
-  only_mishaps state contents faults.OtherInterface x y with_it is is_state saved can (other, other_is, others) =
+  only_mishaps state contents faults.OtherInterface x y with_it is is_state can (other, other_is, others) =
       let same : faults.OtherInterface ≡ faults.Open opening.NoMemory =
       misread registered state contents other faults.OtherInterface x y with_it is is_state other_is others in
       absurd (cc)
-  only_mishaps state contents (faults.Create fault) x y with_it is is_state saved can cause = absurd cause
+  only_mishaps state contents (faults.Create fault) x y with_it is is_state can cause = absurd cause
 
 -- what is in version 2 is not in version 1
 two_one : (contents other : Contents) → other ≡ contents → AreIn Two contents → AreIn One other → ⊥

@@ -171,7 +171,7 @@ module _ {D B : Type 0} (device : Device D) (G : Ghosts B) (stays : (disk : D) â
       let has : AreSaved G state = subst (AreSaved G) known.2 (live_saved G known.0 (sound known.0 known.1)) in
       mishap G host.registered pool services refused.fault holds.contents x y read holds.in_two (none.cause honest)
       (only_mishaps G host.registered pool services state holds.contents refused.fault x y (sym runs.registered_is) read
-      holds.is_state has can (none.cause honest))
+      holds.is_state (can has) (none.cause honest))
   opens_again host (Err refused) sound (LeftThere left) = Î» state honest runs saved can.
       subst IsMishap (sym left.left.fault_is) tt
 

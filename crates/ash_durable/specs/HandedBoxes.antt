@@ -33,8 +33,22 @@ module _ {B : Type 0} (G : Ghosts B) where
         → slice_get (s.state).services place ≡ Some bytes → IsSavedBy kind bytes
 
   -- Boxes with which a state lives again: services of the registered kinds, and free boxes enough of each kind that the
-  -- state has; and none of them refuses what an object of its kind has saved.
+  -- state has; and neither a service nor a box that a host object takes refuses what the state has for it.
   pub record CanOpen (pool services : List B) (s : HostState) : Type 0 where
+    pub has : HasServices G s.registered services
+    pub drawn : List (ℕ × B)
+    pub left : List B
+    pub enough : draw_all G (kinds_wanted s) pool ≡ Enough drawn left
+    pub objects_take : (number : ℕ) (host : FreeBox) (box : B)
+        → object_at number (hosts_in (s.state).objects) ≡ Some host → object_at number drawn ≡ Some box
+        → G.refuses box host.state → ⊥
+    pub services_take : (place : ℕ) (service : B) (bytes : List ℕ)
+        → slice_get (services_for s.registered services) place ≡ Some service
+        → slice_get (s.state).services place ≡ Some bytes → G.refuses service bytes → ⊥
+
+  -- Services of the registered kinds, and free boxes enough of each kind that a state has, each of which takes whatever
+  -- an object of its kind saves.
+  pub record RestoreKinds (pool services : List B) (s : HostState) : Type 0 where
     pub has : HasServices G s.registered services
     pub drawn : List (ℕ × B)
     pub left : List B

@@ -19,7 +19,7 @@ use Rattle.ash_engine.specs.LiveStates.{LiveState}
 use Rattle.ash_engine.specs.LiveSteps.{Reached, reached_by, StepsFor, IsValidOf}
 use Rattle.ash_durable.specs.HandedBoxes.{first_reached, AreSaved, CanOpen}
 use Rattle.ash_durable.specs.Hosting.{Hosted, first, second, IsRunning, IsSaved, IsAnswer, Handles, TookStep, RunsSound}
-use Rattle.ash_durable.specs.OpenedStore.{WasOpened, WasRefused, Opens, first_found, second_found}
+use Rattle.ash_durable.specs.OpenedStore.{AreOfState, WasOpened, WasRefused, Opens, first_found, second_found}
 use Rattle.ash_durable.specs.RequestRuns.{LosesAnswer}
 use Rattle.ash_durable.specs.StoredStates.{AreHonest, SettleNow, IsOne, IsEither}
 use Rattle.ash_durable.specs.Store.{WereOnlyRead, WasCreated, WasNotCreated, Creates}
@@ -292,10 +292,14 @@ pub record Outlives {D B : Type 0} (device : Device D) (G : Ghosts B) (start : R
   pub whole : IsWholeHistory device G start events (first_at place) (second_at place)
   pub runs : RunsAt device G start events place
 
--- Boxes with which each state lives again to which the events lead.
-abbrev pub CanOpenAfter : {B : Type 0} → Ghosts B → List B → List B → List StoreEvent → Reached → Type 0
-CanOpenAfter G pool services events start =
-    (reached : Reached) → LeadTo G events start reached → CanOpen G pool services reached.durable
+-- Boxes with which the state lives again that two disks have, as they read. The events lead to it, and each of its host
+-- objects and each service has what an object of its kind saves.
+abbrev pub CanOpenAfter : {D B : Type 0} → Device D → Ghosts B → List B → List B → List StoreEvent → Reached → D → D
+    → Type 0
+CanOpenAfter device G pool services events start a b =
+    (reached : Reached) → LeadTo G events start reached → AreSaved G reached.durable
+    → AreOfState (start.durable).registered (IsOne reached.durable) (device.seen a) (device.seen b)
+    → CanOpen G pool services reached.durable
 
 -- ---- what handling requests makes of a life
 

@@ -25,7 +25,7 @@ use Rattle.ash_engine.specs.LiveStates.{LiveState, EngineState}
 use Rattle.ash_engine.specs.RestoredBoxes.{IsShort, IsRefused, Restores}
 use Rattle.ash_durable.specs.Contents.{after_image, ReadsAs, IsMisshapen, IsNotAdmitted, AreOfOthers}
 use Rattle.ash_durable.specs.StoreFaults.{IsFailed, IsMishap}
-use Rattle.ash_durable.specs.HandedBoxes.{CanOpen}
+use Rattle.ash_durable.specs.HandedBoxes.{AreSaved, CanOpen}
 use Rattle.ash_durable.specs.Hosting.{Hosted, first, second, IsRunning, IsSaved, IsHonest, IsSound}
 use Rattle.ash_durable.specs.Saving.{last_generation}
 use Rattle.ash_durable.specs.StoredStates.{AreHonest, AreIn, SettleNow, IsEither, IsStateOf}
@@ -417,7 +417,8 @@ second_found device G registered pool services a b (Err refused) (LeftThere left
 -- ---- closing it and opening it again
 
 -- A host that was saved is opened with what was registered, in the state in which it was closed, unless memory is
--- refused or a disk fails, where the boxes are such as the state can be opened with.
+-- refused or a disk fails, where the boxes are such as the state can be opened with. Each host object and each service
+-- of that state has what an object of its kind saves.
 abbrev pub OpensAgain : {D B : Type 0} → Device D → Ghosts B → List B → List B → Hosted D B
     → Result (Hosted D B) (OpenRefused D) → Type 0
 OpensAgain device G pool services host (Ok opened) =
@@ -426,4 +427,4 @@ OpensAgain device G pool services host (Ok opened) =
     × IsSaved device opened)
 OpensAgain device G pool services host (Err refused) =
     (state : HostState) → IsHonest device host → IsRunning state host → IsSaved device host
-    → CanOpen G pool services state → IsMishap refused.fault
+    → (AreSaved G state → CanOpen G pool services state) → IsMishap refused.fault

@@ -3,6 +3,8 @@
 ghost use Rattle.std.specs.Prelude.{ℕ, List, ◌∷◌, ◌++◌};
 ghost use Rattle.ash_engine.specs.LiveSteps.{Reached};
 ghost use Rattle.ash_durable.specs.StoreFaults.{MayRefuse};
+ghost use Rattle.ash_states.specs.HostStates.{HostState};
+ghost use Rattle.ash_durable.specs.HandedBoxes.{AreSaved, CanOpen, RestoreKinds};
 ghost use Rattle.ash_durable.specs.Lives.{AreLeft, BeginWith, CanOpenAfter, Crashed, StoreEvent};
 ghost use Rattle.ash_durable.specs.Lives.{IsPrefixAt, LeadBy, Life, OnDisks, Outlives};
 ghost use Rattle.ash_durable.specs.Lives.{StoreLocation, first_at, second_at};
@@ -27,9 +29,9 @@ use ash_host::HostObject;
 /// those after a prefix of the requests that holds every acknowledged one. The newest alone may be in doubt, and where
 /// it is no host runs.
 ///
-/// `opens`: a store is never refused to a host with the same registry, with boxes with which each state can be opened to
-/// which the events lead, except because memory ran out, because a disk failed, or because the store is of version 1 and
-/// the number of its generation is the last.
+/// `opens`: a store is never refused to a host with the same registry, with boxes with which the state can be opened
+/// that the disks have as they read, except because memory ran out, because a disk failed, or because the store is of
+/// version 1 and the number of its generation is the last.
 ///
 /// It does nothing: the clauses are the theorem. Each step of a life is what the contract of a public call says.
 pub fn nothing_acknowledged_is_lost<D: Disk, B: HostObject>()
@@ -46,9 +48,21 @@ pub fn nothing_acknowledged_is_lost<D: Disk, B: HostObject>()
     ensures opens { (start : Reached) (events : List StoreEvent) (pool services : List B) (a b : D)
         (refused : OpenRefused D)
         → Life D.Disk B.HostObject start events (OnDisks a b)
-        → CanOpenAfter B.HostObject pool services events start
+        → CanOpenAfter D.Disk B.HostObject pool services events start a b
         → WasRefused D.Disk B.HostObject start.durable.registered pool services a b refused
         → MayRefuse refused.fault }
+{}
+
+/// With which boxes a state can be opened: with services of the registered kinds, and with boxes enough of each kind,
+/// where each restores whatever an object of its kind saves. Each host object and each service of a store's state has
+/// what an object of its kind saves.
+///
+/// Where a program boxes several types of one kind, a box of one need not restore what one of another saves; `CanOpen`
+/// asks only of each box that it takes what the state has for it.
+pub fn kinds_that_restore_open<B: HostObject>()
+    ensures opens { (pool services : List B) (state : HostState) → AreSaved B.HostObject state
+        → RestoreKinds B.HostObject pool services state
+        → CanOpen B.HostObject pool services state }
 {}
 
 /// Of which kinds a crash may be. `power`: a power failure leaves an image of each disk, and the next host is opened on
