@@ -1,3 +1,4 @@
+pub mod Answerers
 pub mod Answering
 pub mod Changing
 pub mod Committing

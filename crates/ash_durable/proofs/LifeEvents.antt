@@ -26,11 +26,12 @@ use Rattle.ash_durable.specs.Lives.{Crashed, AreFresh, IsOneOpen, first_of, seco
 use Rattle.ash_durable.specs.Lives.{OnDisks, first_at, second_at, IsWholeHistory, Outlives}
 use Rattle.ash_durable.specs.declared.fault.OpenRefused.{OpenRefused}
 use Rattle.ash_durable.proofs.Settling.{settle_on_more, settle_now, settle_still}
+use Rattle.ash_durable.proofs.Answerers.{may_answer}
 use Rattle.ash_durable.proofs.Answering.{leaves}
 use Rattle.ash_durable.proofs.HandedOver.{live_saved}
 use Rattle.ash_durable.proofs.Making.{read_idle}
 use Rattle.ash_durable.proofs.Opened.{kept_back}
-use Rattle.ash_durable.proofs.RequestOutcomes.{lead_registered, may_answer, handled_or_stopped}
+use Rattle.ash_durable.proofs.RequestOutcomes.{lead_registered, handled_or_stopped}
 use Rattle.ash_durable.proofs.CrashedDisks.{same_honesty, settle_crashed, settle_read, settle_swapped, held}
 
 -- a host with a sound live state runs in it
@@ -175,14 +176,18 @@ module _ {D B : Type 0} (device : Device D) (G : Ghosts B) (start : Reached) whe
       (UnderHost new)
   replied events budget request old live end seq happened new before is handled took =
       let reply = Answered end seq happened in
+      let sound = handled.sound before.runs.sound took.after took.live_is in
       runs_in (Acknowledged budget request end seq happened took.stepped.answers ∷ events) new took.after
       (handled.registered ∙ before.runs.registered_is)
       (handled_honest budget request old reply new before.honest handled)
       (handled.saved before.runs.saved) took.live_is took.running
-      (handled.sound before.runs.sound took.after took.live_is) (
+      sound (
         reached_by live,
         before.runs.led live is,
-        (may_answer G budget request live took.after reply took.stepped, took.stepped.taken),
+        (
+          may_answer G budget request live took.after reply (before.runs.sound live is).boxes sound.boxes took.stepped,
+          took.stepped.taken,
+        ),
       )
 
   pub stored : (events : List StoreEvent) (budget : ℕ) (request : Request) (old : Hosted D B)
@@ -216,7 +221,8 @@ module _ {D B : Type 0} (device : Device D) (G : Ghosts B) (start : Reached) whe
             stops_in (InDoubt budget request ∷ events) new (handled.registered ∙ before.runs.registered_is)
             (handled_honest budget request old reply new before.honest handled) (handled.saved before.runs.saved) none
             (in_doubt events budget request some.0 some.2.after (first new) (second new)
-            (before.runs.led some.0 some.1) (before.runs.sound some.0 some.1) (some.2.sound before.runs.sound) some.2.may
+            (before.runs.led some.0 some.1) (before.runs.sound some.0 some.1) (some.2.sound before.runs.sound)
+            (some.2.may before.runs.sound)
             (settle_now device (device.clock (first old)) (device.clock (second old)) (first new) (second new)
             (IsEither some.0.durable some.2.after.durable) (some.2.moments before.honest before.runs.saved)))
       ]
@@ -240,7 +246,8 @@ module _ {D B : Type 0} (device : Device D) (G : Ghosts B) (start : Reached) whe
         | inr some ↦
             rests_on (InDoubt budget request ∷ events) a b crash.honest
             (in_doubt events budget request some.0 some.2.after a b
-            (before.runs.led some.0 some.1) (before.runs.sound some.0 some.1) (some.2.sound before.runs.sound) some.2.may
+            (before.runs.led some.0 some.1) (before.runs.sound some.0 some.1) (some.2.sound before.runs.sound)
+            (some.2.may before.runs.sound)
             (settle_crashed device (device.clock (first old)) (device.clock (second old)) (first new) (second new) a b
             (IsEither some.0.durable some.2.after.durable) (some.2.moments before.honest before.runs.saved) crash))
       ]

@@ -1,20 +1,19 @@
 -- What a request of a host comes to, and which events lead to which states.
 use Rattle.std.proofs.Common.{◌≡◌, ◌⊎◌, inl, inr, ℕ, List, [], ◌∷◌, ◌++◌, Option, Some, None, refl, sym, ◌∙◌, ap, subst}
-use Rattle.std.specs.List.{AllByRecursion}
 use Rattle.ash_disk.specs.Device.{Device}
 use Rattle.ash_journal.specs.declared.journal.Journal.{Journal}
-use Rattle.ash_host.specs.declared.event.Target.{Target}
 use Rattle.ash_host.specs.declared.host_object.HostObject.{Ghosts}
 use Rattle.ash_requests.specs.Requests.{Request, Seq, Reply, Refused, DeviceFailed, NoMemory, GenerationSpent}
 use Rattle.ash_sources.specs.SourceFaults.{SourceFault}
 use Rattle.ash_states.specs.HostStates.{HostState}
-use Rattle.ash_engine.specs.LiveStates.{LiveState}
-use Rattle.ash_engine.specs.LiveSteps.{Reached, reached_by, box_at, LiveSteps, TakesStep}
+use Rattle.ash_engine.specs.LiveStates.{LiveState, AreOf}
+use Rattle.ash_engine.specs.LiveSteps.{Reached, reached_by, LiveSteps, TakesStep}
 use Rattle.ash_durable.specs.Hosting.{Hosted, first, second, IsRunning, IsSaved, IsHonest, IsSound, RunsSound, IsAnswer}
 use Rattle.ash_durable.specs.Hosting.{InstallRefused, WasLost, HostReplies, reply_stopped, Handles}
 use Rattle.ash_durable.specs.RequestRuns.{LosesAnswer}
 use Rattle.ash_durable.specs.StoredStates.{SettleSince, IsEither}
-use Rattle.ash_durable.specs.Lives.{StoreEvent, Acknowledged, InDoubt, Found, MayAnswer, LeadsTo, LeadTo, LeadBy}
+use Rattle.ash_durable.specs.Lives.{StoreEvent, Acknowledged, InDoubt, Found, LeadsTo, LeadTo, LeadBy}
+use Rattle.ash_durable.proofs.Answerers.{may_answer}
 use Rattle.ash_durable.proofs.Composing.{room_same}
 
 -- ---- events
@@ -74,19 +73,12 @@ module _ {B : Type 0} (G : Ghosts B) where
         state_is = refl;
       }
 
-  -- what the boxes of a live state answered they may answer
-  pub may_answer : (budget : ℕ) (request : Request) (old new : LiveState B) (reply : Reply SourceFault)
-      → (step : TakesStep G budget request old reply new) → MayAnswer G step.answers
-  may_answer budget request old new reply step = record {
-    answerers = box_at old.boxes step.gave.drawn;
-    valid = step.gave.valid;
-  }
-
   -- a step that was taken is one that may have been
   may_step : (budget : ℕ) (request : Request) (old new : LiveState B) (reply : Reply SourceFault)
-      → TakesStep G budget request old reply new → LeadsTo G (InDoubt budget request) (reached_by old) (reached_by new)
-  may_step budget request old new reply step =
-      inr (reply, step.answers, may_answer budget request old new reply step, step.taken)
+      → AreOf G old → AreOf G new → TakesStep G budget request old reply new
+      → LeadsTo G (InDoubt budget request) (reached_by old) (reached_by new)
+  may_step budget request old new reply old_of new_of step =
+      inr (reply, step.answers, may_answer G budget request old new reply old_of new_of step, step.taken)
 
 -- ---- what a request comes to
 
@@ -104,7 +96,7 @@ Ending G budget request live after old reply new =
 pub record Outcome {D B : Type 0} (device : Device D) (G : Ghosts B) (budget : ℕ) (request : Request)
     (live : LiveState B) (old : Hosted D B) (reply : Reply SourceFault) (new : Hosted D B) : Type 0 where
   pub after : LiveState B
-  pub may : LeadsTo G (InDoubt budget request) (reached_by live) (reached_by after)
+  pub may : RunsSound G old → LeadsTo G (InDoubt budget request) (reached_by live) (reached_by after)
   pub sound : RunsSound G old → IsSound G after
   pub moments : IsHonest device old → IsSaved device old
       → SettleSince device (device.clock (first old)) (device.clock (second old)) (first new) (second new)
@@ -131,35 +123,37 @@ module _ {D B : Type 0} (device : Device D) (G : Ghosts B) (budget : ℕ) (reque
       → Outcome device G budget request live old reply new
   outcome_of live old reply new is handled (inl took) = record {
     after = took.after;
-    may = may_step G budget request live took.after reply took.stepped;
+    may = λ was. may_step G budget request live took.after reply (was live is).boxes
+        (handled.sound was took.after took.live_is).boxes took.stepped;
     sound = λ was. handled.sound was took.after took.live_is;
     moments = took.settles;
     ending = inl (took.live_is, took.running, inl took.stepped);
   }
   outcome_of live old reply new is handled (inr (inl out)) = record {
     after = live;
-    may = inl refl;
+    may = λ was. inl refl;
     sound = λ was. was live is;
     moments = out.settles;
     ending = inl (room_same device request live old new out.room ∙ is, out.running, inr out.ran_out);
   }
   outcome_of live old reply new is handled (inr (inr (inl lost))) = record {
     after = lost.after;
-    may = may_step G budget request live lost.after lost.answer lost.stepped;
+    may = λ was. may_step G budget request live lost.after lost.answer (was live is).boxes lost.sound.boxes
+        lost.stepped;
     sound = λ was. lost.sound;
     moments = lost.settles;
     ending = inr (inr (lost.stopped.stopped, was_lost lost.between.journal reply new.journal lost.lost));
   }
   outcome_of live old reply new is handled (inr (inr (inr (inl lost)))) = record {
     after = live;
-    may = inl refl;
+    may = λ was. inl refl;
     sound = λ was. was live is;
     moments = lost.settles;
     ending = inr (inr (lost.stopped.stopped, subst LosesAnswer (sym lost.reply_is) tt));
   }
   outcome_of live old reply new is handled (inr (inr (inr (inr none)))) = record {
     after = live;
-    may = inl refl;
+    may = λ was. inl refl;
     sound = λ was. was live is;
     moments = none.settles;
     ending = not_installed live old reply new none.refused;

@@ -1,5 +1,5 @@
 -- The life of a store: everything that can happen to it, and what is left of the requests.
-use Rattle.std.specs.Prelude.{◌≡◌, ◌⊎◌, ℕ, List, [], ◌∷◌, ◌++◌, Option, Some, None, Result, Ok, Err}
+use Rattle.std.specs.Prelude.{◌≡◌, ◌⊎◌, ℕ, List, [], ◌∷◌, ◌++◌, slice_get, Option, Some, None, Result, Ok, Err}
 use Rattle.std.specs.List.{AllByRecursion}
 use Rattle.ash_disk.specs.Device.{Device}
 use Rattle.ash_disk.specs.DiskImage.{LeavesOnly}
@@ -8,14 +8,17 @@ use Rattle.ash_journal.specs.Layout.{IsOpen}
 use Rattle.ash_journal.specs.Writes.{WasUnused}
 use Rattle.ash_host.specs.declared.event.Event.{Event as HostEvent}
 use Rattle.ash_host.specs.declared.event.Target.{Target}
+use Rattle.ash_host.specs.declared.event.Target.TheVariants as targets
 use Rattle.ash_host.specs.declared.host_object.HostObject.{Ghosts}
+use Rattle.ash_host.specs.Objects.{object_at}
 use Rattle.ash_host.specs.Records.{HostRecord}
+use Rattle.ash_meaning.specs.Activity.{FreeBox}
 use Rattle.ash_meaning.specs.Ends.{End}
 use Rattle.ash_requests.specs.Requests.{Request, Reply, Answered}
 use Rattle.ash_registry.specs.AcceptedRegistrations.{Registration}
 use Rattle.ash_sources.specs.SourceFaults.{SourceFault}
-use Rattle.ash_states.specs.HostStates.{HostState}
-use Rattle.ash_engine.specs.LiveStates.{LiveState}
+use Rattle.ash_states.specs.HostStates.{HostState, service_kinds}
+use Rattle.ash_engine.specs.LiveStates.{LiveState, hosts_in}
 use Rattle.ash_engine.specs.LiveSteps.{Reached, reached_by, StepsFor, IsValidOf}
 use Rattle.ash_durable.specs.HandedBoxes.{first_reached, AreSaved, CanOpen}
 use Rattle.ash_durable.specs.Hosting.{Hosted, first, second, IsRunning, IsSaved, IsAnswer, Handles, TookStep, RunsSound}
@@ -36,10 +39,17 @@ pub data StoreEvent : Type 0 where
   InDoubt : (budget : ℕ) → (request : Request) → StoreEvent
   Found : (reached : Reached) → StoreEvent
 
--- There are boxes that may give these answers in one request: each is within the relation of the very box to which its
--- call goes.
-pub record MayAnswer {B : Type 0} (G : Ghosts B) (answers : List HostRecord) : Type 0 where
+-- There are boxes that may give these answers in one request. That of an object that lives before it or after it is of
+-- the object's kind, and that of a service of the kind that is registered in its place; and each answer is within the
+-- relation of the very box to which its call goes.
+pub record MayAnswer {B : Type 0} (G : Ghosts B) (before after : Reached) (answers : List HostRecord) : Type 0 where
   pub answerers : Target → Option B
+  pub objects : (number : ℕ) (host : FreeBox) (box : B)
+      → ((object_at number (hosts_in ((before.durable).state).objects) ≡ Some host)
+      ⊎ (object_at number (hosts_in ((after.durable).state).objects) ≡ Some host))
+      → answerers (targets.Object number) ≡ Some box → G.kind_of box ≡ host.kind
+  pub services : (place kind : ℕ) (box : B) → slice_get (service_kinds (before.durable).registered) place ≡ Some kind
+      → answerers (targets.Service place) ≡ Some box → G.kind_of box ≡ kind
   pub valid : AllByRecursion (λ (r : HostRecord). IsValidOf G (answerers r.target) r) answers
 
 -- An event takes what was reached to the next. A request that was answered has taken its step, with that answer, for
@@ -47,9 +57,9 @@ pub record MayAnswer {B : Type 0} (G : Ghosts B) (answers : List HostRecord) : T
 -- opened the state is the one that it had, and the free boxes are those that it was handed.
 abbrev pub LeadsTo : {B : Type 0} → Ghosts B → StoreEvent → Reached → Reached → Type 0
 LeadsTo G (Acknowledged budget request end seq happened answers) before after =
-    MayAnswer G answers × StepsFor answers budget request before (Answered end seq happened) after
+    MayAnswer G before after answers × StepsFor answers budget request before (Answered end seq happened) after
 LeadsTo G (InDoubt budget request) before after = (after ≡ before)
-    ⊎ ((reply : Reply SourceFault) × (answers : List HostRecord) × MayAnswer G answers
+    ⊎ ((reply : Reply SourceFault) × (answers : List HostRecord) × MayAnswer G before after answers
     × StepsFor answers budget request before reply after)
 LeadsTo G (Found reached) before after = (before.durable ≡ reached.durable) × (after ≡ reached)
 
