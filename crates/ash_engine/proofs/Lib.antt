@@ -4,3 +4,4 @@ pub mod StepsTaken
 pub mod Alive
 pub mod Served
 pub mod Started
+pub mod Drawn

@@ -1,5 +1,6 @@
 pub mod LiveStates
 pub mod Drawing
+pub mod SavedDrawing
 pub mod LiveSteps
 pub mod RestoredBoxes
 pub mod PlainSteps

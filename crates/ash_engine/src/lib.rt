@@ -4,9 +4,10 @@
 //! was stored lives with the first free boxes of its kinds, in the states that are stored.
 //!
 //! The definitions are in `specs/`: `LiveStates` (boxes, and whose they are), `Drawing` (boxes taken from a pool),
-//! `LiveSteps` (what a request does), `RestoredBoxes` (what is restored, and what is refused), `PlainSteps` (what the
-//! plain evaluator does for a live state). In reading order: `engine`; `boxes` and `starting` (the boxes that are
-//! handed over); `live` and `steps` (the plain evaluator, at work for a live state); `laws`.
+//! `SavedDrawing` (the same as tables take them), `LiveSteps` (what a request does), `RestoredBoxes` (what is restored,
+//! and what is refused), `PlainSteps` (what the plain evaluator does for a live state). In reading order: `engine`;
+//! `boxes` and `starting` (the boxes that are handed over); `live` and `steps` (the plain evaluator, at work for a live
+//! state); `laws`.
 #![tactic(auto)]
 
 mod boxes;
