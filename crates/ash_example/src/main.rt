@@ -1,8 +1,15 @@
 //! A program that has the host within it: a shop whose gold outlives the process, in two files. It uses `ash` alone.
-//! It promises nothing: it shows how a store is made, asked, and found again.
+//! It promises nothing: it shows how a kind of host object is registered and a box of it handed over, and how a store is
+//! made, asked, and found again.
+//!
+//! What holds a host has a type parameter, `B: HostObject`, for its boxes. Only `main`, which makes them, names their
+//! type.
 #![tactic(auto)]
 
-use ash::{Arg, FileDisk, Host, HostReply, Outcome, Registry, Reply, Word};
+use ash::{
+    Arg, FileDisk, Host, HostObject, HostReply, Outcome, Registry, RegistryFault, Reply, Tally,
+    Word,
+};
 use std::alloc::Global;
 use std::fs::{File, Files};
 use std::io;
@@ -20,11 +27,27 @@ fn disks(rt: &impl Files<File = File>) -> io::Result<(FileDisk, FileDisk)> {
     Ok((a, b))
 }
 
-/// Makes the store, loads the script and buys something.
-fn first_start(rt: &(impl Print + Files<File = File>), alloc: Global) -> anyhow::Result<()> {
+/// What scripts may use: one service, an object of the kind Tally with its two functions.
+fn registrations(alloc: Global) -> Result<Registry, RegistryFault> {
+    let mut registry = Registry::new(alloc);
+    registry.service(Tally::KIND)?;
+    registry.function(0, "int tally(int)", 1)?;
+    registry.function(0, "int total()", 2)?;
+    Ok(registry)
+}
+
+/// Makes the store with this service and without free boxes, loads the script and buys something.
+fn first_start<B: HostObject>(
+    rt: &(impl Print + Files<File = File>),
+    alloc: Global,
+    services: Vec<B>,
+) -> anyhow::Result<()> {
     let (a, b) = disks(rt)?;
-    let registry = Registry::new(alloc);
-    let mut host = Host::create(alloc, a, b, registry).map_err(|refused| refused.fault)?;
+    let registry = registrations(alloc)?;
+    let pool = Vec::new(alloc);
+    let mut host = Host::create(alloc, a, b, registry, pool, services).map_err(
+        |refused| refused.fault,
+    )?;
     let loaded = host.load("shop", SHOP, TICKS);
     let bought = host.call("shop", "buy", &[Arg::Number(30)], TICKS);
     drop(host);
@@ -33,11 +56,18 @@ fn first_start(rt: &(impl Print + Files<File = File>), alloc: Global) -> anyhow:
     Ok(())
 }
 
-/// Opens the store, as every later start does, also one after a crash.
-fn later_start(rt: &(impl Print + Files<File = File>), alloc: Global) -> anyhow::Result<()> {
+/// Opens the store, as every later start does, also one after a crash. The service takes the state that is stored.
+fn later_start<B: HostObject>(
+    rt: &(impl Print + Files<File = File>),
+    alloc: Global,
+    services: Vec<B>,
+) -> anyhow::Result<()> {
     let (a, b) = disks(rt)?;
-    let registry = Registry::new(alloc);
-    let mut host = Host::open(alloc, a, b, registry).map_err(|refused| refused.fault)?;
+    let registry = registrations(alloc)?;
+    let pool = Vec::new(alloc);
+    let mut host = Host::open(alloc, a, b, registry, pool, services).map_err(
+        |refused| refused.fault,
+    )?;
     let gold = host.global("shop", "gold");
     drop(host);
     show(rt, "gold", &gold)?;
@@ -71,6 +101,12 @@ fn show_outcome(rt: &impl Print, asked: &str, outcome: &Outcome) -> io::Result<(
 }
 
 fn main(rt: HostRuntime) -> anyhow::Result<()> {
-    first_start(&rt, rt.alloc())?;
-    later_start(&rt, rt.alloc())
+    let alloc = rt.alloc();
+    let mut services: Vec<Box<dyn HostObject>> = Vec::new(alloc);
+    services.push(Box::new(alloc, Tally::new())?)?;
+    first_start(&rt, alloc, services)?;
+
+    let mut services: Vec<Box<dyn HostObject>> = Vec::new(alloc);
+    services.push(Box::new(alloc, Tally::new())?)?;
+    later_start(&rt, alloc, services)
 }

@@ -9,6 +9,7 @@ ghost use Rattle.ash_serve.specs.LongSources.{handles_by_prefix};
 
 use ash_disk::Disk;
 use ash_durable::Host;
+use ash_host::HostObject;
 use ash_requests::{Reply, Request};
 use ash_sources::fault::SourceFault;
 
@@ -26,10 +27,10 @@ pub trait RequestHandler {
     ghost depends_on_prefix: { (budget : ℕ) → DependsOnPrefix (handles budget) };
 }
 
-impl<D: Disk> RequestHandler for Host<D> {
-    ghost handles = { Handles D.Disk };
+impl<D: Disk, B: HostObject> RequestHandler for Host<D, B> {
+    ghost handles = { Handles D.Disk B.HostObject };
 
-    ghost depends_on_prefix = { handles_by_prefix _ };
+    ghost depends_on_prefix = { handles_by_prefix _ _ };
 
     fn handle(&mut self, request: &Request, budget: u64) -> Reply<SourceFault> {
         Host::handle(self, request, budget)

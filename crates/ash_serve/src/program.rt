@@ -1,96 +1,91 @@
 //! The program `ashd`: what it does, and its statuses.
+//!
+//! Only who makes boxes of host objects can name their type: what holds a host is generic in it. So the program has
+//! three parts. `prepare` reads its words and opens the files that they name; `main`, in the crate of the program, makes
+//! the boxes; `run_host` makes or opens a host with them, and serves.
 
 pub mod check;
 pub mod ending;
 pub mod fault;
+pub mod preparing;
 pub mod registrations;
 pub mod service;
-mod store;
+pub mod store;
 pub mod task;
 
 use crate::fault::RunFault;
 use ash_disk::MemoryDisk;
 use ash_durable::Host;
-use ash_lines::source::ReadFault;
+use ash_host::HostObject;
 use check::run_check;
 use ending::{Ending, ProgramEnd};
 use fault::ProgramFault;
+use preparing::HostTask;
 use registrations::registrations;
 use service::{Service, ServiceEnd, serve_new, serve_stored};
 use std::fs::File;
+use std::io;
 use std::process::ExitCode;
-use std::rt::{Env, Files};
-use std::{env, io};
 use store::Store;
-use task::{Limits, ProgramTask};
+use task::Limits;
 
-/// Runs the program. The status to end with. A fault is written on standard error.
-pub fn main<R: Env + Files<File = File> + Input + Print + Eprint + AllocGlobal>(
-    rt: &R,
-) -> ExitCode {
-    let done = match words_of(rt) {
-        Ok(words) => perform(rt, &words),
-        Err(fault) => Err(fault),
-    };
-    let end = match done {
-        Ok(end) => end,
-        Err(fault) => ProgramEnd::by(Err(fault)),
-    };
+/// Ends the program. The status to end with. A fault is written on standard error.
+pub fn exit<R: Eprint>(rt: &R, end: &ProgramEnd) -> ExitCode {
     if let Some(fault) = &end.fault {
         let _ = eprintln!(rt; "ashd: {}", fault.code());
     }
     ExitCode::from(end.status)
 }
 
-/// The words of the process. Some that are not text ask for nothing.
-fn words_of<R: Env + AllocGlobal>(rt: &R) -> Result<Vec<String>, ProgramFault> {
-    match env::args(rt) {
-        Ok(words) => Ok(words.collect(rt.alloc())?),
-        Err(error) if error.kind() == io::ErrorKind::OutOfMemory => Err(ProgramFault::NoMemory),
-        Err(_) => Err(ProgramFault::Usage),
-    }
-}
-
-/// Does what a command line asks for, and returns how the program ends. Faults come in this order: of the words, of the
-/// files, of what is registered, of the host or of memory, of the run.
-fn perform<R: Files<File = File> + Input + Print + AllocGlobal>(
+/// Makes or opens a host with these free boxes and these services, and does with it what was asked for. Faults come in
+/// this order: of what is registered, of the host or of memory, of the run.
+pub fn run_host<R: Input + Print + AllocGlobal, B: HostObject>(
     rt: &R,
-    words: &[String],
-) -> Result<ProgramEnd, ProgramFault> {
-    match ProgramTask::read(rt.alloc(), words)? {
-        ProgramTask::Try { limits } => serve_in_memory(rt, limits)?,
-        ProgramTask::Create { folder } => create(rt, folder)?,
-        ProgramTask::Serve { folder, limits } => serve(rt, folder, limits)?,
-        ProgramTask::Check { file } => return check_path(rt, file),
+    task: HostTask,
+    pool: Vec<B>,
+    services: Vec<B>,
+) -> Result<Ending, ProgramFault> {
+    match task {
+        HostTask::Try { limits } => serve_in_memory(rt, limits, pool, services)?,
+        HostTask::Create { store } => create(rt, store, pool, services)?,
+        HostTask::Serve { store, limits } => serve(rt, store, limits, pool, services)?,
     }
-    Ok(ProgramEnd::by(Ok(Ending::Well)))
+    Ok(Ending::Well)
 }
 
 /// Serves standard input and output, with the store in memory.
-fn serve_in_memory<R: Input + Print + AllocGlobal>(
+fn serve_in_memory<R: Input + Print + AllocGlobal, B: HostObject>(
     rt: &R,
     limits: Limits,
+    pool: Vec<B>,
+    services: Vec<B>,
 ) -> Result<(), ProgramFault> {
     let service = Service {
         a: MemoryDisk::new(rt.alloc()),
         b: MemoryDisk::new(rt.alloc()),
         registry: registrations(rt.alloc())?,
+        pool,
+        services,
         budget: limits.budget,
     };
     serve_new(rt.alloc(), service, rt.reader(), &mut io::writer(rt)).end
 }
 
-/// Serves standard input and output, with the store in a folder.
-fn serve<R: Files<File = File> + Input + Print + AllocGlobal>(
+/// Serves standard input and output, with the store in these files.
+fn serve<R: Input + Print + AllocGlobal, B: HostObject>(
     rt: &R,
-    folder: &str,
+    store: Store,
     limits: Limits,
+    pool: Vec<B>,
+    services: Vec<B>,
 ) -> Result<(), ProgramFault> {
-    let Store { a, b, lock } = Store::open(rt, folder)?;
+    let Store { a, b, lock } = store;
     let service = Service {
         a,
         b,
         registry: registrations(rt.alloc())?,
+        pool,
+        services,
         budget: limits.budget,
     };
     let ServiceEnd { end, a, b } = serve_stored(
@@ -104,14 +99,16 @@ fn serve<R: Files<File = File> + Input + Print + AllocGlobal>(
     end
 }
 
-/// Creates a store in a folder, and reports it. A store that is there stays as it is.
-fn create<R: Files<File = File> + Print + AllocGlobal>(
+/// Creates a store in these files, and reports it. A store that is there stays as it is.
+fn create<R: Print + AllocGlobal, B: HostObject>(
     rt: &R,
-    folder: &str,
+    store: Store,
+    pool: Vec<B>,
+    services: Vec<B>,
 ) -> Result<(), ProgramFault> {
-    let Store { a, b, lock } = Store::make(rt, folder)?;
+    let Store { a, b, lock } = store;
     let registry = registrations(rt.alloc())?;
-    drop(Host::create(rt.alloc(), a, b, registry)?);
+    drop(Host::create(rt.alloc(), a, b, registry, pool, services)?);
     drop(lock);
     match println!(rt; "created") {
         Ok(()) => Ok(()),
@@ -120,20 +117,11 @@ fn create<R: Files<File = File> + Print + AllocGlobal>(
 }
 
 /// Checks the script in a file, writes the verdict, and returns how the program ends by it.
-fn check_path<R: Files<File = File> + Print + AllocGlobal>(
+pub fn check_script<R: Print + AllocGlobal>(
     rt: &R,
-    path: &str,
+    file: File,
 ) -> Result<ProgramEnd, ProgramFault> {
-    let file = File::open(rt, path).map_err(open_fault)?;
     let registry = registrations(rt.alloc())?;
     let end = run_check(rt.alloc(), &registry, file, &mut io::writer(rt));
     Ok(end)
-}
-
-/// Why a script's file could not be opened.
-fn open_fault(error: io::Error) -> ProgramFault {
-    match error.kind() {
-        io::ErrorKind::OutOfMemory => ProgramFault::NoMemory,
-        _ => ProgramFault::Run(RunFault::Read(ReadFault::Failed)),
-    }
 }

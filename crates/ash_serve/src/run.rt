@@ -1,7 +1,7 @@
 //! The loop over a reader and a writer.
 
 ghost use Rattle.std.specs.Prelude.{List};
-ghost use Rattle.ash_durable.specs.Hosting.{Handles, IsSaved};
+ghost use Rattle.ash_durable.specs.Hosting.{Handles, IsSaved, RunsSound};
 ghost use Rattle.ash_durable.specs.Lives.{LivesOn};
 ghost use Rattle.ash_durable.specs.RequestRuns.{RunsToFailure};
 ghost use Rattle.ash_lines.specs.Lines.{Line};
@@ -13,6 +13,7 @@ use crate::fault::RunFault;
 use crate::serve::serve;
 use ash_disk::Disk;
 use ash_durable::Host;
+use ash_host::HostObject;
 use ash_lines::reader::Reader;
 use ash_lines::writer::Writer;
 use std::alloc::Global;
@@ -29,26 +30,28 @@ pub(crate) const MAX_BUFFERED_BYTES: usize = 8192;
 /// ends, the files of a host that runs hold its state afterwards, if they did before, and every life of its store goes
 /// on: each request of which a byte of the answer was written is in every image that a crash may leave.
 #[tactic(auto, using(crate::proofs::DefinedLemmas::replies_run, crate::proofs::DefinedLemmas::replies_live))]
-pub fn run<D: Disk, R: Read + Drop, W: Write>(
+pub fn run<D: Disk, B: HostObject, R: Read + Drop, W: Write>(
     alloc: Global,
     reader: R,
     writer: &mut W,
-    host: &mut Host<D>,
+    host: &mut Host<D, B>,
     budget: u64,
 ) -> Result<(), RunFault>
-    ensures ends { RunEnds (Handles D.Disk budget)
+    ensures ends { RunEnds (Handles D.Disk B.HostObject budget)
         (run_state (R.remaining reader) (W.contents writer.old) host.old) result
         (W.contents writer.new) host.new }
     // The requests that the host answered are a run of the written steps, up to the first by which it must be reopened.
     ensures defined { (lines : List Line) (replies : List LineReply)
-        → RepliesToAll (Handles D.Disk budget) host.old lines replies host.new
-        → RunsToFailure budget host.old (host_requests lines) (host_replies replies) host.new }
+        → RepliesToAll (Handles D.Disk B.HostObject budget) host.old lines replies host.new
+        → RunsToFailure D.Disk B.HostObject budget host.old (host_requests lines) (host_replies replies) host.new }
     // Every life of the store goes on with the requests that were answered, however the run ends: each of them, written
     // or not, is acknowledged in it.
     ensures lives { (lines : List Line) (replies : List LineReply)
-        → RepliesToAll (Handles D.Disk budget) host.old lines replies host.new
-        → LivesOn D.Disk budget host.old (host_requests lines) (host_replies replies) host.new }
+        → RepliesToAll (Handles D.Disk B.HostObject budget) host.old lines replies host.new
+        → LivesOn D.Disk B.HostObject budget host.old (host_requests lines) (host_replies replies) host.new }
     ensures saved { IsSaved D.Disk host.old → IsSaved D.Disk host.new }
+    // So do the boxes stay those of the state.
+    ensures sound { RunsSound B.HostObject host.old → RunsSound B.HostObject host.new }
 {
     let mut input = Reader::new(alloc, reader)?;
     let buffer = Vec::with_capacity(alloc, MAX_BUFFERED_BYTES)?;

@@ -8,7 +8,7 @@ use ash_durable::{OpenRefused, StoreFault};
 use ash_lines::sink::WriteFault;
 use ash_lines::source::ReadFault;
 use ash_registry::RegistryFault;
-use std::alloc::AllocError;
+use std::alloc::{AllocError, AllocFailed};
 use thiserror::Error;
 
 /// Why the program ends with another status than 0.
@@ -65,6 +65,17 @@ impl From<AllocError> for ProgramFault {
     ghost from_gives = { λ _ fault. fault ≡ faults.NoMemory };
 
     fn from(_: AllocError) -> Self {
+        ProgramFault::NoMemory
+    }
+}
+
+// What there was no memory for is given up.
+impl<T: Drop> From<AllocFailed<T>> for ProgramFault {
+    ghost use Rattle.ash_serve.specs.declared.program.fault.ProgramFault.TheVariants as faults;
+
+    ghost from_gives = { λ _ fault. fault ≡ faults.NoMemory };
+
+    fn from(_: AllocFailed<T>) -> Self {
         ProgramFault::NoMemory
     }
 }

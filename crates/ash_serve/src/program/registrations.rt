@@ -1,17 +1,12 @@
 //! What the program offers to scripts.
 
+use ash_host::{Counter, Tally};
 use ash_registry::{Registry, RegistryFault};
 use std::alloc::Global;
 
-/// The kind of the type Counter.
-const COUNTER: u16 = 1;
-
-/// The kind of the service Tally.
-const TALLY: u16 = 2;
-
 /// Registers the type Counter.
 fn register_counter(registry: &mut Registry) -> Result<(), RegistryFault> {
-    registry.object_type("Counter", COUNTER)?;
+    registry.object_type("Counter", Counter::KIND)?;
     registry.factory("Counter", "Counter@ make(int)")?;
     registry.method("Counter", "int add(int)", 1)?;
     registry.method("Counter", "void fail(int)", 2)?;
@@ -20,7 +15,7 @@ fn register_counter(registry: &mut Registry) -> Result<(), RegistryFault> {
 
 /// Registers Tally, as the first service.
 fn register_tally(registry: &mut Registry) -> Result<(), RegistryFault> {
-    registry.service(TALLY)?;
+    registry.service(Tally::KIND)?;
     registry.function(0, "int tally(int)", 1)?;
     registry.function(0, "int total()", 2)
 }

@@ -11,7 +11,7 @@ use std::path::{Path, PathBuf};
 /// The two files of a store, and what excludes other processes: a lock on the first file, which the system
 /// gives up when this process ends, however it ends.
 #[derive(Drop)]
-pub(super) struct Store {
+pub struct Store {
     pub(super) a: FileDisk,
     pub(super) b: FileDisk,
     pub(super) lock: File,

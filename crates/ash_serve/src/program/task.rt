@@ -27,8 +27,8 @@ pub enum ProgramTask<'a> {
 pub struct Limits {
     /// Ticks for each request.
     pub budget: u64,
-    /// How many host objects of the kind Counter there are to be for scripts. Nothing reads it so far: no script can
-    /// construct one.
+    /// How many host objects of the kind Counter the host is handed, 4,096 at the most. No script can construct one so
+    /// far.
     pub counters: u64,
 }
 
