@@ -162,7 +162,7 @@ pub fn disks_of(
 }
 
 /// How a run begins.
-#[derive(Clone, Copy)]
+#[derive(Clone, Copy, Debug, PartialEq)]
 pub enum Start {
     /// A store is made.
     Make,
