@@ -7,7 +7,8 @@ use crate::visits::{Registered, begun, registry_of};
 use ash_disk::MemoryDisk;
 use ash_durable::{CreateFault, Host, OpenFault, OpenRefused, StoreFault};
 use ash_host::{HostObject, NoMemory, Tally};
-use ash_store_fixtures::hosts::{Boxes, closed, seq};
+use ash_requests::{Arg, Request};
+use ash_store_fixtures::hosts::{Boxes, SOURCE, closed, is_done, reopened, reply_to, seq};
 use ash_store_fixtures::lives::Start;
 use std::alloc::Global;
 use std::process::Abort;
@@ -130,6 +131,65 @@ fn play_at_last(rt: &impl Abort, alloc: Global, scene: &Scene) -> Result<(), NoM
     }
 }
 
+/// What is asked of a host that has the store of a scene, in turn: a load, a call and a removal.
+const REQUESTS: [Request<'static>; 3] = [
+    Request::Load {
+        module: "m",
+        source: SOURCE,
+    },
+    Request::Call {
+        module: "m",
+        function: "f",
+        arguments: &[Arg::Number(5)],
+    },
+    Request::Discard { module: "m" },
+];
+
+/// A host with the store of one that must be reopened.
+fn reopened_at_last(
+    alloc: Global,
+    host: Host<MemoryDisk, Tally>,
+) -> Result<Host<MemoryDisk, Tally>, NoMemory> {
+    match reopened(host, boxes(alloc)?) {
+        Ok(host) => Ok(host),
+        Err(_) => Err(NoMemory),
+    }
+}
+
+/// The host after a request that was refused memory. Where nothing changed, the same request is answered then. Else the
+/// host must be reopened, and has the state before the request or the one after it.
+fn after_a_refusal(
+    rt: &impl Abort,
+    alloc: Global,
+    mut host: Host<MemoryDisk, Tally>,
+    request: &Request<'_>,
+    number: u64,
+) -> Result<Host<MemoryDisk, Tally>, NoMemory> {
+    check(rt, &seq(&host), &number, "the number after a refusal");
+    if is_done(&reply_to(&mut host, request)) {
+        return Ok(host);
+    }
+    let mut host = reopened_at_last(alloc, host)?;
+    if seq(&host) == number {
+        check(rt, &is_done(&reply_to(&mut host, request)), &true, "the request again");
+    }
+    Ok(host)
+}
+
+/// Asks a host for each request, and once more where memory is refused. So many requests are answered in the end.
+fn ask_all(rt: &impl Abort, alloc: Global) -> Result<(), NoMemory> {
+    let mut host = begun_at_last(rt, alloc, &MADE)?;
+    let mut number = 0;
+    for request in &REQUESTS {
+        if !is_done(&reply_to(&mut host, request)) {
+            host = after_a_refusal(rt, alloc, host, request, number)?;
+        }
+        number += 1;
+        check(rt, &seq(&host), &number, "the number of the last answer");
+    }
+    Ok(())
+}
+
 #[test]
 fn a_making_that_is_refused_memory(rt: HostRuntime) -> Result<(), Fail> {
     Ok(play_at_last(&rt, rt.alloc(), &MADE)?)
@@ -138,4 +198,12 @@ fn a_making_that_is_refused_memory(rt: HostRuntime) -> Result<(), Fail> {
 #[test]
 fn an_opening_that_is_refused_memory(rt: HostRuntime) -> Result<(), Fail> {
     Ok(play_at_last(&rt, rt.alloc(), &OPENED)?)
+}
+
+#[test]
+fn requests_that_are_refused_memory(rt: HostRuntime) -> Result<(), Fail> {
+    match ask_all(&rt, rt.alloc()) {
+        Ok(()) => Ok(()),
+        Err(_) => Ok(ask_all(&rt, rt.alloc())?),
+    }
 }
