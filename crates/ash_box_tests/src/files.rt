@@ -1,7 +1,7 @@
 //! The files of stores with services, written by hand after their layout.
 
 use ash_disk::MemoryDisk;
-use ash_store_fixtures::files::{StoreImage, ImageModule, add_record, generation, image_bytes};
+use ash_store_fixtures::files::{ImageModule, StoreImage, add_record, generation, image_bytes};
 use ash_store_fixtures::hosts::{EMPTY, disk};
 use std::alloc::{AllocError, Global};
 
@@ -82,11 +82,7 @@ fn loaded(
 }
 
 /// The first generation with a text and services, before any request.
-fn first_with(
-    alloc: Global,
-    text: &str,
-    services: &[(u16, i32)],
-) -> Result<Vec<u8>, AllocError> {
+fn first_with(alloc: Global, text: &str, services: &[(u16, i32)]) -> Result<Vec<u8>, AllocError> {
     let image = StoreImage {
         version: 2,
         text,

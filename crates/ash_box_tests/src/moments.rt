@@ -29,7 +29,11 @@ static MADE: Scene = Scene {
     what: "a making",
     files: CLOSED_FILES,
     start: Start::Make,
-    services: &[Named::Taking(1, 2, 5), Named::Taking(2, 3, -2), Named::Taking(3, 2, 9)],
+    services: &[
+        Named::Taking(1, 2, 5),
+        Named::Taking(2, 3, -2),
+        Named::Taking(3, 2, 9),
+    ],
     seq: 0,
     taken: "taken 5:5 6:-2 |",
 };
@@ -38,7 +42,11 @@ static OPENED: Scene = Scene {
     what: "an opening",
     files: (File::Loaded(1, (5, -2), (7, -3), 2), File::Bytes(&[7])),
     start: Start::Open,
-    services: &[Named::Taking(1, 2, 0), Named::Taking(2, 3, 0), Named::Taking(3, 2, 9)],
+    services: &[
+        Named::Taking(1, 2, 0),
+        Named::Taking(2, 3, 0),
+        Named::Taking(3, 2, 9),
+    ],
     seq: 1,
     taken: "taken 5:7 6:-3 |",
 };
@@ -47,7 +55,11 @@ static MOVED: Scene = Scene {
     what: "an opening of version 1",
     files: (File::Older(1, (5, -2), (7, -3), 2), File::Bytes(&[7])),
     start: Start::Open,
-    services: &[Named::Taking(1, 2, 0), Named::Taking(2, 3, 0), Named::Taking(3, 2, 9)],
+    services: &[
+        Named::Taking(1, 2, 0),
+        Named::Taking(2, 3, 0),
+        Named::Taking(3, 2, 9),
+    ],
     seq: 1,
     taken: "taken 5:7 6:-3 |",
 };
@@ -59,7 +71,11 @@ const NEXT: Visit = Visit {
     start: Start::Open,
     registered: TWO,
     pool: &[],
-    services: &[Named::Taking(5, 2, 0), Named::Taking(6, 3, 1), Named::Taking(7, 2, 2)],
+    services: &[
+        Named::Taking(5, 2, 0),
+        Named::Taking(6, 3, 1),
+        Named::Taking(7, 2, 2),
+    ],
     steps: &[HostStep::Seq, HostStep::LoadAs("k", b"")],
 };
 
@@ -92,7 +108,10 @@ fn stop_after(
     );
     let (fault, (first, second)) = visited(alloc, disks, &visit, &new_log(alloc)?)?;
     let is_begun = fault.as_str().is_empty();
-    let is_device = matches!(fault.as_str(), "Create(DeviceFailed)" | "Open(DeviceFailed)");
+    let is_device = matches!(
+        fault.as_str(),
+        "Create(DeviceFailed)" | "Open(DeviceFailed)"
+    );
     check(rt, &(is_begun || is_device), &true, scene.what);
     Ok(Stopped {
         is_begun,
@@ -150,7 +169,10 @@ fn crash_of(number: u64) -> (Survives, Survives) {
         1 => (Survives::Nothing, Survives::Everything),
         2 => (Survives::Everything, Survives::Nothing),
         3 => (Survives::Everything, Survives::Everything),
-        seed => (Survives::Part(seed), Survives::Part(seed.wrapping_mul(7919))),
+        seed => (
+            Survives::Part(seed),
+            Survives::Part(seed.wrapping_mul(7919)),
+        ),
     }
 }
 
@@ -216,7 +238,11 @@ fn count_stops(
     is_second: bool,
 ) -> Result<u64, Fail> {
     for calls in 0..100 {
-        let fuses = if is_second { (u64::MAX, calls) } else { (calls, u64::MAX) };
+        let fuses = if is_second {
+            (u64::MAX, calls)
+        } else {
+            (calls, u64::MAX)
+        };
         let stopped = stop_after(rt, alloc, scene, fuses)?;
         check_stopped(rt, alloc, scene, &stopped)?;
         if stopped.is_begun {

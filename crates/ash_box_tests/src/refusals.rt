@@ -171,7 +171,12 @@ fn after_a_refusal(
     }
     let mut host = reopened_at_last(alloc, host)?;
     if seq(&host) == number {
-        check(rt, &is_done(&reply_to(&mut host, request)), &true, "the request again");
+        check(
+            rt,
+            &is_done(&reply_to(&mut host, request)),
+            &true,
+            "the request again",
+        );
     }
     Ok(host)
 }

@@ -68,7 +68,11 @@ static OPENED: [Row; 19] = [
         files: LOADED,
         registered: TWO,
         pool: &[],
-        services: &[Named::Taking(1, 2, 0), Named::Taking(2, 2, 0), Named::Taking(3, 3, 0)],
+        services: &[
+            Named::Taking(1, 2, 0),
+            Named::Taking(2, 2, 0),
+            Named::Taking(3, 3, 0),
+        ],
         fault: "PoolShort(3)",
         reports: "taken | given up 1 2 3 | then",
     },

@@ -44,7 +44,11 @@ static ROWS: [Row; 7] = [
             start: Start::Make,
             registered: Registered::Services(&[2, 3]),
             pool: &[Named::Taking(4, 2, 9)],
-            services: &[Named::Taking(1, 2, 5), Named::Taking(2, 3, -2), Named::Taking(3, 2, 7)],
+            services: &[
+                Named::Taking(1, 2, 5),
+                Named::Taking(2, 3, -2),
+                Named::Taking(3, 2, 7),
+            ],
             steps: &[HostStep::Seq],
         },
         files: (File::Bytes(&[]), File::Bytes(&[])),
@@ -113,7 +117,11 @@ const OPENED: Visit = Visit {
     start: Start::Open,
     registered: Registered::Services(&[2, 3]),
     pool: &[Named::Taking(4, 2, 9)],
-    services: &[Named::Taking(5, 2, 0), Named::Taking(6, 3, 1), Named::Taking(7, 2, 2)],
+    services: &[
+        Named::Taking(5, 2, 0),
+        Named::Taking(6, 3, 1),
+        Named::Taking(7, 2, 2),
+    ],
     steps: &[HostStep::Seq],
 };
 

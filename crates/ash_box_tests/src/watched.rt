@@ -172,7 +172,10 @@ fn write_taken(out: &mut String, taken: &[(u16, i32)]) -> Result<(), AllocError>
 }
 
 fn write_reports(out: &mut String, reports: &Reports) -> Result<(), AllocError> {
-    let (early, late) = reports.given_up.as_slice().split_at(reports.early.min(reports.given_up.len()));
+    let (early, late) = reports
+        .given_up
+        .as_slice()
+        .split_at(reports.early.min(reports.given_up.len()));
     write!(out, "taken")?;
     write_taken(out, &reports.taken)?;
     write!(out, " | given up")?;

@@ -170,7 +170,11 @@ pub fn lines_for<D: Disk, B: HostObject>(
 }
 
 /// Loads a source as a module of this name.
-pub fn load_as<D: Disk, B: HostObject>(host: &mut Host<D, B>, module: &str, source: &[u8]) -> HostReply {
+pub fn load_as<D: Disk, B: HostObject>(
+    host: &mut Host<D, B>,
+    module: &str,
+    source: &[u8],
+) -> HostReply {
     host.load(module, source, BUDGET)
 }
 
@@ -180,7 +184,11 @@ pub fn load<D: Disk, B: HostObject>(host: &mut Host<D, B>, source: &[u8]) -> Hos
 }
 
 /// Calls the function `f` of a module.
-pub fn call_in<D: Disk, B: HostObject>(host: &mut Host<D, B>, module: &str, arguments: &[Arg]) -> HostReply {
+pub fn call_in<D: Disk, B: HostObject>(
+    host: &mut Host<D, B>,
+    module: &str,
+    arguments: &[Arg],
+) -> HostReply {
     host.call(module, "f", arguments, BUDGET)
 }
 
@@ -295,7 +303,10 @@ pub fn with_modules(alloc: Global, names: &[&str]) -> Result<Host<MemoryDisk, Ta
 }
 
 /// The disk of the second generation, which holds the state of a host with a new store, and no record.
-pub fn second_generation(alloc: Global, mut host: Host<MemoryDisk, Tally>) -> Result<MemoryDisk, Fail> {
+pub fn second_generation(
+    alloc: Global,
+    mut host: Host<MemoryDisk, Tally>,
+) -> Result<MemoryDisk, Fail> {
     need(alloc, snapshot(&mut host))?;
     let (_, second) = closed(host);
     Ok(second)

@@ -4,7 +4,8 @@
 use crate::files::{ImageModule, add_record, generation, image_in};
 use crate::hosts::{
     EMPTY, SOURCE, State, add, call_in, closed, created, discard, discard_of, disk, fuse, get,
-    global, inner, line_of, load, load_as, no_boxes, object, opened, reopened, seq, shown, snapshot, state,
+    global, inner, line_of, load, load_as, no_boxes, object, opened, reopened, seq, shown,
+    snapshot, state,
 };
 use ash_disk::{Disk, MemoryDisk};
 use ash_durable::{Host, StoreFault};
@@ -49,7 +50,11 @@ fn line<T: Debug>(alloc: Global, value: &T) -> Result<String, Fail> {
 }
 
 /// Takes a step, and writes out what is answered, as a line.
-fn answer<D: Disk, B: HostObject>(alloc: Global, host: &mut Host<D, B>, step: HostStep) -> Result<String, Fail> {
+fn answer<D: Disk, B: HostObject>(
+    alloc: Global,
+    host: &mut Host<D, B>,
+    step: HostStep,
+) -> Result<String, Fail> {
     match step {
         HostStep::Load => line_of(alloc, load(host, SOURCE)),
         HostStep::Call(number) => line_of(alloc, add(host, number)),

@@ -9,8 +9,7 @@ use ash_registry::Registry;
 use ash_requests::{Arg, Request};
 use ash_store_fixtures::hosts::{
     Boxes, EMPTY, SOURCE, State, add, closed, created, disk, found, is_done, lines_for, load,
-    no_boxes, opened, seq,
-    used,
+    no_boxes, opened, seq, used,
 };
 use ash_store_fixtures::lives::{File, HostStep, bytes_of};
 use std::alloc::{AllocError, Global};

@@ -20,10 +20,7 @@ use std::test::Fail;
 const BUDGET: u64 = 1000;
 
 /// Handles a request that is answered.
-fn handle<B: HostObject>(
-    mut engine: Engine<B>,
-    request: &Request<'_>,
-) -> Result<Engine<B>, Fail>
+fn handle<B: HostObject>(mut engine: Engine<B>, request: &Request<'_>) -> Result<Engine<B>, Fail>
     requires live { IsSome engine.live }
     ensures live { IfOk result (λ engine. IsSome engine.live) }
 {
@@ -154,8 +151,15 @@ fn services_before_any_request(rt: HostRuntime) -> Result<(), Fail> {
     boxes.push(Box::new(alloc, with_state(Tally::new(), 5)?)?)?;
     boxes.push(Box::new(alloc, with_state(Counter::new(), -1)?)?)?;
     boxes.push(Box::new(alloc, Tally::new())?)?;
-    check_served(&rt, alloc, services_of(alloc, &[2, 1])?, boxes, &OF_TWO_SERVICES)
+    check_served(
+        &rt,
+        alloc,
+        services_of(alloc, &[2, 1])?,
+        boxes,
+        &OF_TWO_SERVICES,
+    )
 }
+
 const A_LOAD: Row = (
     "a load",
     &[Request::Load {
@@ -209,7 +213,12 @@ const TWO_MODULES: [Request<'static>; 4] = [
 
 /// Compares what the requests of two modules lead to.
 fn check_modules(rt: &impl Abort, alloc: Global) -> Result<(), Fail> {
-    let found = written_after(alloc, Registry::new(alloc), no_services(alloc), &TWO_MODULES)?;
+    let found = written_after(
+        alloc,
+        Registry::new(alloc),
+        no_services(alloc),
+        &TWO_MODULES,
+    )?;
     let wanted = modules(alloc, MODULE_B, MODULE_A)?;
     Ok(check_written(rt, alloc, &found, &wanted, "two modules")?)
 }
