@@ -1,5 +1,5 @@
-//! Tests of stores that are made and opened with boxes of host objects. They are in a crate of tests only, which uses no
-//! more than the durable host: so they are proved beside those of what serves it.
+//! Tests of stores that are made and opened with boxes of host objects. They are in a crate of tests alone, which uses
+//! no more than the durable host, so that they need not wait for what serves it.
 //!
 //! - `watched`: a box that reports what becomes of it, and the reports as a text.
 //! - `visits`: a store that is made or opened with such boxes, and is asked something, as data.

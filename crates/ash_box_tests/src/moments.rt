@@ -12,8 +12,8 @@ use std::alloc::{AllocError, Global};
 use std::process::Abort;
 use std::test::Fail;
 
-/// What is done to the disks of a store: their files, how it begins, and the services that a host has; how many requests
-/// were answered, and what the services of the next host report that they take.
+/// What is done to the disks of a store: their files, how it begins, and the services that a host has; how many
+/// requests were answered, and what the services of the next host report that they take.
 struct Scene {
     what: &'static str,
     files: (File, File),
@@ -265,8 +265,8 @@ fn check_scene(
     Ok(())
 }
 
-// The length and the first bytes of each disk are read, twice; its gate is written over and synced; and on the first disk
-// the generation is written and synced, and then its gate.
+// The length and the first bytes of each disk are read, twice; its gate is written over and synced; and on the first
+// disk the generation is written and synced, and then its gate.
 #[test]
 fn crashes_while_a_store_is_made(rt: HostRuntime) -> Result<(), Fail> {
     check_scene(&rt, rt.alloc(), &MADE, (2 * 2 + 2 + 4, 2 * 2 + 2))

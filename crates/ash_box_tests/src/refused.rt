@@ -10,8 +10,8 @@ use std::alloc::Global;
 use std::process::Abort;
 use std::test::Fail;
 
-/// What a row is called, the files of a store, what is registered, the free boxes and the services with which it is made
-/// or opened, the fault, and what the boxes report.
+/// What a row is called, the files of a store, what is registered, the free boxes and the services with which it is
+/// made or opened, the fault, and what the boxes report.
 struct Row {
     what: &'static str,
     files: (File, File),

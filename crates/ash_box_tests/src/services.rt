@@ -125,8 +125,8 @@ const OPENED: Visit = Visit {
     steps: &[HostStep::Seq],
 };
 
-/// The file of a new store with a service of the kind 2, whose state is 5, and one of the kind 3, whose state is -2: the
-/// gate, the mark, the generation 1, the length of the image, and the image, a part on each line; and the next gate.
+/// The file of a new store with a service of the kind 2, whose state is 5, and one of the kind 3, whose state is -2:
+/// the gate, the mark, the generation 1, the length of the image, and the image, a part on each line; the next gate.
 const MADE: &[u8] = b"\
     \x01ASHOST01\
     \x01\x00\x00\x00\x00\x00\x00\x00\

@@ -184,8 +184,8 @@ fn write_reports(out: &mut String, reports: &Reports) -> Result<(), AllocError> 
     write_names(out, late)
 }
 
-/// What was reported: the states that were taken, in order; the names of the boxes that were given up before there was a
-/// host or a refusal, ascending; and of those given up then.
+/// What was reported: the states that were taken, in order; the names of the boxes that were given up before there was
+/// a host or a refusal, ascending; and of those given up then.
 pub fn reports_of(alloc: Global, log: &Log) -> Result<String, AllocError> {
     let mut out = String::new(alloc);
     if let Ok(reports) = log.try_borrow() {

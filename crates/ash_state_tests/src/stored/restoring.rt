@@ -114,7 +114,7 @@ const ROWS: [Row; 6] = [
         Registered::Nothing,
         1 + 16 * 255 + 52 + (52 + 3) + 4 * 255,
     ),
-    // The version, two numbers of eight bytes, and the bytes of two states. A kind, a length and a count have one value.
+    // The version, two numbers of eight bytes, and the bytes of two states. A kind and a length have one value each.
     (
         "two services",
         TWO,
