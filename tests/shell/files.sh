@@ -32,7 +32,7 @@ keep "$scratch/cut" "$scratch/before"
 ends "serve a store whose last record is cut" 1 "ashd: 503 Damaged" serve "$scratch/cut" --budget 1 --counters 0
 same "a damaged store stays" "$scratch/cut" "$scratch/before"
 keep "$store" "$scratch/closed"
-overwrite '\0' $((242 + 284 - 1)) "$scratch/closed/ash.a"
+overwrite '\0' $((250 + 292 - 1)) "$scratch/closed/ash.a"
 asks 'get m n\nseq\n'
 ends "serve a store whose last record doesn't count" 0 "" serve "$scratch/closed" --budget 1 --counters 0
 holds "what is found before that record" $'ok 2\nok 1'

@@ -103,23 +103,25 @@ registered_text() {
     printf 'property Counter 1 int value\nservice 2\nfunction 0 1 int tally(int)\nfunction 0 2 int total()\n'
 }
 
-# image NUMBER MODULES: the image in version 2 of a host with that text, after fewer than 256 requests, and with these modules, which are
-# how many there are and each of them, and which printf writes: 220 bytes without any
+# image NUMBER MODULES [SERVICES]: the image in version 2 of a host with that text, after fewer than 256 requests, with a tally of 0
+# as its service, and with these modules, which are how many there are and each of them, and which printf writes, and so are
+# other services: 228 bytes without any module
 image() {
     printf '\002\0\277\0\0\0'
     registered_text
     printf "\\$(printf %o "$1")"
-    printf '\0\0\0\0\0\0\0\0\0\0\0\0\0\0\0\0\0'
+    printf '\0\0\0\0\0\0\0\0\0\0\0\0\0\0\0'
+    printf "${3:-\\001\\0\\002\\0\\004\\0\\0\\0\\0\\0}"
     printf "$2"
     printf '\0\0\0\0'
 }
 
-# generation NUMBER LENGTH NUMBER MODULES: the file of a generation below 256, with an image of this length, which is below
-# 65,536, and no records
+# generation NUMBER LENGTH NUMBER MODULES [SERVICES]: the file of a generation below 256, with an image of this length, which is
+# below 65,536, and no records
 generation() {
     printf '\001ASHOST01'
     printf "\\$(printf %o "$1")\\0\\0\\0\\0\\0\\0\\0\\$(printf %o "$(($2 % 256))")\\$(printf %o "$(($2 / 256))")\\0\\0"
-    image "$3" "$4"
+    image "${@:3}"
     printf '\0'
 }
 
@@ -133,7 +135,7 @@ record() {
 # empty_store FOLDER: the two files of a store without modules, with what ashd registers, written by hand
 empty_store() {
     mkdir -p "$1"
-    generation 1 220 0 '\0' > "$1/ash.a"
+    generation 1 228 0 '\0' > "$1/ash.a"
     printf '\0' > "$1/ash.b"
 }
 

@@ -74,7 +74,7 @@ keep "$store" "$scratch/other"
 ends "serve without ticks" 0 "" serve "$scratch/other" --budget 0 --counters 4096
 holds "the budget of a store is the one that is given" "aborted f 1 seq 3"
 
-# The bytes of both files. An image has 220 bytes without a module, 228 with one that has no source, and 278 with that of the
+# The bytes of both files. An image has 228 bytes without a module, 236 with one that has no source, and 286 with that of the
 # first example; a file has 22 around its image, and a record 6.
 # sizes NAME FOLDER BYTES BYTES: the two files have so many bytes
 sizes() {
@@ -86,32 +86,32 @@ opens_gate() {
     [ "$(od -An -tu1 -j "$1" -N 1 "$2" | tr -d ' ')" -eq 0 ] && overwrite '\001' "$1" "$2"
 }
 module='\001\001m\0\0\0\0\0\0'
-sizes "the store after the first example" "$store" $((242 + 2 * 284)) 1
+sizes "the store after the first example" "$store" $((250 + 2 * 292)) 1
 
 wanted=$scratch/wanted
 empty_store "$scratch/bytes"
 empty_store "$wanted"
-opens_gate 241 "$wanted/ash.a"
-record 228 1 "$module" >> "$wanted/ash.a"
+opens_gate 249 "$wanted/ash.a"
+record 236 1 "$module" >> "$wanted/ash.a"
 asks 'load m 0\n\n'
 ends "serve a load" 0 "" serve "$scratch/bytes" --budget 1000 --counters 0
 same "the bytes after a load" "$scratch/bytes" "$wanted"
-sizes "a load" "$scratch/bytes" $((242 + 234)) 1
+sizes "a load" "$scratch/bytes" $((250 + 242)) 1
 asks 'snapshot x\nseq\n'
 ends "serve what is no snapshot" 0 "" serve "$scratch/bytes" --budget 1000 --counters 0
 holds "what is no snapshot" $'refused 601 BadRequest\nok 1'
 same "it changes nothing" "$scratch/bytes" "$wanted"
-generation 2 228 1 "$module" > "$wanted/ash.b"
+generation 2 236 1 "$module" > "$wanted/ash.b"
 asks 'snapshot\nsnapshot x\nseq\n'
 ends "serve a snapshot" 0 "" serve "$scratch/bytes" --budget 1000 --counters 0
 holds "a snapshot" $'ok\nrefused 601 BadRequest\nok 1'
 same "the bytes after a snapshot" "$scratch/bytes" "$wanted"
-opens_gate 249 "$wanted/ash.b"
-record 220 2 '\0' >> "$wanted/ash.b"
+opens_gate 257 "$wanted/ash.b"
+record 228 2 '\0' >> "$wanted/ash.b"
 asks 'discard m\n'
 ends "serve a discard" 0 "" serve "$scratch/bytes" --budget 1000 --counters 0
 same "the bytes after a discard" "$scratch/bytes" "$wanted"
-generation 3 220 2 '\0' | dd of="$wanted/ash.a" conv=notrunc status=none
+generation 3 228 2 '\0' | dd of="$wanted/ash.a" conv=notrunc status=none
 asks 'snapshot\n'
 ends "serve a second snapshot" 0 "" serve "$scratch/bytes" --budget 1000 --counters 0
 same "the bytes after a second snapshot" "$scratch/bytes" "$wanted"
@@ -122,23 +122,22 @@ same "an opening writes nothing" "$scratch/bytes" "$wanted"
 
 # What a crash may leave: gates that are neither 0 nor 1. An opening writes 0 over them, and nothing else.
 keep "$store" "$scratch/torn"
-overwrite '\002' $((242 + 2 * 284 - 1)) "$scratch/torn/ash.a"
+overwrite '\002' $((250 + 2 * 292 - 1)) "$scratch/torn/ash.a"
 overwrite '\377' 0 "$scratch/torn/ash.b"
 asks ''
 ends "serve a store with torn gates" 0 "" serve "$scratch/torn" --budget 1000 --counters 0
 same "torn gates are written over" "$scratch/torn" "$store"
 
-# A store of an older ashd has its state in one image of version 1, of the first generation, before what is left of a longer
-# one.
+# A store of version 1 with its state in one image of the first generation, before what is left of a longer one.
 mkdir "$scratch/older"
 used='\001\001m\055\0\0\0int n = 2; int f(int k) { n += k; return n; }\001\0\001\007\0\0\0'
-generation 1 278 2 "$used" > "$scratch/older/ash.a"
+generation 1 286 2 "$used" > "$scratch/older/ash.a"
 overwrite '\001' 21 "$scratch/older/ash.a"
 printf 'what is left of a longer file\001' >> "$scratch/older/ash.a"
 printf '\0' > "$scratch/older/ash.b"
 asks 'get m n\nseq\ncall m f 1\n'
-ends "serve a store of an older ashd" 0 "" serve "$scratch/older" --budget 1000 --counters 0
-holds "what is found in a store of an older ashd" $'ok 7\nok 2\nok 8 seq 3'
+ends "serve a store of version 1 in one image" 0 "" serve "$scratch/older" --budget 1000 --counters 0
+holds "what is found in a store of version 1 in one image" $'ok 7\nok 2\nok 8 seq 3'
 asks 'get m n\nseq\n'
 ends "serve it again" 0 "" serve "$scratch/older" --budget 1000 --counters 0
 holds "what is found in it again" $'ok 8\nok 3'
@@ -147,7 +146,7 @@ holds "what is found in it again" $'ok 8\nok 3'
 empty_store "$scratch/moved"
 overwrite '\001' 21 "$scratch/moved/ash.a"
 keep "$scratch/moved" "$scratch/before"
-generation 2 220 0 '\0' > "$scratch/before/ash.b"
+generation 2 228 0 '\0' > "$scratch/before/ash.b"
 asks 'seq\n'
 ends "serve a store of version 1" 0 "" serve "$scratch/moved" --budget 1000 --counters 0
 holds "what is found in a store of version 1" "ok 0"
@@ -160,6 +159,24 @@ overwrite '\001' 21 "$scratch/last/ash.a"
 keep "$scratch/last" "$scratch/before"
 ends "serve the last generation of version 1" 1 "ashd: 511 GenerationSpent" serve "$scratch/last" --budget 1000 --counters 0
 same "the last generation of version 1 stays" "$scratch/last" "$scratch/before"
+
+# A store of an ashd whose hosts had no services: none is in its image, whatever is registered.
+mkdir "$scratch/unserved"
+generation 1 220 0 '\0' '\0\0' > "$scratch/unserved/ash.a"
+printf '\377' > "$scratch/unserved/ash.b"
+keep "$scratch/unserved" "$scratch/before"
+asks ''
+ends "serve a store without services" 1 "ashd: 503 Damaged" serve "$scratch/unserved" --budget 1000 --counters 2
+same "a store without services stays" "$scratch/unserved" "$scratch/before"
+
+# A tally that is in the image is in the next one.
+generation 1 228 0 '\0' '\001\0\002\0\004\0\005\0\0\0' > "$scratch/unserved/ash.a"
+keep "$scratch/unserved" "$scratch/before"
+generation 2 228 0 '\0' '\001\0\002\0\004\0\005\0\0\0' > "$scratch/before/ash.b"
+asks 'snapshot\n'
+ends "serve a store with a tally of 5" 0 "" serve "$scratch/unserved" --budget 1000 --counters 0
+holds "its snapshot" "ok"
+same "a tally of 5 stays" "$scratch/unserved" "$scratch/before"
 
 # A generation of the last number: no other comes after it.
 empty_store "$scratch/last"

@@ -4,13 +4,14 @@
 use crate::checks::check_text;
 use ash_disk::{Disk, MemoryDisk, Survives};
 use ash_durable::{Host, OpenRefused, StoreFault};
+use ash_host::{HostObject, Tally};
 use ash_registry::Registry;
 use ash_serve::RunFault;
 use ash_serve::program::registrations::registrations;
 use ash_serve::run::run;
 use ash_states::state::HostReply;
 use ash_store_fixtures::hosts::{
-    State, closed, created, found_state, image_after, load, need, opened, reopened,
+    Boxes, State, closed, created, found_state, image_after, load, need, no_boxes, opened, reopened,
 };
 use std::alloc::{AllocError, Global};
 use std::io::{Read, Write};
@@ -18,7 +19,7 @@ use std::process::Abort;
 use std::test::Fail;
 
 /// A host over disks in memory. It is in a box, since it is large, and held by many tests.
-pub type BoxedHost = Box<Host<MemoryDisk>>;
+pub type BoxedHost = Box<Host<MemoryDisk, Tally>>;
 
 /// The two disks of a store in memory, in boxes too.
 #[derive(Drop)]
@@ -28,7 +29,7 @@ pub struct Disks {
 }
 
 /// A host in a box.
-fn boxed(alloc: Global, host: Host<MemoryDisk>) -> Result<BoxedHost, AllocError> {
+fn boxed(alloc: Global, host: Host<MemoryDisk, Tally>) -> Result<BoxedHost, AllocError> {
     Ok(Box::new(alloc, host)?)
 }
 
@@ -75,10 +76,19 @@ pub fn unboxed(disks: Disks) -> (MemoryDisk, MemoryDisk) {
     (Box::into_inner(first), Box::into_inner(second))
 }
 
+/// A tally that is 0, for the service of the program. It is dropped where no service is registered.
+pub fn one_tally(alloc: Global) -> Result<Boxes<Tally>, AllocError> {
+    Ok(Boxes {
+        pool: Vec::new(alloc),
+        services: vec![in alloc; Tally::new()]?,
+    })
+}
+
 /// A host over two empty disks in memory, with this registry.
 pub fn new_host(alloc: Global, registry: Registry) -> Result<BoxedHost, Fail> {
     let (a, b) = (MemoryDisk::new(alloc), MemoryDisk::new(alloc));
-    Ok(boxed(alloc, created(alloc, a, b, registry)?)?)
+    let host = created(alloc, a, b, registry, one_tally(alloc)?)?;
+    Ok(boxed(alloc, host)?)
 }
 
 /// The same with nothing registered.
@@ -94,7 +104,8 @@ pub fn registered_host(alloc: Global) -> Result<BoxedHost, Fail> {
 /// A host that is opened over these disks, with this registry.
 pub fn opened_host(alloc: Global, disks: Disks, registry: Registry) -> Result<BoxedHost, Fail> {
     let (a, b) = unboxed(disks);
-    Ok(boxed(alloc, opened(alloc, a, b, registry)?)?)
+    let host = opened(alloc, a, b, registry, one_tally(alloc)?)?;
+    Ok(boxed(alloc, host)?)
 }
 
 /// The same with nothing registered.
@@ -114,7 +125,7 @@ pub fn found_host(
     second: &[u8],
 ) -> Result<Result<BoxedHost, StoreFault>, AllocError> {
     let (a, b) = unboxed(disks_with(alloc, first, second)?);
-    match opened(alloc, a, b, Registry::new(alloc)) {
+    match opened(alloc, a, b, Registry::new(alloc), no_boxes(alloc)) {
         Ok(host) => Ok(Ok(boxed(alloc, host)?)),
         Err(fault) => Ok(Err(fault)),
     }
@@ -127,7 +138,8 @@ pub fn refused_opening(
     registry: Registry,
 ) -> Result<Option<Refused>, AllocError> {
     let (a, b) = unboxed(disks);
-    match Host::open(alloc, a, b, registry) {
+    let Boxes { pool, services } = one_tally(alloc)?;
+    match Host::open(alloc, a, b, registry, pool, services) {
         Ok(_) => Ok(None),
         Err(refused) => Ok(Some(refused_with_disks(alloc, refused)?)),
     }
@@ -135,7 +147,8 @@ pub fn refused_opening(
 
 /// A host that was closed and opened again with the same registry.
 pub fn reopened_host(alloc: Global, host: BoxedHost) -> Result<BoxedHost, Fail> {
-    Ok(boxed(alloc, reopened(Box::into_inner(host))?)?)
+    let boxes = one_tally(alloc)?;
+    Ok(boxed(alloc, reopened(Box::into_inner(host), boxes)?)?)
 }
 
 /// The two disks of a host that is closed.
@@ -183,11 +196,11 @@ pub fn registered_after_crash(alloc: Global, host: BoxedHost) -> Result<BoxedHos
 }
 
 /// How a run ends.
-fn ending_within<D: Disk, R: Read + Drop, W: Write>(
+fn ending_within<D: Disk, B: HostObject, R: Read + Drop, W: Write>(
     alloc: Global,
     reader: R,
     writer: &mut W,
-    host: &mut Host<D>,
+    host: &mut Host<D, B>,
     budget: u64,
 ) -> Result<(), RunFault> {
     run(alloc, reader, writer, host, budget)
@@ -204,9 +217,9 @@ pub fn ending<R: Read + Drop, W: Write>(
 }
 
 /// What a host over any disks replies in a run that ends well, with so many ticks for each request.
-pub fn replies_of<D: Disk>(
+pub fn replies_of<D: Disk, B: HostObject>(
     alloc: Global,
-    host: &mut Host<D>,
+    host: &mut Host<D, B>,
     budget: u64,
     requests: &[u8],
 ) -> Result<String, Fail> {

@@ -12,7 +12,7 @@ use ash_serve::program::ending::ProgramEnd;
 use ash_serve::program::fault::ProgramFault;
 use ash_serve::program::service::{Service, ServiceEnd, serve_stored};
 use ash_serve::{ReadFault, RunFault};
-use ash_store_fixtures::hosts::{found, image_after};
+use ash_store_fixtures::hosts::{Boxes, found, image_after, no_boxes};
 use std::alloc::Global;
 use std::io;
 use std::io::{ErrorKind, Read, Write};
@@ -80,10 +80,13 @@ fn served_stored(
     written: &mut Vec<u8>,
 ) -> ServiceEnd<MemoryDisk> {
     let (a, b) = unboxed(disks);
+    let Boxes { pool, services } = no_boxes(alloc);
     let service = Service {
         a,
         b,
         registry: Registry::new(alloc),
+        pool,
+        services,
         budget: 1000,
     };
     serve_stored(alloc, service, requests, written)

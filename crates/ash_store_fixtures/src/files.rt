@@ -32,24 +32,74 @@ fn add_module(image: &mut Vec<u8>, module: &ImageModule) -> Result<(), AllocErro
     }
 }
 
-/// The image of a host in which nothing is registered, in a version: the version, no text, its number, no object's
-/// number, no services, its modules, and no objects.
+/// An image in which there are no objects, and no number was given to one: its version, the text of what is registered,
+/// its number, its services, each a kind and an `int` as its state, and its modules.
+#[derive(Clone, Copy)]
+pub struct StoreImage<'a> {
+    pub version: u8,
+    pub text: &'a str,
+    pub seq: u64,
+    pub services: &'a [(u16, i32)],
+    pub modules: &'a [ImageModule<'a>],
+}
+
+/// Adds a service to an image.
+fn add_service(image: &mut Vec<u8>, service: (u16, i32)) -> Result<(), AllocError> {
+    let (kind, number) = service;
+    image.extend_from_slice(&kind.to_le_bytes())?;
+    image.extend_from_slice(&[4, 0])?;
+    image.extend_from_slice(&number.to_le_bytes())
+}
+
+/// Adds how many services there are to an image, and each of them.
+fn add_services(image: &mut Vec<u8>, services: &[(u16, i32)]) -> Result<(), AllocError> {
+    let count = u16::try_from(services.len()).unwrap_or(u16::MAX);
+    image.extend_from_slice(&count.to_le_bytes())?;
+    for service in services {
+        add_service(image, *service)?;
+    }
+    Ok(())
+}
+
+/// Adds how many modules there are to an image, and each of them.
+fn add_modules(image: &mut Vec<u8>, modules: &[ImageModule]) -> Result<(), AllocError> {
+    let count = u8::try_from(modules.len()).unwrap_or(u8::MAX);
+    image.push(count)?;
+    for module in modules {
+        add_module(image, module)?;
+    }
+    Ok(())
+}
+
+/// The bytes of an image: the version, the text, its number, no object's number, its services, its modules, and no
+/// objects.
+pub fn image_bytes(alloc: Global, of: &StoreImage) -> Result<Vec<u8>, AllocError> {
+    let mut image = Vec::from_slice(alloc, &[of.version, 0])?;
+    image.extend_from_slice(&length_of(of.text.as_bytes()))?;
+    image.extend_from_slice(of.text.as_bytes())?;
+    image.extend_from_slice(&of.seq.to_le_bytes())?;
+    image.extend_from_slice(&[0; 8])?;
+    add_services(&mut image, of.services)?;
+    add_modules(&mut image, of.modules)?;
+    image.extend_from_slice(&[0; 4])?;
+    Ok(image)
+}
+
+/// The image of a host in which nothing is registered, in a version, with its number and its modules.
 pub fn image_in(
     alloc: Global,
     version: u8,
     seq: u64,
     modules: &[ImageModule],
 ) -> Result<Vec<u8>, AllocError> {
-    let mut image = Vec::from_slice(alloc, &[version, 0, 0, 0, 0, 0])?;
-    image.extend_from_slice(&seq.to_le_bytes())?;
-    image.extend_from_slice(&[0; 10])?;
-    let count = u8::try_from(modules.len()).unwrap_or(u8::MAX);
-    image.push(count)?;
-    for module in modules {
-        add_module(&mut image, module)?;
-    }
-    image.extend_from_slice(&[0; 4])?;
-    Ok(image)
+    let image = StoreImage {
+        version,
+        text: "",
+        seq,
+        services: &[],
+        modules,
+    };
+    image_bytes(alloc, &image)
 }
 
 /// The same in the version that is written.

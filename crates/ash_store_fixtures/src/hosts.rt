@@ -1,10 +1,10 @@
 //! Hosts over disks in memory, and their calls. Each call of a host is in a function of its own, which promises
 //! nothing: so its contract is seen once, and not in every test. What a host replies is compared as the line that is
-//! written of it.
+//! written of it. A host without boxes of host objects is one whose boxes would be tallies.
 
 use ash_disk::{Disk, FuseDisk, MemoryDisk, Survives};
 use ash_durable::{Host, StoreFault};
-use ash_host::Word;
+use ash_host::{HostObject, Tally, Word};
 use ash_lines::reply::{LineReply, write_line_reply};
 use ash_lines::sink::WriteFault;
 use ash_lines::writer::Writer;
@@ -89,54 +89,77 @@ pub fn crashed(
     MemoryDisk::with_bytes(alloc, &image)
 }
 
+/// The boxes that a host is handed: those that are free, and its services.
+#[derive(Drop)]
+pub struct Boxes<B> {
+    pub pool: Vec<B>,
+    pub services: Vec<B>,
+}
+
+/// No boxes.
+pub fn no_boxes(alloc: Global) -> Boxes<Tally> {
+    Boxes {
+        pool: Vec::new(alloc),
+        services: Vec::new(alloc),
+    }
+}
+
 /// A host with a new store on these disks, or why there is none.
-pub fn created<D: Disk + Drop>(
+pub fn created<D: Disk + Drop, B: HostObject>(
     alloc: Global,
     a: D,
     b: D,
     registry: Registry,
-) -> Result<Host<D>, StoreFault> {
-    Host::create(alloc, a, b, registry).map_err(|refused| refused.fault)
+    boxes: Boxes<B>,
+) -> Result<Host<D, B>, StoreFault> {
+    let Boxes { pool, services } = boxes;
+    Host::create(alloc, a, b, registry, pool, services).map_err(|refused| refused.fault)
 }
 
 /// A host with the store on these disks, or why there is none.
-pub fn opened<D: Disk + Drop>(
+pub fn opened<D: Disk + Drop, B: HostObject>(
     alloc: Global,
     a: D,
     b: D,
     registry: Registry,
-) -> Result<Host<D>, StoreFault> {
-    Host::open(alloc, a, b, registry).map_err(|refused| refused.fault)
+    boxes: Boxes<B>,
+) -> Result<Host<D, B>, StoreFault> {
+    let Boxes { pool, services } = boxes;
+    Host::open(alloc, a, b, registry, pool, services).map_err(|refused| refused.fault)
 }
 
 /// A host that was closed and opened again with the same registry, or why it can't be.
-pub fn reopened<D: Disk + Drop>(host: Host<D>) -> Result<Host<D>, StoreFault> {
-    host.reopen().map_err(|refused| refused.fault)
+pub fn reopened<D: Disk + Drop, B: HostObject>(
+    host: Host<D, B>,
+    boxes: Boxes<B>,
+) -> Result<Host<D, B>, StoreFault> {
+    let Boxes { pool, services } = boxes;
+    host.reopen(pool, services).map_err(|refused| refused.fault)
 }
 
 /// The two disks of a host that is closed.
-pub fn closed<D: Disk>(host: Host<D>) -> (D, D) {
+pub fn closed<D: Disk, B: HostObject>(host: Host<D, B>) -> (D, D) {
     host.close()
 }
 
 /// What a host replies to a request.
-pub fn reply_to<D: Disk>(host: &mut Host<D>, request: &Request) -> HostReply {
+pub fn reply_to<D: Disk, B: HostObject>(host: &mut Host<D, B>, request: &Request) -> HostReply {
     host.handle(request, BUDGET)
 }
 
 /// The same as a line.
-pub fn line_for<D: Disk>(
+pub fn line_for<D: Disk, B: HostObject>(
     alloc: Global,
-    host: &mut Host<D>,
+    host: &mut Host<D, B>,
     request: &Request,
 ) -> Result<String, Fail> {
     line_of(alloc, reply_to(host, request))
 }
 
 /// What a host replies to requests that are handled together, a line each.
-pub fn lines_for<D: Disk>(
+pub fn lines_for<D: Disk, B: HostObject>(
     alloc: Global,
-    host: &mut Host<D>,
+    host: &mut Host<D, B>,
     requests: &[Request],
 ) -> Result<String, Fail> {
     let mut lines = String::new(alloc);
@@ -147,42 +170,50 @@ pub fn lines_for<D: Disk>(
 }
 
 /// Loads a source as a module of this name.
-pub fn load_as<D: Disk>(host: &mut Host<D>, module: &str, source: &[u8]) -> HostReply {
+pub fn load_as<D: Disk, B: HostObject>(
+    host: &mut Host<D, B>,
+    module: &str,
+    source: &[u8],
+) -> HostReply {
     host.load(module, source, BUDGET)
 }
 
 /// Loads a source as the module `m`.
-pub fn load<D: Disk>(host: &mut Host<D>, source: &[u8]) -> HostReply {
+pub fn load<D: Disk, B: HostObject>(host: &mut Host<D, B>, source: &[u8]) -> HostReply {
     load_as(host, "m", source)
 }
 
 /// Calls the function `f` of a module.
-pub fn call_in<D: Disk>(host: &mut Host<D>, module: &str, arguments: &[Arg]) -> HostReply {
+pub fn call_in<D: Disk, B: HostObject>(
+    host: &mut Host<D, B>,
+    module: &str,
+    arguments: &[Arg],
+) -> HostReply {
     host.call(module, "f", arguments, BUDGET)
 }
 
 /// Calls the function `f` of the module `m`.
-pub fn call<D: Disk>(host: &mut Host<D>, arguments: &[Arg]) -> HostReply {
+pub fn call<D: Disk, B: HostObject>(host: &mut Host<D, B>, arguments: &[Arg]) -> HostReply {
     call_in(host, "m", arguments)
 }
 
 /// Calls it with a number.
-pub fn add<D: Disk>(host: &mut Host<D>, number: i128) -> HostReply {
+pub fn add<D: Disk, B: HostObject>(host: &mut Host<D, B>, number: i128) -> HostReply {
     call(host, &[Arg::Number(number)])
 }
 
 /// Removes a module.
-pub fn discard_of<D: Disk>(host: &mut Host<D>, module: &str) -> HostReply {
+pub fn discard_of<D: Disk, B: HostObject>(host: &mut Host<D, B>, module: &str) -> HostReply {
     host.discard(module)
 }
 
 /// Removes the module `m`.
-pub fn discard<D: Disk>(host: &mut Host<D>) -> HostReply {
+pub fn discard<D: Disk, B: HostObject>(host: &mut Host<D, B>) -> HostReply {
     discard_of(host, "m")
 }
 
 /// Writes the whole state into a new generation.
-pub fn snapshot<D: Disk>(host: &mut Host<D>) -> HostReply {
+pub fn snapshot<D: Disk, B: HostObject>(host: &mut Host<D, B>) -> HostReply {
     match host.snapshot() {
         Ok(()) => Reply::Done,
         Err(refusal) => Reply::Refused(refusal),
@@ -190,22 +221,22 @@ pub fn snapshot<D: Disk>(host: &mut Host<D>) -> HostReply {
 }
 
 /// What a global of a module holds.
-pub fn get<D: Disk>(host: &mut Host<D>, module: &str, name: &str) -> HostReply {
+pub fn get<D: Disk, B: HostObject>(host: &mut Host<D, B>, module: &str, name: &str) -> HostReply {
     host.global(module, name)
 }
 
 /// What a global of the module `m` holds.
-pub fn global<D: Disk>(host: &mut Host<D>, name: &str) -> HostReply {
+pub fn global<D: Disk, B: HostObject>(host: &mut Host<D, B>, name: &str) -> HostReply {
     get(host, "m", name)
 }
 
 /// The object of a number.
-pub fn object<D: Disk>(host: &mut Host<D>, number: u64) -> HostReply {
+pub fn object<D: Disk, B: HostObject>(host: &mut Host<D, B>, number: u64) -> HostReply {
     host.object(number)
 }
 
 /// How many requests have been answered.
-pub fn seq<D: Disk>(host: &Host<D>) -> u64 {
+pub fn seq<D: Disk, B: HostObject>(host: &Host<D, B>) -> u64 {
     host.seq()
 }
 
@@ -226,7 +257,7 @@ pub fn need(alloc: Global, reply: HostReply) -> Result<(), Fail> {
 pub type State = (u64, Option<i32>);
 
 /// The state of a host, as far as it is looked at.
-pub fn state<D: Disk>(host: &mut Host<D>) -> State {
+pub fn state<D: Disk, B: HostObject>(host: &mut Host<D, B>) -> State {
     match global(host, "n") {
         Reply::Value(Word::Int(number)) => (seq(host), Some(number)),
         _ => (seq(host), None),
@@ -234,28 +265,28 @@ pub fn state<D: Disk>(host: &mut Host<D>) -> State {
 }
 
 /// A host with a new store on such disks and nothing registered.
-pub fn new_host(alloc: Global, a: &[u8], b: &[u8]) -> Result<Host<MemoryDisk>, Fail> {
+pub fn new_host(alloc: Global, a: &[u8], b: &[u8]) -> Result<Host<MemoryDisk, Tally>, Fail> {
     let (a, b) = (disk(alloc, a)?, disk(alloc, b)?);
-    Ok(created(alloc, a, b, Registry::new(alloc))?)
+    Ok(created(alloc, a, b, Registry::new(alloc), no_boxes(alloc))?)
 }
 
 /// What opening a store on such disks gives, where nothing is registered: its number, or why there is no host.
 pub fn found(alloc: Global, a: &[u8], b: &[u8]) -> Result<Result<u64, StoreFault>, Fail> {
     let (a, b) = (disk(alloc, a)?, disk(alloc, b)?);
-    Ok(opened(alloc, a, b, Registry::new(alloc)).map(|host| seq(&host)))
+    Ok(opened(alloc, a, b, Registry::new(alloc), no_boxes(alloc)).map(|host| seq(&host)))
 }
 
 /// The same for the host's state.
 pub fn found_state(alloc: Global, a: &[u8], b: &[u8]) -> Result<Result<State, StoreFault>, Fail> {
     let (a, b) = (disk(alloc, a)?, disk(alloc, b)?);
-    match opened(alloc, a, b, Registry::new(alloc)) {
+    match opened(alloc, a, b, Registry::new(alloc), no_boxes(alloc)) {
         Ok(mut host) => Ok(Ok(state(&mut host))),
         Err(fault) => Ok(Err(fault)),
     }
 }
 
 /// A host that has answered two requests, after which `n` is 7.
-pub fn used(alloc: Global) -> Result<Host<MemoryDisk>, Fail> {
+pub fn used(alloc: Global) -> Result<Host<MemoryDisk, Tally>, Fail> {
     let mut host = new_host(alloc, &[], &[])?;
     need(alloc, load(&mut host, SOURCE))?;
     need(alloc, add(&mut host, 5))?;
@@ -263,7 +294,7 @@ pub fn used(alloc: Global) -> Result<Host<MemoryDisk>, Fail> {
 }
 
 /// A host with a module without source for each of these names, loaded in this order.
-pub fn with_modules(alloc: Global, names: &[&str]) -> Result<Host<MemoryDisk>, Fail> {
+pub fn with_modules(alloc: Global, names: &[&str]) -> Result<Host<MemoryDisk, Tally>, Fail> {
     let mut host = new_host(alloc, &[], &[])?;
     for name in names {
         need(alloc, load_as(&mut host, name, b""))?;
@@ -272,7 +303,10 @@ pub fn with_modules(alloc: Global, names: &[&str]) -> Result<Host<MemoryDisk>, F
 }
 
 /// The disk of the second generation, which holds the state of a host with a new store, and no record.
-pub fn second_generation(alloc: Global, mut host: Host<MemoryDisk>) -> Result<MemoryDisk, Fail> {
+pub fn second_generation(
+    alloc: Global,
+    mut host: Host<MemoryDisk, Tally>,
+) -> Result<MemoryDisk, Fail> {
     need(alloc, snapshot(&mut host))?;
     let (_, second) = closed(host);
     Ok(second)

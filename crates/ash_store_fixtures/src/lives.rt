@@ -4,10 +4,12 @@
 use crate::files::{ImageModule, add_record, generation, image_in};
 use crate::hosts::{
     EMPTY, SOURCE, State, add, call_in, closed, created, discard, discard_of, disk, fuse, get,
-    global, inner, line_of, load, load_as, object, opened, reopened, seq, shown, snapshot, state,
+    global, inner, line_of, load, load_as, no_boxes, object, opened, reopened, seq, shown,
+    snapshot, state,
 };
 use ash_disk::{Disk, MemoryDisk};
 use ash_durable::{Host, StoreFault};
+use ash_host::{HostObject, Tally};
 use ash_registry::Registry;
 use std::alloc::{AllocError, Global};
 use std::fmt::Debug;
@@ -48,7 +50,11 @@ fn line<T: Debug>(alloc: Global, value: &T) -> Result<String, Fail> {
 }
 
 /// Takes a step, and writes out what is answered, as a line.
-fn answer<D: Disk>(alloc: Global, host: &mut Host<D>, step: HostStep) -> Result<String, Fail> {
+fn answer<D: Disk, B: HostObject>(
+    alloc: Global,
+    host: &mut Host<D, B>,
+    step: HostStep,
+) -> Result<String, Fail> {
     match step {
         HostStep::Load => line_of(alloc, load(host, SOURCE)),
         HostStep::Call(number) => line_of(alloc, add(host, number)),
@@ -66,9 +72,9 @@ fn answer<D: Disk>(alloc: Global, host: &mut Host<D>, step: HostStep) -> Result<
 }
 
 /// What is answered to each step, a line each.
-pub fn answers<D: Disk>(
+pub fn answers<D: Disk, B: HostObject>(
     alloc: Global,
-    host: &mut Host<D>,
+    host: &mut Host<D, B>,
     steps: &[HostStep],
 ) -> Result<String, Fail> {
     let mut all = String::new(alloc);
@@ -161,7 +167,7 @@ pub fn disks_of(
 }
 
 /// How a run begins.
-#[derive(Clone, Copy)]
+#[derive(Clone, Copy, Debug, PartialEq)]
 pub enum Start {
     /// A store is made.
     Make,
@@ -188,11 +194,11 @@ fn begun(
     alloc: Global,
     disks: (MemoryDisk, MemoryDisk),
     start: Start,
-) -> Result<Host<MemoryDisk>, StoreFault> {
+) -> Result<Host<MemoryDisk, Tally>, StoreFault> {
     let (a, b) = disks;
     match start {
-        Start::Make => created(alloc, a, b, Registry::new(alloc)),
-        Start::Open => opened(alloc, a, b, Registry::new(alloc)),
+        Start::Make => created(alloc, a, b, Registry::new(alloc), no_boxes(alloc)),
+        Start::Open => opened(alloc, a, b, Registry::new(alloc), no_boxes(alloc)),
     }
 }
 
@@ -205,7 +211,7 @@ pub fn lived(
     let mut host = begun(alloc, disks, run.start)?;
     let answers = answers(alloc, &mut host, run.steps)?;
     if run.is_reopened {
-        host = reopened(host)?;
+        host = reopened(host, no_boxes(alloc))?;
     }
     Ok((answers, closed(host)))
 }
@@ -217,7 +223,7 @@ pub fn found_answers(
     b: MemoryDisk,
     steps: &[HostStep],
 ) -> Result<String, Fail> {
-    match opened(alloc, a, b, Registry::new(alloc)) {
+    match opened(alloc, a, b, Registry::new(alloc), no_boxes(alloc)) {
         Ok(mut host) => answers(alloc, &mut host, steps),
         Err(fault) => Ok(shown(alloc, &fault)?),
     }
@@ -230,7 +236,7 @@ pub fn lived_on_fuses(
     steps: &[HostStep],
 ) -> Result<(String, (MemoryDisk, MemoryDisk)), Fail> {
     let (a, b) = (fuse(alloc, calls.0), fuse(alloc, calls.1));
-    let mut host = created(alloc, a, b, Registry::new(alloc))?;
+    let mut host = created(alloc, a, b, Registry::new(alloc), no_boxes(alloc))?;
     let answers = answers(alloc, &mut host, steps)?;
     let (a, b) = closed(host);
     Ok((answers, (inner(a), inner(b))))

@@ -8,8 +8,8 @@ use ash_durable::{CreateFault, Host, OpenFault, StoreFault};
 use ash_registry::Registry;
 use ash_requests::{Arg, Request};
 use ash_store_fixtures::hosts::{
-    EMPTY, SOURCE, State, add, closed, created, disk, found, is_done, lines_for, load, opened, seq,
-    used,
+    Boxes, EMPTY, SOURCE, State, add, closed, created, disk, found, is_done, lines_for, load,
+    no_boxes, opened, seq, used,
 };
 use ash_store_fixtures::lives::{File, HostStep, bytes_of};
 use std::alloc::{AllocError, Global};
@@ -55,7 +55,9 @@ fn used_disks(alloc: Global) -> Result<Disks, Fail> {
 /// What is refused of making a store over the disks of a used one.
 fn made_again(alloc: Global) -> Result<Refused, Fail> {
     let (first, second) = unboxed(used_disks(alloc)?);
-    match Host::create(alloc, first, second, Registry::new(alloc)) {
+    let registry = Registry::new(alloc);
+    let Boxes { pool, services } = no_boxes(alloc);
+    match Host::create(alloc, first, second, registry, pool, services) {
         Ok(_) => Err("made over a store".into()),
         Err(refused) => Ok(refused_with_disks(alloc, refused)?),
     }
@@ -64,7 +66,7 @@ fn made_again(alloc: Global) -> Result<Refused, Fail> {
 /// Why no store is made over two such disks, if none is.
 fn not_made(alloc: Global, a: &[u8], b: &[u8]) -> Result<Option<StoreFault>, Fail> {
     let (a, b) = (disk(alloc, a)?, disk(alloc, b)?);
-    Ok(created(alloc, a, b, Registry::new(alloc)).err())
+    Ok(created(alloc, a, b, Registry::new(alloc), no_boxes(alloc)).err())
 }
 
 /// Compares disks with those of a used store.
@@ -328,7 +330,7 @@ fn answers(host: &mut FusedHost) -> (u64, u64) {
 /// What opening the store of a host again gives: its number, or why there is no host.
 fn number_again(alloc: Global, host: FusedHost) -> Result<u64, StoreFault> {
     let (first, second) = closed(Box::into_inner(host));
-    opened(alloc, first, second, Registry::new(alloc)).map(|host| seq(&host))
+    opened(alloc, first, second, Registry::new(alloc), no_boxes(alloc)).map(|host| seq(&host))
 }
 
 /// What a host comes to: how many of two requests it answers, its number then, and what opening its store again gives.

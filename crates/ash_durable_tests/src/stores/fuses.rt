@@ -3,8 +3,9 @@
 use crate::hosts::{Disks, boxed_disks};
 use ash_disk::{FuseDisk, MemoryDisk};
 use ash_durable::{Host, OpenRefused, StoreFault};
+use ash_host::Tally;
 use ash_registry::Registry;
-use ash_store_fixtures::hosts::{closed, created, fuse, inner};
+use ash_store_fixtures::hosts::{Boxes, closed, created, fuse, inner, no_boxes};
 use ash_store_fixtures::lives::{HostStep, lived_on_fuses};
 use std::alloc::{AllocError, Global};
 use std::test::Fail;
@@ -31,7 +32,7 @@ pub(crate) type Fused = FuseDisk<MemoryDisk>;
 pub(crate) type FusedDisks = Box<(Fused, Fused)>;
 
 /// A host over such disks, in a box too.
-pub(crate) type FusedHost = Box<Host<Fused>>;
+pub(crate) type FusedHost = Box<Host<Fused, Tally>>;
 
 /// Why a store on such disks is not made or not opened, and these, which are handed back.
 pub(crate) type FusedRefused = (StoreFault, FusedDisks);
@@ -45,7 +46,7 @@ fn boxed_fused(alloc: Global, disks: (Fused, Fused)) -> Result<FusedDisks, Alloc
 }
 
 /// Such a host in a box.
-fn boxed_host(alloc: Global, host: Host<Fused>) -> Result<FusedHost, AllocError> {
+fn boxed_host(alloc: Global, host: Host<Fused, Tally>) -> Result<FusedHost, AllocError> {
     Ok(Box::new(alloc, host)?)
 }
 
@@ -78,7 +79,7 @@ pub(crate) fn inner_disks(alloc: Global, disks: FusedDisks) -> Result<Disks, All
 /// What was begun, in a box.
 fn boxed(
     alloc: Global,
-    begun: Result<Host<Fused>, OpenRefused<Fused>>,
+    begun: Result<Host<Fused, Tally>, OpenRefused<Fused>>,
 ) -> Result<Begun, AllocError> {
     match begun {
         Ok(host) => Ok(Ok(boxed_host(alloc, host)?)),
@@ -89,13 +90,17 @@ fn boxed(
 /// A host with a new store on these disks, or what was refused.
 pub(crate) fn create_host(alloc: Global, disks: FusedDisks) -> Result<Begun, AllocError> {
     let (a, b) = Box::into_inner(disks);
-    boxed(alloc, Host::create(alloc, a, b, Registry::new(alloc)))
+    let registry = Registry::new(alloc);
+    let Boxes { pool, services } = no_boxes(alloc);
+    boxed(alloc, Host::create(alloc, a, b, registry, pool, services))
 }
 
 /// A host with the store on these disks, or what was refused.
 pub(crate) fn open_host(alloc: Global, disks: FusedDisks) -> Result<Begun, AllocError> {
     let (a, b) = Box::into_inner(disks);
-    boxed(alloc, Host::open(alloc, a, b, Registry::new(alloc)))
+    let registry = Registry::new(alloc);
+    let Boxes { pool, services } = no_boxes(alloc);
+    boxed(alloc, Host::open(alloc, a, b, registry, pool, services))
 }
 
 /// The disks of a host that is closed.
@@ -104,9 +109,9 @@ pub(crate) fn close_host(alloc: Global, host: FusedHost) -> Result<FusedDisks, A
 }
 
 /// A host with a new store on disks that fail after so many calls, or why there is none.
-fn created_on_fuses(alloc: Global, calls: (u64, u64)) -> Result<Host<Fused>, StoreFault> {
+fn created_on_fuses(alloc: Global, calls: (u64, u64)) -> Result<Host<Fused, Tally>, StoreFault> {
     let (a, b) = (fuse(alloc, calls.0), fuse(alloc, calls.1));
-    created(alloc, a, b, Registry::new(alloc))
+    created(alloc, a, b, Registry::new(alloc), no_boxes(alloc))
 }
 
 /// The same in a box.

@@ -1,13 +1,17 @@
 //! The states of hosts, and the images by hand that they have.
 
+ghost use Rattle.std.specs.Prelude.{IsSome, IfOk};
+
 use crate::stored::compare::check_bytes;
 use crate::stored::images::{
-    AFTER_THREE, CONSTRUCTED, LOADED, MODULE_A, MODULE_B, NOTHING, OF_TWO_MODULES, ONE_SERVICE,
-    TWO, image, modules, with_tag,
+    AFTER_THREE, CONSTRUCTED, LOADED, MODULE_A, MODULE_B, NOTHING, OF_TWO_MODULES, ONE_SERVED, TWO,
+    TWO_SERVED, image, modules, with_tag,
 };
+use ash_engine::engine::Engine;
+use ash_host::{Counter, HostObject, RestoreFault, Tally};
+use ash_objects::TableFault;
 use ash_registry::{Registry, RegistryFault};
 use ash_requests::{Reply, Request};
-use ash_states::state::HostState;
 use std::alloc::{AllocError, Global};
 use std::process::Abort;
 use std::test::Fail;
@@ -16,9 +20,12 @@ use std::test::Fail;
 const BUDGET: u64 = 1000;
 
 /// Handles a request that is answered.
-fn handle(state: &mut HostState, request: &Request) -> Result<(), Fail> {
-    match state.handle(request, BUDGET)? {
-        Reply::Answer(_) => Ok(()),
+fn handle<B: HostObject>(mut engine: Engine<B>, request: &Request<'_>) -> Result<Engine<B>, Fail>
+    requires live { IsSome engine.live }
+    ensures live { IfOk result (λ engine. IsSome engine.live) }
+{
+    match engine.handle(request, BUDGET)? {
+        Reply::Answer(_) => Ok(engine),
         _ => Err(Fail::new("no answer")),
     }
 }
@@ -30,25 +37,40 @@ struct Written {
     body: Vec<u8>,
 }
 
-fn written_of(state: &HostState) -> Result<Written, AllocError> {
+fn written_of<B: HostObject>(engine: &Engine<B>) -> Result<Written, AllocError>
+    requires live { IsSome engine.now.live }
+{
     Ok(Written {
-        image: state.image()?,
-        body: state.body()?,
+        image: engine.image()?,
+        body: engine.body()?,
     })
 }
 
-/// What is written of the state of a host with this registry after these requests, each of which is answered. Only this
-/// is handed on, since a state is long where it is written out.
-fn written_after(
+/// An engine before any request, with this registry, and with these services and no other boxes.
+fn new_engine<B: HostObject>(
     alloc: Global,
     registry: Registry,
+    services: Vec<B>,
+) -> Result<Engine<B>, TableFault>
+    ensures live { IfOk result (λ engine. IsSome engine.live) }
+{
+    let pool = Vec::new(alloc);
+    Engine::new(alloc, registry, pool, services)
+}
+
+/// What is written of the state of an engine with this registry and these services after these requests, each of which
+/// is answered. Only this is handed on, since an engine is long where it is written out.
+fn written_after<B: HostObject>(
+    alloc: Global,
+    registry: Registry,
+    services: Vec<B>,
     requests: &[Request<'_>],
 ) -> Result<Written, Fail> {
-    let mut state = HostState::new(alloc, registry);
+    let mut engine = new_engine(alloc, registry, services)?;
     for request in requests {
-        handle(&mut state, request)?;
+        engine = handle(engine, request)?;
     }
-    Ok(written_of(&state)?)
+    Ok(written_of(&engine)?)
 }
 
 /// Compares the image of a state, and the body of a record that has it.
@@ -68,40 +90,74 @@ fn check_written(
 /// What requests lead to: what they are called, each of them, and what follows the version in the image.
 type Row = (&'static str, &'static [Request<'static>], &'static [u8]);
 
-/// Compares what requests lead to where this is registered.
-fn check_registered(
+/// Compares what requests lead to where this is registered, with these services.
+fn check_served<B: HostObject>(
     rt: &impl Abort,
     alloc: Global,
     registry: Registry,
+    services: Vec<B>,
     row: &Row,
 ) -> Result<(), Fail> {
     let (what, requests, rest) = *row;
-    let found = written_after(alloc, registry, requests)?;
+    let found = written_after(alloc, registry, services, requests)?;
     let wanted = image(alloc, TWO, rest)?;
     Ok(check_written(rt, alloc, &found, &wanted, what)?)
 }
 
-/// Compares what requests lead to where nothing is registered.
-fn check_row(rt: &impl Abort, alloc: Global, row: &Row) -> Result<(), Fail> {
-    check_registered(rt, alloc, Registry::new(alloc), row)
+/// No service.
+fn no_services(alloc: Global) -> Vec<Tally> {
+    Vec::new(alloc)
 }
 
-/// A service is registered.
-fn one_service(alloc: Global) -> Result<Registry, RegistryFault> {
+/// Compares what requests lead to where nothing is registered.
+fn check_row(rt: &impl Abort, alloc: Global, row: &Row) -> Result<(), Fail> {
+    check_served(rt, alloc, Registry::new(alloc), no_services(alloc), row)
+}
+
+/// Services of these kinds are registered, in order.
+fn services_of(alloc: Global, kinds: &[u16]) -> Result<Registry, RegistryFault> {
     let mut registry = Registry::new(alloc);
-    registry.service(2)?;
+    for kind in kinds {
+        registry.service(*kind)?;
+    }
     Ok(registry)
+}
+
+/// A box in which an `int` is the state.
+fn with_state<B: HostObject>(mut object: B, number: i32) -> Result<B, RestoreFault> {
+    object.restore(&number.to_le_bytes())?;
+    Ok(object)
 }
 
 const NO_REQUEST: Row = ("nothing", &[], NOTHING);
 
-const NO_REQUEST_OF_A_SERVICE: Row = ("a registration", &[], ONE_SERVICE);
-
 #[test]
 fn before_any_request(rt: HostRuntime) -> Result<(), Fail> {
-    check_row(&rt, rt.alloc(), &NO_REQUEST)?;
-    let registry = one_service(rt.alloc())?;
-    check_registered(&rt, rt.alloc(), registry, &NO_REQUEST_OF_A_SERVICE)
+    check_row(&rt, rt.alloc(), &NO_REQUEST)
+}
+
+const OF_A_SERVICE: Row = ("a service", &[], ONE_SERVED);
+
+const OF_TWO_SERVICES: Row = ("two services", &[], TWO_SERVED);
+
+#[test]
+fn services_before_any_request(rt: HostRuntime) -> Result<(), Fail> {
+    let alloc = rt.alloc();
+    let mut boxes: Vec<Box<dyn HostObject>> = Vec::new(alloc);
+    boxes.push(Box::new(alloc, with_state(Tally::new(), 5)?)?)?;
+    check_served(&rt, alloc, services_of(alloc, &[2])?, boxes, &OF_A_SERVICE)?;
+    // In the order of registration, and what is beyond them is dropped.
+    let mut boxes: Vec<Box<dyn HostObject>> = Vec::new(alloc);
+    boxes.push(Box::new(alloc, with_state(Tally::new(), 5)?)?)?;
+    boxes.push(Box::new(alloc, with_state(Counter::new(), -1)?)?)?;
+    boxes.push(Box::new(alloc, Tally::new())?)?;
+    check_served(
+        &rt,
+        alloc,
+        services_of(alloc, &[2, 1])?,
+        boxes,
+        &OF_TWO_SERVICES,
+    )
 }
 
 const A_LOAD: Row = (
@@ -157,7 +213,12 @@ const TWO_MODULES: [Request<'static>; 4] = [
 
 /// Compares what the requests of two modules lead to.
 fn check_modules(rt: &impl Abort, alloc: Global) -> Result<(), Fail> {
-    let found = written_after(alloc, Registry::new(alloc), &TWO_MODULES)?;
+    let found = written_after(
+        alloc,
+        Registry::new(alloc),
+        no_services(alloc),
+        &TWO_MODULES,
+    )?;
     let wanted = modules(alloc, MODULE_B, MODULE_A)?;
     Ok(check_written(rt, alloc, &found, &wanted, "two modules")?)
 }

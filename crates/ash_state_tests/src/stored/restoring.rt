@@ -6,8 +6,8 @@ ghost use Rattle.ash_image.specs.SnapshotViews.{snapshot_of};
 
 use crate::stored::compare::{ReadAs, check_bytes, check_count, check_read_as};
 use crate::stored::images::{
-    DANGLING, EACH_WORD, NOTHING, OF_TWO_MODULES, ONE, ONE_MODULE, ONE_SERVICE, STORED, THREE_TAGS,
-    TWO, TWO_TAGS, image, with_byte,
+    DANGLING, EACH_WORD, FEW_SERVED, MORE_SERVED, NOTHING, OF_TWO_MODULES, ONE, ONE_MODULE,
+    ONE_SERVICE, STORED, SWAPPED_SERVED, THREE_TAGS, TWO, TWO_SERVED, TWO_TAGS, image, with_byte,
 };
 use ash_image::image::read_image;
 use ash_image::stored::StoredState;
@@ -25,6 +25,10 @@ enum Registered {
     Counter,
     /// That type, and a service.
     Both,
+    /// A service of the kind 2.
+    Service,
+    /// That service, and after it one of the kind 1.
+    Services,
 }
 
 fn registry_of(alloc: Global, registered: Registered) -> Result<Registry, RegistryFault> {
@@ -35,6 +39,13 @@ fn registry_of(alloc: Global, registered: Registered) -> Result<Registry, Regist
         Registered::Both => {
             registry.object_type("Counter", 1)?;
             registry.service(2)?;
+        }
+        Registered::Service => {
+            registry.service(2)?;
+        }
+        Registered::Services => {
+            registry.service(2)?;
+            registry.service(1)?;
         }
     }
     Ok(registry)
@@ -77,7 +88,7 @@ type Row = (
     usize,
 );
 
-const ROWS: [Row; 5] = [
+const ROWS: [Row; 6] = [
     // The version, and two numbers of eight bytes.
     ("nothing", TWO, NOTHING, Registered::Nothing, 1 + 16 * 255),
     (
@@ -102,6 +113,14 @@ const ROWS: [Row; 5] = [
         ONE_MODULE,
         Registered::Nothing,
         1 + 16 * 255 + 52 + (52 + 3) + 4 * 255,
+    ),
+    // The version, two numbers of eight bytes, and the bytes of two states. A kind and a length have one value each.
+    (
+        "two services",
+        TWO,
+        TWO_SERVED,
+        Registered::Services,
+        1 + 16 * 255 + 8 * 255,
     ),
     // The numbers, of which the last is 2 at the least; the name; in the source three names of one letter, of which
     // two are taken by each other and by the class, nine blanks, of which two may be `;`, two a letter of the name
@@ -217,7 +236,7 @@ fn each_cut(rt: HostRuntime) -> Result<(), Fail> {
 /// Images that no host is restored from: what they are called, what follows the version, and what is registered.
 type Refused = (&'static str, &'static [u8], Registered);
 
-const REFUSED: [Refused; 8] = [
+const REFUSED: [Refused; 12] = [
     // The text is another.
     (
         "a type where none is registered",
@@ -234,6 +253,27 @@ const REFUSED: [Refused; 8] = [
         "a service where none is registered",
         ONE_SERVICE,
         Registered::Nothing,
+    ),
+    // A store of a program whose hosts had no services yet.
+    (
+        "no service where one is registered",
+        ONE_SERVICE,
+        Registered::Service,
+    ),
+    (
+        "a service and no second one",
+        FEW_SERVED,
+        Registered::Services,
+    ),
+    (
+        "a service of the kind of the other",
+        SWAPPED_SERVED,
+        Registered::Services,
+    ),
+    (
+        "a service beyond those registered",
+        MORE_SERVED,
+        Registered::Service,
     ),
     // A host object, and a script that names its type.
     ("objects with two tags", TWO_TAGS, Registered::Counter),
