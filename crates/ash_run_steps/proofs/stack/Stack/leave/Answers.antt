@@ -1,8 +1,7 @@
 use Rattle.std.proofs.Common.{◌∷◌, [], ◌++◌, ◌≡◌, reverse, take, refl, arith}
 use Rattle.std.proofs.lemmas.List.{reverse-append, length-drop, length-take}
-use Rattle.ash_host.specs.declared.word.Word.{Word}
 use Rattle.ash_run_steps.specs.Stacks.{frame_on, frames_on}
-use Rattle.ash_run_steps.proofs.Stacking.{seen_left, callers_counted}
+use Rattle.ash_run_steps.proofs.Stacking.{seen_left}
 use Rattle.ash_run_steps.proofs.stack.Stack.leave.Goals as goal
 
 pub returns : goal.returns
