@@ -1,6 +1,8 @@
 pub mod Bare
+pub mod BeginSteps
 pub mod Composed
 pub mod DeclareSteps
+pub mod EndSteps
 pub mod EnterSteps
 pub mod HoldSteps
 pub mod JumpSteps

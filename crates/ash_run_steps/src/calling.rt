@@ -1,9 +1,11 @@
-//! What is tested before a call: that the object is not null, and that there is room for a frame.
-ghost use Rattle.std.specs.Prelude.{◌≡◌, Some, None, IfOk, OnErr};
+//! Calls, and what is tested before them: that the object is not null, and that there is room for a frame.
+ghost use Rattle.std.specs.Prelude.{◌≡◌, ◌≤◌, ◌+◌, length, take, drop, Some, None, IfOk, OnOk, OnErr};
 ghost use Rattle.ash_host.specs.Objects.{handle};
 ghost use Rattle.ash_meaning.specs.Frames as frames;
 ghost use Rattle.ash_meaning.specs.ObjectSteps as objects;
 ghost use Rattle.ash_run_steps.specs.Becoming.{Comes};
+ghost use Rattle.ash_run_steps.specs.FrameChanges.{entering};
+ghost use Rattle.ash_run_steps.specs.FrameSteps.{call};
 ghost use Rattle.ash_run_steps.specs.Guarded.{plain};
 ghost use Rattle.ash_run_steps.specs.RunStates.{Names};
 
@@ -40,5 +42,29 @@ impl<B: HostObject> RunState<B> {
         } else {
             Err(Stop::Raised(Exception::StackOverflow))
         }
+    }
+
+    /// Calls a function or a method: a frame is entered at a line if there is room for one more, and takes a tick
+    /// there. Its slots are those of its caller from one on, and its arguments, which are its first locals, are in the
+    /// first of them.
+    pub fn call(
+        &mut self,
+        function: usize,
+        line: u32,
+        this: Word,
+        at: usize,
+        count: usize,
+    ) -> Result<(), Stop>
+        requires above { self.old.frames.frame.count ≤ at }
+        requires within { at + count ≤ length self.old.frames.frame.slots }
+        ensures called { (names : Names) → Comes B.HostObject names
+            (call (names.functions function) line this
+            (take count (drop at self.old.frames.frame.slots))) self.old result self.new }
+        ensures frames { OnOk result (self.new.frames ≡ entering function line this at count
+            self.old.frames) }
+    {
+        self.demand_frame()?;
+        self.enter(function, line, this, at, count)?;
+        self.tick(line)
     }
 }

@@ -7,12 +7,14 @@
 //!
 //! In reading order: `stack` (the frames), `state`, `stop` (why a run doesn't go on), `counting` (holds in the table),
 //! `holding` (what frames hold, ticks), `locals`, `declaring`, `releasing` (release points), `jumping`, `calling`,
-//! `entering`, `leaving`.
+//! `entering`, `leaving`, `beginning`, `ending`.
 #![tactic(auto)]
 
+pub mod beginning;
 pub mod calling;
 mod counting;
 pub mod declaring;
+pub mod ending;
 pub mod entering;
 pub mod holding;
 pub mod jumping;
