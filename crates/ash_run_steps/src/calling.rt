@@ -1,5 +1,5 @@
 //! Calls, and what is tested before them: that the object is not null, and that there is room for a frame.
-ghost use Rattle.std.specs.Prelude.{◌≡◌, ◌≤◌, ◌+◌, length, take, drop, Some, None, IfOk, OnOk, OnErr};
+ghost use Rattle.std.specs.Prelude.{◌≡◌, ◌<◌, ◌≤◌, ◌+◌, length, take, drop, Some, None, IfOk, OnOk, OnErr};
 ghost use Rattle.ash_host.specs.Objects.{handle};
 ghost use Rattle.ash_meaning.specs.Frames as frames;
 ghost use Rattle.ash_meaning.specs.ObjectSteps as objects;
@@ -36,6 +36,7 @@ impl<B: HostObject> RunState<B> {
     pub fn demand_frame(&self) -> Result<(), Stop>
         ensures demanded { (names : Names) → Comes B.HostObject names (plain frames.demand_frame)
             self.now result self.now }
+        ensures room { OnOk result (length self.now.frames.callers < 255) }
     {
         if self.stack.depth() < MAX_FRAMES - 1 {
             Ok(())
@@ -62,6 +63,7 @@ impl<B: HostObject> RunState<B> {
             (take count (drop at self.old.frames.frame.slots))) self.old result self.new }
         ensures frames { OnOk result (self.new.frames ≡ entering function line this at count
             self.old.frames) }
+        ensures few { OnOk result (length self.new.frames.callers < 256) }
     {
         self.demand_frame()?;
         self.enter(function, line, this, at, count)?;

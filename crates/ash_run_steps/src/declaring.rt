@@ -1,5 +1,5 @@
 //! Slots, locals that are declared and read, and the object whose method runs.
-ghost use Rattle.std.specs.Prelude.{◌≡◌, ◌<◌, ◌≤◌, List, length, OnOk, OnErr, slice_get, slice_index_or};
+ghost use Rattle.std.specs.Prelude.{◌≡◌, ◌<◌, ◌≤◌, List, length, Some, OnOk, OnErr, IfOk, slice_get, slice_index_or};
 ghost use Rattle.ash_host.specs.declared.word.Word.TheVariants as words;
 ghost use Rattle.ash_host.specs.Records.{HostRecord};
 ghost use Rattle.ash_meaning.specs.Locations as locations;
@@ -8,6 +8,7 @@ ghost use Rattle.ash_run_steps.specs.FrameChanges.{in_running, with_word, declar
 ghost use Rattle.ash_run_steps.specs.FrameSteps.{declare, read_local};
 ghost use Rattle.ash_run_steps.specs.Guarded.{plain, give};
 ghost use Rattle.ash_run_steps.specs.RunStates.{Names, shown};
+ghost use Rattle.ash_run_steps.specs.Stacks.{locals_of};
 
 use crate::counting::{hold_word, is_alive};
 use crate::state::RunState;
@@ -61,6 +62,7 @@ impl<B: HostObject> RunState<B> {
     pub fn read_local(&self, slot: usize) -> Result<Word, Stop>
         ensures read { (names : Names) → Comes B.HostObject names (read_local slot) self.now result
             self.now }
+        ensures word { IfOk result (λ word. slice_get (locals_of self.now.frames.frame) slot ≡ Some word) }
     {
         match self.stack.local(slot) {
             Some(word) => Ok(word),

@@ -1,9 +1,10 @@
 //! The end of a run.
-ghost use Rattle.std.specs.Prelude.{◌≡◌, ◌<◌, ◌++◌, [], ℕ, List, Option, OnOk, length};
+ghost use Rattle.std.specs.Prelude.{◌≡◌, ◌<◌, ◌++◌, [], ℕ, List, Option, OnOk, IfErr, length};
 ghost use Rattle.ash_host.specs.Objects.{handles};
 ghost use Rattle.ash_host.specs.declared.word.Word.{Word};
 ghost use Rattle.ash_meaning.specs.Ends.{Finished, interrupted_in};
 ghost use Rattle.ash_meaning.specs.Runs.{Interrupt};
+ghost use Rattle.ash_run_steps.specs.declared.stop.Stop.TheVariants as stops;
 ghost use Rattle.ash_run_steps.specs.Becoming.{Becomes};
 ghost use Rattle.ash_run_steps.specs.FrameChanges.{leaving};
 ghost use Rattle.ash_run_steps.specs.FrameSteps.{return_value};
@@ -83,6 +84,7 @@ impl<B: HostObject> RunState<B> {
             → OnOk result (ComesTo B.HostObject names test run start
             (interrupted_in interrupt (frame_shown names self.old.frames.frame)) self.new) }
         ensures none { roots_of_frames self.new.frames ≡ [] }
+        ensures refused { IfErr result (λ stop. stop ≡ stops.NoMemory) }
     {
         self.give_up();
         self.release()

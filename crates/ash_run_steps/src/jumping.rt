@@ -1,5 +1,6 @@
 //! Jumps out of blocks.
-ghost use Rattle.std.specs.Prelude.{◌≡◌, ◌≤◌, ℕ, List, All};
+ghost use Rattle.std.specs.Prelude.{◌≡◌, ◌≤◌, ℕ, List, All, IfErr};
+ghost use Rattle.ash_run_steps.specs.declared.stop.Stop.TheVariants as stops;
 ghost use Rattle.ash_run_steps.specs.Becoming.{Comes};
 ghost use Rattle.ash_run_steps.specs.FrameChanges.{in_running, keeping};
 ghost use Rattle.ash_run_steps.specs.FrameSteps.{end_blocks};
@@ -17,6 +18,7 @@ impl<B: HostObject> RunState<B> {
         ensures ended { (names : Names) (test : RankTest) (inner : List ℕ) → All (λ other. count ≤ other) inner
             → Comes B.HostObject names (end_blocks test inner count) self.old result self.new }
         ensures frames { self.new.frames ≡ in_running (keeping count) self.old.frames }
+        ensures refused { IfErr result (λ stop. stop ≡ stops.NoMemory) }
     {
         self.leave_blocks(count);
         self.release()

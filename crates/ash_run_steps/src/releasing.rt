@@ -1,5 +1,6 @@
 //! Release points.
-ghost use Rattle.std.specs.Prelude.{◌≡◌};
+ghost use Rattle.std.specs.Prelude.{◌≡◌, IfErr};
+ghost use Rattle.ash_run_steps.specs.declared.stop.Stop.TheVariants as stops;
 ghost use Rattle.ash_run_steps.specs.Becoming.{Comes};
 ghost use Rattle.ash_run_steps.specs.FrameChanges.{in_running, letting_go};
 ghost use Rattle.ash_run_steps.specs.GuardedSteps.{RankTest, release, end_expression};
@@ -15,6 +16,7 @@ impl<B: HostObject> RunState<B> {
         ensures released { (names : Names) (test : RankTest) → Comes B.HostObject names
             (release test) self.old result self.new }
         ensures frames { self.new.frames ≡ self.old.frames }
+        ensures refused { IfErr result (λ stop. stop ≡ stops.NoMemory) }
     {
         self.table.facts();
         self.table.sweep(&mut self.events)?;
@@ -27,6 +29,7 @@ impl<B: HostObject> RunState<B> {
         ensures ended { (names : Names) (test : RankTest) → Comes B.HostObject names
             (end_expression test) self.old result self.new }
         ensures frames { self.new.frames ≡ in_running letting_go self.old.frames }
+        ensures refused { IfErr result (λ stop. stop ≡ stops.NoMemory) }
     {
         self.let_go();
         self.release()
