@@ -6,3 +6,4 @@ pub mod GuardedSteps
 pub mod Outcomes
 pub mod RunStates
 pub mod Stacks
+pub mod Worlds

@@ -6,8 +6,8 @@ ghost use Rattle.ash_host.specs.declared.word.Word.TheVariants as words;
 ghost use Rattle.ash_meaning.specs.Ends.{begun};
 ghost use Rattle.ash_run_steps.specs.Becoming.{KeepsBoxes};
 ghost use Rattle.ash_run_steps.specs.RunStates.{Names, HoldsRoots, frame_shown, is_alive_in, shown};
-ghost use Rattle.ash_run_steps.specs.RunStates.{state_with, world_shown};
 ghost use Rattle.ash_run_steps.specs.Stacks.{locals_of};
+ghost use Rattle.ash_run_steps.specs.Worlds.{world_of};
 
 use crate::counting::hold_words;
 use crate::stack::Stack;
@@ -36,9 +36,8 @@ impl<B: HostObject> RunState<B> {
         requires bare { stack.frame.held ≡ [] }
         requires alive { All (λ word. IsTrue (is_alive_in word parts.table)) (locals_of stack.frame) }
         ensures begun { (names : Names) (rest : List HostRecord) → shown B.HostObject names rest result
-            ≡ begun (world_shown B.HostObject names rest (state_with parts.table stack
-            parts.globals.items parts.outside.items parts.events.items ticks)) ticks
-            (frame_shown names stack.frame) }
+            ≡ begun (world_of B.HostObject names rest parts.table parts.globals.items parts.outside.items
+            parts.events.items) ticks (frame_shown names stack.frame) }
         ensures keeps { KeepsBoxes B.HostObject parts.table result.table }
         ensures frames { result.frames ≡ stack }
     {

@@ -1,6 +1,7 @@
 //! The end of a run.
 ghost use Rattle.std.specs.Prelude.{◌≡◌, ◌<◌, ◌++◌, [], ℕ, List, Option, OnOk, IfErr, length};
 ghost use Rattle.ash_host.specs.Objects.{handles};
+ghost use Rattle.ash_host.specs.Records.{HostRecord};
 ghost use Rattle.ash_host.specs.declared.word.Word.{Word};
 ghost use Rattle.ash_meaning.specs.Ends.{Finished, interrupted_in};
 ghost use Rattle.ash_meaning.specs.Runs.{Interrupt};
@@ -11,8 +12,9 @@ ghost use Rattle.ash_run_steps.specs.FrameSteps.{return_value};
 ghost use Rattle.ash_run_steps.specs.Guarded.{Guarded, stop};
 ghost use Rattle.ash_run_steps.specs.GuardedSteps.{RankTest};
 ghost use Rattle.ash_run_steps.specs.Outcomes.{ComesTo};
-ghost use Rattle.ash_run_steps.specs.RunStates.{State, Names, HoldsRoots, bare, frame_shown};
+ghost use Rattle.ash_run_steps.specs.RunStates.{State, Names, HoldsRoots, bare, frame_shown, world_shown};
 ghost use Rattle.ash_run_steps.specs.Stacks.{roots_of_frames};
+ghost use Rattle.ash_run_steps.specs.Worlds.{world_of};
 
 use crate::beginning::Parts;
 use crate::leaving::unhold_frame;
@@ -97,6 +99,9 @@ impl<B: HostObject> RunState<B> {
         ensures globals { result.globals.items ≡ self.globals }
         ensures outside { result.outside.items ≡ self.outside }
         ensures events { result.events.items ≡ self.events }
+        ensures world { (names : Names) (rest : List HostRecord) → world_of B.HostObject names rest
+            result.table result.globals.items result.outside.items result.events.items
+            ≡ world_shown B.HostObject names rest self }
         ensures held { HoldsRoots result.table (result.outside.items ++ handles result.globals.items) }
     {
         Parts {
