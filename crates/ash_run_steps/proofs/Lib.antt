@@ -1,7 +1,12 @@
 pub mod Bare
+pub mod BeginSteps
 pub mod Composed
+pub mod DeclareSteps
+pub mod EndSteps
 pub mod EnterSteps
 pub mod HoldSteps
+pub mod JumpSteps
+pub mod LeaveSteps
 pub mod LocalSteps
 pub mod Roots
 pub mod Stacking
