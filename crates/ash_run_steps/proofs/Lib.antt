@@ -1,5 +1,8 @@
+pub mod AnsweredCalls
 pub mod Bare
+pub mod BoxChanges
 pub mod Composed
+pub mod Draws
 pub mod EnterSteps
 pub mod HoldSteps
 pub mod LocalSteps

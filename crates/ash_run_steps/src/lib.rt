@@ -6,13 +6,18 @@
 //! and no sound module's code comes to it.
 //!
 //! In reading order: `stack` (the frames), `state`, `stop` (why a run doesn't go on), `counting` (holds in the table),
-//! `holding` (what frames hold, ticks), `locals`, `releasing` (release points), `entering`.
+//! `holding` (what frames hold, ticks), `locals`, `releasing` (release points), `entering`, `answering` (who answers a
+//! call, and what is made of an answer), `host_calls`, `properties`, `drawing` (boxes of the pool, and host objects).
 #![tactic(auto)]
 
+mod answering;
 mod counting;
+pub mod drawing;
 pub mod entering;
 pub mod holding;
+pub mod host_calls;
 pub mod locals;
+pub mod properties;
 pub mod releasing;
 pub mod stack;
 pub mod state;
