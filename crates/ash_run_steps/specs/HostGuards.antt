@@ -1,11 +1,12 @@
 -- Steps that speak with hosts, under the guard that a machine tests: who is asked is there.
-use Rattle.std.specs.Prelude.{◌≡◌, ℕ, Bool, List, ◌++◌, Option, is_some, Result, Ok, Err}
+use Rattle.std.specs.Prelude.{◌≡◌, ℕ, Bool, List, ◌++◌, Option, None, is_some, Result, Ok, Err}
 use Rattle.ash_host.specs.declared.event.Target.{Target}
 use Rattle.ash_host.specs.declared.event.Target.TheVariants as targets
 use Rattle.ash_host.specs.declared.word.Word.{Word}
+use Rattle.ash_host.specs.Calls.{Start}
 use Rattle.ash_typed.specs.declared.types.VarType.{VarType}
 use Rattle.ash_meaning.specs.Activity.{Activity}
-use Rattle.ash_meaning.specs.Runs.{Progress, Done, Ended, NoStep, Raising}
+use Rattle.ash_meaning.specs.Runs.{Run, Progress, Done, Ended, NoStep, Raising, ◌>>=◌}
 use Rattle.ash_meaning.specs.HostSteps as hosts
 use Rattle.ash_run_steps.specs.declared.stop.Stop.{Stop}
 use Rattle.ash_run_steps.specs.declared.stop.Stop.TheVariants as stops
@@ -27,6 +28,10 @@ get_property number id of = guarded (is_there (targets.Object number)) (hosts.ge
 -- Writes a property of a host object.
 abbrev pub set_property : ℕ → ℕ → Word → Guarded (Unit {0})
 set_property number id word = guarded (is_there (targets.Object number)) (hosts.set_property number id word)
+
+-- Begins the life of a host object.
+abbrev pub start_host : ℕ → List Word → Run Word
+start_host number args = hosts.call_host (targets.Object number) (Start args) >>= hosts.accept None
 
 -- What is made of an answer: a value, an exception, or no step if the host found no memory. The activity stays.
 abbrev pub IsMade : {A : Type 0} → Progress A → Result A Stop → Activity → Type 0

@@ -1,16 +1,13 @@
 //! Boxes that are drawn from the pool, and host objects that are constructed.
 ghost use Rattle.std.specs.Prelude.{◌≡◌, ◌≤◌, ◌+◌, ◌∷◌, [], length, take, drop, IsSome, IfOk, OnOk};
-ghost use Rattle.ash_host.specs.declared.event.Target.{Target};
 ghost use Rattle.ash_host.specs.declared.word.Word.{Word};
-ghost use Rattle.ash_host.specs.Calls.{Start};
 ghost use Rattle.ash_host.specs.Objects.{handles};
 ghost use Rattle.ash_meaning.specs.HostSteps as hosts;
 ghost use Rattle.ash_meaning.specs.Releases as releases;
-ghost use Rattle.ash_meaning.specs.Runs.{◌>>=◌};
 ghost use Rattle.ash_objects.specs.Responses.{box_at};
 ghost use Rattle.ash_run_steps.specs.Becoming.{Comes};
 ghost use Rattle.ash_run_steps.specs.Guarded.{plain};
-ghost use Rattle.ash_run_steps.specs.HostGuards.{holding};
+ghost use Rattle.ash_run_steps.specs.HostGuards.{start_host, holding};
 ghost use Rattle.ash_run_steps.specs.RunStates.{Names};
 
 use crate::answering::{accept, is_host};
@@ -59,9 +56,8 @@ impl<B: HostObject> RunState<B> {
         requires host { IsSome (box_at number self.old.table) }
         requires within { at + count ≤ length self.old.frames.frame.slots }
         ensures started { (names : Names) → Comes B.HostObject names
-            (plain (hosts.call_host (Target.Object number)
-            (Start (take count (drop at self.old.frames.frame.slots))) >>= hosts.accept None))
-            self.old result self.new }
+            (plain (start_host number (take count (drop at self.old.frames.frame.slots)))) self.old
+            result self.new }
         ensures frames { self.new.frames ≡ self.old.frames }
     {
         if !is_host(&self.table, number) {
