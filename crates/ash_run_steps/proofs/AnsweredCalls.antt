@@ -12,7 +12,7 @@ use Rattle.ash_host.specs.declared.event.Target.{Target}
 use Rattle.ash_host.specs.declared.event.Target.TheVariants as targets
 use Rattle.ash_host.specs.declared.host_object.HostObject.{Ghosts}
 use Rattle.ash_host.specs.declared.word.Word.{Word}
-use Rattle.ash_host.specs.Calls.{HostCall, Invoke, Get, Set}
+use Rattle.ash_host.specs.Calls.{HostCall, Start, Invoke, Get, Set}
 use Rattle.ash_host.specs.Limits.{max_state_bytes}
 use Rattle.ash_host.specs.Objects.{LiveObjects, IsInOrder}
 use Rattle.ash_host.specs.Records.{HostRecord, next_record}
@@ -29,8 +29,8 @@ use Rattle.ash_objects.specs.Responses.{box_at, with_box, called}
 use Rattle.ash_objects.proofs.Boxes.{called_is}
 use Rattle.ash_run_steps.specs.declared.stop.Stop.{Stop}
 use Rattle.ash_run_steps.specs.declared.stop.Stop.TheVariants as stops
-use Rattle.ash_run_steps.specs.Guarded.{Guarded, give, stop, unsound}
-use Rattle.ash_run_steps.specs.HostGuards.{is_there, invoke_host, get_property, set_property, IsMade}
+use Rattle.ash_run_steps.specs.Guarded.{Guarded, plain, give, stop, unsound}
+use Rattle.ash_run_steps.specs.HostGuards.{is_there, invoke_host, get_property, set_property, start_host, IsMade}
 use Rattle.ash_run_steps.specs.RunStates.{State, Names, shown, world_shown, HoldsRoots, roots_in}
 use Rattle.ash_run_steps.specs.Becoming.{Becomes, Comes, IsOf, IsOfIts, KeepsBoxes}
 use Rattle.ash_run_steps.proofs.Bare.{keeps_bare, same_relation}
@@ -95,9 +95,20 @@ module _ {B : Type 0} (G : Ghosts B) (names : Names) where
       record { allowed = is.allowed; answered_fits = is.in_range; before_fits = is.before_fits; after_fits = is.after_fits },
     )
 
-    -- a run under the guard that who is asked is there, which comes to this after the answer
+    -- a run that comes to this after the answer
+    pub becomes_after : {A : Type 0} (run : Run A) (left : Guarded A) (new : State B) → KeepsBoxes G s.table new.table
+        → ((rest : List HostRecord) → left (shown G names rest new) ≡ Some (run (shown G names (answered ∷ rest) s)))
+        → Becomes G names (plain run) s left new
+    becomes_after run left new keeps same = record {
+      records = answered ∷ [];
+      valid = valid_one;
+      keeps = keeps;
+      same = same;
+    }
+
+    -- the same of a run under the guard that who is asked is there
     pub becomes_answered : {A : Type 0} (run : Run A) (left : Guarded A) (new : State B) → KeepsBoxes G s.table new.table
-        → ((rest : List HostRecord) → IfSome (Some (run (shown G names (answered ∷ rest) s))) (λ p. left (shown G names rest new) ≡ Some p))
+        → ((rest : List HostRecord) → left (shown G names rest new) ≡ Some (run (shown G names (answered ∷ rest) s)))
         → Becomes G names (λ a. cond (is_there target a) (Some (run a)) None) s left new
     becomes_answered run left new keeps same = record {
       records = answered ∷ [];
@@ -183,6 +194,23 @@ module _ {B : Type 0} (G : Ghosts B) (names : Names) where
     set_gives word s table is =
         becomes_answered (targets.Object number) (Set id word) answers.Nothing s table is (hosts.set_property number id word) (give tt) (at_table table s) is.keeps
         (λ rest. sym (ap (λ (p : Progress HostAnswer). Some (onward (onward p (hosts.accept None)) (λ _. gives tt))) (called_same (targets.Object number) (Set id word) answers.Nothing s table is rest)))
+
+  -- the start of an object
+
+  module _ (number : ℕ) (args : List Word) (answer : HostAnswer) (s : State B) (table : Table B) (is : IsAnswered (targets.Object number) (Start args) answer s table) where
+    started_same : (rest : List HostRecord) → start_host number args (shown G names (answered (targets.Object number) (Start args) answer s table is ∷ rest) s) ≡ hosts.accept None answer (shown G names rest (at_table table s))
+    started_same rest = ap (λ (p : Progress HostAnswer). onward p (hosts.accept None)) (called_same (targets.Object number) (Start args) answer s table is rest)
+
+    pub start_comes : (r : Result Word Stop) → ((a : Activity) → IsMade (hosts.accept None answer a) r a) → Comes G names (plain (start_host number args)) s r (at_table table s)
+    start_comes (Ok w) made =
+        becomes_after (targets.Object number) (Start args) answer s table is (start_host number args) (give w) (at_table table s) is.keeps
+        (λ rest. sym (ap Some (started_same rest ∙ made (shown G names rest (at_table table s)))))
+    start_comes (Err (stops.Raised exception)) made =
+        becomes_after (targets.Object number) (Start args) answer s table is (start_host number args) (stop (Raising exception)) (at_table table s) is.keeps
+        (λ rest. sym (ap Some (started_same rest ∙ made (shown G names rest (at_table table s)))))
+    start_comes (Err stops.OutOfTicks) made = absurd (made (shown G names [] s))
+    start_comes (Err stops.Unsound) made = absurd (made (shown G names [] s))
+    start_comes (Err stops.NoMemory) made = tt
 
   -- who answers
 

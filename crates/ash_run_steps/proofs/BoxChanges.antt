@@ -1,6 +1,6 @@
 -- A box that answered, in the table and as it is shown.
 use Rattle.std.proofs.Common.{◌≡◌, ℕ, Bool, true, false, cond, List, [], ◌∷◌, zero, suc, map, refl, sym, ap, ◌∙◌, subst, arith, nat_eq, inl, inr, ◌⊎◌}
-use Rattle.std.specs.Prelude.{Option, Some, None, slice_get, slice_set}
+use Rattle.std.specs.Prelude.{Option, Some, None, IsSome, slice_get, slice_set}
 use Rattle.std.specs.Option.{option_map, option_map_or, option_and_then}
 use Rattle.std.proofs.lemmas.Bool.{eqb-true, eq-eqb}
 use Rattle.std.proofs.lemmas.Option.{slice_get-map}
@@ -9,7 +9,7 @@ use Rattle.ash_host.specs.declared.event.Target.{Target}
 use Rattle.ash_host.specs.declared.event.Target.TheVariants as targets
 use Rattle.ash_host.specs.declared.host_object.HostObject.{Ghosts}
 use Rattle.ash_host.specs.Calls.{HostCall, SameRelation}
-use Rattle.ash_host.specs.Objects.{Plain, Host, LiveObjects, object_at, with_at, IsInOrder}
+use Rattle.ash_host.specs.Objects.{Plain, Host, LiveObjects, object_at, with_at, IsInOrder, Lives}
 use Rattle.ash_host.proofs.Order.{same_in_order, object_at-with_at, in_order-with_at}
 use Rattle.ash_meaning.specs.ObjectSteps as meaning
 use Rattle.ash_meaning.specs.HostSteps.{state_in, with_state_in}
@@ -18,7 +18,7 @@ use Rattle.ash_slots.specs.declared.body.Body.TheVariants as bodies
 use Rattle.ash_slots.specs.SlotResponses.{Responds, box_of}
 use Rattle.ash_slots.specs.Store.{change_at}
 use Rattle.ash_slots.proofs.Changing.{object_at-change, in_order-change}
-use Rattle.ash_objects.specs.Table.{Living, Table, with_object, holds_of}
+use Rattle.ash_objects.specs.Table.{Living, Table, with_object, held, holds_of}
 use Rattle.ash_objects.specs.Responses.{box_at, with_box}
 use Rattle.ash_objects.proofs.Marks.{in_order-mapped}
 use Rattle.ash_object_ranks.specs.ShownTables.{SlotNames, body_shown, objects_shown}
@@ -85,6 +85,22 @@ module _ {B : Type 0} where
       go true None = refl
       go true (Some x) = refl
       go false o = refl
+
+  pub box_held : (n m : ℕ) (table : Table B) → box_at m (with_object n held table) ≡ box_at m table
+  box_held n m table =
+      ap (option_and_then (λ (object : Living B). box_of object.body)) (object_at-change n held m table.objects) ∙ go (nat_eq n m) (object_at m table.objects)
+    where
+      go : (b : Bool) (o : Option (Living B)) → option_and_then (λ (object : Living B). box_of object.body) (cond b (option_map held o) o) ≡ option_and_then (λ (object : Living B). box_of object.body) o
+      go true None = refl
+      go true (Some x) = refl
+      go false o = refl
+
+  pub box_lives : (n : ℕ) (table : Table B) → IsSome (box_at n table) → Lives table.objects n
+  box_lives n table is = go (object_at n table.objects) is
+    where
+      go : (o : Option (Living B)) → IsSome (option_and_then (λ (object : Living B). box_of object.body) o) → IsSome o
+      go None is = is
+      go (Some x) is = refl
 
   box_in : (b : Bool) (after box : B) (o : Option (Living B)) → option_and_then (λ (object : Living B). box_of object.body) (cond b (option_map (with_box after) o) o) ≡ Some box
       → ((b ≡ true) × (box ≡ after)) ⊎ (option_and_then (λ (object : Living B). box_of object.body) o ≡ Some box)

@@ -1,6 +1,6 @@
 -- Boxes that are drawn are the meaning's.
 use Rattle.std.proofs.Common.{◌≡◌, ◌<◌, ◌≤◌, ◌+◌, ◌-◌, ◌^◌, ℕ, Bool, true, false, cond, not, List, [], ◌∷◌, ◌++◌, zero, suc, map, length, take, drop, refl, sym, ap, ◌∙◌, subst, arith, nat_eq, nat_lt, inl, inr, ◌⊎◌, Less, Equal, Greater}
-use Rattle.std.specs.Prelude.{Option, Some, None, IsSome, Contains, slice_get}
+use Rattle.std.specs.Prelude.{Option, Some, None, IsSome, IsSomeAnd, Contains, slice_get}
 use Rattle.std.specs.List.{remove, position, position_or_len}
 use Rattle.std.specs.Option.{option_map, option_map_or, option_and_then}
 use Rattle.std.specs.Ordering.{nat_cmp, match_ordering}
@@ -12,6 +12,7 @@ use Rattle.std.proofs.lemmas.List.Elements.{Contains-append_left, Contains-appen
 use Rattle.std.proofs.lemmas.Option.{slice_get-map, slice_get_within, get_or_from_slice_get}
 use Rattle.ash_host.specs.declared.event.Event.{Event}
 use Rattle.ash_host.specs.declared.event.Event.TheVariants.{Drew}
+use Rattle.ash_host.specs.declared.word.Word.TheVariants as words
 use Rattle.ash_host.specs.declared.event.Target.{Target}
 use Rattle.ash_host.specs.declared.event.Target.TheVariants as targets
 use Rattle.ash_host.specs.declared.host_object.HostObject.{Ghosts}
@@ -26,6 +27,7 @@ use Rattle.ash_meaning.specs.Runs.{Progress, Run, Done, Ended, Interrupt, Raisin
 use Rattle.ash_meaning.specs.ObjectSteps.{demand_number, max_number, make}
 use Rattle.ash_meaning.specs.HostSteps as hosts
 use Rattle.ash_meaning.specs.HostSteps.{note, place_of_kind, without_box, box_in, box_of_kind}
+use Rattle.ash_meaning.specs.Releases.{hold}
 use Rattle.ash_slots.specs.declared.body.Body.{Body}
 use Rattle.ash_slots.specs.declared.body.Body.TheVariants as bodies
 use Rattle.ash_slots.specs.SlotResponses.{box_of}
@@ -35,11 +37,14 @@ use Rattle.ash_objects.specs.Responses.{box_at}
 use Rattle.ash_object_ranks.specs.ShownTables.{SlotNames, objects_shown}
 use Rattle.ash_object_ranks.proofs.ShownTables.{living_shown}
 use Rattle.ash_run_steps.specs.Guarded.{give, stop, plain}
-use Rattle.ash_run_steps.specs.RunStates.{State, Names, shown, world_shown, box_shown, HoldsRoots, roots_in}
+use Rattle.ash_run_steps.specs.RunStates.{State, Names, bare, shown, world_shown, box_shown, HoldsRoots, roots_in}
 use Rattle.ash_run_steps.specs.Becoming.{Becomes, IsOf, KeepsBoxes}
 use Rattle.ash_run_steps.proofs.Bare.{same_relation}
+use Rattle.ash_run_steps.proofs.AnsweredCalls.{some_of}
 use Rattle.ash_run_steps.proofs.BoxChanges.{WasBefore, as_before}
 use Rattle.ash_run_steps.proofs.Composed.{becomes_by}
+use Rattle.ash_run_steps.proofs.HoldSteps.{at_table, same_activity}
+use Rattle.ash_run_steps.proofs.Roots.{holding}
 
 -- lists that are mapped, and lists of which one was removed
 
@@ -50,7 +55,7 @@ first_mapped f p (x ∷ xs) = ap (λ (n : ℕ). cond (not (p (f x))) (1 + n) 0) 
 position_mapped : {X Y : Type 0} (f : X → Y) (p : Y → Bool) (xs : List X) → position p (map f xs) ≡ position (λ x. p (f x)) xs
 position_mapped f p xs =
     ap (λ (n : ℕ). cond (nat_lt n (length (map f xs))) (Some n) None) (first_mapped f p xs)
-    ∙ ap (λ (n : ℕ). cond (nat_lt (position_or_len (λ x. p (f x)) xs) n) (Some (position_or_len (λ x. p (f x)) xs)) None) (length-map f xs)
+    ∙ ap (λ (n : ℕ). cond (nat_lt (position_or_len (λ x. p (f x)) xs) n) (Some (position_or_len (λ x. p (f x)) xs)) None) (length-map xs f)
 
 remove_mapped : {X Y : Type 0} (f : X → Y) (xs : List X) (i : ℕ) → map f (remove xs i) ≡ remove (map f xs) i
 remove_mapped f xs i =
@@ -135,6 +140,31 @@ module _ {B : Type 0} where
       ∙ ap (λ (b : Bool). cond b (Some (new_object slot (bodies.Host box))) (object_at number table.objects)) (eq-eqb number (table.last + 1) is))
 
 module _ {B : Type 0} (G : Ghosts B) where
+  -- what a draw took, and from where
+  pub record WasDrawn (kind : ℕ) (old new : Table B) : Type 0 where
+    pub place : ℕ
+    pub box : B
+    pub slot : ℕ
+    pub first : first_of_kind G kind old ≡ Some place
+    pub there : slice_get old.pool place ≡ Some box
+    pub becomes : new ≡ drawn_table slot box place old
+
+  pub was_drawn : (kind : ℕ) (old new : Table B) (slot : Option ℕ)
+      → IsSomeAnd (first_of_kind G kind old) (λ place. IsSomeAnd (slice_get old.pool place) (λ box. IsSomeAnd slot (λ s. new ≡ drawn_table s box place old)))
+      → WasDrawn kind old new
+  was_drawn kind old new slot is =
+      let one = some_of (λ place. IsSomeAnd (slice_get old.pool place) (λ box. IsSomeAnd slot (λ s. new ≡ drawn_table s box place old))) (first_of_kind G kind old) is in
+      let two = some_of (λ box. IsSomeAnd slot (λ s. new ≡ drawn_table s box one.0 old)) (slice_get old.pool one.0) one.2 in
+      let three = some_of (λ s. new ≡ drawn_table s two.0 one.0 old) slot two.2 in
+      record {
+        place = one.0;
+        box = two.0;
+        slot = three.0;
+        first = one.1;
+        there = two.1;
+        becomes = three.2;
+      }
+
   pub keeps_drawn : (slot place : ℕ) (box : B) (table : Table B) → slice_get table.pool place ≡ Some box → KeepsBoxes G table (drawn_table slot box place table)
   keeps_drawn slot place box table at = record { rises = omega arith; from = from }
     where
@@ -168,13 +198,13 @@ module _ {B : Type 0} (G : Ghosts B) (names : SlotNames) where
 module _ {B : Type 0} (G : Ghosts B) (names : Names) where
   has_room : (s : State B) (rest : List HostRecord) → (IsFull s.table → ⊥) → nat_lt (length (world_shown G names rest s).objects) max_objects ≡ true
   has_room s rest few =
-      let many = length-map (λ (e : ℕ × Living B). (e.0, living_shown G names.modules e.1)) (s.table).objects in
+      let many = length-map (s.table).objects (λ (e : ℕ × Living B). (e.0, living_shown G names.modules e.1)) in
       let below : length (s.table).objects < max_objects = omega (arith, few) in
       ap (λ (n : ℕ). nat_lt n max_objects) many ∙ grind (arith, nat_tests)
 
   has_none : (s : State B) (rest : List HostRecord) → IsFull s.table → nat_lt (length (world_shown G names rest s).objects) max_objects ≡ false
   has_none s rest full =
-      let many = length-map (λ (e : ℕ × Living B). (e.0, living_shown G names.modules e.1)) (s.table).objects in
+      let many = length-map (s.table).objects (λ (e : ℕ × Living B). (e.0, living_shown G names.modules e.1)) in
       let above : max_objects ≤ length (s.table).objects = full in
       ap (λ (n : ℕ). nat_lt n max_objects) many ∙ grind (arith, nat_tests)
 
@@ -237,3 +267,11 @@ module _ {B : Type 0} (G : Ghosts B) (names : Names) where
     keeps = keeps_drawn G slot place box s.table at;
     same = λ rest. sym (ap Some (drawn_same kind place slot box s rest few left first at));
   }
+
+  -- what is drawn is held
+
+  pub held_gives : (number : ℕ) (s : State B) (table : Table B) → bare table ≡ bare s.table
+      → Becomes G names (plain (hold (words.Object number))) s (give tt) (at_table table (holding (number ∷ []) s))
+  held_gives number s table same =
+      becomes_by G names (plain (hold (words.Object number))) s (give tt) (at_table table (holding (number ∷ []) s)) same
+      (λ rest. ap (λ (a : Activity). Some (Done tt a)) (same_activity G names rest (holding (number ∷ []) s) table same))

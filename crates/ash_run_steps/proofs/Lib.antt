@@ -2,6 +2,7 @@ pub mod AnsweredCalls
 pub mod Bare
 pub mod BoxChanges
 pub mod Composed
+pub mod Constructs
 pub mod Draws
 pub mod EnterSteps
 pub mod HoldSteps
