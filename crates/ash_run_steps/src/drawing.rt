@@ -1,5 +1,5 @@
 //! Boxes that are drawn from the pool, and host objects that are constructed.
-ghost use Rattle.std.specs.Prelude.{◌≡◌, ◌≤◌, ◌+◌, ◌∷◌, [], length, take, drop, IsSome, IfOk, OnOk};
+ghost use Rattle.std.specs.Prelude.{◌≡◌, ◌≤◌, ◌+◌, ◌∷◌, [], ℕ, List, length, take, drop, IsSome, IfOk, OnOk, OnErr};
 ghost use Rattle.ash_host.specs.declared.word.Word.{Word};
 ghost use Rattle.ash_host.specs.Objects.{handles};
 ghost use Rattle.ash_meaning.specs.HostSteps as hosts;
@@ -44,6 +44,7 @@ impl<B: HostObject> RunState<B> {
             (plain (releases.hold (Word.Object number))) self.old (Ok tt) self.new) }
         ensures host { box_at number self.new.table ≡ box_at number self.old.table }
         ensures frames { OnOk result (self.new.frames ≡ holding (number ∷ []) self.old.frames) }
+        ensures unchanged { OnErr result (self.new.frames ≡ self.old.frames) }
     {
         self.stack.facts();
         self.stack.push_held(number)?;
@@ -71,7 +72,8 @@ impl<B: HostObject> RunState<B> {
     }
 
     /// Constructs an object of a registered type, by its kind: a box is drawn, held until the full expression ends, and
-    /// then started. Its arguments are in the slots from one on, so many of them.
+    /// then started. Its arguments are in the slots from one on, so many of them. After an error the frame may hold the
+    /// object.
     pub fn construct_host(&mut self, kind: u16, at: usize, count: usize) -> Result<Word, Stop>
         requires within { at + count ≤ length self.old.frames.frame.slots }
         ensures constructed { (names : Names) → Comes B.HostObject names
@@ -79,6 +81,8 @@ impl<B: HostObject> RunState<B> {
             self.old result self.new }
         ensures frames { IfOk result (λ word. self.new.frames
             ≡ holding (handles (word ∷ [])) self.old.frames) }
+        ensures ended { OnErr result ((numbers : List ℕ)
+            × (self.new.frames ≡ holding numbers self.old.frames)) }
     {
         let number = self.draw(kind)?;
         self.hold_host(number)?;

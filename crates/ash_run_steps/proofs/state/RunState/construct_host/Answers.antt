@@ -1,9 +1,9 @@
-use Rattle.std.proofs.Common.{◌≡◌, List, take, drop, ap, ◌∙◌, subst}
-use Rattle.std.specs.Prelude.{Err}
+use Rattle.std.proofs.Common.{◌≡◌, List, [], ◌∷◌, take, drop, ap, ◌∙◌, subst}
+use Rattle.std.specs.Prelude.{Result, Ok, Err, OnErr}
 use Rattle.ash_host.specs.declared.word.Word.{Word}
 use Rattle.ash_meaning.specs.HostSteps as hosts
 use Rattle.ash_run_steps.specs.Guarded.{plain, give}
-use Rattle.ash_run_steps.specs.HostGuards.{start_host}
+use Rattle.ash_run_steps.specs.HostGuards.{start_host, holding}
 use Rattle.ash_run_steps.specs.Becoming.{Becomes, Comes}
 use Rattle.ash_run_steps.specs.Stacks.{Frames}
 use Rattle.ash_run_steps.proofs.Constructs.{comes_exit, construct_is_refused, construct_raises, construct_gives}
@@ -34,3 +34,12 @@ returns-clause-constructed g c = λ names.
     let slots = ap (λ (f : Frames). (f.frame).slots) c.in_ok-hold_host.ensures.frames ∙ ap (λ (f : Frames). (f.frame).slots) c.in_ok-number.ensures.frames in
     let starts = subst (λ (ws : List Word). Becomes g.B.HostObject names {A = Word} (plain (start_host n (take c.args.count (drop c.args.at ws)))) c.hold_host.new.self (give c.in_ok-start.field-0) c.start.new.self) slots (c.in_ok-start.ensures.started names) in
     construct_gives g.B.HostObject names c.args.kind args old c.draw.new.self n c.hold_host.new.self c.start.new.self (c.in_ok-number.ensures.drawn names) (c.in_ok-hold_host.ensures.held names) c.in_ok-start.field-0 starts
+
+on_err : {A E : Type 0} (r : Result A E) (P : Type 0) → P → OnErr r P
+on_err (Ok value) P p = tt
+on_err (Err e) P p = p
+
+pub returns-in_err-start-clause-ended : goal.returns-in_err-start-clause-ended
+returns-in_err-start-clause-ended g c =
+    let n = c.in_ok-number.number in
+    on_err c.from_residual-in_err-start.result _ (n ∷ [], c.in_err-start.ensures.frames ∙ c.in_ok-hold_host.ensures.frames ∙ ap (holding (n ∷ [])) c.in_ok-number.ensures.frames)
