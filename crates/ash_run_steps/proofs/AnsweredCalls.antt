@@ -1,6 +1,6 @@
 -- Calls of hosts are the meaning's.
-use Rattle.std.proofs.Common.{◌≡◌, ◌<◌, ◌≤◌, ℕ, Bool, true, false, cond, List, [], ◌∷◌, ◌++◌, zero, suc, map, length, get_or, refl, sym, ap, ◌∙◌, arith, inl, inr}
-use Rattle.std.specs.Prelude.{Option, Some, None, IfSome, IsSomeAnd, All, Result, Ok, Err, slice_get, slice_set, is_some}
+use Rattle.std.proofs.Common.{◌≡◌, ◌≤◌, ℕ, Bool, true, false, cond, List, [], ◌∷◌, ◌++◌, zero, suc, length, refl, sym, ap, ◌∙◌, arith, inl}
+use Rattle.std.specs.Prelude.{Option, Some, None, IfSome, IsSomeAnd, All, Result, Ok, Err, slice_get, is_some}
 use Rattle.std.specs.Option.{option_map, option_and_then}
 use Rattle.std.proofs.lemmas.List.{map-set}
 use Rattle.std.proofs.lemmas.Option.{slice_get-map}
@@ -31,11 +31,11 @@ use Rattle.ash_run_steps.specs.declared.stop.Stop.{Stop}
 use Rattle.ash_run_steps.specs.declared.stop.Stop.TheVariants as stops
 use Rattle.ash_run_steps.specs.Guarded.{Guarded, plain, give, stop, unsound}
 use Rattle.ash_run_steps.specs.HostGuards.{is_there, invoke_host, get_property, set_property, start_host, IsMade}
-use Rattle.ash_run_steps.specs.RunStates.{State, Names, shown, world_shown, HoldsRoots, roots_in}
+use Rattle.ash_run_steps.specs.RunStates.{State, Names, shown, world_shown}
 use Rattle.ash_run_steps.specs.Becoming.{Becomes, Comes, IsOf, IsOfIts, KeepsBoxes}
-use Rattle.ash_run_steps.proofs.Bare.{keeps_bare, same_relation}
+use Rattle.ash_run_steps.proofs.Bare.{keeps_bare}
 use Rattle.ash_run_steps.proofs.BoxChanges.{with_service, keeps_service, keeps_object, host_shown_at, lacks_shown_at, service_shown_at, same_state, boxed_shown}
-use Rattle.ash_run_steps.proofs.Composed.{becomes_by, guarded_same}
+use Rattle.ash_run_steps.proofs.Composed.{becomes_by}
 use Rattle.ash_run_steps.proofs.HoldSteps.{at_table}
 use Rattle.ash_run_steps.proofs.LocalSteps.{guard_off}
 

@@ -1,5 +1,5 @@
 -- Host objects are constructed as the meaning has it.
-use Rattle.std.proofs.Common.{◌≡◌, ℕ, List, [], ◌∷◌, sym, refl, subst}
+use Rattle.std.proofs.Common.{◌≡◌, ℕ, List, sym, refl, subst}
 use Rattle.std.specs.Prelude.{Option, Some, None, IfSome, Result, Ok, Err, ◌++◌}
 use Rattle.std.specs.Result.{IsErrAnd}
 use Rattle.ash_host.specs.declared.event.Target.TheVariants as targets

@@ -1,5 +1,5 @@
 -- Boxes that are drawn are the meaning's.
-use Rattle.std.proofs.Common.{◌≡◌, ◌<◌, ◌≤◌, ◌+◌, ◌-◌, ◌^◌, ℕ, Bool, true, false, cond, not, List, [], ◌∷◌, ◌++◌, zero, suc, map, length, take, drop, refl, sym, ap, ◌∙◌, subst, arith, nat_eq, nat_lt, inl, inr, ◌⊎◌, Less, Equal, Greater}
+use Rattle.std.proofs.Common.{◌≡◌, ◌<◌, ◌≤◌, ◌+◌, ◌-◌, ◌^◌, ℕ, Bool, true, false, cond, not, List, [], ◌∷◌, ◌++◌, suc, map, length, take, drop, refl, sym, ap, ◌∙◌, subst, arith, nat_eq, nat_lt, inl, inr, ◌⊎◌, Less, Equal, Greater}
 use Rattle.std.specs.Prelude.{Option, Some, None, IsSome, IsSomeAnd, Contains, slice_get}
 use Rattle.std.specs.List.{remove, position, position_or_len}
 use Rattle.std.specs.Option.{option_map, option_map_or, option_and_then}
@@ -10,20 +10,19 @@ use Rattle.std.proofs.lemmas.Bool.Decides.{nat_tests}
 use Rattle.std.proofs.lemmas.List.{map-append, take-map, drop-map, length-map, take-append-drop}
 use Rattle.std.proofs.lemmas.List.Elements.{Contains-append_left, Contains-append_right, Contains-append_cases}
 use Rattle.std.proofs.lemmas.Option.{slice_get-map, slice_get_within, get_or_from_slice_get}
-use Rattle.ash_host.specs.declared.event.Event.{Event}
 use Rattle.ash_host.specs.declared.event.Event.TheVariants.{Drew}
 use Rattle.ash_host.specs.declared.word.Word.TheVariants as words
 use Rattle.ash_host.specs.declared.event.Target.{Target}
 use Rattle.ash_host.specs.declared.event.Target.TheVariants as targets
 use Rattle.ash_host.specs.declared.host_object.HostObject.{Ghosts}
 use Rattle.ash_host.specs.Limits.{max_objects}
-use Rattle.ash_host.specs.Objects.{Plain, Host, LiveObjects, object_at, with_at, Lives, AreNumbered}
+use Rattle.ash_host.specs.Objects.{Host, LiveObjects, object_at, with_at, AreNumbered}
 use Rattle.ash_host.specs.Records.{HostRecord}
 use Rattle.ash_host.proofs.Order.{object_at-with_at}
 use Rattle.ash_meaning.specs.declared.exception.Exception.{Exception}
 use Rattle.ash_meaning.specs.declared.exception.Exception.TheVariants.{PoolEmpty, ObjectLimit, NumbersSpent}
-use Rattle.ash_meaning.specs.Activity.{FreeBox, World, Activity, in_world}
-use Rattle.ash_meaning.specs.Runs.{Progress, Run, Done, Ended, Interrupt, Raising, onward, found, give as gives, look, change, demand, ◌>>◌, ◌>>=◌}
+use Rattle.ash_meaning.specs.Activity.{FreeBox, Activity, in_world}
+use Rattle.ash_meaning.specs.Runs.{Progress, Run, Done, Ended, Raising, onward, found, give as gives, look, change, demand, ◌>>◌}
 use Rattle.ash_meaning.specs.ObjectSteps.{demand_number, max_number, make}
 use Rattle.ash_meaning.specs.HostSteps as hosts
 use Rattle.ash_meaning.specs.HostSteps.{note, place_of_kind, without_box, box_in, box_of_kind}
@@ -37,9 +36,8 @@ use Rattle.ash_objects.specs.Responses.{box_at}
 use Rattle.ash_object_ranks.specs.ShownTables.{SlotNames, objects_shown}
 use Rattle.ash_object_ranks.proofs.ShownTables.{living_shown}
 use Rattle.ash_run_steps.specs.Guarded.{give, stop, plain}
-use Rattle.ash_run_steps.specs.RunStates.{State, Names, bare, shown, world_shown, box_shown, HoldsRoots, roots_in}
+use Rattle.ash_run_steps.specs.RunStates.{State, Names, bare, shown, world_shown, box_shown}
 use Rattle.ash_run_steps.specs.Becoming.{Becomes, IsOf, KeepsBoxes}
-use Rattle.ash_run_steps.proofs.Bare.{same_relation}
 use Rattle.ash_run_steps.proofs.AnsweredCalls.{some_of}
 use Rattle.ash_run_steps.proofs.BoxChanges.{WasBefore, as_before}
 use Rattle.ash_run_steps.proofs.Composed.{becomes_by}

@@ -61,9 +61,7 @@ impl<B: HostObject> RunState<B> {
         }
         self.table.facts();
         let args = self.stack.slots_from(at, count);
-        let answer = self
-            .table
-            .invoke(number, method, args, &mut self.events)?;
+        let answer = self.table.invoke(number, method, args, &mut self.events)?;
         answers_have_their_ranges(answer);
         accept(declared, answer)
     }

@@ -1,4 +1,4 @@
-use Rattle.std.proofs.Common.{◌≡◌, ◌∷◌, [], ap, ◌∙◌, arith}
+use Rattle.std.proofs.Common.{◌∷◌, [], ap, ◌∙◌, arith}
 use Rattle.ash_objects.specs.Responses.{box_at}
 use Rattle.ash_objects.specs.Table.{with_object, held}
 use Rattle.ash_run_steps.specs.RunStates.{state_with}

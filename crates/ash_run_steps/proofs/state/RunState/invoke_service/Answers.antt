@@ -1,5 +1,5 @@
-use Rattle.std.proofs.Common.{◌≡◌, ◌<◌, ◌≤◌, take, drop, length, true, false, rules}
-use Rattle.std.specs.Prelude.{None, slice_get}
+use Rattle.std.proofs.Common.{◌≡◌, ◌≤◌, take, drop, length, true, false, rules}
+use Rattle.std.specs.Prelude.{slice_get}
 use Rattle.std.proofs.lemmas.Option.{slice_get_within}
 use Rattle.ash_host.specs.declared.event.Target.TheVariants as targets
 use Rattle.ash_host.specs.Calls.{Invoke}
