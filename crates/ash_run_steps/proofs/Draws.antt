@@ -196,13 +196,13 @@ module _ {B : Type 0} (G : Ghosts B) (names : SlotNames) where
 module _ {B : Type 0} (G : Ghosts B) (names : Names) where
   has_room : (s : State B) (rest : List HostRecord) → (IsFull s.table → ⊥) → nat_lt (length (world_shown G names rest s).objects) max_objects ≡ true
   has_room s rest few =
-      let many = length-map (s.table).objects (λ (e : ℕ × Living B). (e.0, living_shown G names.modules e.1)) in
+      let many : length (world_shown G names rest s).objects ≡ length (s.table).objects = length-map (s.table).objects (λ (e : ℕ × Living B). (e.0, living_shown G names.modules e.1)) in
       let below : length (s.table).objects < max_objects = omega (arith, few) in
       ap (λ (n : ℕ). nat_lt n max_objects) many ∙ grind (arith, nat_tests)
 
   has_none : (s : State B) (rest : List HostRecord) → IsFull s.table → nat_lt (length (world_shown G names rest s).objects) max_objects ≡ false
   has_none s rest full =
-      let many = length-map (s.table).objects (λ (e : ℕ × Living B). (e.0, living_shown G names.modules e.1)) in
+      let many : length (world_shown G names rest s).objects ≡ length (s.table).objects = length-map (s.table).objects (λ (e : ℕ × Living B). (e.0, living_shown G names.modules e.1)) in
       let above : max_objects ≤ length (s.table).objects = full in
       ap (λ (n : ℕ). nat_lt n max_objects) many ∙ grind (arith, nat_tests)
 

@@ -1,6 +1,7 @@
 //! Who answers a call, and what is made of an answer.
-ghost use Rattle.std.specs.Prelude.{◌≡◌, ◌≤◌, length, false, IsTrue, IsSomeAnd, None, slice_get};
+ghost use Rattle.std.specs.Prelude.{◌≡◌, ◌≤◌, length, false, IsTrue, IsSomeAnd, IfOk, None, slice_get};
 ghost use Rattle.ash_host.specs.Limits.{max_state_bytes};
+ghost use Rattle.ash_host.specs.Objects.{handle};
 ghost use Rattle.ash_meaning.specs.Activity.{Activity};
 ghost use Rattle.ash_meaning.specs.HostSteps.{is_of as is_of_type, accept};
 ghost use Rattle.ash_objects.specs.Responses.{box_at};
@@ -57,9 +58,11 @@ fn is_of_type(of: VarType, word: Word) -> bool
     }
 }
 
-/// What is made of an answer where a value of this type is declared, or none. What gives no value gives null.
+/// What is made of an answer where a value of this type is declared, or none. What gives no value gives null. No
+/// handle comes of it.
 pub(crate) fn accept(declared: Option<VarType>, answer: HostAnswer) -> Result<Word, Stop>
     ensures made { (activity : Activity) → IsMade (accept declared answer activity) result activity }
+    ensures plain { IfOk result (λ word. handle word ≡ None) }
 {
     match (answer, declared) {
         (HostAnswer::Nothing, None) => Ok(Word::Null),

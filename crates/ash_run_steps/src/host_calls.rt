@@ -1,6 +1,7 @@
 //! Calls of host objects and services.
-ghost use Rattle.std.specs.Prelude.{◌≡◌, ◌≤◌, ◌+◌, length, take, drop};
+ghost use Rattle.std.specs.Prelude.{◌≡◌, ◌≤◌, ◌+◌, length, take, drop, IfOk, None};
 ghost use Rattle.ash_host.specs.declared.event.Target.{Target};
+ghost use Rattle.ash_host.specs.Objects.{handle};
 ghost use Rattle.ash_run_steps.specs.Becoming.{Comes};
 ghost use Rattle.ash_run_steps.specs.HostGuards.{invoke_host};
 ghost use Rattle.ash_run_steps.specs.RunStates.{Names};
@@ -14,7 +15,7 @@ use ash_typed::VarType;
 
 impl<B: HostObject> RunState<B> {
     /// Runs a function of the service at a place. Its arguments are in the slots from one on, so many of them; its
-    /// result is of this type, or it has none.
+    /// result is of this type, or it has none. A host gives no handle.
     pub fn invoke_service(
         &mut self,
         service: u16,
@@ -28,6 +29,7 @@ impl<B: HostObject> RunState<B> {
             (invoke_host (Target.Service service) function declared
             (take count (drop at self.old.frames.frame.slots))) self.old result self.new }
         ensures frames { self.new.frames ≡ self.old.frames }
+        ensures plain { IfOk result (λ word. handle word ≡ None) }
     {
         if !is_service(&self.table, service) {
             return Err(Stop::Unsound);
@@ -41,7 +43,7 @@ impl<B: HostObject> RunState<B> {
     }
 
     /// Runs a method of a host object. Its arguments are in the slots from one on, so many of them; its result is of
-    /// this type, or it has none.
+    /// this type, or it has none. A host gives no handle.
     pub fn invoke_host(
         &mut self,
         number: u64,
@@ -55,6 +57,7 @@ impl<B: HostObject> RunState<B> {
             (invoke_host (Target.Object number) method declared
             (take count (drop at self.old.frames.frame.slots))) self.old result self.new }
         ensures frames { self.new.frames ≡ self.old.frames }
+        ensures plain { IfOk result (λ word. handle word ≡ None) }
     {
         if !is_host(&self.table, number) {
             return Err(Stop::Unsound);

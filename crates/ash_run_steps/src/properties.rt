@@ -1,5 +1,6 @@
 //! Properties of host objects.
-ghost use Rattle.std.specs.Prelude.{◌≡◌};
+ghost use Rattle.std.specs.Prelude.{◌≡◌, IfOk, None};
+ghost use Rattle.ash_host.specs.Objects.{handle};
 ghost use Rattle.ash_run_steps.specs.Becoming.{Comes};
 ghost use Rattle.ash_run_steps.specs.HostGuards.{get_property, set_property};
 ghost use Rattle.ash_run_steps.specs.RunStates.{Names};
@@ -12,10 +13,11 @@ use ash_host::{HostAnswer, HostObject, Word};
 use ash_typed::VarType;
 
 impl<B: HostObject> RunState<B> {
-    /// Reads a property of a host object. It is of this type.
+    /// Reads a property of a host object. It is of this type, which is no handle.
     pub fn get_property(&self, number: u64, property: u16, of: VarType) -> Result<Word, Stop>
         ensures read { (names : Names) → Comes B.HostObject names (get_property number property of)
             self.now result self.now }
+        ensures plain { IfOk result (λ word. handle word ≡ None) }
     {
         if !is_host(&self.table, number) {
             return Err(Stop::Unsound);
