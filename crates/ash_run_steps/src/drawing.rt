@@ -19,7 +19,8 @@ use ash_meaning::Exception;
 use ash_objects::MakeFault;
 
 impl<B: HostObject> RunState<B> {
-    /// Takes the first free box of a kind from the pool, as the object of the next number. Nothing holds it yet.
+    /// Takes the first free box of a kind from the pool, as the object of the next number. Nothing holds it yet. It
+    /// raises what the meaning does if no number is left, as many objects live as may, or no box is free.
     pub fn draw(&mut self, kind: u16) -> Result<u64, Stop>
         ensures drawn { (names : Names) → Comes B.HostObject names (plain (hosts.draw kind)) self.old
             result self.new }

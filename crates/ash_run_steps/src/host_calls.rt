@@ -15,7 +15,7 @@ use ash_typed::VarType;
 
 impl<B: HostObject> RunState<B> {
     /// Runs a function of the service at a place. Its arguments are in the slots from one on, so many of them; its
-    /// result is of this type, or it has none. A host gives no handle.
+    /// result is of this type, or it has none. A host gives no handle. It is `Unsound` if no service is there.
     pub fn invoke_service(
         &mut self,
         service: u16,
@@ -43,7 +43,7 @@ impl<B: HostObject> RunState<B> {
     }
 
     /// Runs a method of a host object. Its arguments are in the slots from one on, so many of them; its result is of
-    /// this type, or it has none. A host gives no handle.
+    /// this type, or it has none. A host gives no handle. It is `Unsound` if no host object has the number.
     pub fn invoke_host(
         &mut self,
         number: u64,

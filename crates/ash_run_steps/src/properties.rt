@@ -13,7 +13,8 @@ use ash_host::{HostAnswer, HostObject, Word};
 use ash_typed::VarType;
 
 impl<B: HostObject> RunState<B> {
-    /// Reads a property of a host object. It is of this type, which is no handle.
+    /// Reads a property of a host object. It is of this type, which is no handle. It is `Unsound` if no host
+    /// object has the number.
     pub fn get_property(&self, number: u64, property: u16, of: VarType) -> Result<Word, Stop>
         ensures read { (names : Names) → Comes B.HostObject names (get_property number property of)
             self.now result self.now }
@@ -28,7 +29,7 @@ impl<B: HostObject> RunState<B> {
         accept(Some(of), answer)
     }
 
-    /// Writes a property of a host object.
+    /// Writes a property of a host object. It is `Unsound` if no host object has the number.
     pub fn set_property(&mut self, number: u64, property: u16, word: Word) -> Result<(), Stop>
         ensures written { (names : Names) → Comes B.HostObject names
             (set_property number property word) self.old result self.new }
