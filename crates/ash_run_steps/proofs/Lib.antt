@@ -1,7 +1,11 @@
+pub mod AnsweredCalls
 pub mod Bare
 pub mod BeginSteps
+pub mod BoxChanges
 pub mod Composed
+pub mod Constructs
 pub mod DeclareSteps
+pub mod Draws
 pub mod EndSteps
 pub mod EnterSteps
 pub mod HoldSteps

@@ -3,6 +3,7 @@ pub mod FrameChanges
 pub mod FrameSteps
 pub mod Guarded
 pub mod GuardedSteps
+pub mod HostGuards
 pub mod Outcomes
 pub mod RunStates
 pub mod Stacks

@@ -7,19 +7,24 @@
 //!
 //! In reading order: `stack` (the frames), `state`, `stop` (why a run doesn't go on), `counting` (holds in the table),
 //! `holding` (what frames hold, ticks), `locals`, `declaring`, `releasing` (release points), `jumping`, `calling`,
-//! `entering`, `leaving`, `beginning`, `ending`.
+//! `entering`, `leaving`, `beginning`, `ending`, `answering` (who answers a call, and what is made of an answer),
+//! `host_calls`, `properties`, `drawing` (boxes of the pool, and host objects).
 #![tactic(auto)]
 
+mod answering;
 pub mod beginning;
 pub mod calling;
 mod counting;
 pub mod declaring;
+pub mod drawing;
 pub mod ending;
 pub mod entering;
 pub mod holding;
+pub mod host_calls;
 pub mod jumping;
 pub mod leaving;
 pub mod locals;
+pub mod properties;
 pub mod releasing;
 pub mod stack;
 pub mod state;
