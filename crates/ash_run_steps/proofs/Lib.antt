@@ -1,8 +1,11 @@
 pub mod Bare
+pub mod ChangedObjects
 pub mod Composed
 pub mod EnterSteps
+pub mod GlobalSteps
 pub mod HoldSteps
 pub mod LocalSteps
+pub mod PartSteps
 pub mod Roots
 pub mod Stacking
 pub mod Swept

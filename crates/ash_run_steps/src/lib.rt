@@ -6,13 +6,16 @@
 //! and no sound module's code comes to it.
 //!
 //! In reading order: `stack` (the frames), `state`, `stop` (why a run doesn't go on), `counting` (holds in the table),
-//! `holding` (what frames hold, ticks), `locals`, `releasing` (release points), `entering`.
+//! `holding` (what frames hold, ticks), `locals`, `globals`, `parts`
+//! (fields and elements), `releasing` (release points), `entering`.
 #![tactic(auto)]
 
 mod counting;
 pub mod entering;
+pub mod globals;
 pub mod holding;
 pub mod locals;
+pub mod parts;
 pub mod releasing;
 pub mod stack;
 pub mod state;
