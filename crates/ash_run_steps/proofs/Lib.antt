@@ -5,6 +5,8 @@ pub mod EnterSteps
 pub mod GlobalSteps
 pub mod HoldSteps
 pub mod LocalSteps
+pub mod MadeObjects
+pub mod MakingSteps
 pub mod PartSteps
 pub mod Roots
 pub mod Stacking

@@ -3,6 +3,7 @@ pub mod GlobalSteps
 pub mod Guarded
 pub mod GuardedSteps
 pub mod Keeping
+pub mod MakingSteps
 pub mod PartSteps
 pub mod RunStates
 pub mod Stacks
