@@ -1,5 +1,6 @@
 pub mod Bare
 pub mod ChangedObjects
+pub mod ClassSteps
 pub mod Composed
 pub mod EnterSteps
 pub mod GlobalSteps

@@ -1,4 +1,5 @@
 pub mod Becoming
+pub mod ClassTables
 pub mod GlobalSteps
 pub mod Guarded
 pub mod GuardedSteps
