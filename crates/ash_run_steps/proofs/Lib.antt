@@ -1,9 +1,12 @@
+pub mod ArrayMaking
+pub mod ArraySteps
 pub mod Bare
 pub mod ChangedObjects
 pub mod ClassSteps
 pub mod Composed
 pub mod EnterSteps
 pub mod GlobalSteps
+pub mod HeldLists
 pub mod HoldSteps
 pub mod LocalSteps
 pub mod MadeObjects

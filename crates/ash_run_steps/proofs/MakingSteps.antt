@@ -29,7 +29,7 @@ use Rattle.ash_run_steps.proofs.HoldSteps.{at_table}
 use Rattle.ash_run_steps.proofs.LocalSteps.{guard_off, and_second}
 use Rattle.ash_run_steps.proofs.MadeObjects.{made_activity, made_holds, keeps_made, demand_given, demand_full, demand_spent}
 
-below : (many most : ℕ) → (most ≤ many → ⊥) → many < most
+pub below : (many most : ℕ) → (most ≤ many → ⊥) → many < most
 below many most not_full = go (nat_le most many) refl
   where
     go : (b : Bool) → nat_le most many ≡ b → many < most

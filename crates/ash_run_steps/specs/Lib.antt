@@ -1,3 +1,4 @@
+pub mod ArrayGuards
 pub mod Becoming
 pub mod ClassTables
 pub mod GlobalSteps

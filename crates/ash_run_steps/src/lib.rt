@@ -7,9 +7,10 @@
 //!
 //! In reading order: `stack` (the frames), `state`, `stop` (why a run doesn't go on), `counting` (holds in the table),
 //! `holding` (what frames hold, ticks), `locals`, `globals`, `parts`
-//! (fields and elements), `constructing`, `classes`, `releasing` (release points), `entering`.
+//! (fields and elements), `constructing`, `classes`, `arrays`, `releasing` (release points), `entering`.
 #![tactic(auto)]
 
+pub mod arrays;
 pub mod classes;
 pub mod constructing;
 mod counting;
