@@ -1,10 +1,16 @@
+pub mod ArrayGuards
 pub mod Becoming
+pub mod ClassTables
 pub mod FrameChanges
 pub mod FrameSteps
+pub mod GlobalSteps
 pub mod Guarded
 pub mod GuardedSteps
 pub mod HostGuards
+pub mod Keeping
+pub mod MakingSteps
 pub mod Outcomes
+pub mod PartSteps
 pub mod RunStates
 pub mod Stacks
 pub mod Worlds

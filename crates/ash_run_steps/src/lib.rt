@@ -6,24 +6,30 @@
 //! and no sound module's code comes to it.
 //!
 //! In reading order: `stack` (the frames), `state`, `stop` (why a run doesn't go on), `counting` (holds in the table),
-//! `holding` (what frames hold, ticks), `locals`, `declaring`, `releasing` (release points), `jumping`, `calling`,
-//! `entering`, `leaving`, `beginning`, `ending`, `answering` (who answers a call, and what is made of an answer),
-//! `host_calls`, `properties`, `drawing` (boxes of the pool, and host objects).
+//! `holding` (what frames hold, ticks), `locals`, `declaring`, `globals`, `parts` (fields and elements), `constructing`,
+//! `classes`, `arrays`, `releasing` (release points), `jumping`, `calling`, `entering`, `leaving`, `beginning`, `ending`,
+//! `answering` (who answers a call, and what is made of an answer), `host_calls`, `properties`, `drawing` (boxes of the
+//! pool, and host objects).
 #![tactic(auto)]
 
 mod answering;
+pub mod arrays;
 pub mod beginning;
 pub mod calling;
+pub mod classes;
+pub mod constructing;
 mod counting;
 pub mod declaring;
 pub mod drawing;
 pub mod ending;
 pub mod entering;
+pub mod globals;
 pub mod holding;
 pub mod host_calls;
 pub mod jumping;
 pub mod leaving;
 pub mod locals;
+pub mod parts;
 pub mod properties;
 pub mod releasing;
 pub mod stack;

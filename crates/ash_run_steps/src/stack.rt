@@ -1,10 +1,12 @@
 //! The frames of a run, over one stack of words and one list of held objects.
 ghost use Rattle.std.specs.Prelude.{◌≡◌, ◌<◌, ◌≤◌, ◌+◌, ◌^◌, [], ◌∷◌, ◌++◌, length, take, drop, reverse};
-ghost use Rattle.std.specs.Prelude.{List, OnOk, OnErr, IfOk, slice_set, slice_get};
+ghost use Rattle.std.specs.Prelude.{ℕ, List, OnOk, OnErr, IfOk, slice_set, slice_get, Some, None, IsTrue, false};
+ghost use Rattle.ash_host.specs.Objects.{handles};
 ghost use Rattle.ash_host.specs.declared.word.Word.TheVariants as words;
 ghost use Rattle.ash_run_steps.specs.FrameChanges.{beginning};
 ghost use Rattle.ash_run_steps.specs.Stacks.{StackFrame, with_slots, locals_of, roots_of_frames};
 
+use crate::counting::handle;
 use ash_host::{NoMemory, Word};
 use std::alloc::Global;
 use std::marker::Model;
@@ -45,6 +47,22 @@ impl Model for Stack {
     ghost invariant = { λ s. (s.frame.base + s.frame.count ≤ length s.slots.items)
         × (s.frame.mark ≤ length s.held.items)
         × AreStacked (reverse s.callers.items) s.frame.base s.frame.mark };
+}
+
+// Appends what these words are handles to, the last of them first.
+fn append_handles(held: &mut Vec<u64>, words: &[Word]) -> Result<(), NoMemory>
+    ensures held { OnOk result (held.new.items ≡ held.old.items ++ reverse (handles words.now)) }
+    ensures unchanged { OnErr result (held.new.items ≡ held.old.items) }
+{
+    held.reserve(words.len())?;
+    let mut left = words.len();
+    while left > 0 {
+        left -= 1;
+        if let Some(number) = handle(words[left]) {
+            held.push_reserved(number);
+        }
+    }
+    Ok(())
 }
 
 impl Stack {
@@ -191,6 +209,38 @@ impl Stack {
         self.clear_held();
         self.frame.this = Word::Null;
         self.frame.count = 0;
+    }
+
+    /// Holds what these words are handles to as well, the first of them last. Where memory is refused nothing changes.
+    pub fn push_handles(&mut self, words: &[Word]) -> Result<(), NoMemory>
+        ensures held { OnOk result (self.new ≡ record self.old {
+          frame = record self.old.frame { held = handles words.now ++ self.old.frame.held };
+        }) }
+        ensures unchanged { OnErr result (self.new ≡ self.old) }
+    {
+        append_handles(&mut self.held, words)?;
+        Ok(())
+    }
+
+    /// Holds another object in place of the one that came last.
+    pub fn set_latest_held(&mut self, number: u64)
+        requires some { 0 < length self.old.frame.held }
+        ensures held { self.new ≡ record self.old {
+          frame = record self.old.frame { held = number ∷ drop 1 self.old.frame.held };
+        } }
+    {
+        let last = self.held.len() - 1;
+        self.held[last] = number;
+    }
+
+    /// Holds the object that came last no more.
+    pub fn drop_latest_held(&mut self)
+        requires some { 0 < length self.old.frame.held }
+        ensures held { self.new ≡ record self.old {
+          frame = record self.old.frame { held = drop 1 self.old.frame.held };
+        } }
+    {
+        self.held.truncate(self.held.len() - 1);
     }
 
     /// The locals.
