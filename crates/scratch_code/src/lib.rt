@@ -1,0 +1,5 @@
+//! The form of compiled code, tried on a few instructions.
+#![tactic(auto)]
+
+pub mod code;
+pub mod laws;
