@@ -83,6 +83,22 @@ module _ (s : Setting) (Good : Activity → Type 0) (function room : ℕ) where
         → Arrives s (control function to (with_slots slots w)) b (rest word b))
         → Arrives s (control function from w) a (continued (run a) rest)
 
+  -- What follows a statement: the code at one place if it goes on, and other code if it is left by a jump. The jump
+  -- leaves the locals of blocks; a `return` leaves the frame, whatever its locals are.
+  pub record Outs (exits : Exits) (to more : ℕ) (w : Window) (left : Progress Flow)
+      (rest : Flow → Activity → Option Outcome) : Type 0 where
+    pub on : (b : Activity) (slots : List Word) → left ≡ Done On b → Goes w more slots b
+        → Arrives s (control function to (record w { slots = slots; count = more })) b (rest On b)
+    pub broke : (b : Activity) (slots : List Word) → left ≡ Done Broke b
+        → Goes w exits.outer slots (in_frame (keeping exits.outer) b)
+        → Arrives s (control function exits.broken (record w { slots = slots; count = exits.outer }))
+        (in_frame (keeping exits.outer) b) (rest Broke b)
+    pub returned : (value : Option Word) (b : Activity) (slots locals : List Word) (at last : ℕ)
+        → left ≡ Done (Returned value) b
+        → length slots ≡ length w.slots
+        → Leaves s value (control function at (record w { slots = slots; count = last })) (with_locals locals b)
+        (rest (Returned value) b)
+
   -- The code from one place to another does what a statement does, with so many locals before it and after it.
   pub record Performs (exits : Exits) (run : Run Flow) (from to count more : ℕ) : Type 0 where
     pub comes : (w : Window) (a : Activity) (rest : Flow → Activity → Option Outcome)
@@ -90,14 +106,18 @@ module _ (s : Setting) (Good : Activity → Type 0) (function room : ℕ) where
         → room ≤ length w.slots
         → Fits w a
         → Good a
-        → ((b : Activity) (slots : List Word) → run a ≡ Done On b → Goes w more slots b
-        → Arrives s (control function to (record w { slots = slots; count = more })) b (rest On b))
-        → ((b : Activity) (slots : List Word) → run a ≡ Done Broke b
-        → Goes w exits.outer slots (in_frame (keeping exits.outer) b)
-        → Arrives s (control function exits.broken (record w { slots = slots; count = exits.outer }))
-        (in_frame (keeping exits.outer) b) (rest Broke b))
-        → ((value : Option Word) (b : Activity) (slots locals : List Word) (at last : ℕ) → run a ≡ Done (Returned value) b
+        → Outs exits to more w (run a) rest
+        → Arrives s (control function from w) a (continued (run a) rest)
+
+  -- The code of a function, from its entry on, does what its frame does.
+  pub record Enters (run : Run (Option Word)) (parameters : ℕ) : Type 0 where
+    pub comes : (w : Window) (a : Activity) (rest : Option Word → Activity → Option Outcome)
+        → w.count ≡ parameters
+        → room ≤ length w.slots
+        → Fits w a
+        → Good a
+        → ((value : Option Word) (b : Activity) (slots locals : List Word) (at last : ℕ) → run a ≡ Done value b
         → length slots ≡ length w.slots
         → Leaves s value (control function at (record w { slots = slots; count = last })) (with_locals locals b)
-        (rest (Returned value) b))
-        → Arrives s (control function from w) a (continued (run a) rest)
+        (rest value b))
+        → Arrives s (control function 0 w) a (continued (run a) rest)
