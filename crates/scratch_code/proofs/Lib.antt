@@ -1,2 +1,3 @@
 pub mod Simulation
 pub mod Statements
+pub mod Leaving

@@ -33,7 +33,7 @@ ticks_in other (Done v b) = b.ticks
 ticks_in other (Ended e b) = b.ticks
 ticks_in other NoStep = other
 
-released_frame : (a b : Activity) → releases.release a ≡ Done tt b → b.frame ≡ a.frame
+pub released_frame : (a b : Activity) → releases.release a ≡ Done tt b → b.frame ≡ a.frame
 unfolding releases.release
 released_frame a b is = ap (λ (p : Progress (Unit {0})). frame_in a.frame p) (sym is)
 
@@ -42,7 +42,7 @@ ticked_locals_at : (ticks line : ℕ) (a b : Activity) → onward (Done ticks (i
 ticked_locals_at zero line a b is = cc
 ticked_locals_at (suc ticks) line a b is = ap (λ (p : Progress (Unit {0})). (frame_in a.frame p).locals) (sym is)
 
-ticked_locals : (line : ℕ) (a b : Activity) → tick line a ≡ Done tt b → (b.frame).locals ≡ (a.frame).locals
+pub ticked_locals : (line : ℕ) (a b : Activity) → tick line a ≡ Done tt b → (b.frame).locals ≡ (a.frame).locals
 ticked_locals line a b is = ticked_locals_at a.ticks line a b is
 
 spent_at : (ticks line : ℕ) (a b : Activity) → onward (Done ticks (in_frame (λ (f : Frame). record f { line = line }) a)) spend ≡ Done tt b
@@ -77,7 +77,7 @@ module _ (s : Setting) (Good : Activity → Type 0) (function room : ℕ) where
       step_is s Good function room w a at i.EndExpression has
       ∙ ap (λ (t : Bool). guarded_onward (cond t (Some (releases.release (in_frame let_go a))) None) (λ _. go (control function at w))) ranks
 
-  release_at : (w : Window) (at : ℕ) (a : Activity) → ((s.test).has_ranks a.world ≡ true) → Has s Good function room at i.Release
+  pub release_at : (w : Window) (at : ℕ) (a : Activity) → ((s.test).has_ranks a.world ≡ true) → Has s Good function room at i.Release
       → step s (control function at w) a
       ≡ guarded_onward (Some (releases.release a)) (λ _ b. Some (Done (GoesOn (control function (at + 1) w)) b))
   release_at w at a ranks has =
