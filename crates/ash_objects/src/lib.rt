@@ -28,4 +28,4 @@ pub use ash_slots::{Array, Body, Script, Words};
 pub use making::MakeFault;
 pub use marking::Changes;
 pub use objects::Objects;
-pub use restoring::{SavedHostObject, SavedObject, SavedObjects, TableFault};
+pub use restoring::{SavedHostObject, SavedObject, SavedObjects, TableFault, restore_services};

@@ -134,8 +134,8 @@ fn restore_state<B: HostObject>(object: &mut B, number: u64, bytes: &[u8]) -> Re
     }
 }
 
-// Restores services from the states that they had, in order.
-fn restore_services<B: HostObject>(
+/// Restores services from the states that they had, in order. After a refusal those before it have their states.
+pub fn restore_services<B: HostObject>(
     services: &mut Vec<B>,
     states: &[Vec<u8>],
 ) -> Result<(), TableFault>
