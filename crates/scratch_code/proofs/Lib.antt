@@ -1,3 +1,4 @@
 pub mod Simulation
 pub mod Statements
 pub mod Leaving
+pub mod Calling
