@@ -1,7 +1,10 @@
 pub mod Bare
 pub mod Composed
+pub mod DeclareSteps
 pub mod EnterSteps
 pub mod HoldSteps
+pub mod JumpSteps
+pub mod LeaveSteps
 pub mod LocalSteps
 pub mod Roots
 pub mod Stacking

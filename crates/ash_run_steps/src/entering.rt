@@ -1,6 +1,7 @@
 //! Frames that are entered.
-ghost use Rattle.std.specs.Prelude.{◌≤◌, ◌+◌, length, take, drop};
+ghost use Rattle.std.specs.Prelude.{◌≡◌, ◌≤◌, ◌+◌, length, take, drop, OnOk, OnErr};
 ghost use Rattle.ash_run_steps.specs.Becoming.{Comes};
+ghost use Rattle.ash_run_steps.specs.FrameChanges.{entering};
 ghost use Rattle.ash_run_steps.specs.GuardedSteps.{enter};
 ghost use Rattle.ash_run_steps.specs.RunStates.{Names};
 
@@ -25,6 +26,9 @@ impl<B: HostObject> RunState<B> {
         ensures entered { (names : Names) → Comes B.HostObject names
             (enter (names.functions function) line this
             (take count (drop at self.old.frames.frame.slots))) self.old result self.new }
+        ensures frames { OnOk result (self.new.frames ≡ entering function line this at count
+            self.old.frames) }
+        ensures unchanged { OnErr result (self.new.frames ≡ self.old.frames) }
     {
         if !is_alive(&self.table, this) {
             return Err(Stop::Unsound);

@@ -6,6 +6,8 @@ ghost use Rattle.ash_meaning.specs.Activity.{in_frame};
 ghost use Rattle.ash_meaning.specs.Frames as frames;
 ghost use Rattle.ash_meaning.specs.Runs.{change};
 ghost use Rattle.ash_run_steps.specs.Becoming.{Comes};
+ghost use Rattle.ash_run_steps.specs.FrameChanges as framed;
+ghost use Rattle.ash_run_steps.specs.FrameChanges.{in_running};
 ghost use Rattle.ash_run_steps.specs.Guarded.{plain};
 ghost use Rattle.ash_run_steps.specs.GuardedSteps.{hold};
 ghost use Rattle.ash_run_steps.specs.RunStates.{Names};
@@ -33,6 +35,9 @@ impl<B: HostObject> RunState<B> {
     /// Holds what a word is a handle to until the full expression ends.
     pub fn hold(&mut self, word: Word) -> Result<(), Stop>
         ensures held { (names : Names) → Comes B.HostObject names (hold word) self.old result self.new }
+        ensures frames { OnOk result (self.new.frames ≡ in_running (framed.holding (handles (word ∷ [])))
+            self.old.frames) }
+        ensures unchanged { OnErr result (self.new.frames ≡ self.old.frames) }
     {
         if !is_alive(&self.table, word) {
             return Err(Stop::Unsound);
@@ -47,6 +52,7 @@ impl<B: HostObject> RunState<B> {
     pub fn let_go(&mut self)
         ensures let_go { (names : Names) → Comes B.HostObject names
             (plain (change (in_frame releases.let_go))) self.old (Ok tt) self.new }
+        ensures frames { self.new.frames ≡ in_running framed.letting_go self.old.frames }
     {
         unhold_numbers(&mut self.table, self.stack.held());
         self.stack.clear_held();
@@ -56,6 +62,7 @@ impl<B: HostObject> RunState<B> {
     pub fn tick(&mut self, line: u32) -> Result<(), Stop>
         ensures ticked { (names : Names) → Comes B.HostObject names (plain (frames.tick line)) self.old
             result self.new }
+        ensures frames { self.new.frames ≡ in_running (framed.at_line line) self.old.frames }
     {
         self.stack.set_line(line);
         if self.ticks == 0 {

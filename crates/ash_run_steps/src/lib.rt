@@ -6,12 +6,17 @@
 //! and no sound module's code comes to it.
 //!
 //! In reading order: `stack` (the frames), `state`, `stop` (why a run doesn't go on), `counting` (holds in the table),
-//! `holding` (what frames hold, ticks), `locals`, `releasing` (release points), `entering`.
+//! `holding` (what frames hold, ticks), `locals`, `declaring`, `releasing` (release points), `jumping`, `calling`,
+//! `entering`, `leaving`.
 #![tactic(auto)]
 
+pub mod calling;
 mod counting;
+pub mod declaring;
 pub mod entering;
 pub mod holding;
+pub mod jumping;
+pub mod leaving;
 pub mod locals;
 pub mod releasing;
 pub mod stack;

@@ -1,7 +1,8 @@
 //! Locals.
-ghost use Rattle.std.specs.Prelude.{◌≡◌};
+ghost use Rattle.std.specs.Prelude.{◌≡◌, OnOk, OnErr};
 ghost use Rattle.ash_meaning.specs.Releases as releases;
 ghost use Rattle.ash_run_steps.specs.Becoming.{Comes, Becomes};
+ghost use Rattle.ash_run_steps.specs.FrameChanges.{in_running, overwriting, keeping};
 ghost use Rattle.ash_run_steps.specs.Guarded.{plain, give};
 ghost use Rattle.ash_run_steps.specs.GuardedSteps.{write_local};
 ghost use Rattle.ash_run_steps.specs.RunStates.{Names};
@@ -17,6 +18,8 @@ impl<B: HostObject> RunState<B> {
     pub fn write_local(&mut self, slot: usize, word: Word) -> Result<(), Stop>
         ensures written { (names : Names) → Comes B.HostObject names (write_local slot word) self.old
             result self.new }
+        ensures frames { OnOk result (self.new.frames ≡ in_running (overwriting slot word) self.old.frames) }
+        ensures unchanged { OnErr result (self.new.frames ≡ self.old.frames) }
     {
         let Some(before) = self.stack.local(slot) else {
             return Err(Stop::Unsound);
@@ -35,6 +38,7 @@ impl<B: HostObject> RunState<B> {
     pub fn leave_blocks(&mut self, count: usize)
         ensures left { (names : Names) → Becomes B.HostObject names
             (plain (releases.leave_blocks count)) self.old (give tt) self.new }
+        ensures frames { self.new.frames ≡ in_running (keeping count) self.old.frames }
     {
         if count < self.stack.count() {
             unhold_words(&mut self.table, self.stack.locals_from(count));

@@ -1,6 +1,7 @@
 //! Release points.
 ghost use Rattle.std.specs.Prelude.{◌≡◌};
 ghost use Rattle.ash_run_steps.specs.Becoming.{Comes};
+ghost use Rattle.ash_run_steps.specs.FrameChanges.{in_running, letting_go};
 ghost use Rattle.ash_run_steps.specs.GuardedSteps.{RankTest, release, end_expression};
 ghost use Rattle.ash_run_steps.specs.RunStates.{Names};
 
@@ -25,6 +26,7 @@ impl<B: HostObject> RunState<B> {
     pub fn end_expression(&mut self) -> Result<(), Stop>
         ensures ended { (names : Names) (test : RankTest) → Comes B.HostObject names
             (end_expression test) self.old result self.new }
+        ensures frames { self.new.frames ≡ in_running letting_go self.old.frames }
     {
         self.let_go();
         self.release()

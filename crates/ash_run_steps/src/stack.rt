@@ -1,9 +1,12 @@
 //! The frames of a run, over one stack of words and one list of held objects.
 ghost use Rattle.std.specs.Prelude.{◌≡◌, ◌<◌, ◌≤◌, ◌+◌, ◌^◌, [], ◌∷◌, ◌++◌, length, take, drop, reverse};
-ghost use Rattle.std.specs.Prelude.{ℕ, List, OnOk, OnErr, slice_set, slice_get, Some, None, IsTrue, false};
+ghost use Rattle.std.specs.Prelude.{List, OnOk, OnErr, IfOk, slice_set, slice_get};
+ghost use Rattle.ash_host.specs.declared.word.Word.TheVariants as words;
+ghost use Rattle.ash_run_steps.specs.FrameChanges.{beginning};
 ghost use Rattle.ash_run_steps.specs.Stacks.{StackFrame, with_slots, locals_of, roots_of_frames};
 
 use ash_host::{NoMemory, Word};
+use std::alloc::Global;
 use std::marker::Model;
 
 /// Where a frame is on the stack, and what it has beside its slots and the objects that it holds.
@@ -45,6 +48,35 @@ impl Model for Stack {
 }
 
 impl Stack {
+    /// A stack with one frame, of a function at a line. Its locals are these words, and so many slots are behind them.
+    pub fn begin(
+        alloc: Global,
+        function: usize,
+        line: u32,
+        locals: &[Word],
+        room: usize,
+    ) -> Result<Stack, NoMemory>
+        ensures begun { IfOk result (λ stack. stack ≡ beginning function line locals.now room) }
+        ensures locals { IfOk result (λ stack. locals_of stack.frame ≡ locals.now) }
+    {
+        let count = locals.len();
+        let mut slots = Vec::from_slice(alloc, locals)?;
+        slots.resize(count.checked_add(room).ok_or(NoMemory)?, Word::Null)?;
+        Ok(Stack {
+            slots,
+            held: Vec::new(alloc),
+            frame: Frame {
+                function,
+                line,
+                this: Word::Null,
+                base: 0,
+                count,
+                mark: 0,
+            },
+            callers: Vec::new(alloc),
+        })
+    }
+
     /// What holds of every stack. It does nothing.
     pub fn facts(&self)
         ensures few { length (roots_of_frames self.now) < 2 ^ 66 }
@@ -108,6 +140,14 @@ impl Stack {
         self.frame.line = line;
     }
 
+    /// The function and the line of the frame.
+    pub fn place(&self) -> (usize, u32)
+        ensures function { result.0 ≡ self.now.frame.function }
+        ensures line { result.1 ≡ self.now.frame.line }
+    {
+        (self.frame.function, self.frame.line)
+    }
+
     /// The object whose method runs.
     pub fn this(&self) -> Word
         ensures this { result ≡ self.now.frame.this }
@@ -140,6 +180,17 @@ impl Stack {
         } }
     {
         self.held.truncate(self.frame.mark);
+    }
+
+    /// Leaves the frame neither locals nor objects.
+    pub fn clear(&mut self)
+        ensures cleared { self.new ≡ record self.old {
+          frame = record self.old.frame { this = words.Null; count = 0; held = [] };
+        } }
+    {
+        self.clear_held();
+        self.frame.this = Word::Null;
+        self.frame.count = 0;
     }
 
     /// The locals.
@@ -211,23 +262,23 @@ impl Stack {
         Ok(())
     }
 
-    /// Leaves the frame that runs, if it has a caller, which gets its slots back behind its own. The frame's objects
-    /// are given up before, or pass to the caller.
-    pub fn leave(&mut self) -> bool
-        ensures left { IsTrue result → (caller : StackFrame) × (callers : List StackFrame)
-            × (self.old.callers ≡ caller ∷ callers) × (self.new ≡ record {
+    /// Leaves the frame that runs. Its caller gets its slots back behind its own. The frame's objects are given up
+    /// before, or pass to the caller.
+    pub fn leave(&mut self)
+        requires called { 0 < length self.old.callers }
+        ensures left { (caller : StackFrame) × (callers : List StackFrame)
+            × (self.old.callers ≡ caller ∷ callers) × (caller.count ≤ length caller.slots)
+            × (self.new ≡ record {
               frame = record caller {
                 slots = caller.slots ++ self.old.frame.slots;
                 held = self.old.frame.held ++ caller.held;
               };
               callers = callers;
             }) }
-        ensures first { result ≡ false → (self.new ≡ self.old) × (self.old.callers ≡ []) }
     {
         let Some(caller) = self.callers.pop() else {
-            return false;
+            unreachable!()
         };
         self.frame = caller;
-        true
     }
 }

@@ -10,20 +10,20 @@ use Rattle.ash_run_steps.proofs.LocalSteps.{and_second}
 use Rattle.ash_run_steps.proofs.Roots.{few_holds, counts_more, more_then}
 use Rattle.ash_run_steps.proofs.state.RunState.enter.Goals as goal
 
-pub returns-then-not-is_alive : goal.returns-then-not-is_alive
-returns-then-not-is_alive g c =
+pub returns-then-not-is_alive-clause-entered : goal.returns-then-not-is_alive-clause-entered
+returns-then-not-is_alive-clause-entered g c =
     let s = c.self.inside in
     let a = c.args in
     let lacks : is_alive_in a.this s.table ≡ false = search rules in
-    record { entered = λ names. rw (← c.self.view_is) (enter_lacks g.B.HostObject names a.function a.line a.this a.at a.count (state_with s.table s.stack s.globals.items s.outside.items s.events.items s.ticks) (ap (λ b. b && list_all (λ w. is_alive_in w s.table) (arguments a.at a.count (state_with s.table s.stack s.globals.items s.outside.items s.events.items s.ticks))) lacks)) }
+    λ names. rw (← c.self.view_is) (enter_lacks g.B.HostObject names a.function a.line a.this a.at a.count (state_with s.table s.stack s.globals.items s.outside.items s.events.items s.ticks) (ap (λ b. b && list_all (λ w. is_alive_in w s.table) (arguments a.at a.count (state_with s.table s.stack s.globals.items s.outside.items s.events.items s.ticks))) lacks))
 
-pub returns-then-not-are_alive : goal.returns-then-not-are_alive
-returns-then-not-are_alive g c =
+pub returns-then-not-are_alive-clause-entered : goal.returns-then-not-are_alive-clause-entered
+returns-then-not-are_alive-clause-entered g c =
     let s = c.self.inside in
     let a = c.args in
     let no : c.are_alive.result ≡ false = search rules in
     let off = rw c.slots_from.ensures.slots at (sym c.are_alive.ensures.alive ∙ no) in
-    record { entered = λ names. rw (← c.self.view_is) (enter_lacks g.B.HostObject names a.function a.line a.this a.at a.count (state_with s.table s.stack s.globals.items s.outside.items s.events.items s.ticks) (and_second (is_alive_in a.this s.table) _ off)) }
+    λ names. rw (← c.self.view_is) (enter_lacks g.B.HostObject names a.function a.line a.this a.at a.count (state_with s.table s.stack s.globals.items s.outside.items s.events.items s.ticks) (and_second (is_alive_in a.this s.table) _ off))
 
 pub hold_word-requires-clause-few : goal.hold_word-requires-clause-few
 hold_word-requires-clause-few g c = λ m.
@@ -53,9 +53,9 @@ invariant_of-self-2 g c =
     let above = rw (← c.self.view_is) at c.requires.above in
     rw c.in_ok-enter.ensures.entered (counts_more (handles (a.this ∷ []) ++ handles (arguments a.at a.count (state_with s.table s.stack s.globals.items s.outside.items s.events.items s.ticks))) (state_with s.table s.stack s.globals.items s.outside.items s.events.items s.ticks) (at_table c.hold_words.new.table (entered a.function a.line a.this a.at a.count (state_with s.table s.stack s.globals.items s.outside.items s.events.items s.ticks))) (more_then (handles (a.this ∷ [])) _ s.table c.hold_word.new.table c.hold_words.new.table c.hold_word.ensures.held more) (λ m. times_entered m a.function a.line a.this a.at a.count (state_with s.table s.stack s.globals.items s.outside.items s.events.items s.ticks) above) c.self.invariant)
 
-pub returns : goal.returns
-returns g c =
+pub returns-clause-entered : goal.returns-clause-entered
+returns-clause-entered g c =
     let s = c.self.inside in
     let a = c.args in
     let above = rw (← c.self.view_is) at c.requires.above in
-    record { entered = λ names. rw (← c.self.view_is, c.in_ok-enter.ensures.entered) (enter_gives g.B.HostObject names a.function a.line a.this a.at a.count (state_with s.table s.stack s.globals.items s.outside.items s.events.items s.ticks) c.hold_words.new.table (c.hold_words.ensures.held.same ∙ c.hold_word.ensures.held.same) above) }
+    λ names. rw (← c.self.view_is, c.in_ok-enter.ensures.entered) (enter_gives g.B.HostObject names a.function a.line a.this a.at a.count (state_with s.table s.stack s.globals.items s.outside.items s.events.items s.ticks) c.hold_words.new.table (c.hold_words.ensures.held.same ∙ c.hold_word.ensures.held.same) above)

@@ -20,14 +20,14 @@ invariant_of-self g c =
     let less = rw c.locals_from.ensures.locals at c.unhold_words.ensures.unheld in
     rw c.set_count.ensures.count (counts_less (handles (drop c.args.count (locals_of s.stack.frame))) (state_with s.table s.stack s.globals.items s.outside.items s.events.items s.ticks) (at_table c.unhold_words.new.table (with_count c.args.count (state_with s.table s.stack s.globals.items s.outside.items s.events.items s.ticks))) less (λ m. times_left m c.args.count (state_with s.table s.stack s.globals.items s.outside.items s.events.items s.ticks) fewer) c.self.invariant)
 
-pub returns-then-count : goal.returns-then-count
-returns-then-count g c =
+pub returns-then-count-clause-left : goal.returns-then-count-clause-left
+returns-then-count-clause-left g c =
     let s = c.self.inside in
     let fewer : c.args.count < (s.stack.frame).count = omega (arith, c.if-count.true, c.count.ensures.count) in
-    record { left = λ names. rw (← c.self.view_is, c.set_count.ensures.count) (blocks_give g.B.HostObject names c.args.count (state_with s.table s.stack s.globals.items s.outside.items s.events.items s.ticks) c.unhold_words.new.table c.unhold_words.ensures.unheld.same fewer) }
+    λ names. rw (← c.self.view_is, c.set_count.ensures.count) (blocks_give g.B.HostObject names c.args.count (state_with s.table s.stack s.globals.items s.outside.items s.events.items s.ticks) c.unhold_words.new.table c.unhold_words.ensures.unheld.same fewer)
 
-pub returns-else-count : goal.returns-else-count
-returns-else-count g c =
+pub returns-else-count-clause-left : goal.returns-else-count-clause-left
+returns-else-count-clause-left g c =
     let s = c.self.inside in
     let all : (s.stack.frame).count ≤ c.args.count = omega (arith, c.if-count.false, c.count.ensures.count) in
-    record { left = λ names. rw (← c.self.view_is) (blocks_stay g.B.HostObject names c.args.count (state_with s.table s.stack s.globals.items s.outside.items s.events.items s.ticks) all) }
+    λ names. rw (← c.self.view_is) (blocks_stay g.B.HostObject names c.args.count (state_with s.table s.stack s.globals.items s.outside.items s.events.items s.ticks) all)

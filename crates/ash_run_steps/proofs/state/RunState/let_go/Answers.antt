@@ -15,7 +15,7 @@ invariant_of-self g c =
     let less = rw c.held.ensures.held at c.unhold_numbers.ensures.unheld in
     rw c.clear_held.ensures.cleared (counts_less (reverse (s.stack.frame).held) (state_with s.table s.stack s.globals.items s.outside.items s.events.items s.ticks) (at_table c.unhold_numbers.new.table (letting_go (state_with s.table s.stack s.globals.items s.outside.items s.events.items s.ticks))) less (λ m. times_letting_back m (state_with s.table s.stack s.globals.items s.outside.items s.events.items s.ticks)) c.self.invariant)
 
-pub returns : goal.returns
-returns g c =
+pub returns-clause-let_go : goal.returns-clause-let_go
+returns-clause-let_go g c =
     let s = c.self.inside in
-    record { let_go = λ names. rw (← c.self.view_is, c.clear_held.ensures.cleared) (let_go_gives g.B.HostObject names (state_with s.table s.stack s.globals.items s.outside.items s.events.items s.ticks) c.unhold_numbers.new.table c.unhold_numbers.ensures.unheld.same) }
+    λ names. rw (← c.self.view_is, c.clear_held.ensures.cleared) (let_go_gives g.B.HostObject names (state_with s.table s.stack s.globals.items s.outside.items s.events.items s.ticks) c.unhold_numbers.new.table c.unhold_numbers.ensures.unheld.same)

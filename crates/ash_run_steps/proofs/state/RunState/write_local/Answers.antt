@@ -8,17 +8,17 @@ use Rattle.ash_run_steps.proofs.LocalSteps.{write_gives, write_lacks, write_dang
 use Rattle.ash_run_steps.proofs.Roots.{few_holds, counts_more}
 use Rattle.ash_run_steps.proofs.state.RunState.write_local.Goals as goal
 
-pub returns-in_default : goal.returns-in_default
-returns-in_default g c =
+pub returns-in_default-clause-written : goal.returns-in_default-clause-written
+returns-in_default-clause-written g c =
     let s = c.self.inside in
     let none : slice_get (locals_of s.stack.frame) c.args.slot ≡ None = cc (c.local.ensures.local, c.in_default.is) in
-    record { written = λ names. rw (← c.self.view_is) (write_lacks g.B.HostObject names c.args.slot c.args.word (state_with s.table s.stack s.globals.items s.outside.items s.events.items s.ticks) none) }
+    λ names. rw (← c.self.view_is) (write_lacks g.B.HostObject names c.args.slot c.args.word (state_with s.table s.stack s.globals.items s.outside.items s.events.items s.ticks) none)
 
-pub returns-then-not-is_alive : goal.returns-then-not-is_alive
-returns-then-not-is_alive g c =
+pub returns-then-not-is_alive-clause-written : goal.returns-then-not-is_alive-clause-written
+returns-then-not-is_alive-clause-written g c =
     let s = c.self.inside in
     let lacks : is_alive_in c.args.word s.table ≡ false = search rules in
-    record { written = λ names. rw (← c.self.view_is) (write_dangles g.B.HostObject names c.args.slot c.args.word (state_with s.table s.stack s.globals.items s.outside.items s.events.items s.ticks) lacks) }
+    λ names. rw (← c.self.view_is) (write_dangles g.B.HostObject names c.args.slot c.args.word (state_with s.table s.stack s.globals.items s.outside.items s.events.items s.ticks) lacks)
 
 pub hold_word-requires-clause-few : goal.hold_word-requires-clause-few
 hold_word-requires-clause-few g c = λ m.
@@ -37,8 +37,8 @@ invariant_of-self-2 g c =
     let at = sym c.local.ensures.local ∙ c.in-Some.is in
     rw (c.set_word.ensures.written, c.in_ok-push_handle.ensures.held) (counts_more (handles (c.args.word ∷ [])) (state_with s.table s.stack s.globals.items s.outside.items s.events.items s.ticks) (at_table c.hold_word.new.table (written c.args.slot c.args.word c.in-Some.before (state_with s.table s.stack s.globals.items s.outside.items s.events.items s.ticks))) c.hold_word.ensures.held (λ m. times_written m c.args.slot c.args.word c.in-Some.before (state_with s.table s.stack s.globals.items s.outside.items s.events.items s.ticks) at) c.self.invariant)
 
-pub returns : goal.returns
-returns g c =
+pub returns-clause-written : goal.returns-clause-written
+returns-clause-written g c =
     let s = c.self.inside in
     let at = sym c.local.ensures.local ∙ c.in-Some.is in
-    record { written = λ names. rw (← c.self.view_is, c.set_word.ensures.written, c.in_ok-push_handle.ensures.held) (write_gives g.B.HostObject names c.args.slot c.args.word c.in-Some.before (state_with s.table s.stack s.globals.items s.outside.items s.events.items s.ticks) c.hold_word.new.table c.hold_word.ensures.held.same at) }
+    λ names. rw (← c.self.view_is, c.set_word.ensures.written, c.in_ok-push_handle.ensures.held) (write_gives g.B.HostObject names c.args.slot c.args.word c.in-Some.before (state_with s.table s.stack s.globals.items s.outside.items s.events.items s.ticks) c.hold_word.new.table c.hold_word.ensures.held.same at)

@@ -1,0 +1,44 @@
+//! What is tested before a call: that the object is not null, and that there is room for a frame.
+ghost use Rattle.std.specs.Prelude.{◌≡◌, Some, None, IfOk, OnErr};
+ghost use Rattle.ash_host.specs.Objects.{handle};
+ghost use Rattle.ash_meaning.specs.Frames as frames;
+ghost use Rattle.ash_meaning.specs.ObjectSteps as objects;
+ghost use Rattle.ash_run_steps.specs.Becoming.{Comes};
+ghost use Rattle.ash_run_steps.specs.Guarded.{plain};
+ghost use Rattle.ash_run_steps.specs.RunStates.{Names};
+
+use crate::counting::handle;
+use crate::state::RunState;
+use crate::stop::Stop;
+use ash_host::{HostObject, Word};
+use ash_meaning::Exception;
+
+/// How many frames there are at most.
+pub const MAX_FRAMES: usize = 256;
+
+impl<B: HostObject> RunState<B> {
+    /// The object that a word is a handle to. Null has none, which raises an exception.
+    pub fn object_of(&self, word: Word) -> Result<u64, Stop>
+        ensures found { (names : Names) → Comes B.HostObject names (plain (objects.object_of word))
+            self.now result self.now }
+        ensures number { IfOk result (λ number. handle word ≡ Some number) }
+        ensures none { OnErr result (handle word ≡ None) }
+    {
+        match handle(word) {
+            Some(number) => Ok(number),
+            None => Err(Stop::Raised(Exception::NullPointerAccess)),
+        }
+    }
+
+    /// Raises an exception unless there is room for one more frame.
+    pub fn demand_frame(&self) -> Result<(), Stop>
+        ensures demanded { (names : Names) → Comes B.HostObject names (plain frames.demand_frame)
+            self.now result self.now }
+    {
+        if self.stack.depth() < MAX_FRAMES - 1 {
+            Ok(())
+        } else {
+            Err(Stop::Raised(Exception::StackOverflow))
+        }
+    }
+}

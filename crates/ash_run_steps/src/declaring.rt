@@ -1,0 +1,79 @@
+//! Slots, locals that are declared and read, and the object whose method runs.
+ghost use Rattle.std.specs.Prelude.{◌≡◌, ◌<◌, ◌≤◌, List, length, OnOk, OnErr, slice_get, slice_index_or};
+ghost use Rattle.ash_host.specs.declared.word.Word.TheVariants as words;
+ghost use Rattle.ash_host.specs.Records.{HostRecord};
+ghost use Rattle.ash_meaning.specs.Locations as locations;
+ghost use Rattle.ash_run_steps.specs.Becoming.{Comes, Becomes};
+ghost use Rattle.ash_run_steps.specs.FrameChanges.{in_running, with_word, declaring};
+ghost use Rattle.ash_run_steps.specs.FrameSteps.{declare, read_local};
+ghost use Rattle.ash_run_steps.specs.Guarded.{plain, give};
+ghost use Rattle.ash_run_steps.specs.RunStates.{Names, shown};
+
+use crate::counting::{hold_word, is_alive};
+use crate::state::RunState;
+use crate::stop::Stop;
+use ash_host::{HostObject, Word};
+
+impl<B: HostObject> RunState<B> {
+    /// The word in a slot, if there is such a slot.
+    pub fn slot(&self, slot: usize) -> Option<Word>
+        ensures word { result ≡ slice_get self.now.frames.frame.slots slot }
+    {
+        self.stack.word(slot)
+    }
+
+    /// Writes a word into a slot that is no local.
+    pub fn set_slot(&mut self, slot: usize, word: Word)
+        requires above { self.old.frames.frame.count ≤ slot }
+        requires within { slot < length self.old.frames.frame.slots }
+        ensures same { (names : Names) (rest : List HostRecord) → shown B.HostObject names rest self.new
+            ≡ shown B.HostObject names rest self.old }
+        ensures written { self.new ≡ record self.old {
+          frames = in_running (with_word slot word) self.old.frames;
+        } }
+    {
+        self.stack.set_word(slot, word);
+    }
+
+    /// Makes the slot behind the locals one more local, with the word that is there.
+    pub fn declare(&mut self) -> Result<(), Stop>
+        requires within { self.old.frames.frame.count < length self.old.frames.frame.slots }
+        ensures declared { (names : Names) → Comes B.HostObject names (declare
+            (slice_index_or self.old.frames.frame.slots self.old.frames.frame.count words.Null))
+            self.old result self.new }
+        ensures frames { OnOk result (self.new.frames ≡ in_running declaring self.old.frames) }
+        ensures unchanged { OnErr result (self.new.frames ≡ self.old.frames) }
+    {
+        let count = self.stack.count();
+        let Some(word) = self.stack.word(count) else {
+            unreachable!()
+        };
+        if !is_alive(&self.table, word) {
+            return Err(Stop::Unsound);
+        }
+        self.stack.facts();
+        hold_word(&mut self.table, word);
+        self.stack.set_count(count + 1);
+        Ok(())
+    }
+
+    /// Reads a local.
+    pub fn read_local(&self, slot: usize) -> Result<Word, Stop>
+        ensures read { (names : Names) → Comes B.HostObject names (read_local slot) self.now result
+            self.now }
+    {
+        match self.stack.local(slot) {
+            Some(word) => Ok(word),
+            None => Err(Stop::Unsound),
+        }
+    }
+
+    /// The object whose method runs, or null.
+    pub fn this(&self) -> Word
+        ensures read { (names : Names) → Becomes B.HostObject names (plain locations.this) self.now
+            (give result) self.now }
+        ensures this { result ≡ self.now.frames.frame.this }
+    {
+        self.stack.this()
+    }
+}
