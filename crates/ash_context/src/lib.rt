@@ -1,0 +1,5 @@
+//! The machine that runs compiled code over the table of objects.
+#![tactic(auto)]
+
+pub mod position;
+pub mod turning;
