@@ -2,4 +2,5 @@
 #![tactic(auto)]
 
 pub mod position;
+mod storing;
 pub mod turning;

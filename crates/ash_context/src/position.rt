@@ -1,5 +1,5 @@
 //! Where a run is in its code.
-ghost use Rattle.std.specs.Prelude.{◌≡◌, ◌∷◌, ◌+◌, OnOk, OnErr};
+ghost use Rattle.std.specs.Prelude.{◌≡◌, ◌<◌, ◌∷◌, ◌+◌, OnOk, OnErr};
 ghost use Rattle.ash_context.specs.Positions.{at_index};
 
 use ash_host::NoMemory;
@@ -35,6 +35,14 @@ impl Position {
         ensures place { result ≡ self.now.place }
     {
         self.place
+    }
+
+    /// Goes to the next instruction of a function with so many.
+    pub fn advance(&mut self, len: usize)
+        requires within { self.old.place.at < len }
+        ensures advanced { self.new ≡ at_index (self.old.place.at + 1) self.old }
+    {
+        self.place.at += 1;
     }
 
     /// Goes to another instruction of the function.
