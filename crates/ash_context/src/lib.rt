@@ -2,5 +2,6 @@
 #![tactic(auto)]
 
 pub mod position;
+mod stepping;
 mod storing;
 pub mod turning;

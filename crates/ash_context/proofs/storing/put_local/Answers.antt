@@ -1,0 +1,17 @@
+use Rattle.std.proofs.Common.{◌≡◌, refl, true, nat_lt, arith}
+use Rattle.std.proofs.lemmas.Bool.Decides.{nat_tests}
+use Rattle.ash_run_steps.specs.FrameChanges.{in_running, overwriting}
+use Rattle.ash_run_steps.specs.GuardedSteps.{write_local}
+use Rattle.ash_context.specs.Positions.{control_of}
+use Rattle.ash_context.proofs.Puts.{put_by, if_ok, same_control}
+use Rattle.ash_context.proofs.storing.put_local.Goals as goal
+
+pub returns : goal.returns
+returns g c =
+    let old = c.args.state.now in
+    let w = c.args.position.now in
+    let to = c.args.to in
+    let step = c.write_local-step in
+    let is_local : nat_lt to ((old.frames).frame).count ≡ true = grind (arith, nat_tests, c.requires.slot) in
+    record { put = λ s. rw c.going_on.ensures.going_on (put_by g.B.HostObject s.names to c.args.word (control_of w old.frames) (control_of c.advance.new.self step.new.self.frames) (write_local to c.args.word) old step.new.self step.result true is_local refl (step.ensures.written s.names)
+    (if_ok step.result (λ same. same_control w c.advance.new.self _ step.new.self.frames (in_running (overwriting to c.args.word) old.frames) c.advance.ensures.advanced same) step.ensures.frames)) }
