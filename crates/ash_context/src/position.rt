@@ -1,6 +1,6 @@
 //! Where a run is in its code.
-ghost use Rattle.std.specs.Prelude.{◌≡◌, ◌<◌, ◌∷◌, ◌+◌, OnOk, OnErr};
-ghost use Rattle.ash_context.specs.Positions.{at_index};
+ghost use Rattle.std.specs.Prelude.{◌≡◌, ◌<◌, ◌∷◌, ◌+◌, OnOk};
+ghost use Rattle.ash_context.specs.Positions.{at_index, left_by};
 
 use ash_host::NoMemory;
 use std::marker::Model;
@@ -58,7 +58,6 @@ impl Position {
           place = record { function = function; at = 0 };
           backs = record { function = self.old.place.function; at = back } ∷ self.old.backs;
         }) }
-        ensures unchanged { OnErr result (self.new ≡ self.old) }
     {
         let back = Place {
             function: self.place.function,
@@ -67,5 +66,15 @@ impl Position {
         self.backs.push(back)?;
         self.place = Place { function, at: 0 };
         Ok(())
+    }
+
+    /// Leaves a function, and goes on where its caller does.
+    pub fn leave(&mut self)
+        ensures left { self.new ≡ left_by self.old.backs }
+    {
+        match self.backs.pop() {
+            Some(back) => self.place = back,
+            None => self.place = Place { function: 0, at: 0 },
+        }
     }
 }

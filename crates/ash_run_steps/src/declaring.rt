@@ -30,6 +30,13 @@ impl<B: HostObject> RunState<B> {
         self.stack.count()
     }
 
+    /// How many slots the frame that runs has.
+    pub fn slot_count(&self) -> usize
+        ensures count { result ≡ length self.now.frames.frame.slots }
+    {
+        self.stack.slot_count()
+    }
+
     /// How many frames call the one that runs.
     pub fn depth(&self) -> usize
         ensures depth { result ≡ length self.now.frames.callers }
