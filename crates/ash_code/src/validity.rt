@@ -17,7 +17,7 @@ fn row_below(at: usize, count: usize, slots: usize) -> bool
 }
 
 /// Whether the slots that an instruction names are those of a frame with so many.
-fn fits_slots(instruction: Instruction, slots: usize) -> bool
+pub fn fits_slots(instruction: Instruction, slots: usize) -> bool
     ensures fits { result ≡ validity.fits_slots instruction slots }
 {
     match instruction {

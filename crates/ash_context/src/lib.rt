@@ -2,9 +2,9 @@
 #![tactic(auto)]
 
 mod calculating;
-mod calling;
 mod jumping;
 pub mod position;
+pub mod running;
 mod stepping;
 mod storing;
 pub mod turning;

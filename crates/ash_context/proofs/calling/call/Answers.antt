@@ -1,8 +1,0 @@
-use Rattle.std.proofs.Common.{◌∙◌, ap}
-use Rattle.ash_context.proofs.calling.call.Goals as goal
-
-pub returns-in-Ok : goal.returns-in-Ok
-returns-in-Ok g c = ?
-
-pub returns-in-Err : goal.returns-in-Err
-returns-in-Err g c = ?
