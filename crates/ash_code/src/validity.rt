@@ -33,12 +33,18 @@ pub fn fits_slots(instruction: Instruction, slots: usize) -> bool
         | Instruction::Cast { from, to, .. } => from < slots && to < slots,
         Instruction::AddNumber { left, to, .. } => left < slots && to < slots,
         Instruction::Calculate {
-            left, right, to, ..
+            left,
+            right,
+            to,
+            ..
         }
         | Instruction::AddInt { left, right, to }
         | Instruction::SubtractInt { left, right, to }
         | Instruction::Compare {
-            left, right, to, ..
+            left,
+            right,
+            to,
+            ..
         } => left < slots && right < slots && to < slots,
         Instruction::WriteGlobal { from, .. }
         | Instruction::WriteOwnField { from, .. }
@@ -64,10 +70,13 @@ pub fn fits_slots(instruction: Instruction, slots: usize) -> bool
         | Instruction::RemoveLast { array, to } => array < slots && to < slots,
         Instruction::Resize { array, len, to } => array < slots && len < slots && to < slots,
         Instruction::InsertLast { array, from, to } => array < slots && from < slots && to < slots,
-        Instruction::ConstructHost { at, count, .. }
-        | Instruction::CallService { at, count, .. } => row_below(at, count, slots),
+        Instruction::ConstructHost { at, count, .. } | Instruction::CallService { at, count, .. } =>
+            row_below(at, count, slots),
         Instruction::CallHost {
-            object, at, count, ..
+            object,
+            at,
+            count,
+            ..
         } => object < slots && row_below(at, count, slots),
         Instruction::JumpIf { condition, .. }
         | Instruction::JumpUnless { condition, .. }
@@ -110,7 +119,10 @@ fn target(instruction: Instruction) -> Option<usize>
 fn ticks(instruction: Instruction) -> bool
     ensures ticks { result ≡ validity.ticks instruction }
 {
-    matches!(instruction, Instruction::Loop { .. } | Instruction::LoopWhile { .. })
+    matches!(
+        instruction,
+        Instruction::Loop { .. } | Instruction::LoopWhile { .. }
+    )
 }
 
 /// Whether the next instruction may follow.
@@ -168,7 +180,12 @@ fn fits_callee(code: &CodeParts, slots: usize, instruction: Instruction) -> bool
 }
 
 // Whether an instruction of a function is valid.
-fn is_valid_at(code: &CodeParts, function: &FunctionCode, at: usize, instruction: Instruction) -> bool
+fn is_valid_at(
+    code: &CodeParts,
+    function: &FunctionCode,
+    at: usize,
+    instruction: Instruction,
+) -> bool
     requires within { at < length function.now.instructions.items }
     ensures valid { result ≡ validity.is_valid_at code.now function.now at instruction }
 {
