@@ -1,2 +1,3 @@
-pub mod Puts
+pub mod Entries
 pub mod Loops
+pub mod Puts

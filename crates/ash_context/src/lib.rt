@@ -2,6 +2,7 @@
 #![tactic(auto)]
 
 mod calculating;
+pub mod calling;
 mod jumping;
 pub mod position;
 pub mod running;
