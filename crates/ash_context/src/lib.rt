@@ -3,6 +3,7 @@
 
 mod calculating;
 pub mod calling;
+mod finishing;
 mod jumping;
 pub mod position;
 pub mod running;

@@ -13,13 +13,17 @@ pub returns-in-Ok : goal.returns-in-Ok
 returns-in-Ok g c =
     let old = c.args.state.now in
     let at = control_of c.args.position.now old.frames in
-    record { called = λ s same. comes_then g.B.HostObject s.names (plain frames.demand_frame) (λ _. enter_at s c.args.function c.args.this c.args.at at) old old c.enter_at.new.state tt
-    (came_to c.enter_at.result (control_of c.enter_at.new.position c.enter_at.new.state.frames))
-    (subst (λ (r : Result (Unit {0}) Stop). Comes g.B.HostObject s.names (plain frames.demand_frame) old r old) c.in-Ok.is (c.demand_frame.ensures.demanded s.names)) (c.enter_at.ensures.entered s same) }
+    record {
+      called = λ s same. comes_then g.B.HostObject s.names (plain frames.demand_frame) (λ _. enter_at s c.args.function c.args.this c.args.at at) old old c.enter_at.new.state tt
+          (came_to c.enter_at.result (control_of c.enter_at.new.position c.enter_at.new.state.frames))
+          (subst (λ (r : Result (Unit {0}) Stop). Comes g.B.HostObject s.names (plain frames.demand_frame) old r old) c.in-Ok.is (c.demand_frame.ensures.demanded s.names)) (c.enter_at.ensures.entered s same);
+    }
 
 pub returns-in-Err : goal.returns-in-Err
 returns-in-Err g c =
     let old = c.args.state.now in
     let at = control_of c.args.position.now old.frames in
-    record { called = λ s same. comes_out g.B.HostObject s.names (plain frames.demand_frame) (λ _. enter_at s c.args.function c.args.this c.args.at at) old old c.in-Err.stop
-    (subst (λ (r : Result (Unit {0}) Stop). Comes g.B.HostObject s.names (plain frames.demand_frame) old r old) c.in-Err.is (c.demand_frame.ensures.demanded s.names)) }
+    record {
+      called = λ s same. comes_out g.B.HostObject s.names (plain frames.demand_frame) (λ _. enter_at s c.args.function c.args.this c.args.at at) old old c.in-Err.stop
+          (subst (λ (r : Result (Unit {0}) Stop). Comes g.B.HostObject s.names (plain frames.demand_frame) old r old) c.in-Err.is (c.demand_frame.ensures.demanded s.names));
+    }

@@ -17,8 +17,10 @@ returns-then-not-has_room g c =
     let at = control_of c.args.position.now old.frames in
     let e = c.args.entry in
     let no : nat_le at.count c.args.at && nat_le (c.args.at + e.parameters) (length at.slots) ≡ false = sym c.has_room.ensures.room ∙ c.if-not-has_room.true in
-    record { entered = λ s. unsound_by g.B.HostObject s.names (enter_entry s c.args.function c.args.this c.args.at at e) old
-    (ap (λ (t : Bool). cond {A = Guarded Next} t (enter ((s.names).functions c.args.function) e.line c.args.this (words_at c.args.at e.parameters at) >> give (GoesOn (entering c.args.function e.parameters c.args.at at))) unsound) no) }
+    record {
+      entered = λ s. unsound_by g.B.HostObject s.names (enter_entry s c.args.function c.args.this c.args.at at e) old
+          (ap (λ (t : Bool). cond {A = Guarded Next} t (enter ((s.names).functions c.args.function) e.line c.args.this (words_at c.args.at e.parameters at) >> give (GoesOn (entering c.args.function e.parameters c.args.at at))) unsound) no);
+    }
 
 pub returns-in-Ok : goal.returns-in-Ok
 returns-in-Ok g c =
@@ -31,9 +33,11 @@ returns-in-Ok g c =
     let v = c.enter.new.self in
     let yes : nat_le at.count c.args.at && nat_le (c.args.at + e.parameters) (length at.slots) ≡ true = sym c.has_room.ensures.room ∙ c.if-not-has_room.false in
     let moved : v ≡ record { place = record { function = c.args.function; at = 0 }; backs = record { function = (w.place).function; at = (w.place).at + 1 } ∷ w.backs }
-        = c.in-Ok.ensures.entered ∙ ap (λ (p : Place). record { place = record { function = c.args.function; at = 0 }; backs = record { function = (w.place).function; at = p.at + 1 } ∷ w.backs }) c.place-back.ensures.place in
-    record { entered = λ s. rw c.going_on.ensures.going_on (comes_by g.B.HostObject s.names (enter_entry s c.args.function c.args.this c.args.at at e)
-    (enter ((s.names).functions c.args.function) e.line c.args.this (words_at c.args.at e.parameters at) >> give (GoesOn (entering c.args.function e.parameters c.args.at at))) old new (came_to (going_on step.result) (control_of v new.frames))
-    (ap (λ (t : Bool). cond {A = Guarded Next} t (enter ((s.names).functions c.args.function) e.line c.args.this (words_at c.args.at e.parameters at) >> give (GoesOn (entering c.args.function e.parameters c.args.at at))) unsound) yes)
-    (comes_on g.B.HostObject s.names (enter ((s.names).functions c.args.function) e.line c.args.this (words_at c.args.at e.parameters at)) (entering c.args.function e.parameters c.args.at at) (control_of v new.frames) old new step.result
-    (step.ensures.entered s.names) (if_ok step.result (λ same. same_control w v _ new.frames (framed_entering c.args.function e.line c.args.this c.args.at e.parameters old.frames) moved same) step.ensures.frames))) }
+    = c.in-Ok.ensures.entered ∙ ap (λ (p : Place). record { place = record { function = c.args.function; at = 0 }; backs = record { function = (w.place).function; at = p.at + 1 } ∷ w.backs }) c.place-back.ensures.place in
+    record {
+      entered = λ s. rw c.going_on.ensures.going_on (comes_by g.B.HostObject s.names (enter_entry s c.args.function c.args.this c.args.at at e)
+          (enter ((s.names).functions c.args.function) e.line c.args.this (words_at c.args.at e.parameters at) >> give (GoesOn (entering c.args.function e.parameters c.args.at at))) old new (came_to (going_on step.result) (control_of v new.frames))
+          (ap (λ (t : Bool). cond {A = Guarded Next} t (enter ((s.names).functions c.args.function) e.line c.args.this (words_at c.args.at e.parameters at) >> give (GoesOn (entering c.args.function e.parameters c.args.at at))) unsound) yes)
+          (comes_on g.B.HostObject s.names (enter ((s.names).functions c.args.function) e.line c.args.this (words_at c.args.at e.parameters at)) (entering c.args.function e.parameters c.args.at at) (control_of v new.frames) old new step.result
+          (step.ensures.entered s.names) (if_ok step.result (λ same. same_control w v _ new.frames (framed_entering c.args.function e.line c.args.this c.args.at e.parameters old.frames) moved same) step.ensures.frames)));
+    }

@@ -15,13 +15,17 @@ pub returns-in-Some : goal.returns-in-Some
 returns-in-Some g c =
     let old = c.args.state.now in
     let at = control_of c.args.position.now old.frames in
-    record { entered = λ s same. comes_by g.B.HostObject s.names (enter_at s c.args.function c.args.this c.args.at at) (enter_entry s c.args.function c.args.this c.args.at at c.in-Some.entry) old c.enter.new.state
-    (came_to c.enter.result (control_of c.enter.new.position c.enter.new.state.frames))
-    (entered_by s c.args.code.now c.args.function c.args.this c.args.at at (Some c.in-Some.entry) same (c.in-Some.ensures.entry ∙ ap (λ (fs : List FunctionCode). option_map entry_in (slice_get fs c.args.function)) c.deref.ensures.value)) (c.enter.ensures.entered s) }
+    record {
+      entered = λ s same. comes_by g.B.HostObject s.names (enter_at s c.args.function c.args.this c.args.at at) (enter_entry s c.args.function c.args.this c.args.at at c.in-Some.entry) old c.enter.new.state
+          (came_to c.enter.result (control_of c.enter.new.position c.enter.new.state.frames))
+          (entered_by s c.args.code.now c.args.function c.args.this c.args.at at (Some c.in-Some.entry) same (c.in-Some.ensures.entry ∙ ap (λ (fs : List FunctionCode). option_map entry_in (slice_get fs c.args.function)) c.deref.ensures.value)) (c.enter.ensures.entered s);
+    }
 
 pub returns-in-None : goal.returns-in-None
 returns-in-None g c =
     let old = c.args.state.now in
     let at = control_of c.args.position.now old.frames in
-    record { entered = λ s same. unsound_by g.B.HostObject s.names (enter_at s c.args.function c.args.this c.args.at at) old
-    (entered_by s c.args.code.now c.args.function c.args.this c.args.at at None same (c.in-None.ensures.entry ∙ ap (λ (fs : List FunctionCode). option_map entry_in (slice_get fs c.args.function)) c.deref.ensures.value)) }
+    record {
+      entered = λ s same. unsound_by g.B.HostObject s.names (enter_at s c.args.function c.args.this c.args.at at) old
+          (entered_by s c.args.code.now c.args.function c.args.this c.args.at at None same (c.in-None.ensures.entry ∙ ap (λ (fs : List FunctionCode). option_map entry_in (slice_get fs c.args.function)) c.deref.ensures.value));
+    }

@@ -13,5 +13,7 @@ returns g c =
     let to = c.args.to in
     let step = c.write_local-step in
     let is_local : nat_lt to ((old.frames).frame).count ≡ true = grind (arith, nat_tests, c.requires.slot) in
-    record { put = λ s. rw c.going_on.ensures.going_on (put_by g.B.HostObject s.names to c.args.word (control_of w old.frames) (control_of c.advance.new.self step.new.self.frames) (write_local to c.args.word) old step.new.self step.result true is_local refl (step.ensures.written s.names)
-    (if_ok step.result (λ same. same_control w c.advance.new.self _ step.new.self.frames (in_running (overwriting to c.args.word) old.frames) c.advance.ensures.advanced same) step.ensures.frames)) }
+    record {
+      put = λ s. rw c.going_on.ensures.going_on (put_by g.B.HostObject s.names to c.args.word (control_of w old.frames) (control_of c.advance.new.self step.new.self.frames) (write_local to c.args.word) old step.new.self step.result true is_local refl (step.ensures.written s.names)
+          (if_ok step.result (λ same. same_control w c.advance.new.self _ step.new.self.frames (in_running (overwriting to c.args.word) old.frames) c.advance.ensures.advanced same) step.ensures.frames));
+    }

@@ -15,6 +15,8 @@ returns g c =
     let to = c.args.to in
     let new = c.set_slot.new.self in
     let is_other : nat_lt to ((old.frames).frame).count ≡ false = grind (arith, nat_tests, c.requires.above) in
-    record { put = λ s. put_by g.B.HostObject s.names to c.args.word (control_of w old.frames) (control_of c.advance.new.self new.frames) (give tt) old new (Ok tt) false is_other refl
-    (same_becomes g.B.HostObject s.names old new (c.set_slot.ensures.same s.names) (ap (λ (x : State _). bare x.table) c.set_slot.ensures.written))
-    (same_control w c.advance.new.self _ new.frames (in_running (with_word to c.args.word) old.frames) c.advance.ensures.advanced (ap (λ (x : State _). x.frames) c.set_slot.ensures.written)) }
+    record {
+      put = λ s. put_by g.B.HostObject s.names to c.args.word (control_of w old.frames) (control_of c.advance.new.self new.frames) (give tt) old new (Ok tt) false is_other refl
+          (same_becomes g.B.HostObject s.names old new (c.set_slot.ensures.same s.names) (ap (λ (x : State _). bare x.table) c.set_slot.ensures.written))
+          (same_control w c.advance.new.self _ new.frames (in_running (with_word to c.args.word) old.frames) c.advance.ensures.advanced (ap (λ (x : State _). x.frames) c.set_slot.ensures.written));
+    }
