@@ -23,6 +23,28 @@ impl<B: HostObject> RunState<B> {
         self.stack.word(slot)
     }
 
+    /// How many locals there are. Their slots are the first.
+    pub fn local_count(&self) -> usize
+        ensures count { result ≡ self.now.frames.frame.count }
+        ensures within { result ≤ length self.now.frames.frame.slots }
+    {
+        self.stack.count()
+    }
+
+    /// How many slots the frame that runs has.
+    pub fn slot_count(&self) -> usize
+        ensures count { result ≡ length self.now.frames.frame.slots }
+    {
+        self.stack.slot_count()
+    }
+
+    /// How many frames call the one that runs.
+    pub fn depth(&self) -> usize
+        ensures depth { result ≡ length self.now.frames.callers }
+    {
+        self.stack.depth()
+    }
+
     /// Writes a word into a slot that is no local.
     pub fn set_slot(&mut self, slot: usize, word: Word)
         requires above { self.old.frames.frame.count ≤ slot }

@@ -113,6 +113,13 @@ impl Stack {
         self.callers.len()
     }
 
+    /// How many slots the frame that runs has.
+    pub fn slot_count(&self) -> usize
+        ensures count { result ≡ length self.now.frame.slots }
+    {
+        self.slots.len() - self.frame.base
+    }
+
     /// The word in a slot, if there is such a slot.
     pub fn word(&self, slot: usize) -> Option<Word>
         ensures word { result ≡ slice_get self.now.frame.slots slot }

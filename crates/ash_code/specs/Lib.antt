@@ -1,0 +1,5 @@
+pub mod Controls
+pub mod Steps
+pub mod Performing
+pub mod Running
+pub mod Validity
