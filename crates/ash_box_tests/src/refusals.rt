@@ -184,12 +184,12 @@ fn after_a_refusal(
 /// Asks a host for each request, and once more where memory is refused. So many requests are answered in the end.
 fn ask_all(rt: &impl Abort, alloc: Global) -> Result<(), NoMemory> {
     let mut host = begun_at_last(rt, alloc, &MADE)?;
-    let mut number = 0;
+    let mut number: u64 = 0;
     for request in &REQUESTS {
         if !is_done(&reply_to(&mut host, request)) {
             host = after_a_refusal(rt, alloc, host, request, number)?;
         }
-        number += 1;
+        number = number.wrapping_add(1);
         check(rt, &seq(&host), &number, "the number of the last answer");
     }
     Ok(())

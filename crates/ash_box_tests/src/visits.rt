@@ -108,21 +108,6 @@ fn visited_with<D: Disk + Drop, B: HostObject>(
     }
 }
 
-/// Makes the services of a visit, and visits a store with this pool.
-fn visited_with_pool<D: Disk + Drop>(
-    alloc: Global,
-    disks: (D, D),
-    visit: &Visit,
-    pool: Vec<Box<dyn HostObject>>,
-    log: &Log,
-) -> Result<Visited<D>, Fail> {
-    let mut services: Vec<Box<dyn HostObject>> = Vec::new(alloc);
-    for named in visit.services {
-        services.push(Box::new(alloc, new_box(log, *named)?)?)?;
-    }
-    visited_with(alloc, disks, visit, Boxes { pool, services }, log)
-}
-
 /// Makes the boxes of a visit, and visits a store with them.
 pub fn visited<D: Disk + Drop>(
     alloc: Global,
@@ -134,5 +119,9 @@ pub fn visited<D: Disk + Drop>(
     for named in visit.pool {
         pool.push(Box::new(alloc, new_box(log, *named)?)?)?;
     }
-    visited_with_pool(alloc, disks, visit, pool, log)
+    let mut services: Vec<Box<dyn HostObject>> = Vec::new(alloc);
+    for named in visit.services {
+        services.push(Box::new(alloc, new_box(log, *named)?)?)?;
+    }
+    visited_with(alloc, disks, visit, Boxes { pool, services }, log)
 }
