@@ -1,0 +1,4 @@
+pub mod Simulation
+pub mod Statements
+pub mod Conditions
+pub mod Declarations

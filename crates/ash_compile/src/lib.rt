@@ -1,0 +1,2 @@
+//! Compiles sound modules to code.
+#![tactic(auto)]
