@@ -2,3 +2,5 @@ pub mod Simulation
 pub mod Statements
 pub mod Conditions
 pub mod Declarations
+pub mod Leaving
+pub mod Loops

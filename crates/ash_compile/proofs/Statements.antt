@@ -24,12 +24,12 @@ use Rattle.ash_compile.proofs.Simulation.{continued_then, steps_on, goes_by, ste
 
 -- what a step of the meaning leaves of the frame
 
-abbrev frame_in : {A : Type 0} → Frame → Progress A → Frame
+abbrev pub frame_in : {A : Type 0} → Frame → Progress A → Frame
 frame_in other (Done v b) = b.frame
 frame_in other (Ended e b) = b.frame
 frame_in other NoStep = other
 
-abbrev ticks_in : {A : Type 0} → ℕ → Progress A → ℕ
+abbrev pub ticks_in : {A : Type 0} → ℕ → Progress A → ℕ
 ticks_in other (Done v b) = b.ticks
 ticks_in other (Ended e b) = b.ticks
 ticks_in other NoStep = other

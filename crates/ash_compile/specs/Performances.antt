@@ -107,10 +107,10 @@ module _ (s : Setting) (Good : Activity → Type 0) (function room : ℕ) where
         → Outs s function exits to more callers size (run a) rest
         → Arrives s (here function from count slots callers) a (continued (run a) rest)
 
-  -- How a turn of a loop is left by `continue`: for a release point before the steps, or never.
-  pub data Continues (body : Run Flow) (exit steps : ℕ) : Type 0 where
-    by_release : Has s Good function room exit i.Release → steps ≡ exit + 1 → Continues body exit steps
-    never : ((a b : Activity) → Good a → body a ≡ Done Continued b → ⊥) → Continues body exit steps
+  -- How a `break` or a `continue` goes on: at a release point, with the code behind it, or never.
+  pub data Lands (flow : Flow) (run : Run Flow) (exit to : ℕ) : Type 0 where
+    by_release : Has s Good function room exit i.Release → to ≡ exit + 1 → Lands flow run exit to
+    never : ((a b : Activity) → Good a → run a ≡ Done flow b → ⊥) → Lands flow run exit to
 
   -- frames
 
