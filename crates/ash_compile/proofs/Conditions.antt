@@ -44,7 +44,7 @@ either x y t = if t then x else y
 module _ (s : Setting) (Good : Activity → Type 0) (function room : ℕ) where
   -- the ends of full expressions
 
-  ends_full : (at count : ℕ) (slots : List Word) (callers : List Caller) (a : Activity)
+  pub ends_full : (at count : ℕ) (slots : List Word) (callers : List Caller) (a : Activity)
       → (s.test).has_ranks a.world ≡ true → Has s Good function room at i.EndExpression
       → step s (here function at count slots callers) a
       ≡ guarded_onward (Some (releases.end_expression a))

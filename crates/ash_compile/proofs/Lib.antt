@@ -4,3 +4,4 @@ pub mod Conditions
 pub mod Declarations
 pub mod Leaving
 pub mod Loops
+pub mod Switches
