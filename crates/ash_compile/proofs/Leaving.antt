@@ -163,9 +163,10 @@ module _ (s : Setting) (Good : Activity → Type 0) (function room : ℕ) where
       → Keeps Good (tick line) Begun
       → Computes s Begun function room p (from + 1) at count
       → Has s Good function room at (i.Return count)
+      → ((v this : Word) → exits.gives (Some v) this ≡ Some v)
       → Performs s Good function room exits (tick line >> (p >>= (λ word. give (Returned (Some word))))) from to count
       more
-  returns_value exits Begun p line from at to count more has_tick ticked computes has_return = record {
+  returns_value exits Begun p line from at to count more has_tick ticked computes has_return gives = record {
     comes = λ callers size slots a rest long stands good outs.
         ticks_first s Good function room line (p >>= (λ word. give (Returned (Some word)))) from count slots callers a rest
         has_tick (λ b ran.
@@ -179,21 +180,43 @@ module _ (s : Setting) (Good : Activity → Type 0) (function room : ℕ) where
         leaves_at s (Some v) c d (rest (Returned (Some v)) d)
         (step_is s Good function room w d at (i.Return count) has_return
         ∙ ap (λ (x : Word). return_to s (Some x) c callers d) held.value)
+        (subst (λ (x : Option Word). Leaves s x c d (rest (Returned (Some v)) d)) (gives v (d.frame).this)
         (outs.returned (Some v) d next (d.frame).locals at count
         (then_is (tick line a) tt b (λ _. p >>= (λ word. give (Returned (Some word)))) _ ran
-        (then_is (p b) v d (λ word. give (Returned (Some word))) _ computed refl)) (held.long ∙ stands.long)))));
+        (then_is (p b) v d (λ word. give (Returned (Some word))) _ computed refl)) (held.long ∙ stands.long))))));
   }
+
+  -- what a frame leaves without a value: nothing, or `this` of a construction
+  pub data Ends (exits : Exits) (at : ℕ) : Type 0 where
+    by_nothing : Has s Good function room at i.ReturnNothing → ((this : Word) → exits.gives None this ≡ None)
+        → Ends exits at
+    by_this : Has s Good function room at i.ReturnThis → ((this : Word) → exits.gives None this ≡ Some this)
+        → Ends exits at
+
+  pub ends_frame : (exits : Exits) (at count : ℕ) (slots : List Word) (callers : List Caller) (a : Activity)
+      (o : Option Outcome)
+      → Ends exits at
+      → Leaves s (exits.gives None (a.frame).this) (here function at count slots callers) a o
+      → Arrives s (here function at count slots callers) a o
+  ends_frame exits at count slots callers a o (by_nothing has gives) leaves =
+      let w : Window = record { slots = slots; count = count; callers = callers } in
+      let c = here function at count slots callers in
+      leaves_at s None c a o (step_is s Good function room w a at i.ReturnNothing has)
+      (subst (λ (x : Option Word). Leaves s x c a o) (gives (a.frame).this) leaves)
+  ends_frame exits at count slots callers a o (by_this has gives) leaves =
+      let w : Window = record { slots = slots; count = count; callers = callers } in
+      let c = here function at count slots callers in
+      leaves_at s (Some (a.frame).this) c a o (step_is s Good function room w a at i.ReturnThis has)
+      (subst (λ (x : Option Word). Leaves s x c a o) (gives (a.frame).this) leaves)
 
   pub returns_nothing : (exits : Exits) (line from to count more : ℕ)
       → Has s Good function room from (i.Tick line)
-      → Has s Good function room (from + 1) i.ReturnNothing
+      → Ends exits (from + 1)
       → Performs s Good function room exits (tick line >> give (Returned None)) from to count more
-  returns_nothing exits line from to count more has_tick has_return = record {
+  returns_nothing exits line from to count more has_tick ends = record {
     comes = λ callers size slots a rest long stands good outs.
         ticks_first s Good function room line (give (Returned None)) from count slots callers a rest has_tick (λ b ran.
-        let w : Window = record { slots = slots; count = count; callers = callers } in
-        leaves_at s None (here function (from + 1) count slots callers) b (rest (Returned None) b)
-        (step_is s Good function room w b (from + 1) i.ReturnNothing has_return)
+        ends_frame exits (from + 1) count slots callers b (rest (Returned None) b) ends
         (outs.returned None b slots (b.frame).locals (from + 1) count
         (then_is (tick line a) tt b (λ _. give (Returned None)) _ ran refl) stands.long));
   }

@@ -70,7 +70,7 @@ module _ (s : Setting) (Good : Activity → Type 0) (function room : ℕ) where
   -- `break` leads past the loop or the `switch`, to a release point
   pub after_breaks : (exits : Exits) (run : Run Flow) (from broken to count : ℕ)
       → Performs s Good function room
-      (record { broken = record { at = broken; outer = count }; continued = exits.continued }) run from to count count
+      (record exits { broken = record { at = broken; outer = count } }) run from to count count
       → Lands s Good function room Broke run broken to
       → ((a b : Activity) → Good a → run a ≡ Done Broke b → ((s.test).has_ranks b.world ≡ true) × Whole count b)
       → Performs s Good function room exits (run >>= after_break) from to count count
@@ -112,7 +112,7 @@ module _ (s : Setting) (Good : Activity → Type 0) (function room : ℕ) where
   module _ (exits : Exits) (t : Turn) (head inside done again steps back out count : ℕ)
       (tests : Decides s Good function room t.condition head inside out count)
       (body : Performs s Good function room
-      (record { broken = exits.broken; continued = record { at = again; outer = count } }) t.body inside done count count)
+      (record exits { continued = record { at = again; outer = count } }) t.body inside done count count)
       (reaches : Reaches s function done steps)
       (lands : Lands s Good function room Continued t.body again steps)
       (acts : Acts s Good function room t.steps steps back count count)

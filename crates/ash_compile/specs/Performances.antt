@@ -29,10 +29,12 @@ pub record Exit : Type 0 where
   pub at : ℕ
   pub outer : ℕ
 
--- where `break` and `continue` lead
+-- where `break` and `continue` lead, and what a `return` leaves the function with, by its value and by `this`: a
+-- construction gives `this`
 pub record Exits : Type 0 where
   pub broken : Exit
   pub continued : Exit
+  pub gives : Option Word → Word → Option Word
 
 -- in the code of a function
 module _ (s : Setting) (function : ℕ) where
@@ -64,7 +66,8 @@ module _ (s : Setting) (function : ℕ) where
     pub returned : (value : Option Word) (b : Activity) (slots locals : List Word) (at last : ℕ)
         → left ≡ Done (Returned value) b
         → length slots ≡ size
-        → Leaves s value (here function at last slots callers) (with_locals locals b) (rest (Returned value) b)
+        → Leaves s (exits.gives value (b.frame).this) (here function at last slots callers) (with_locals locals b)
+        (rest (Returned value) b)
 
 -- in the code of a function whose frame has so much room, in activities that are good
 module _ (s : Setting) (Good : Activity → Type 0) (function room : ℕ) where
