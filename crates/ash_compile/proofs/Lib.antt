@@ -5,3 +5,4 @@ pub mod Declarations
 pub mod Leaving
 pub mod Loops
 pub mod Switches
+pub mod Calling
