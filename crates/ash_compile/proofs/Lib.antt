@@ -6,3 +6,4 @@ pub mod Leaving
 pub mod Loops
 pub mod Switches
 pub mod Calling
+pub mod Functions
