@@ -1,3 +1,5 @@
 pub mod Simulation
 pub mod Expressions
 pub mod Branches
+pub mod Emission
+pub mod Typed
