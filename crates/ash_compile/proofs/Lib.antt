@@ -3,3 +3,4 @@ pub mod Expressions
 pub mod Branches
 pub mod Emission
 pub mod Typed
+pub mod Emitted

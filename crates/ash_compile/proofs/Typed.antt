@@ -10,6 +10,7 @@ use Rattle.ash_typed.specs.declared.types.VarType.{VarType}
 use Rattle.ash_typed.specs.declared.types.VarType.TheVariants as vars
 use Rattle.ash_typed.specs.TypeOf.{ValueType, value}
 use Rattle.ash_typed.specs.TypedTree.{Expr}
+use Rattle.ash_typed.specs.Signatures.{ModuleSignatures}
 use Rattle.ash_typed.specs.SoundExpressions.{TypedEnvironment, IsWellTyped}
 use Rattle.ash_meaning.specs.Activity.{Activity}
 use Rattle.ash_meaning.specs.Runs.{Run, Progress, Done, Ended, NoStep}
@@ -109,3 +110,21 @@ local_there s a n of good is =
 pub local_value : (s : Scene) (a : Activity) (n : ℕ) (of : VarType) → Good s a → slice_get (s.env).locals n ≡ Some of
     → IsValue (s.context).program (a.world).objects of (slice_index_or (a.frame).locals n words.Null)
 local_value s a n of good is = value_at n of (good.frame).locals is
+
+this_lives : {p : Program} {all : LiveObjects (List ℕ)} {class : Option ℕ} {w : Word} (n : ℕ) → IsThis p all class w
+    → handle w ≡ Some n → Lives all n
+this_lives n no_this is = absurd (cc)
+this_lives {all = all} n (is_this {number = number} {shape = shape} at of) is =
+    subst (λ (k : ℕ). Lives all k) (same_Some number n is) (shape_lives number all shape at)
+
+pub this_alive : (s : Scene) (a : Activity) → Good s a → is_alive (a.frame).this a ≡ true
+this_alive s a good = alive_of (a.frame).this (handle (a.frame).this) a refl (λ n is. this_lives n (good.frame).this is)
+
+-- the globals of one
+
+pub global_alive : (s : Scene) (a : Activity) (n : ℕ) (of : VarType) → IsScene s → Good s a
+    → slice_get ((s.env).signatures).globals n ≡ Some of
+    → is_alive (slice_index_or (a.world).globals n words.Null) a ≡ true
+global_alive s a n of scene good is =
+    value_alive (s.context).program of (slice_index_or (a.world).globals n words.Null) a
+    (value_at n of (good.world).globals (ap (λ (m : ModuleSignatures). slice_get m.globals n) (sym scene.declares) ∙ is))
