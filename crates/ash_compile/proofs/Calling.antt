@@ -22,9 +22,9 @@ use Rattle.ash_code.specs.Controls.{Control, Window, Caller, control}
 use Rattle.ash_code.specs.Performing.{Setting, Next, GoesOn, return_to, enter_at, enter_function, call}
 use Rattle.ash_code.specs.Running.{step, after, denote}
 use Rattle.ash_compile.specs.Stretches.{continued, Arrives, Leaves, with_slots, Fits, Holds, with_locals, Has}
-use Rattle.ash_compile.specs.Performances.{here, Stands, Enters}
-use Rattle.ash_compile.proofs.Simulation.{continued_then, steps_on, steps_out, step_is}
-use Rattle.ash_compile.proofs.Statements.{then_is, released_frame}
+use Rattle.ash_compile.specs.Performances.{here, HasLocals, Enters}
+use Rattle.ash_compile.proofs.Simulation.{continued_then, steps_on, steps_out, step_is, then_is}
+use Rattle.ash_compile.proofs.Statements.{released_frame}
 
 -- a return that goes on in the caller
 

@@ -17,17 +17,17 @@ use Rattle.ash_code.specs.Controls.{Caller, Control, Window}
 use Rattle.ash_code.specs.Performing.{Setting, GoesOn, go, go_to}
 use Rattle.ash_code.specs.Running.{step}
 use Rattle.ash_compile.specs.Stretches.{continued, Arrives, with_slots, Fits, Holds, Has, Computes}
-use Rattle.ash_compile.specs.Performances.{here, Stands, Exits, Acts, Decides, Outs, Performs, Reaches}
-use Rattle.ash_compile.proofs.Simulation.{continued_then, steps_on, goes_by, step_is}
-use Rattle.ash_compile.proofs.Statements.{then_is, arrives_then, ticks_first, ticked_stands, released_frame, fits_there, held_there}
-use Rattle.ash_compile.proofs.Statements.{Keeps}
+use Rattle.ash_compile.specs.Performances.{here, HasLocals, Exits, Acts, Decides, Outs, Performs, Reaches}
+use Rattle.ash_compile.proofs.Simulation.{continued_then, steps_on, goes_by, step_is, then_is}
+use Rattle.ash_compile.proofs.Statements.{arrives_then, ticks_first, ticked_stands, released_frame, fits_there, held_there}
+use Rattle.ash_compile.proofs.Statements.{LeadsTo}
 
 -- objects have ranks where a phrase is done
 abbrev pub RanksAfter : {A : Type 0} → Setting → (Activity → Type 0) → Run A → Type 0
 RanksAfter {A} s Good run = (a b : Activity) (v : A) → Good a → run a ≡ Done v b → (s.test).has_ranks b.world ≡ true
 
 pub ended_stands : (size count : ℕ) (slots : List Word) (a b : Activity) → releases.end_expression a ≡ Done tt b
-    → Stands size count slots a → Stands size count slots b
+    → HasLocals size count slots a → HasLocals size count slots b
 ended_stands size count slots a b is stands = record {
   long = stands.long;
   within = stands.within;
@@ -134,11 +134,11 @@ module _ (s : Setting) (Good : Activity → Type 0) (function room : ℕ) where
   }
     where
     pick : (callers : List Caller) (size : ℕ) (next : List Word) (a d : Activity) (rest : Bool → Activity → Option Outcome)
-        → ((b : Activity) (next : List Word) → condition p a ≡ Done true b → Stands size count next b
+        → ((b : Activity) (next : List Word) → condition p a ≡ Done true b → HasLocals size count next b
         → Arrives s (here function (mid + 1) count next callers) b (rest true b))
-        → ((b : Activity) (next : List Word) → condition p a ≡ Done false b → Stands size count next b
+        → ((b : Activity) (next : List Word) → condition p a ≡ Done false b → HasLocals size count next b
         → Arrives s (here function unmet count next callers) b (rest false b))
-        → Stands size count next d
+        → HasLocals size count next d
         → (t : Bool) → condition p a ≡ Done t d
         → Arrives s (here function (if t then mid + 1 else unmet) count next callers) d (rest t d)
     pick callers size next a d rest when_true when_false there true done = when_true d next done there
@@ -155,9 +155,9 @@ module _ (s : Setting) (Good : Activity → Type 0) (function room : ℕ) where
   pub if_else : (exits : Exits) (Begun Then : Activity → Type 0) (test : Run Bool) (x y : Run Flow)
       (line from met unmet back to count : ℕ)
       → Has s Good function room from (i.Tick line)
-      → Keeps Good (tick line) Begun
+      → LeadsTo Good (tick line) Begun
       → Decides s Begun function room test (from + 1) met unmet count
-      → Keeps Begun test Then
+      → LeadsTo Begun test Then
       → Performs s Then function room exits x met back count count
       → Reaches s function back to
       → Performs s Then function room exits y unmet to count count

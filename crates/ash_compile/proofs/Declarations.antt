@@ -23,9 +23,9 @@ use Rattle.ash_code.specs.Controls.{Caller, Control, Window, with_word, with_cou
 use Rattle.ash_code.specs.Performing.{Setting, GoesOn, go}
 use Rattle.ash_code.specs.Running.{step}
 use Rattle.ash_compile.specs.Stretches.{continued, Arrives, Holds, Has, Computes}
-use Rattle.ash_compile.specs.Performances.{here, Stands, Acts}
-use Rattle.ash_compile.proofs.Simulation.{steps_on, goes_by, step_is, off}
-use Rattle.ash_compile.proofs.Statements.{then_is, arrives_then, released_frame, fits_there}
+use Rattle.ash_compile.specs.Performances.{here, HasLocals, Acts}
+use Rattle.ash_compile.proofs.Simulation.{steps_on, goes_by, step_is, off, then_is}
+use Rattle.ash_compile.proofs.Statements.{arrives_then, released_frame, fits_there}
 use Rattle.ash_compile.proofs.Conditions.{RanksAfter}
 
 -- one more local
@@ -33,7 +33,7 @@ use Rattle.ash_compile.proofs.Conditions.{RanksAfter}
 one_more : (size count : ℕ) (slots next : List Word) (word : Word) (a b : Activity) → count < size → length next ≡ size
     → slice_index_or next count Null ≡ word → (a.frame).locals ≡ take count next
     → (b.frame).locals ≡ (a.frame).locals ++ word ∷ []
-    → Stands size (count + 1) next b
+    → HasLocals size (count + 1) next b
 one_more size count slots next word a b room long value locals more =
     let same : suc count ≡ count + 1 = omega arith in
     record {

@@ -26,10 +26,10 @@ use Rattle.ash_code.specs.Steps.{has_global, has_part, write_part}
 use Rattle.ash_code.specs.Performing.{Setting, Next, GoesOn, go, perform}
 use Rattle.ash_code.specs.Running.{step, denote}
 use Rattle.ash_compile.specs.Stretches.{continued, Arrives, Leaves, with_locals, Holds, Has, Computes}
-use Rattle.ash_compile.specs.Performances.{here, Stands, Exits, Acts, Outs, Performs, Enters}
-use Rattle.ash_compile.proofs.Simulation.{goes_by, step_is}
-use Rattle.ash_compile.proofs.Statements.{then_is, arrives_then, ticks_first, ticked_stands, fits_there, held_there}
-use Rattle.ash_compile.proofs.Statements.{frame_in, Keeps}
+use Rattle.ash_compile.specs.Performances.{here, HasLocals, Exits, Acts, Outs, Performs, Enters}
+use Rattle.ash_compile.proofs.Simulation.{goes_by, step_is, then_is, frame_in}
+use Rattle.ash_compile.proofs.Statements.{arrives_then, ticks_first, ticked_stands, fits_there, held_there}
+use Rattle.ash_compile.proofs.Statements.{LeadsTo}
 use Rattle.ash_compile.proofs.Conditions.{RanksAfter, ends_full, ended_stands}
 use Rattle.ash_compile.proofs.Leaving.{Ends, ends_frame, leaves_at}
 
@@ -65,7 +65,7 @@ module _ (s : Setting) (Good : Activity → Type 0) (function room : ℕ) where
 
   pub enters : (exits : Exits) (Begun : Activity → Type 0) (inside : Run Flow) (line end parameters more : ℕ)
       → Has s Good function room 0 (i.Tick line)
-      → Keeps Good (tick line) Begun
+      → LeadsTo Good (tick line) Begun
       → Performs s Begun function room exits inside 1 end parameters more
       → Ends s Good function room exits end
       → NeverJumps Begun inside
@@ -128,7 +128,7 @@ module _ (s : Setting) (Good : Activity → Type 0) (function room : ℕ) where
         (step_is s Good function room w b mid instruction has ∙ does c a b v good ran held.value) (λ u d stored.
         let done : (p >>= store) a ≡ Done tt d = then_is (p a) v b store _ ran stored in
         let there = held_there size count count slots next callers v a b stands held in
-        let here_still : Stands size count next d
+        let here_still : HasLocals size count next d
             = record { long = there.long; within = there.within; locals = same b d v stored ∙ there.locals } in
         arrives_then s (here function (mid + 1) count next callers) d (releases.end_expression d) (λ _. give tt) rest
         (goes_by s (here function (mid + 1) count next callers) d (releases.end_expression d)

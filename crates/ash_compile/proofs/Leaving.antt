@@ -17,10 +17,10 @@ use Rattle.ash_code.specs.Controls.{Caller, Control, Window, with_count}
 use Rattle.ash_code.specs.Performing.{Setting, Next, GoesOn, go, return_to}
 use Rattle.ash_code.specs.Running.{step, after, denote}
 use Rattle.ash_compile.specs.Stretches.{continued, Arrives, Leaves, with_locals, Holds, Has, Computes}
-use Rattle.ash_compile.specs.Performances.{here, Stands, Exit, Exits, Jumps, Outs, Performs}
-use Rattle.ash_compile.proofs.Simulation.{steps_on, goes_by, step_is}
-use Rattle.ash_compile.proofs.Statements.{then_is, arrives_then, ticks_first, ticked_stands, ticked_locals, released_frame}
-use Rattle.ash_compile.proofs.Statements.{fits_there, jumps, Keeps}
+use Rattle.ash_compile.specs.Performances.{here, HasLocals, Exit, Exits, Jumps, Outs, Performs}
+use Rattle.ash_compile.proofs.Simulation.{steps_on, goes_by, step_is, then_is}
+use Rattle.ash_compile.proofs.Statements.{arrives_then, ticks_first, ticked_stands, ticked_locals, released_frame}
+use Rattle.ash_compile.proofs.Statements.{fits_there, jumps, LeadsTo}
 
 -- the slots of a frame that keeps fewer locals
 
@@ -30,8 +30,8 @@ keeping_twice outer count b fewer =
     ap (λ (ws : List Word). in_frame (λ (f : Frame). record f { locals = ws }) b)
     (take-take outer count (b.frame).locals fewer)
 
-pub keeps_fewer : (size count outer : ℕ) (slots : List Word) (a : Activity) → outer ≤ count → Stands size count slots a
-    → Stands size outer slots (in_frame (keeping outer) a)
+pub keeps_fewer : (size count outer : ℕ) (slots : List Word) (a : Activity) → outer ≤ count → HasLocals size count slots a
+    → HasLocals size outer slots (in_frame (keeping outer) a)
 keeps_fewer size count outer slots a fewer stands = record {
   long = stands.long;
   within = omega (arith, fewer, stands.within);
@@ -39,7 +39,7 @@ keeps_fewer size count outer slots a fewer stands = record {
 }
 
 pub released_stands : (size count : ℕ) (slots : List Word) (a b : Activity) → releases.release a ≡ Done tt b
-    → Stands size count slots a → Stands size count slots b
+    → HasLocals size count slots a → HasLocals size count slots b
 released_stands size count slots a b is stands = record {
   long = stands.long;
   within = stands.within;
@@ -123,7 +123,7 @@ module _ (s : Setting) (Good : Activity → Type 0) (function room : ℕ) where
       (a : Activity) (rest : Flow → Activity → Option Outcome) → exit.outer ≤ count
       → Has s Good function room from (i.Tick line) → Has s Good function room (from + 1) (i.LeaveBlocks exit.outer)
       → Has s Good function room (from + 1 + 1) (i.Jump exit.at)
-      → Stands size count slots a
+      → HasLocals size count slots a
       → Jumps s function exit flow callers size ((tick line >> give flow) a) rest
       → Arrives s (here function from count slots callers) a (continued ((tick line >> give flow) a) rest)
   jumps_out exit flow line from count callers size slots a rest fewer has_tick has_leave has_jump stands out =
@@ -160,7 +160,7 @@ module _ (s : Setting) (Good : Activity → Type 0) (function room : ℕ) where
 
   pub returns_value : (exits : Exits) (Begun : Activity → Type 0) (p : Run Word) (line from at to count more : ℕ)
       → Has s Good function room from (i.Tick line)
-      → Keeps Good (tick line) Begun
+      → LeadsTo Good (tick line) Begun
       → Computes s Begun function room p (from + 1) at count
       → Has s Good function room at (i.Return count)
       → ((v this : Word) → exits.gives (Some v) this ≡ Some v)
@@ -226,7 +226,7 @@ module _ (s : Setting) (Good : Activity → Type 0) (function room : ℕ) where
   abbrev ending : ℕ → Flow → Run Flow
   ending count flow = leave_blocks count >> end_block flow
 
-  block_is : (inside : Run Flow) (size count : ℕ) (slots : List Word) (a : Activity) → Stands size count slots a
+  block_is : (inside : Run Flow) (size count : ℕ) (slots : List Word) (a : Activity) → HasLocals size count slots a
       → in_block inside a ≡ onward (inside a) (ending count)
   block_is inside size count slots a stands =
       ap (λ (n : ℕ). onward (inside a) (ending n))
@@ -241,7 +241,7 @@ module _ (s : Setting) (Good : Activity → Type 0) (function room : ℕ) where
       subst (λ (x : Activity). Arrives s (here function exit.at exit.outer slots callers) x (rest flow (in_frame (keeping count) b)))
       (keeping_twice exit.outer count b fewer)
       (out (in_frame (keeping count) b) slots (same b is)
-      (subst (λ (x : Activity). Stands size exit.outer slots x) (sym (keeping_twice exit.outer count b fewer)) stands))
+      (subst (λ (x : Activity). HasLocals size exit.outer slots x) (sym (keeping_twice exit.outer count b fewer)) stands))
 
   pub blocks : (exits : Exits) (inside : Run Flow) (from mid to count more : ℕ)
       → (exits.broken).outer ≤ count → (exits.continued).outer ≤ count → count ≤ more

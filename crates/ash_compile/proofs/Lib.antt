@@ -7,3 +7,8 @@ pub mod Loops
 pub mod Switches
 pub mod Calling
 pub mod Functions
+pub mod Expressions
+pub mod Branches
+pub mod Emission
+pub mod Typed
+pub mod Emitted

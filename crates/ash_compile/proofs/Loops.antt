@@ -13,9 +13,9 @@ use Rattle.ash_code.specs.declared.instruction.Instruction.TheVariants as i
 use Rattle.ash_code.specs.Controls.{Caller, Control, Window}
 use Rattle.ash_code.specs.Performing.{Setting}
 use Rattle.ash_compile.specs.Stretches.{continued, Arrives, Has}
-use Rattle.ash_compile.specs.Performances.{here, Stands, Exit, Exits, Acts, Decides, Jumps, Outs, Performs, Reaches, Lands, by_release, never}
-use Rattle.ash_compile.proofs.Simulation.{continued_then, goes_by, step_is}
-use Rattle.ash_compile.proofs.Statements.{then_is, arrives_then, ticks_first, ticked_stands, spent, ticks_in, Ranked, Keeps}
+use Rattle.ash_compile.specs.Performances.{here, HasLocals, Exit, Exits, Acts, Decides, Jumps, Outs, Performs, Reaches, Lands, by_release, never}
+use Rattle.ash_compile.proofs.Simulation.{continued_then, goes_by, step_is, then_is}
+use Rattle.ash_compile.proofs.Statements.{arrives_then, ticks_first, ticked_stands, spent, ticks_in, Ranked, LeadsTo}
 use Rattle.ash_compile.proofs.Leaving.{releases_at, released_stands}
 
 released_ticks : (a b : Activity) → releases.release a ≡ Done tt b → b.ticks ≡ a.ticks
@@ -39,7 +39,7 @@ module _ (s : Setting) (Good : Activity → Type 0) (function room : ℕ) where
   -- a tick, then a statement
   pub ticks_then : (exits : Exits) (Begun : Activity → Type 0) (run : Run Flow) (line from to count more : ℕ)
       → Has s Good function room from (i.Tick line)
-      → Keeps Good (tick line) Begun
+      → LeadsTo Good (tick line) Begun
       → Performs s Begun function room exits run (from + 1) to count more
       → Performs s Good function room exits (tick line >> run) from to count more
   ticks_then exits Begun run line from to count more has ticked performs = record {
@@ -55,7 +55,7 @@ module _ (s : Setting) (Good : Activity → Type 0) (function room : ℕ) where
   pub acts_first : (exits : Exits) (Then : Activity → Type 0) (acts : Run (Unit {0})) (run : Run Flow)
       (from mid to count more most : ℕ)
       → Acts s Good function room acts from mid count more
-      → Keeps Good acts Then
+      → LeadsTo Good acts Then
       → Performs s Then function room exits run mid to more most
       → Performs s Good function room exits (acts >> run) from to count most
   acts_first exits Then acts run from mid to count more most first keeps performs = record {
@@ -89,7 +89,7 @@ module _ (s : Setting) (Good : Activity → Type 0) (function room : ℕ) where
     past : (callers : List Caller) (size : ℕ) (a b : Activity) (slots : List Word) (rest : Flow → Activity → Option Outcome)
         → Good a
         → Outs s function exits to count callers size ((run >>= after_break) a) rest
-        → run a ≡ Done Broke b → Stands size count slots (in_frame (keeping count) b)
+        → run a ≡ Done Broke b → HasLocals size count slots (in_frame (keeping count) b)
         → Lands s Good function room Broke run broken to
         → Arrives s (here function broken count slots callers) (in_frame (keeping count) b)
         (continued (after_break Broke b) rest)
@@ -105,7 +105,7 @@ module _ (s : Setting) (Good : Activity → Type 0) (function room : ℕ) where
         (outs.on e slots (then_is (run a) Broke b after_break _ is
         (ap (λ (p : Progress (Unit {0})). onward p (λ _. give On)) freed))
         (released_stands size count slots b e freed
-        (subst (λ (x : Activity). Stands size count slots x) whole there))))))
+        (subst (λ (x : Activity). HasLocals size count slots x) whole there))))))
 
   -- The code of a loop. Its condition leads into a turn or out; a turn has its body, its steps, and the tick of the
   -- next turn, by which it leads back.
@@ -119,8 +119,8 @@ module _ (s : Setting) (Good : Activity → Type 0) (function room : ℕ) where
       (loops : Has s Good function room back (i.Loop t.line head))
       (ranked : Ranked s Good)
       (whole : (a : Activity) → Good a → Whole count a)
-      (ticked : Keeps Good (tick t.line) Good)
-      (freed : Keeps Good releases.release Good)
+      (ticked : LeadsTo Good (tick t.line) Good)
+      (freed : LeadsTo Good releases.release Good)
       (tested : Spends Good t.condition)
       (bodied : Spends Good t.body)
       (stepped : Spends Good t.steps) where
@@ -129,13 +129,13 @@ module _ (s : Setting) (Good : Activity → Type 0) (function room : ℕ) where
     abbrev Again : ℕ → Type 0
     Again depth =
         (callers : List Caller) (size : ℕ) (slots : List Word) (a : Activity) (rest : Flow → Activity → Option Outcome)
-        → a.ticks ≤ depth → room ≤ size → Stands size count slots a → Good a
+        → a.ticks ≤ depth → room ≤ size → HasLocals size count slots a → Good a
         → Outs s function exits out count callers size (turns depth t a) rest
         → Arrives s (here function back count slots callers) a (continued (turns depth t a) rest)
 
     stepping : (depth : ℕ) (callers : List Caller) (size : ℕ) (slots : List Word) (a : Activity)
         (rest : Flow → Activity → Option Outcome)
-        → Again depth → a.ticks ≤ depth → room ≤ size → Stands size count slots a → Good a
+        → Again depth → a.ticks ≤ depth → room ≤ size → HasLocals size count slots a → Good a
         → Outs s function exits out count callers size ((t.steps >> turns depth t) a) rest
         → Arrives s (here function steps count slots callers) a (continued ((t.steps >> turns depth t) a) rest)
     stepping depth callers size slots a rest next few long stands good outs =
@@ -149,7 +149,7 @@ module _ (s : Setting) (Good : Activity → Type 0) (function room : ℕ) where
     continuing : (depth : ℕ) (callers : List Caller) (size : ℕ) (slots : List Word) (a b : Activity)
         (rest : Flow → Activity → Option Outcome)
         → Again depth → a.ticks ≤ depth → room ≤ size → Good a
-        → t.body a ≡ Done Continued b → Stands size count slots (in_frame (keeping count) b)
+        → t.body a ≡ Done Continued b → HasLocals size count slots (in_frame (keeping count) b)
         → Outs s function exits out count callers size (turn t (turns depth t) a) rest
         → Lands s Good function room Continued t.body again steps
         → Arrives s (here function again count slots callers) (in_frame (keeping count) b)
@@ -170,7 +170,7 @@ module _ (s : Setting) (Good : Activity → Type 0) (function room : ℕ) where
         (subst (λ (o : Option Outcome). Arrives s (here function steps count slots callers) d o)
         (continued_then (t.steps d) (λ _. turns depth t) rest)
         (stepping depth callers size slots d rest next (omega (arith, few, facts.1, released_ticks b d free)) long
-        (released_stands size count slots b d free (subst (λ (x : Activity). Stands size count slots x) same there))
+        (released_stands size count slots b d free (subst (λ (x : Activity). HasLocals size count slots x) same there))
         (freed b d tt facts.0 free)
         (subst (λ (p : Progress Flow). Outs s function exits out count callers size p rest)
         (then_is (t.body a) Continued b (after_body t (turns depth t)) _ is
@@ -178,7 +178,7 @@ module _ (s : Setting) (Good : Activity → Type 0) (function room : ℕ) where
 
     turned : (depth : ℕ) (callers : List Caller) (size : ℕ) (slots : List Word) (a : Activity)
         (rest : Flow → Activity → Option Outcome)
-        → Again depth → a.ticks ≤ depth → room ≤ size → Stands size count slots a → Good a
+        → Again depth → a.ticks ≤ depth → room ≤ size → HasLocals size count slots a → Good a
         → Outs s function exits out count callers size (turn t (turns depth t) a) rest
         → Arrives s (here function inside count slots callers) a (continued (turn t (turns depth t) a) rest)
     turned depth callers size slots a rest next few long stands good outs =
@@ -204,7 +204,7 @@ module _ (s : Setting) (Good : Activity → Type 0) (function room : ℕ) where
 
     headed : (depth : ℕ) (callers : List Caller) (size : ℕ) (slots : List Word) (a : Activity)
         (rest : Flow → Activity → Option Outcome)
-        → Again depth → a.ticks ≤ depth → room ≤ size → Stands size count slots a → Good a
+        → Again depth → a.ticks ≤ depth → room ≤ size → HasLocals size count slots a → Good a
         → Outs s function exits out count callers size ((t.condition >>= onwards depth) a) rest
         → Arrives s (here function head count slots callers) a (continued ((t.condition >>= onwards depth) a) rest)
     headed depth callers size slots a rest next few long stands good outs =

@@ -19,15 +19,10 @@ use Rattle.ash_code.specs.Controls.{Caller, Control, Window}
 use Rattle.ash_code.specs.Performing.{Setting, GoesOn, go, go_to}
 use Rattle.ash_code.specs.Running.{step}
 use Rattle.ash_compile.specs.Stretches.{continued, Arrives, Leaves, with_slots, Fits, Holds, Has, Computes}
-use Rattle.ash_compile.specs.Performances.{here, Stands, Exit, Exits, Acts, Decides, Jumps, Outs, Performs, Reaches}
-use Rattle.ash_compile.proofs.Simulation.{continued_then, steps_on, goes_by, step_is}
+use Rattle.ash_compile.specs.Performances.{here, HasLocals, Exit, Exits, Acts, Decides, Jumps, Outs, Performs, Reaches}
+use Rattle.ash_compile.proofs.Simulation.{continued_then, then_is, steps_on, goes_by, frame_in, step_is}
 
 -- what a step of the meaning leaves of the frame
-
-abbrev pub frame_in : {A : Type 0} → Frame → Progress A → Frame
-frame_in other (Done v b) = b.frame
-frame_in other (Ended e b) = b.frame
-frame_in other NoStep = other
 
 abbrev pub ticks_in : {A : Type 0} → ℕ → Progress A → ℕ
 ticks_in other (Done v b) = b.ticks
@@ -59,7 +54,7 @@ pub spent : (line : ℕ) (a b : Activity) → tick line a ≡ Done tt b → suc 
 spent line a b is = spent_at a.ticks line a b is
 
 pub ticked_stands : (line size count : ℕ) (slots : List Word) (a b : Activity) → tick line a ≡ Done tt b
-    → Stands size count slots a → Stands size count slots b
+    → HasLocals size count slots a → HasLocals size count slots b
 ticked_stands line size count slots a b is stands = record {
   long = stands.long;
   within = stands.within;
@@ -67,10 +62,6 @@ ticked_stands line size count slots a b is stands = record {
 }
 
 -- phrases, one after another
-
-pub then_is : {A B : Type 0} (p : Progress A) (v : A) (b : Activity) (next : A → Run B) (q : Progress B)
-    → p ≡ Done v b → next v b ≡ q → onward p next ≡ q
-then_is p v b next q first second = ap (λ x. onward x next) first ∙ second
 
 pub arrives_then : {A B : Type 0} (s : Setting) (c : Control) (a : Activity) (p : Progress A) (next : A → Run B)
     (rest : B → Activity → Option Outcome)
@@ -81,7 +72,7 @@ arrives_then s c a p next rest is =
 
 -- the window of an expression
 
-pub fits_there : (size count : ℕ) (slots : List Word) (callers : List Caller) (a : Activity) → Stands size count slots a
+pub fits_there : (size count : ℕ) (slots : List Word) (callers : List Caller) (a : Activity) → HasLocals size count slots a
     → Fits (record { slots = slots; count = count; callers = callers }) a
 fits_there size count slots callers a stands = record {
   locals = stands.locals;
@@ -89,8 +80,8 @@ fits_there size count slots callers a stands = record {
 }
 
 pub held_there : (size count slot : ℕ) (slots next : List Word) (callers : List Caller) (word : Word) (a b : Activity)
-    → Stands size count slots a → Holds (record { slots = slots; count = count; callers = callers }) slot word next b
-    → Stands size count next b
+    → HasLocals size count slots a → Holds (record { slots = slots; count = count; callers = callers }) slot word next b
+    → HasLocals size count next b
 held_there size count slot slots next callers word a b stands held = record {
   long = held.long ∙ stands.long;
   within = stands.within;
@@ -102,8 +93,8 @@ abbrev pub Ranked : Setting → (Activity → Type 0) → Type 0
 Ranked s Good = (a : Activity) → Good a → (s.test).has_ranks a.world ≡ true
 
 -- a phrase leads from some activities to some
-abbrev pub Keeps : {A : Type 0} → (Activity → Type 0) → Run A → (Activity → Type 0) → Type 0
-Keeps {A} Good run Then = (a b : Activity) (v : A) → Good a → run a ≡ Done v b → Then b
+abbrev pub LeadsTo : {A : Type 0} → (Activity → Type 0) → Run A → (Activity → Type 0) → Type 0
+LeadsTo {A} Good run Then = (a b : Activity) (v : A) → Good a → run a ≡ Done v b → Then b
 
 module _ (s : Setting) (Good : Activity → Type 0) (function room : ℕ) where
   -- a tick, then what follows
@@ -145,7 +136,7 @@ module _ (s : Setting) (Good : Activity → Type 0) (function room : ℕ) where
   -- A tick and then parts of a statement without flow.
   pub does : (exits : Exits) (Then : Activity → Type 0) (acts : Run (Unit {0})) (line from to count more : ℕ)
       → Has s Good function room from (i.Tick line)
-      → Keeps Good (tick line) Then
+      → LeadsTo Good (tick line) Then
       → Acts s Then function room acts (from + 1) to count more
       → Performs s Good function room exits (tick line >> acts >> give On) from to count more
   does exits Then acts line from to count more has ticked inside = record {
@@ -165,7 +156,7 @@ module _ (s : Setting) (Good : Activity → Type 0) (function room : ℕ) where
 
   pub acts_then : (Then : Activity → Type 0) (x y : Run (Unit {0})) (from mid to count more most : ℕ)
       → Acts s Good function room x from mid count more
-      → Keeps Good x Then
+      → LeadsTo Good x Then
       → Acts s Then function room y mid to more most
       → Acts s Good function room (x >> y) from to count most
   acts_then Then x y from mid to count more most first keeps second = record {

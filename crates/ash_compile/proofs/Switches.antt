@@ -17,9 +17,9 @@ use Rattle.ash_code.specs.Controls.{Caller, Window}
 use Rattle.ash_code.specs.Performing.{Setting, GoesOn, go, go_to}
 use Rattle.ash_code.specs.Running.{step}
 use Rattle.ash_compile.specs.Stretches.{continued, Arrives, Has, Computes}
-use Rattle.ash_compile.specs.Performances.{here, Stands, Exits, Outs, Performs}
-use Rattle.ash_compile.proofs.Simulation.{steps_on, goes_by, step_is}
-use Rattle.ash_compile.proofs.Statements.{then_is, arrives_then, ticks_first, ticked_stands, fits_there, held_there, Keeps}
+use Rattle.ash_compile.specs.Performances.{here, HasLocals, Exits, Outs, Performs}
+use Rattle.ash_compile.proofs.Simulation.{steps_on, goes_by, step_is, then_is}
+use Rattle.ash_compile.proofs.Statements.{arrives_then, ticks_first, ticked_stands, fits_there, held_there, LeadsTo}
 use Rattle.ash_compile.proofs.Statements.{performs_none, performs_then, jumps}
 use Rattle.ash_compile.proofs.Conditions.{RanksAfter, ends_full, ended_stands}
 
@@ -113,7 +113,7 @@ module _ (s : Setting) (Good : Activity → Type 0) (function room : ℕ) where
   Chooses exits at to count number run =
       (callers : List Caller) (size : ℕ) (slots : List Word) (a : Activity) (rest : Flow → Activity → Option Outcome)
       → number_of (slice_index_or slots count Null) ≡ number
-      → room ≤ size → Stands size count slots a → Good a
+      → room ≤ size → HasLocals size count slots a → Good a
       → Outs s function exits to count callers size (run a) rest
       → Arrives s (here function at count slots callers) a (continued (run a) rest)
 
@@ -167,11 +167,11 @@ module _ (s : Setting) (Good : Activity → Type 0) (function room : ℕ) where
   pub switches : (exits : Exits) (Begun : Activity → Type 0) (p : Run Word) (all : List Labelled) (ats : List ℕ)
       (line from mid to count : ℕ)
       → Has s Good function room from (i.Tick line)
-      → Keeps Good (tick line) Begun
+      → LeadsTo Good (tick line) Begun
       → Computes s Begun function room p (from + 1) mid count
       → Has s Begun function room mid i.EndExpression
       → RanksAfter s Begun p
-      → Keeps Begun (full p) Good
+      → LeadsTo Begun (full p) Good
       → Tests (mid + 1) all ats (place_of is_none all ats to) count
       → Falls exits all ats to count
       → Performs s Good function room exits (tick line >> full p >>= switch all) from to count count
@@ -208,7 +208,7 @@ module _ (s : Setting) (Good : Activity → Type 0) (function room : ℕ) where
     choose : (callers : List Caller) (size : ℕ) (slots : List Word) (v : Word) (a : Activity)
         (rest : Flow → Activity → Option Outcome)
         → number_of (slice_index_or slots count Null) ≡ number_of v
-        → room ≤ size → Stands size count slots a → Good a
+        → room ≤ size → HasLocals size count slots a → Good a
         → Outs s function exits to count callers size (switch all v a) rest
         → Arrives s (here function (mid + 1) count slots callers) a (continued (switch all v a) rest)
     choose callers size slots v a rest =

@@ -19,7 +19,7 @@ here function at count slots callers =
     control function at (record { slots = slots; count = count; callers = callers })
 
 -- Of so many slots the first ones are the locals of the frame that runs.
-pub record Stands (size count : ℕ) (slots : List Word) (a : Activity) : Type 0 where
+pub record HasLocals (size count : ℕ) (slots : List Word) (a : Activity) : Type 0 where
   pub long : length slots ≡ size
   pub within : count ≤ size
   pub locals : (a.frame).locals ≡ take count slots
@@ -50,7 +50,7 @@ module _ (s : Setting) (function : ℕ) where
   Jumps exit flow callers size left rest =
       (b : Activity) (slots : List Word)
       → left ≡ Done flow b
-      → Stands size exit.outer slots (in_frame (keeping exit.outer) b)
+      → HasLocals size exit.outer slots (in_frame (keeping exit.outer) b)
       → Arrives s (here function exit.at exit.outer slots callers) (in_frame (keeping exit.outer) b) (rest flow b)
 
   -- What follows a statement: the code at one place if it goes on, and other code if it is left by a jump. A `return`
@@ -59,7 +59,7 @@ module _ (s : Setting) (function : ℕ) where
       (rest : Flow → Activity → Option Outcome) : Type 0 where
     pub on : (b : Activity) (slots : List Word)
         → left ≡ Done On b
-        → Stands size more slots b
+        → HasLocals size more slots b
         → Arrives s (here function to more slots callers) b (rest On b)
     pub broke : Jumps exits.broken Broke callers size left rest
     pub continues : Jumps exits.continued Continued callers size left rest
@@ -79,9 +79,9 @@ module _ (s : Setting) (Good : Activity → Type 0) (function room : ℕ) where
     pub comes : (callers : List Caller) (size : ℕ) (slots : List Word) (a : Activity)
         (rest : Unit {0} → Activity → Option Outcome)
         → room ≤ size
-        → Stands size count slots a
+        → HasLocals size count slots a
         → Good a
-        → ((b : Activity) (next : List Word) → run a ≡ Done tt b → Stands size more next b
+        → ((b : Activity) (next : List Word) → run a ≡ Done tt b → HasLocals size more next b
         → Arrives s (here function to more next callers) b (rest tt b))
         → Arrives s (here function from count slots callers) a (continued (run a) rest)
 
@@ -90,11 +90,11 @@ module _ (s : Setting) (Good : Activity → Type 0) (function room : ℕ) where
     pub comes : (callers : List Caller) (size : ℕ) (slots : List Word) (a : Activity)
         (rest : Bool → Activity → Option Outcome)
         → room ≤ size
-        → Stands size count slots a
+        → HasLocals size count slots a
         → Good a
-        → ((b : Activity) (next : List Word) → run a ≡ Done true b → Stands size count next b
+        → ((b : Activity) (next : List Word) → run a ≡ Done true b → HasLocals size count next b
         → Arrives s (here function met count next callers) b (rest true b))
-        → ((b : Activity) (next : List Word) → run a ≡ Done false b → Stands size count next b
+        → ((b : Activity) (next : List Word) → run a ≡ Done false b → HasLocals size count next b
         → Arrives s (here function unmet count next callers) b (rest false b))
         → Arrives s (here function from count slots callers) a (continued (run a) rest)
 
@@ -105,7 +105,7 @@ module _ (s : Setting) (Good : Activity → Type 0) (function room : ℕ) where
     pub comes : (callers : List Caller) (size : ℕ) (slots : List Word) (a : Activity)
         (rest : Flow → Activity → Option Outcome)
         → room ≤ size
-        → Stands size count slots a
+        → HasLocals size count slots a
         → Good a
         → Outs s function exits to more callers size (run a) rest
         → Arrives s (here function from count slots callers) a (continued (run a) rest)
@@ -122,7 +122,7 @@ module _ (s : Setting) (Good : Activity → Type 0) (function room : ℕ) where
     pub comes : (callers : List Caller) (size : ℕ) (slots : List Word) (a : Activity)
         (rest : Option Word → Activity → Option Outcome)
         → room ≤ size
-        → Stands size parameters slots a
+        → HasLocals size parameters slots a
         → Good a
         → ((value : Option Word) (b : Activity) (next locals : List Word) (at last : ℕ)
         → run a ≡ Done value b
