@@ -12,3 +12,4 @@ pub mod Branches
 pub mod Emission
 pub mod Typed
 pub mod Emitted
+pub mod TypedStatements

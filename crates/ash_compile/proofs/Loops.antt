@@ -18,7 +18,7 @@ use Rattle.ash_compile.proofs.Simulation.{continued_then, goes_by, step_is, then
 use Rattle.ash_compile.proofs.Statements.{arrives_then, ticks_first, ticked_stands, spent, ticks_in, Ranked, LeadsTo}
 use Rattle.ash_compile.proofs.Leaving.{releases_at, released_stands}
 
-released_ticks : (a b : Activity) → releases.release a ≡ Done tt b → b.ticks ≡ a.ticks
+pub released_ticks : (a b : Activity) → releases.release a ≡ Done tt b → b.ticks ≡ a.ticks
 unfolding releases.release
 released_ticks a b is = ap (λ (p : Progress (Unit {0})). ticks_in a.ticks p) (sym is)
 

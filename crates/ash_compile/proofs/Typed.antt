@@ -39,7 +39,7 @@ left_in (done left) = left
 left_in (ended safe) = tt
 left_in (no_step offers) = tt
 
-left_done : {A : Type 0} {c : Context} {Left : A → Activity → Type 0} {p : Progress A} (v : A) (b : Activity)
+pub left_done : {A : Type 0} {c : Context} {Left : A → Activity → Type 0} {p : Progress A} (v : A) (b : Activity)
     → Leaves c Left p → p ≡ Done v b → Left v b
 left_done {Left = Left} v b leaves is = subst (λ (q : Progress _). LeftIn Left q) is (left_in leaves)
 
@@ -85,7 +85,7 @@ no_handle_in_integer int_type p all w (is_integer i) = integer_has_none w i
 
 -- words of a list of types
 
-values_long : {p : Program} {all : LiveObjects (List ℕ)} {types : List VarType} {ws : List Word} → AreValues p all types ws
+pub values_long : {p : Program} {all : LiveObjects (List ℕ)} {types : List VarType} {ws : List Word} → AreValues p all types ws
     → length ws ≡ length types
 values_long no_values = refl
 values_long (and_value v vs) = ap suc (values_long vs)
