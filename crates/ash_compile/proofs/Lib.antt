@@ -13,3 +13,4 @@ pub mod Emission
 pub mod Typed
 pub mod Emitted
 pub mod TypedStatements
+pub mod StatementCode

@@ -10,7 +10,7 @@ use Rattle.ash_typed.specs.declared.types.VarType.{VarType}
 use Rattle.ash_typed.specs.TypeOf.{ValueType}
 use Rattle.ash_typed.specs.TypedTree.{Expr}
 use Rattle.ash_typed.specs.StatementTree.{Stmt}
-use Rattle.ash_typed.specs.SoundExpressions.{IsWellTyped}
+use Rattle.ash_typed.specs.SoundExpressions.{TypedEnvironment, IsWellTyped}
 use Rattle.ash_typed.specs.SoundStatements.{TypedScope, IsSoundStmt, IsEvaluated, MayBeSoundCondition}
 use Rattle.ash_meaning.specs.Activity.{Activity, in_frame}
 use Rattle.ash_meaning.specs.Runs.{Run, Progress, Done, Ended, NoStep, onward, give, skip, ◌>>=◌, ◌>>◌, out_of_ticks}
@@ -23,6 +23,7 @@ use Rattle.ash_meaning.specs.StatementMeaning.{Flow, On, Broke, Continued, Retur
 use Rattle.ash_meaning.specs.StatementMeaning.{statement, condition, condition_or_true, evaluate, evaluate_all}
 use Rattle.ash_meaning.specs.MeaningLaws.{LeavesAtMost}
 use Rattle.ash_meaning.proofs.Ticks.{ticks_fall}
+use Rattle.ash_soundness.specs.WellFormed.{IsWellFormed}
 use Rattle.ash_soundness.specs.WellFormedLaws.{Leads, IsLeftBy, by_itself, by_break, by_continue, by_return}
 use Rattle.ash_soundness.proofs.SoundStaysSound as sound
 use Rattle.ash_soundness.proofs.Frames.{tick_goes, release_passes, end_passes}
@@ -35,9 +36,11 @@ use Rattle.ash_compile.proofs.Loops.{Spends, Whole, released_ticks}
 abbrev pub Ready : Scene → Activity → Type 0
 Ready s a = Good s a × (a.ticks ≤ s.depth)
 
--- Objects have ranks in every well-formed activity of the function.
+-- Objects have ranks in every well-formed activity whose callers are those of the function.
 abbrev pub IsRanked : Scene → Type 0
-IsRanked s = (a : Activity) → Good s a → ((s.setting).test).has_ranks a.world ≡ true
+IsRanked s =
+    (env : TypedEnvironment) (a : Activity) → IsWellFormed s.context env s.envs a
+    → ((s.setting).test).has_ranks a.world ≡ true
 
 -- how a phrase came to its value
 
