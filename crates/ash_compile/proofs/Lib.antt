@@ -14,3 +14,4 @@ pub mod Typed
 pub mod Emitted
 pub mod TypedStatements
 pub mod StatementCode
+pub mod BlockCode

@@ -55,7 +55,7 @@ stays_good s e of a b v scene typed good ran = ((evaluates s e of a b v scene ty
 
 -- words of a type
 
-alive_of : (w : Word) (o : Option ℕ) (a : Activity) → handle w ≡ o
+pub alive_of : (w : Word) (o : Option ℕ) (a : Activity) → handle w ≡ o
     → ((n : ℕ) → o ≡ Some n → Lives (a.world).objects n) → is_alive w a ≡ true
 alive_of w None a is lives = ap (λ (o : Option ℕ). option_map_or (λ number. is_some (object_at number (a.world).objects)) o true) is
 alive_of w (Some n) a is lives =
