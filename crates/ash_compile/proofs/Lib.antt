@@ -15,3 +15,5 @@ pub mod Emitted
 pub mod TypedStatements
 pub mod StatementCode
 pub mod BlockCode
+pub mod SwitchCode
+pub mod ForCode
