@@ -17,3 +17,4 @@ pub mod StatementCode
 pub mod BlockCode
 pub mod SwitchCode
 pub mod ForCode
+pub mod FunctionCode
