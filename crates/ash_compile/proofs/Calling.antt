@@ -59,7 +59,7 @@ left_is : (word : Word) (b : Activity)
 unfolding leave
 left_is word b = refl
 
-grouped : {A B C : Type 0} (p : Progress A) (f : A → Run B) (g : B → Run C)
+pub grouped : {A B C : Type 0} (p : Progress A) (f : A → Run B) (g : B → Run C)
     → onward (onward p f) g ≡ onward p (λ v b. onward (f v b) g)
 grouped (Done v b) f g = refl
 grouped (Ended e b) f g = refl

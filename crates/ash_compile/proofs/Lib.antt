@@ -18,3 +18,4 @@ pub mod BlockCode
 pub mod SwitchCode
 pub mod ForCode
 pub mod FunctionCode
+pub mod Constructing
