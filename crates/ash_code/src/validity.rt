@@ -1,12 +1,13 @@
 //! Which code is valid.
 //!
 //! Valid code names slots of its frame, jumps to instructions of its function, back only by a tick, and calls functions
-//! that are there. A function begins with the tick of its entry. So a machine tests none of this while it runs, and its
-//! ticks bound its instructions.
+//! that are there. A function begins with the tick of its entry. The initializers of a module, which nothing calls, need
+//! none. So a machine tests none of this while it runs, and its ticks bound its instructions.
 ghost use Rattle.std.specs.Prelude.{◌≡◌, ◌<◌, length};
+ghost use Rattle.std.specs.List.{list_all};
 ghost use Rattle.ash_code.specs.Validity as validity;
 
-use crate::code::{CodeParts, FunctionCode};
+use crate::code::{ClassCode, CodeParts, FunctionCode, ImplementationCode};
 use crate::instruction::Instruction;
 
 // Whether as many slots from one on as there are arguments are below a number.
@@ -226,9 +227,9 @@ fn is_valid_function(code: &CodeParts, function: &FunctionCode) -> bool
         && are_valid(code, function)
 }
 
-/// Whether code is valid.
-pub fn is_valid(code: &CodeParts) -> bool
-    ensures valid { result ≡ validity.is_valid code.now }
+// Whether every function is valid.
+fn are_valid_functions(code: &CodeParts) -> bool
+    ensures valid { result ≡ list_all (validity.is_valid_function code.now) code.now.functions.items }
 {
     for function in &code.functions {
         if !is_valid_function(code, function) {
@@ -236,4 +237,54 @@ pub fn is_valid(code: &CodeParts) -> bool
         }
     }
     true
+}
+
+// Whether the initializers of a module are valid.
+fn is_valid_init(code: &CodeParts, init: &FunctionCode) -> bool
+    ensures valid { result ≡ validity.is_valid_init code.now init.now }
+{
+    init.line == 1 && init.parameters == 0 && !init.instructions.is_empty() && are_valid(code, init)
+}
+
+// Whether the methods of a class for an interface are among so many functions.
+fn has_functions(count: usize, implementation: &ImplementationCode) -> bool
+    ensures has { result ≡ validity.has_functions count implementation.now }
+{
+    implementation
+        .methods
+        .iter()
+        .all(|function| *function < count)
+}
+
+// Whether the methods of a class are among so many functions.
+fn is_valid_class(count: usize, class: &ClassCode) -> bool
+    ensures valid { result ≡ validity.is_valid_class count class.now }
+{
+    for implementation in &class.interfaces {
+        if !has_functions(count, implementation) {
+            return false;
+        }
+    }
+    true
+}
+
+// Whether every class is valid.
+fn are_valid_classes(count: usize, classes: &[ClassCode]) -> bool
+    ensures valid { result ≡ list_all (validity.is_valid_class count) classes.now }
+{
+    for class in classes {
+        if !is_valid_class(count, class) {
+            return false;
+        }
+    }
+    true
+}
+
+/// Whether code is valid.
+pub fn is_valid(code: &CodeParts) -> bool
+    ensures valid { result ≡ validity.is_valid code.now }
+{
+    are_valid_functions(code)
+        && is_valid_init(code, &code.init)
+        && are_valid_classes(code.functions.len(), &code.classes)
 }

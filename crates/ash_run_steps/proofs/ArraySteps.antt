@@ -48,7 +48,6 @@ use Rattle.ash_run_steps.specs.PartSteps.{words_at}
 use Rattle.ash_run_steps.specs.RunStates.{State, Names, HoldsMore, shown, bare, is_alive_in}
 use Rattle.ash_run_steps.proofs.Bare.{alive_shown}
 use Rattle.ash_run_steps.proofs.ChangedObjects.{words_in_shown, changed_activity, keeps_changed, becomes_kept, then_held}
-use Rattle.ash_run_steps.proofs.ClassSteps.{handle_is}
 use Rattle.ash_run_steps.proofs.Composed.{becomes_by, guarded_same}
 use Rattle.ash_run_steps.proofs.HoldSteps.{at_table}
 use Rattle.ash_run_steps.proofs.LocalSteps.{guard_off, and_second}
@@ -66,6 +65,15 @@ lt_on count many is = grind (arith, nat_tests)
 
 lt_off : (count many : ℕ) → many ≤ count → nat_lt count many ≡ false
 lt_off count many is = grind (arith, nat_tests)
+
+handle_is : (w : Word) (n : ℕ) → handle w ≡ Some n → w ≡ words.Object n
+handle_is (words.Object m) n is = let same : m ≡ n = cc in ap words.Object same
+handle_is (words.Bool b) n is = absurd (cc)
+handle_is (words.Int z) n is = absurd (cc)
+handle_is (words.Uint k) n is = absurd (cc)
+handle_is (words.Int64 z) n is = absurd (cc)
+handle_is (words.Uint64 k) n is = absurd (cc)
+handle_is words.Null n is = absurd (cc)
 
 -- what a resize leaves
 

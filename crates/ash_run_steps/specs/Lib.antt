@@ -1,6 +1,6 @@
 pub mod ArrayGuards
 pub mod Becoming
-pub mod ClassTables
+pub mod ClassPlaces
 pub mod FrameChanges
 pub mod FrameSteps
 pub mod GlobalSteps

@@ -1,11 +1,13 @@
 //! Who answers a call, and what is made of an answer.
-ghost use Rattle.std.specs.Prelude.{◌≡◌, ◌≤◌, length, false, IsTrue, IsSomeAnd, IfOk, None, slice_get};
+ghost use Rattle.std.specs.Prelude.{◌≡◌, ◌≤◌, length, false, IsTrue, IsSomeAnd, IfOk, IsErrOf, None, slice_get};
+ghost use Rattle.ash_host.specs.declared.answer.HostAnswer.{HostAnswer};
 ghost use Rattle.ash_host.specs.Limits.{max_state_bytes};
 ghost use Rattle.ash_host.specs.Objects.{handle};
 ghost use Rattle.ash_meaning.specs.Activity.{Activity};
 ghost use Rattle.ash_meaning.specs.HostSteps.{is_of as is_of_type, accept};
 ghost use Rattle.ash_objects.specs.Responses.{box_at};
 ghost use Rattle.ash_run_steps.specs.HostGuards.{IsMade};
+ghost use Rattle.ash_run_steps.specs.declared.stop.Stop.{Stop};
 
 use crate::stop::Stop;
 use ash_host::{HostAnswer, HostObject, Word};
@@ -63,6 +65,7 @@ fn is_of_type(of: VarType, word: Word) -> bool
 pub(crate) fn accept(declared: Option<VarType>, answer: HostAnswer) -> Result<Word, Stop>
     ensures made { (activity : Activity) → IsMade (accept declared answer activity) result activity }
     ensures plain { IfOk result (λ word. handle word ≡ None) }
+    ensures memory { IsErrOf result Stop.NoMemory → answer ≡ HostAnswer.NoMemory }
 {
     match (answer, declared) {
         (HostAnswer::Nothing, None) => Ok(Word::Null),

@@ -1,6 +1,6 @@
 //! Arrays.
 ghost use Rattle.std.specs.Prelude.{◌≡◌, ◌∷◌, ◌-◌, [], All, ℕ, OnOk, OnErr, IfOk};
-ghost use Rattle.std.specs.Prelude.{is_some, IsSome};
+ghost use Rattle.std.specs.Prelude.{is_some, IsSome, IsErrOf};
 ghost use Rattle.std.specs.Prelude.{length, drop, ◌+◌, ◌<◌, ◌^◌};
 ghost use Rattle.ash_host.specs.Objects.{handles, Lives};
 ghost use Rattle.ash_meaning.specs.ArraySteps.{natural_of, resize};
@@ -15,6 +15,7 @@ ghost use Rattle.ash_run_steps.specs.Guarded.{give, plain};
 ghost use Rattle.ash_run_steps.specs.Keeping.{keeping};
 ghost use Rattle.ash_run_steps.specs.PartSteps.{words_at};
 ghost use Rattle.ash_run_steps.specs.RunStates.{Names, HoldsMore};
+ghost use Rattle.ash_run_steps.specs.declared.stop.Stop.{Stop};
 
 use crate::counting::{handle, hold_word, is_alive};
 use crate::holding::push_handle;
@@ -107,6 +108,7 @@ impl<B: HostObject> RunState<B> {
     pub fn element_at(&self, array: Word, index: Word) -> Result<Element, Stop>
         ensures element { (names : Names) → Comes B.HostObject names (element_at array index) self.now
             result self.now }
+        ensures memory { IsErrOf result Stop.NoMemory → ⊥ }
     {
         let Some(number) = handle(array) else {
             return Err(Stop::Raised(Exception::NullPointerAccess));

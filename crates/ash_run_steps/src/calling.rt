@@ -8,6 +8,8 @@ ghost use Rattle.ash_run_steps.specs.FrameChanges.{entering};
 ghost use Rattle.ash_run_steps.specs.FrameSteps.{call};
 ghost use Rattle.ash_run_steps.specs.Guarded.{plain};
 ghost use Rattle.ash_run_steps.specs.RunStates.{Names};
+ghost use Rattle.std.specs.Prelude.{IsErrOf};
+ghost use Rattle.ash_run_steps.specs.declared.stop.Stop.{Stop};
 
 use crate::counting::handle;
 use crate::state::RunState;
@@ -25,6 +27,7 @@ impl<B: HostObject> RunState<B> {
             self.now result self.now }
         ensures number { IfOk result (λ number. handle word ≡ Some number) }
         ensures none { OnErr result (handle word ≡ None) }
+        ensures memory { IsErrOf result Stop.NoMemory → ⊥ }
     {
         match handle(word) {
             Some(number) => Ok(number),
@@ -37,6 +40,7 @@ impl<B: HostObject> RunState<B> {
         ensures demanded { (names : Names) → Comes B.HostObject names (plain frames.demand_frame)
             self.now result self.now }
         ensures room { OnOk result (length self.now.frames.callers < 255) }
+        ensures memory { IsErrOf result Stop.NoMemory → ⊥ }
     {
         if self.stack.depth() < MAX_FRAMES - 1 {
             Ok(())

@@ -7,6 +7,8 @@ ghost use Rattle.ash_run_steps.specs.Becoming.{Comes, Becomes};
 ghost use Rattle.ash_run_steps.specs.FrameChanges.{in_running, with_word, declaring};
 ghost use Rattle.ash_run_steps.specs.FrameSteps.{declare, read_local};
 ghost use Rattle.ash_run_steps.specs.Guarded.{plain, give};
+ghost use Rattle.std.specs.Prelude.{IsErrOf};
+ghost use Rattle.ash_run_steps.specs.declared.stop.Stop.{Stop};
 ghost use Rattle.ash_run_steps.specs.RunStates.{Names, shown};
 ghost use Rattle.ash_run_steps.specs.Stacks.{locals_of};
 
@@ -66,6 +68,7 @@ impl<B: HostObject> RunState<B> {
             self.old result self.new }
         ensures frames { OnOk result (self.new.frames ≡ in_running declaring self.old.frames) }
         ensures unchanged { OnErr result (self.new.frames ≡ self.old.frames) }
+        ensures memory { IsErrOf result Stop.NoMemory → ⊥ }
     {
         let count = self.stack.count();
         let Some(word) = self.stack.word(count) else {
@@ -85,6 +88,7 @@ impl<B: HostObject> RunState<B> {
         ensures read { (names : Names) → Comes B.HostObject names (read_local slot) self.now result
             self.now }
         ensures word { IfOk result (λ word. slice_get (locals_of self.now.frames.frame) slot ≡ Some word) }
+        ensures memory { IsErrOf result Stop.NoMemory → ⊥ }
     {
         match self.stack.local(slot) {
             Some(word) => Ok(word),

@@ -1,5 +1,5 @@
 //! What frames hold until a full expression ends.
-ghost use Rattle.std.specs.Prelude.{◌≡◌, ◌∷◌, ◌++◌, [], ℕ, Ok, OnOk, OnErr};
+ghost use Rattle.std.specs.Prelude.{◌≡◌, ◌∷◌, ◌++◌, [], ℕ, Ok, OnOk, OnErr, IsErrOf};
 ghost use Rattle.ash_host.specs.Objects.{handles};
 ghost use Rattle.ash_meaning.specs.Releases as releases;
 ghost use Rattle.ash_meaning.specs.Activity.{in_frame};
@@ -11,6 +11,7 @@ ghost use Rattle.ash_run_steps.specs.FrameChanges.{in_running};
 ghost use Rattle.ash_run_steps.specs.Guarded.{plain};
 ghost use Rattle.ash_run_steps.specs.GuardedSteps.{hold};
 ghost use Rattle.ash_run_steps.specs.RunStates.{Names};
+ghost use Rattle.ash_run_steps.specs.declared.stop.Stop.{Stop};
 
 use crate::counting::{handle, hold_word, is_alive, unhold_numbers};
 use crate::stack::Stack;
@@ -63,6 +64,7 @@ impl<B: HostObject> RunState<B> {
         ensures ticked { (names : Names) → Comes B.HostObject names (plain (frames.tick line)) self.old
             result self.new }
         ensures frames { self.new.frames ≡ in_running (framed.at_line line) self.old.frames }
+        ensures memory { IsErrOf result Stop.NoMemory → ⊥ }
     {
         self.stack.set_line(line);
         if self.ticks == 0 {

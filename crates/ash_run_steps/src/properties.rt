@@ -1,9 +1,10 @@
 //! Properties of host objects.
-ghost use Rattle.std.specs.Prelude.{◌≡◌, IfOk, None};
+ghost use Rattle.std.specs.Prelude.{◌≡◌, IfOk, IsErrOf, None};
 ghost use Rattle.ash_host.specs.Objects.{handle};
 ghost use Rattle.ash_run_steps.specs.Becoming.{Comes};
 ghost use Rattle.ash_run_steps.specs.HostGuards.{get_property, set_property};
 ghost use Rattle.ash_run_steps.specs.RunStates.{Names};
+ghost use Rattle.ash_run_steps.specs.declared.stop.Stop.{Stop};
 
 use crate::answering::{accept, is_host};
 use crate::state::RunState;
@@ -19,6 +20,7 @@ impl<B: HostObject> RunState<B> {
         ensures read { (names : Names) → Comes B.HostObject names (get_property number property of)
             self.now result self.now }
         ensures plain { IfOk result (λ word. handle word ≡ None) }
+        ensures memory { IsErrOf result Stop.NoMemory → ⊥ }
     {
         if !is_host(&self.table, number) {
             return Err(Stop::Unsound);
@@ -34,6 +36,7 @@ impl<B: HostObject> RunState<B> {
         ensures written { (names : Names) → Comes B.HostObject names
             (set_property number property word) self.old result self.new }
         ensures frames { self.new.frames ≡ self.old.frames }
+        ensures memory { IsErrOf result Stop.NoMemory → ⊥ }
     {
         if !is_host(&self.table, number) {
             return Err(Stop::Unsound);

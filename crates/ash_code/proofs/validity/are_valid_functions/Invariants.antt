@@ -1,7 +1,7 @@
 use Rattle.std.proofs.Common.{◌≡◌, drop}
 use Rattle.std.specs.List.{list_all}
 use Rattle.ash_code.specs.Validity as validity
-use Rattle.ash_code.proofs.validity.is_valid.Given as goal
+use Rattle.ash_code.proofs.validity.are_valid_functions.Given as goal
 
 abbrev pub invariant-loop-function : goal.invariant-loop-function
 invariant-loop-function l =
