@@ -51,12 +51,13 @@ impl<B: HostObject> RunState<B> {
 
     /// Calls a function or a method: a frame is entered at a line if there is room for one more, and takes a tick
     /// there. Its slots are those of its caller from one on, and its arguments, which are its first locals, are in the
-    /// first of them.
+    /// first of them. The caller goes on from an instruction when the frame is left.
     pub fn call(
         &mut self,
         function: usize,
         line: u32,
         this: Word,
+        back: usize,
         at: usize,
         count: usize,
     ) -> Result<(), Stop>
@@ -65,12 +66,12 @@ impl<B: HostObject> RunState<B> {
         ensures called { (names : Names) → Comes B.HostObject names
             (call (names.functions function) line this
             (take count (drop at self.old.frames.frame.slots))) self.old result self.new }
-        ensures frames { OnOk result (self.new.frames ≡ entering function line this at count
+        ensures frames { OnOk result (self.new.frames ≡ entering function line this back at count
             self.old.frames) }
         ensures few { OnOk result (length self.new.frames.callers < 256) }
     {
         self.demand_frame()?;
-        self.enter(function, line, this, at, count)?;
+        self.enter(function, line, this, back, at, count)?;
         self.tick(line)
     }
 }

@@ -1,5 +1,5 @@
 //! Slots, locals that are declared and read, and the object whose method runs.
-ghost use Rattle.std.specs.Prelude.{◌≡◌, ◌<◌, ◌≤◌, List, length, Some, OnOk, OnErr, IfOk, slice_get, slice_index_or};
+ghost use Rattle.std.specs.Prelude.{◌≡◌, ◌<◌, ◌≤◌, ◌∷◌, List, length, Some, OnOk, OnErr, IfOk, slice_get, slice_index_or};
 ghost use Rattle.ash_host.specs.declared.word.Word.TheVariants as words;
 ghost use Rattle.ash_host.specs.Records.{HostRecord};
 ghost use Rattle.ash_meaning.specs.Locations as locations;
@@ -10,7 +10,7 @@ ghost use Rattle.ash_run_steps.specs.Guarded.{plain, give};
 ghost use Rattle.std.specs.Prelude.{IsErrOf};
 ghost use Rattle.ash_run_steps.specs.declared.stop.Stop.{Stop};
 ghost use Rattle.ash_run_steps.specs.RunStates.{Names, shown};
-ghost use Rattle.ash_run_steps.specs.Stacks.{locals_of};
+ghost use Rattle.ash_run_steps.specs.Stacks.{StackFrame, locals_of};
 
 use crate::counting::{hold_word, is_alive};
 use crate::state::RunState;
@@ -45,6 +45,31 @@ impl<B: HostObject> RunState<B> {
         ensures depth { result ≡ length self.now.frames.callers }
     {
         self.stack.depth()
+    }
+
+    /// The instruction that the caller of the frame that runs goes on from.
+    pub fn back(&self) -> usize
+        ensures back { result ≡ self.now.frames.frame.back }
+    {
+        self.stack.back()
+    }
+
+    /// How many slots of its caller are below those of the frame that runs. Its locals are among them.
+    pub fn began(&self) -> usize
+        requires called { 0 < length self.now.frames.callers }
+        ensures began { (caller : StackFrame) × (callers : List StackFrame)
+            × (self.now.frames.callers ≡ caller ∷ callers) × (result ≡ length caller.slots)
+            × (caller.count ≤ length caller.slots) }
+    {
+        self.stack.began()
+    }
+
+    /// The function of the frame that runs.
+    pub fn function(&self) -> usize
+        ensures function { result ≡ self.now.frames.frame.function }
+    {
+        let (function, _line) = self.stack.place();
+        function
     }
 
     /// Writes a word into a slot that is no local.

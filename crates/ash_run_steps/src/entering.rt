@@ -12,12 +12,13 @@ use ash_host::{HostObject, Word};
 
 impl<B: HostObject> RunState<B> {
     /// Enters a frame of a function at a line. Its slots are those of its caller from one on, and its arguments, which
-    /// are its first locals, are in the first of them.
+    /// are its first locals, are in the first of them. The caller goes on from an instruction when the frame is left.
     pub fn enter(
         &mut self,
         function: usize,
         line: u32,
         this: Word,
+        back: usize,
         at: usize,
         count: usize,
     ) -> Result<(), Stop>
@@ -26,7 +27,7 @@ impl<B: HostObject> RunState<B> {
         ensures entered { (names : Names) → Comes B.HostObject names
             (enter (names.functions function) line this
             (take count (drop at self.old.frames.frame.slots))) self.old result self.new }
-        ensures frames { OnOk result (self.new.frames ≡ entering function line this at count
+        ensures frames { OnOk result (self.new.frames ≡ entering function line this back at count
             self.old.frames) }
         ensures unchanged { OnErr result (self.new.frames ≡ self.old.frames) }
     {
@@ -37,7 +38,7 @@ impl<B: HostObject> RunState<B> {
             return Err(Stop::Unsound);
         }
         self.stack.facts();
-        self.stack.enter(function, line, this, at, count)?;
+        self.stack.enter(function, line, this, back, at, count)?;
         hold_word(&mut self.table, this);
         hold_words(&mut self.table, self.stack.locals());
         Ok(())

@@ -17,6 +17,8 @@ struct Frame {
     function: usize,
     line: u32,
     this: Word,
+    /// The instruction that its caller goes on from.
+    back: usize,
     /// The index of its first slot.
     base: usize,
     /// How many of its slots are locals.
@@ -87,6 +89,7 @@ impl Stack {
                 function,
                 line,
                 this: Word::Null,
+                back: 0,
                 base: 0,
                 count,
                 mark: 0,
@@ -111,6 +114,26 @@ impl Stack {
         ensures depth { result ≡ length self.now.callers }
     {
         self.callers.len()
+    }
+
+    /// The instruction that the caller of the frame that runs goes on from.
+    pub fn back(&self) -> usize
+        ensures back { result ≡ self.now.frame.back }
+    {
+        self.frame.back
+    }
+
+    /// How many slots of its caller are below those of the frame that runs.
+    pub fn began(&self) -> usize
+        requires called { 0 < length self.now.callers }
+        ensures began { (caller : StackFrame) × (callers : List StackFrame)
+            × (self.now.callers ≡ caller ∷ callers) × (result ≡ length caller.slots)
+            × (caller.count ≤ length caller.slots) }
+    {
+        let Some(caller) = self.callers.last() else {
+            unreachable!()
+        };
+        self.frame.base - caller.base
     }
 
     /// How many slots the frame that runs has.
@@ -283,12 +306,14 @@ impl Stack {
         &self.slots[first..first + count]
     }
 
-    /// Enters a frame, whose slots are those of its caller from this one on. So many of them are its locals.
+    /// Enters a frame, whose slots are those of its caller from one on. So many of them are its locals. The caller goes
+    /// on from an instruction when it is left.
     pub fn enter(
         &mut self,
         function: usize,
         line: u32,
         this: Word,
+        back: usize,
         at: usize,
         count: usize,
     ) -> Result<(), NoMemory>
@@ -299,6 +324,7 @@ impl Stack {
             function = function;
             line = line;
             this = this;
+            back = back;
             slots = drop at self.old.frame.slots;
             count = count;
             held = [];
@@ -312,6 +338,7 @@ impl Stack {
             function,
             line,
             this,
+            back,
             base: self.frame.base + at,
             count,
             mark: self.held.len(),

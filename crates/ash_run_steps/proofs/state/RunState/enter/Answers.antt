@@ -51,11 +51,11 @@ invariant_of-self-2 g c =
     let a = c.args in
     let more = rw (c.locals.ensures.locals, c.in_ok-enter.ensures.entered) at c.hold_words.ensures.held in
     let above = rw (← c.self.view_is) at c.requires.above in
-    rw c.in_ok-enter.ensures.entered (counts_more (handles (a.this ∷ []) ++ handles (arguments a.at a.count (state_with s.table s.stack s.globals.items s.outside.items s.events.items s.ticks))) (state_with s.table s.stack s.globals.items s.outside.items s.events.items s.ticks) (at_table c.hold_words.new.table (entered a.function a.line a.this a.at a.count (state_with s.table s.stack s.globals.items s.outside.items s.events.items s.ticks))) (more_then (handles (a.this ∷ [])) _ s.table c.hold_word.new.table c.hold_words.new.table c.hold_word.ensures.held more) (λ m. times_entered m a.function a.line a.this a.at a.count (state_with s.table s.stack s.globals.items s.outside.items s.events.items s.ticks) above) c.self.invariant)
+    rw c.in_ok-enter.ensures.entered (counts_more (handles (a.this ∷ []) ++ handles (arguments a.at a.count (state_with s.table s.stack s.globals.items s.outside.items s.events.items s.ticks))) (state_with s.table s.stack s.globals.items s.outside.items s.events.items s.ticks) (at_table c.hold_words.new.table (entered a.function a.line a.this a.back a.at a.count (state_with s.table s.stack s.globals.items s.outside.items s.events.items s.ticks))) (more_then (handles (a.this ∷ [])) _ s.table c.hold_word.new.table c.hold_words.new.table c.hold_word.ensures.held more) (λ m. times_entered m a.function a.line a.this a.back a.at a.count (state_with s.table s.stack s.globals.items s.outside.items s.events.items s.ticks) above) c.self.invariant)
 
 pub returns-clause-entered : goal.returns-clause-entered
 returns-clause-entered g c =
     let s = c.self.inside in
     let a = c.args in
     let above = rw (← c.self.view_is) at c.requires.above in
-    λ names. rw (← c.self.view_is, c.in_ok-enter.ensures.entered) (enter_gives g.B.HostObject names a.function a.line a.this a.at a.count (state_with s.table s.stack s.globals.items s.outside.items s.events.items s.ticks) c.hold_words.new.table (c.hold_words.ensures.held.same ∙ c.hold_word.ensures.held.same) above)
+    λ names. rw (← c.self.view_is, c.in_ok-enter.ensures.entered) (enter_gives g.B.HostObject names a.function a.line a.this a.back a.at a.count (state_with s.table s.stack s.globals.items s.outside.items s.events.items s.ticks) c.hold_words.new.table (c.hold_words.ensures.held.same ∙ c.hold_word.ensures.held.same) above)
