@@ -1,0 +1,83 @@
+-- What code that is emitted for a phrase does, wherever it stands.
+use Rattle.std.specs.Prelude.{◌≡◌, ◌≤◌, ◌<◌, ℕ, ◌+◌, List, [], ◌∷◌, ◌++◌, length, max, Option, Some, slice_get}
+use Rattle.ash_typed.specs.TypeOf.{ValueType}
+use Rattle.ash_typed.specs.TypedTree.{Expr}
+use Rattle.ash_typed.specs.SoundExpressions.{TypedEnvironment, IsWellTyped}
+use Rattle.ash_meaning.specs.Activity.{Activity}
+use Rattle.ash_meaning.specs.CallMeaning.{Calls}
+use Rattle.ash_meaning.specs.ExpressionMeaning.{expression}
+use Rattle.ash_meaning.specs.Functions.{calls_within}
+use Rattle.ash_soundness.specs.WellFormed.{Context, IsContext, declared, IsWellFormed}
+use Rattle.ash_code.specs.declared.instruction.Instruction.{Instruction}
+use Rattle.ash_code.specs.Performing.{Setting}
+use Rattle.ash_code.specs.Running.{instruction_at}
+use Rattle.ash_compile.specs.declared.builder.CodeBuilder.{CodeBuilder}
+use Rattle.ash_compile.specs.Stretches.{Computes}
+
+-- code that is written
+
+abbrev pub code_of : CodeBuilder → List Instruction
+code_of builder = (builder.instructions).items
+
+abbrev pub end_of : CodeBuilder → ℕ
+end_of builder = length (code_of builder)
+
+-- The code grew, and what was there stays.
+pub record Keeps (old new : CodeBuilder) : Type 0 where
+  pub longer : end_of old ≤ end_of new
+  pub same : (k : ℕ) → k < end_of old → slice_get (code_of new) k ≡ slice_get (code_of old) k
+  pub slots : old.slots ≤ new.slots
+
+-- One instruction more, which names a slot.
+pub record Puts (old new : CodeBuilder) (slot : ℕ) (i : Instruction) : Type 0 where
+  pub code : code_of new ≡ code_of old ++ i ∷ []
+  pub slots : new.slots ≡ max old.slots (slot + 1)
+
+-- where it stands
+
+-- A function of a module that runs in a frame of so many slots, or more: how deep calls go, and what its expressions
+-- see.
+pub record Scene : Type 0 where
+  pub setting : Setting
+  pub context : Context
+  pub depth : ℕ
+  pub env : TypedEnvironment
+  pub envs : List TypedEnvironment
+  pub function : ℕ
+  pub room : ℕ
+
+-- The module is sound.
+pub record IsScene (s : Scene) : Type 0 where
+  pub sound : IsContext s.context
+  pub declares : (s.env).signatures ≡ declared s.context
+
+abbrev pub calls_of : Scene → Calls
+calls_of s = calls_within (s.context).program s.depth
+
+-- activities in which the expressions of the function run
+abbrev pub Good : Scene → Activity → Type 0
+Good s = IsWellFormed s.context s.env s.envs
+
+-- The function has this code from one place to another.
+abbrev pub Stands : Scene → List Instruction → ℕ → ℕ → Type 0
+Stands s code from to =
+    (k : ℕ) → from ≤ k → k < to
+    → instruction_at (s.setting).code (record { function = s.function; at = k }) ≡ slice_get code k
+
+-- expressions
+
+-- From here to there the code does what an expression does, and has its value in a slot.
+abbrev pub DoesExpression : Scene → Expr → ℕ → ℕ → ℕ → Type 0
+DoesExpression s e from to slot =
+    Computes s.setting (Good s) s.function s.room (expression (calls_of s) e) from to slot
+
+-- The code has grown by that of an expression: wherever it stands, it does what the expression does if that is well
+-- typed there.
+pub record Emits (old new : CodeBuilder) (e : Expr) (slot : ℕ) : Type 0 where
+  pub keeps : Keeps old new
+  pub does : (s : Scene) (of : ValueType)
+      → IsScene s
+      → IsWellTyped s.env e of
+      → Stands s (code_of new) (end_of old) (end_of new)
+      → new.slots ≤ s.room
+      → DoesExpression s e (end_of old) (end_of new) slot

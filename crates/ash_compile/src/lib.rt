@@ -1,0 +1,9 @@
+//! Compiled code of typed modules.
+//!
+//! `specs/Stretches.antt` says when a stretch of code does what a phrase does, and `specs/Emission.antt` what emitted
+//! code does, wherever it stands.
+//!
+//! In reading order: `builder`, `expressions`.
+#![tactic(auto)]
+
+pub mod builder;
