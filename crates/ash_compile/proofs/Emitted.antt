@@ -16,6 +16,8 @@ use Rattle.ash_typed.specs.declared.tree.operations.Operation.TheVariants as ope
 use Rattle.ash_typed.specs.declared.tree.operations.Change.{Change}
 use Rattle.ash_typed.specs.TypeOf.{ValueType, value}
 use Rattle.ash_typed.specs.TypedTree.{Expr, Number, Truth, Null, This, Read, Convert, Alter, Operate, Stored, converted}
+use Rattle.ash_typed.specs.declared.tree.expressions.ExprKind.{ExprKind}
+use Rattle.ash_typed.specs.TypedTreeViews.{expr_in}
 use Rattle.ash_typed.specs.SoundExpressions as typing
 use Rattle.ash_typed.specs.SoundExpressions.{TypedEnvironment, IsWellTyped}
 use Rattle.ash_meaning.specs.Activity.{Activity}
@@ -27,16 +29,22 @@ use Rattle.ash_run_steps.specs.GuardedSteps.{is_alive}
 use Rattle.ash_code.specs.declared.instruction.Instruction.{Instruction}
 use Rattle.ash_code.specs.declared.instruction.Instruction.TheVariants as i
 use Rattle.ash_compile.specs.declared.builder.CodeBuilder.{CodeBuilder}
-use Rattle.ash_compile.specs.Emission.{code_of, end_of, Keeps, Puts, Scene, IsScene, Good, Stands, DoesExpression, Emits, calls_of}
-use Rattle.ash_compile.proofs.Expressions as run
+use Rattle.ash_compile.specs.Emission.{code_of, end_of, Keeps, Puts, Scene, IsScene, Good, Stands, DoesExpression, Emits, calls_of, read_local}
+use Rattle.ash_compile.proofs.Phrases as run
 use Rattle.ash_compile.proofs.Emission.{HasAt, emits_one, emits_then, emits_both}
-use Rattle.ash_compile.proofs.Typed.{stays_good, value_alive, local_there, local_value, this_alive, global_alive, HasNoHandle}
+use Rattle.ash_compile.proofs.Typed.{stays_good, value_alive, local_there, local_value, this_alive, global_alive, HasNoHandle, no_handle_in_bool, no_handle_in_integer}
 
 -- what is Ok stays so
 
 pub if_ok : {A E : Type 0} {P Q : A → Type 0} (r : Result A E) → ((v : A) → P v → Q v) → IfOk r P → IfOk r Q
 if_ok (Ok v) next holds = next v holds
 if_ok (Err e) next holds = tt
+
+-- what the code's tree stands for
+pub of_kind : (old new : CodeBuilder) (k l : ExprKind) (e : Expr) (slot : ℕ) → k ≡ l → expr_in l ≡ e → Emits old new e slot
+    → Emits old new (expr_in k) slot
+of_kind old new k l e slot is means emits =
+    subst (λ (x : Expr). Emits old new x slot) (sym (ap expr_in is ∙ means)) emits
 
 -- one instruction
 
@@ -91,6 +99,18 @@ plain_local old new n slot of none puts =
     run.plain_local s.setting (Good s) s.function s.room n from slot within has
     (λ a good. local_there s a n of good (typed_local typed))
     (λ a good. none (s.context).program (a.world).objects _ (local_value s a n of good (typed_local typed))))
+
+pub a_local : (old new : CodeBuilder) (n : ℕ) (of : VarType) (slot : ℕ) (j : Instruction) → j ≡ read_local n of slot
+    → Puts old new slot j → Emits old new (Read (Stored (variables.Local n of))) slot
+a_local old new n vars.Bool slot j is puts =
+    plain_local old new n slot vars.Bool no_handle_in_bool (subst (λ (x : Instruction). Puts old new slot x) is puts)
+a_local old new n (vars.Integer t) slot j is puts =
+    plain_local old new n slot (vars.Integer t) (no_handle_in_integer t)
+    (subst (λ (x : Instruction). Puts old new slot x) is puts)
+a_local old new n (vars.Object of) slot j is puts =
+    local old new n slot (vars.Object of) (subst (λ (x : Instruction). Puts old new slot x) is puts)
+a_local old new n (vars.Handle of) slot j is puts =
+    local old new n slot (vars.Handle of) (subst (λ (x : Instruction). Puts old new slot x) is puts)
 
 pub global : (old new : CodeBuilder) (n slot : ℕ) (of : VarType) → Puts old new slot (i.ReadGlobal n slot)
     → Emits old new (Read (Stored (variables.Global n of))) slot

@@ -8,6 +8,7 @@ pub mod Switches
 pub mod Calling
 pub mod Functions
 pub mod Expressions
+pub mod Phrases
 pub mod Branches
 pub mod Emission
 pub mod Typed
@@ -19,3 +20,5 @@ pub mod SwitchCode
 pub mod ForCode
 pub mod FunctionCode
 pub mod Constructing
+pub mod EmittedBranches
+pub mod EmittedRows

@@ -1,5 +1,7 @@
 -- What code that is emitted for a phrase does, wherever it stands.
-use Rattle.std.specs.Prelude.{◌≡◌, ◌≤◌, ◌<◌, ℕ, ◌+◌, List, [], ◌∷◌, ◌++◌, length, max, Option, Some, slice_get}
+use Rattle.std.specs.Prelude.{◌≡◌, ◌≤◌, ◌<◌, ℕ, ◌+◌, List, [], ◌∷◌, ◌++◌, length, max, Option, Some, slice_get, slice_set}
+use Rattle.ash_typed.specs.declared.types.VarType.{VarType}
+use Rattle.ash_typed.specs.declared.types.VarType.TheVariants as vars
 use Rattle.ash_typed.specs.TypeOf.{ValueType}
 use Rattle.ash_typed.specs.TypedTree.{Expr}
 use Rattle.ash_typed.specs.SoundExpressions.{TypedEnvironment, IsWellTyped}
@@ -8,7 +10,10 @@ use Rattle.ash_meaning.specs.CallMeaning.{Calls}
 use Rattle.ash_meaning.specs.ExpressionMeaning.{expression}
 use Rattle.ash_meaning.specs.Functions.{calls_within}
 use Rattle.ash_soundness.specs.WellFormed.{Context, IsContext, declared, IsWellFormed}
+use Rattle.ash_typed.specs.declared.tree.operations.Lazy.{Lazy}
+use Rattle.ash_typed.specs.declared.tree.operations.Lazy.TheVariants as lazies
 use Rattle.ash_code.specs.declared.instruction.Instruction.{Instruction}
+use Rattle.ash_code.specs.declared.instruction.Instruction.TheVariants as i
 use Rattle.ash_code.specs.Performing.{Setting}
 use Rattle.ash_code.specs.Running.{instruction_at}
 use Rattle.ash_compile.specs.declared.builder.CodeBuilder.{CodeBuilder}
@@ -32,6 +37,22 @@ pub record Keeps (old new : CodeBuilder) : Type 0 where
 pub record Puts (old new : CodeBuilder) (slot : ℕ) (i : Instruction) : Type 0 where
   pub code : code_of new ≡ code_of old ++ i ∷ []
   pub slots : new.slots ≡ max old.slots (slot + 1)
+
+-- One instruction is another one now.
+pub record Leads (old new : CodeBuilder) (at : ℕ) (i : Instruction) : Type 0 where
+  pub code : code_of new ≡ slice_set (code_of old) at i
+  pub slots : new.slots ≡ old.slots
+
+-- what leaves the value of a lazy operator to its right operand, or jumps over that
+abbrev pub lazy_jump : Lazy → ℕ → ℕ → Instruction
+lazy_jump lazies.And condition to = i.JumpUnless condition to
+lazy_jump lazies.Or condition to = i.JumpIf condition to
+
+-- what reads a local: what may be a handle is held
+abbrev pub read_local : ℕ → VarType → ℕ → Instruction
+read_local from vars.Bool to = i.Move from to
+read_local from (vars.Integer int_type) to = i.Move from to
+read_local from _ to = i.Hold from to
 
 -- where it stands
 

@@ -1,7 +1,7 @@
 //! The code of a function while it is written.
 
-ghost use Rattle.std.specs.Prelude.{IfOk};
-ghost use Rattle.ash_compile.specs.Emission.{Puts};
+ghost use Rattle.std.specs.Prelude.{◌≡◌, ◌<◌, IfOk};
+ghost use Rattle.ash_compile.specs.Emission.{end_of, Puts, Leads};
 
 use ash_code::instruction::Instruction;
 use std::alloc::AllocError;
@@ -27,5 +27,20 @@ impl CodeBuilder {
         self.instructions.push(instruction)?;
         self.slots = self.slots.max(slots);
         Ok(())
+    }
+
+    /// The place of the next instruction.
+    pub fn here(&self) -> usize
+        ensures place { result ≡ end_of self.now }
+    {
+        self.instructions.len()
+    }
+
+    /// Writes a jump again, once its target is known.
+    pub fn lead(&mut self, at: usize, jump: Instruction)
+        requires there { at < end_of self.now }
+        ensures leads { Leads self.old self.new at jump }
+    {
+        self.instructions[at] = jump;
     }
 }

@@ -7,3 +7,4 @@
 #![tactic(auto)]
 
 pub mod builder;
+pub mod expressions;

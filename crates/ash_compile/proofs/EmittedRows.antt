@@ -1,0 +1,25 @@
+-- Rows of operands, one after the other.
+use Rattle.std.proofs.Common.{◌≡◌, ◌<◌, ◌≤◌, ℕ, ◌+◌, List, [], ◌∷◌, length, get_or, drop, refl, sym, ap, ◌∙◌}
+use Rattle.std.proofs.lemmas.List.{drop_more, drop_all}
+use Rattle.ash_typed.specs.declared.tree.expressions.Expr as expr_code
+use Rattle.ash_typed.specs.declared.tree.expressions.Operand as operand_code
+use Rattle.ash_typed.specs.declared.tree.operations.Lazy.{Lazy}
+use Rattle.ash_typed.specs.TypedTree.{Expr, Lazily}
+use Rattle.ash_typed.specs.TypedTreeViews.{expr_of, chained, all_chained, all_lazies}
+
+pub chain_step : (e : Expr) (os : List operand_code.Operand) (k : ℕ) (o : operand_code.Operand) → k < length os
+    → o ≡ get_or os k o → all_chained (chained e o) (drop (k + 1) os) ≡ all_chained e (drop k os)
+chain_step e os k o low is =
+    sym (ap (all_chained e) (drop_more os k o low ∙ ap (λ (x : operand_code.Operand). x ∷ drop (k + 1) os) (sym is)))
+
+pub chain_end : (e f : Expr) (os : List operand_code.Operand) (k : ℕ) → length os ≤ k → all_chained e (drop k os) ≡ f → e ≡ f
+chain_end e f os k over is = sym (ap (all_chained e) (drop_all k os over)) ∙ is
+
+pub lazy_step : (op : Lazy) (e : Expr) (xs : List expr_code.Expr) (k : ℕ) (x : expr_code.Expr) → k < length xs
+    → x ≡ get_or xs k x → all_lazies op (Lazily op e (expr_of x)) (drop (k + 1) xs) ≡ all_lazies op e (drop k xs)
+lazy_step op e xs k x low is =
+    sym (ap (all_lazies op e) (drop_more xs k x low ∙ ap (λ (y : expr_code.Expr). y ∷ drop (k + 1) xs) (sym is)))
+
+pub lazy_end : (op : Lazy) (e f : Expr) (xs : List expr_code.Expr) (k : ℕ) → length xs ≤ k
+    → all_lazies op e (drop k xs) ≡ f → e ≡ f
+lazy_end op e f xs k over is = sym (ap (all_lazies op e) (drop_all k xs over)) ∙ is

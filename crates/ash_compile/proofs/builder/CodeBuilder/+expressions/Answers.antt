@@ -1,0 +1,157 @@
+use Rattle.std.proofs.Common.{rules, ◌≡◌, IfOk, ℕ, ◌+◌, refl, sym, ap, ◌∙◌, subst}
+use Rattle.ash_host.specs.declared.word.Word.{Word}
+use Rattle.ash_code.specs.declared.instruction.Instruction.TheVariants as i
+use Rattle.ash_typed.proofs.Rows.{chain_is, lazy_is}
+use Rattle.ash_typed.specs.declared.tree.expressions.Expr as expr_code
+use Rattle.ash_typed.specs.declared.tree.expressions.Operand as operand_code
+use Rattle.std.proofs.Common.{List}
+use Rattle.ash_code.specs.declared.instruction.Instruction.{Instruction}
+use Rattle.ash_typed.specs.TypedTree.{Expr, Lazily, converted}
+use Rattle.ash_typed.specs.TypedTreeViews.{expr_of, chained, all_chained, all_lazies}
+use Rattle.ash_compile.specs.Emission.{Puts, Leads, Emits, end_of, lazy_jump}
+use Rattle.ash_compile.proofs.Emitted.{if_ok, of_kind}
+use Rattle.ash_compile.proofs.Emitted as emitted
+use Rattle.ash_compile.proofs.EmittedBranches as branches
+use Rattle.ash_compile.proofs.EmittedRows.{chain_step, chain_end, lazy_step, lazy_end}
+use Rattle.ash_compile.proofs.builder.CodeBuilder.+expressions.Goals as goal
+
+pub chain-loop-operand-init : goal.chain-loop-operand-init
+chain-loop-operand-init t c = (expr_of c.args.first.now, c.in_ok-expression.ensures.emits, refl)
+
+pub chain-loop-operand-preserved : goal.chain-loop-operand-preserved
+chain-loop-operand-preserved t c = (chained c.loop-operand.invariant.0 c.operand-item.result,
+    c.in_ok-operand.ensures.emits c.args.self.now c.loop-operand.invariant.0 c.loop-operand.invariant.1,
+    chain_step c.loop-operand.invariant.0 c.args.operands.now c.loop-operand.operand-index c.operand-item.result c.loop-operand-test.true c.operand-item.is ∙ c.loop-operand.invariant.2)
+
+pub chain-returns : goal.chain-returns
+chain-returns t c = record {
+  emits = subst (λ (x : Expr). Emits c.args.self.now c.loop-operand.self x c.args.slot)
+      (chain_end c.loop-operand.invariant.0 _ c.args.operands.now c.loop-operand.operand-index c.loop-operand-test.false c.loop-operand.invariant.2) c.loop-operand.invariant.1;
+}
+
+pub lazy_row-loop-other-init : goal.lazy_row-loop-other-init
+lazy_row-loop-other-init t c = (expr_of c.args.first.now, c.in_ok-expression.ensures.emits, refl)
+
+pub lazy_row-loop-other-preserved : goal.lazy_row-loop-other-preserved
+lazy_row-loop-other-preserved t c = (Lazily c.args.operator c.loop-other.invariant.0 (expr_of c.other-item.result),
+    c.in_ok-lazily.ensures.emits c.args.self.now c.loop-other.invariant.0 c.loop-other.invariant.1,
+    lazy_step c.args.operator c.loop-other.invariant.0 c.args.others.now c.loop-other.other-index c.other-item.result c.loop-other-test.true c.other-item.is ∙ c.loop-other.invariant.2)
+
+pub lazy_row-returns : goal.lazy_row-returns
+lazy_row-returns t c = record {
+  emits = subst (λ (x : Expr). Emits c.args.self.now c.loop-other.self x c.args.slot)
+      (lazy_end c.args.operator c.loop-other.invariant.0 _ c.args.others.now c.loop-other.other-index c.loop-other-test.false c.loop-other.invariant.2) c.loop-other.invariant.1;
+}
+
+pub lazily-returns : goal.lazily-returns
+lazily-returns t c = record {
+  emits = λ start e first.
+      branches.lazily start c.args.self.now c.put.new.self c.expression.new.self c.lead.new.self c.args.operator e
+      (expr_of c.args.right.now) c.args.slot c.here-end.result c.jump_over.result first c.in_ok-put.ensures.puts
+      c.in_ok-expression.ensures.emits c.here-end.ensures.place
+      (subst (λ (k : ℕ). Leads c.expression.new.self c.lead.new.self k (lazy_jump c.args.operator c.args.slot c.here-end.result)) c.here-branch.ensures.place
+      (subst (λ (j : Instruction). Leads c.expression.new.self c.lead.new.self c.here-branch.result j) c.jump_over-2.ensures.jump c.lead.ensures.leads));
+}
+
+pub operand-returns : goal.operand-returns
+operand-returns t c = record {
+  emits = if_ok c.operation.result
+      (λ u then start e first.
+      then start c.conversion_before.new.self (converted c.args.operand.now.before e) (expr_of c.args.operand.now.value)
+      (c.in_ok-conversion_before.ensures.emits start e first)
+      (subst (λ (r : ℕ). Emits c.conversion_before.new.self c.expression.new.self (expr_of c.args.operand.now.value) r) c.in_ok-right.ensures.next c.in_ok-expression.ensures.emits))
+      c.operation.ensures.emits;
+}
+
+pub conditional-returns : goal.conditional-returns
+conditional-returns t c = record {
+  emits = branches.conditional c.args.self.now c.expression.new.self c.put.new.self c.expression-2.new.self c.put-2.new.self
+      c.expression-3.new.self c.lead.new.self c.lead-2.new.self (expr_of c.args.condition.now) (expr_of c.args.then.now)
+      (expr_of c.args.otherwise.now) c.args.slot c.here-other.result c.here-end.result (i.JumpUnless c.args.slot 0) (i.Jump 0)
+      c.in_ok-expression.ensures.emits c.in_ok-put.ensures.puts c.in_ok-expression-2.ensures.emits c.in_ok-put-2.ensures.puts
+      c.in_ok-expression-3.ensures.emits c.here-other.ensures.place c.here-end.ensures.place
+      (subst (λ (k : ℕ). Leads c.expression-3.new.self c.lead.new.self k (i.JumpUnless c.args.slot c.here-other.result)) c.here-branch.ensures.place c.lead.ensures.leads)
+      (subst (λ (k : ℕ). Leads c.lead.new.self c.lead-2.new.self k (i.Jump c.here-end.result)) c.here-back.ensures.place c.lead-2.ensures.leads);
+}
+
+pub expression-returns-in-Number : goal.expression-returns-in-Number
+expression-returns-in-Number t c = record {
+  emits = if_ok c.put.result
+      (λ u puts. of_kind c.args.self.now c.put.new.self c.args.expr.now.kind.value _ _ c.args.slot (sym c.deref.ensures ∙ c.in-Number.is) refl
+      (emitted.number c.args.self.now c.put.new.self c.in-Number.of c.in-Number.value c.args.slot
+      (subst (λ (w : Word). Puts c.args.self.now c.put.new.self c.args.slot (i.Load w c.args.slot)) c.numeral-word.ensures.word puts)))
+      c.put.ensures.puts;
+}
+
+pub expression-returns-in-Bool : goal.expression-returns-in-Bool
+expression-returns-in-Bool t c = record {
+  emits = if_ok c.put-in-Bool.result
+      (λ u puts. of_kind c.args.self.now c.put-in-Bool.new.self c.args.expr.now.kind.value _ _ c.args.slot (sym c.deref.ensures ∙ c.in-Bool.is) refl
+      (emitted.truth c.args.self.now c.put-in-Bool.new.self _ c.args.slot puts))
+      c.put-in-Bool.ensures.puts;
+}
+
+pub expression-returns-in-Null : goal.expression-returns-in-Null
+expression-returns-in-Null t c = record {
+  emits = if_ok c.put-in-Null.result
+      (λ u puts. of_kind c.args.self.now c.put-in-Null.new.self c.args.expr.now.kind.value _ _ c.args.slot (sym c.deref.ensures ∙ c.in-Null.is) refl
+      (emitted.nothing c.args.self.now c.put-in-Null.new.self c.args.slot puts))
+      c.put-in-Null.ensures.puts;
+}
+
+pub expression-returns-in-This : goal.expression-returns-in-This
+expression-returns-in-This t c = record {
+  emits = if_ok c.put-in-This.result
+      (λ u puts. of_kind c.args.self.now c.put-in-This.new.self c.args.expr.now.kind.value _ _ c.args.slot (sym c.deref.ensures ∙ c.in-This.is) refl
+      (emitted.own c.args.self.now c.put-in-This.new.self _ c.args.slot puts))
+      c.put-in-This.ensures.puts;
+}
+
+pub expression-returns-in-Variable : goal.expression-returns-in-Variable
+expression-returns-in-Variable t c = record {
+  emits = if_ok c.variable.result
+      (λ u emits. of_kind c.args.self.now c.variable.new.self c.args.expr.now.kind.value _ _ c.args.slot (sym c.deref.ensures ∙ c.in-Variable.is) (refl)
+      (emits))
+      c.variable.ensures.emits;
+}
+
+pub expression-returns-in-Chain : goal.expression-returns-in-Chain
+expression-returns-in-Chain t c = record {
+  emits = if_ok c.chain.result
+      (λ u emits. of_kind c.args.self.now c.chain.new.self c.args.expr.now.kind.value _ _ c.args.slot (sym c.deref.ensures ∙ c.in-Chain.is) (chain_is c.in-Chain.first c.in-Chain.operands)
+      (subst (λ (os : List operand_code.Operand). Emits c.args.self.now c.chain.new.self (all_chained (expr_of c.in-Chain.first) os) c.args.slot) c.deref-in-Chain.ensures.value emits))
+      c.chain.ensures.emits;
+}
+
+pub expression-returns-in-Lazy : goal.expression-returns-in-Lazy
+expression-returns-in-Lazy t c = record {
+  emits = if_ok c.lazy_row.result
+      (λ u emits. of_kind c.args.self.now c.lazy_row.new.self c.args.expr.now.kind.value _ _ c.args.slot (sym c.deref.ensures ∙ c.in-Lazy.is) (lazy_is c.in-Lazy.operator c.in-Lazy.first c.in-Lazy.others)
+      (subst (λ (xs : List expr_code.Expr). Emits c.args.self.now c.lazy_row.new.self (all_lazies c.in-Lazy.operator (expr_of c.in-Lazy.first) xs) c.args.slot) c.deref-in-Lazy.ensures.value emits))
+      c.lazy_row.ensures.emits;
+}
+
+pub expression-returns-in-Conditional : goal.expression-returns-in-Conditional
+expression-returns-in-Conditional t c = record {
+  emits = if_ok c.conditional.result
+      (λ u emits. of_kind c.args.self.now c.conditional.new.self c.args.expr.now.kind.value _ _ c.args.slot (sym c.deref.ensures ∙ c.in-Conditional.is) (refl)
+      (emits))
+      c.conditional.ensures.emits;
+}
+
+pub expression-returns-in_ok-expression-in-Convert : goal.expression-returns-in_ok-expression-in-Convert
+expression-returns-in_ok-expression-in-Convert t c = record {
+  emits = if_ok c.conversion.result
+      (λ u emits. of_kind c.args.self.now c.conversion.new.self c.args.expr.now.kind.value _ _ c.args.slot (sym c.deref.ensures ∙ c.in-Convert.is) (refl)
+      (emits c.args.self.now (expr_of c.in-Convert.value) c.in_ok-expression-in-Convert.ensures.emits))
+      c.conversion.ensures.emits;
+}
+
+pub expression-returns-in_ok-expression-in-Change : goal.expression-returns-in_ok-expression-in-Change
+expression-returns-in_ok-expression-in-Change t c = record {
+  emits = if_ok c.put-in-Change.result
+      (λ u puts. of_kind c.args.self.now c.put-in-Change.new.self c.args.expr.now.kind.value _ _ c.args.slot (sym c.deref.ensures ∙ c.in-Change.is) refl
+      (emitted.alter c.args.self.now c.expression-in-Change.new.self c.put-in-Change.new.self c.in-Change.change (expr_of c.in-Change.operand) c.args.slot c.in_ok-expression-in-Change.ensures.emits puts))
+      c.put-in-Change.ensures.puts;
+}
+

@@ -1,0 +1,39 @@
+use Rattle.std.proofs.Common.{◌≡◌, ◌+◌, ◌*◌, drop, max}
+use denote.Param.Weighed.{most}
+use Rattle.ash_typed.specs.declared.tree.expressions.Expr.{size-Expr}
+use Rattle.ash_typed.specs.declared.tree.expressions.Operand.{size-Operand}
+use Rattle.ash_typed.specs.TypedTree.{Expr}
+use Rattle.ash_typed.specs.TypedTreeViews.{expr_of, all_chained, all_lazies}
+use Rattle.ash_compile.specs.Emission.{Emits}
+use Rattle.ash_compile.proofs.builder.CodeBuilder.+expressions.Given as goal
+
+-- the depth of what a function goes down, and how near it is to the next expression
+
+abbrev pub decreases-expression : goal.decreases-expression
+decreases-expression l = 4 * size-Expr l.expr.now
+
+abbrev pub decreases-conditional : goal.decreases-conditional
+decreases-conditional l =
+    4 * max (size-Expr l.condition.now) (max (size-Expr l.then.now) (size-Expr l.otherwise.now)) + 1
+
+abbrev pub decreases-chain : goal.decreases-chain
+decreases-chain l = 4 * max (size-Expr l.first.now) (most size-Operand l.operands.now) + 2
+
+abbrev pub decreases-lazy_row : goal.decreases-lazy_row
+decreases-lazy_row l = 4 * max (size-Expr l.first.now) (most size-Expr l.others.now) + 3
+
+abbrev pub decreases-operand : goal.decreases-operand
+decreases-operand l = 4 * size-Operand l.operand.now
+
+abbrev pub decreases-lazily : goal.decreases-lazily
+decreases-lazily l = 4 * size-Expr l.right.now + 1
+
+-- What is emitted is some expression; with what is left of the row it is the whole.
+
+abbrev pub invariant-chain-loop-operand : goal.invariant-chain-loop-operand
+invariant-chain-loop-operand l =
+    (e : Expr) × (Emits l.fn.self l.self e l.slot) × (all_chained e (drop l.operand-index l.operands) ≡ all_chained (expr_of l.first) l.operands)
+
+abbrev pub invariant-lazy_row-loop-other : goal.invariant-lazy_row-loop-other
+invariant-lazy_row-loop-other l =
+    (e : Expr) × (Emits l.fn.self l.self e l.slot) × (all_lazies l.operator e (drop l.other-index l.others) ≡ all_lazies l.operator (expr_of l.first) l.others)

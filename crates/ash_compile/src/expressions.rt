@@ -1,0 +1,277 @@
+//! The code of expressions. Operands and arguments go from left to right.
+//!
+//! An expression leaves its value in a slot of no local, and uses no slot below that. Its parts use the slots from
+//! there on.
+
+ghost use Rattle.std.specs.Prelude.{◌≡◌, ◌+◌, IfOk, pos};
+ghost use Rattle.ash_typed.specs.TypedTree.{Expr as ExprData, Read, Stored, Alter, Operate, Lazily, Conditional, converted};
+ghost use Rattle.ash_typed.specs.TypedTreeViews.{expr_of, chained, all_chained, all_lazies};
+ghost use Rattle.ash_meaning.specs.OperatorMeaning.{word_at};
+ghost use Rattle.ash_compile.specs.Emission.{Emits, lazy_jump, read_local};
+ghost use Rattle.ash_compile.specs.declared.builder.CodeBuilder.{CodeBuilder as Written};
+
+use crate::builder::CodeBuilder;
+use ash_code::instruction::Instruction;
+use ash_host::Word;
+use ash_integers::{IntType, word_from};
+use ash_typed::{Conversion, Expr, ExprKind, Lazy, Operand, Operation, VarType, Variable};
+use std::alloc::AllocError;
+
+/// The slot after one.
+fn after(slot: usize) -> Result<usize, AllocError>
+    ensures next { IfOk result (λ next. next ≡ slot + 1) }
+{
+    slot.checked_add(1).ok_or(AllocError)
+}
+
+/// A number that a script writes.
+fn numeral(int_type: IntType, value: u64) -> Word
+    ensures word { result ≡ word_at int_type (pos value) }
+{
+    word_from(int_type, i128::from(value))
+}
+
+/// A jump over the right operand of a lazy operator.
+fn jump_over(operator: Lazy, condition: usize, to: usize) -> Instruction
+    ensures jump { result ≡ lazy_jump operator condition to }
+{
+    match operator {
+        Lazy::And => Instruction::JumpUnless { condition, to },
+        Lazy::Or => Instruction::JumpIf { condition, to },
+    }
+}
+
+/// Reads a local. What may be a handle is held.
+fn read_local(from: usize, of: VarType, to: usize) -> Instruction
+    ensures read { result ≡ read_local from of to }
+{
+    match of {
+        VarType::Bool | VarType::Integer(_) => Instruction::Move { from, to },
+        VarType::Object(_) | VarType::Handle(_) => Instruction::Hold { from, to },
+    }
+}
+
+impl CodeBuilder {
+    /// Appends the code of an expression, which leaves its value in a slot.
+    ///
+    /// # Errors
+    ///
+    /// If there is no memory, or there are no more slots.
+    #[cycle(expressions)]
+    pub fn expression(&mut self, expr: &Expr, slot: usize) -> Result<(), AllocError>
+        ensures emits { IfOk result (λ u. Emits self.old self.new (expr_of expr.now) slot) }
+    {
+        match &*expr.kind {
+            ExprKind::Number { of, value } => {
+                let word = numeral(*of, *value);
+                self.put(slot, Instruction::Load { word, to: slot })
+            }
+            ExprKind::Bool(value) => self.put(
+                slot,
+                Instruction::Load {
+                    word: Word::Bool(*value),
+                    to: slot,
+                },
+            ),
+            ExprKind::Null => self.put(
+                slot,
+                Instruction::Load {
+                    word: Word::Null,
+                    to: slot,
+                },
+            ),
+            ExprKind::This(_) => self.put(slot, Instruction::This { to: slot }),
+            ExprKind::Variable(variable) => self.variable(*variable, slot),
+            ExprKind::Convert { conversion, value } => {
+                self.expression(value, slot)?;
+                self.conversion(*conversion, slot)
+            }
+            ExprKind::Change { change, operand } => {
+                self.expression(operand, slot)?;
+                self.put(
+                    slot,
+                    Instruction::Alter {
+                        change: *change,
+                        from: slot,
+                        to: slot,
+                    },
+                )
+            }
+            ExprKind::Chain { first, operands } => self.chain(first, operands, slot),
+            ExprKind::Lazy {
+                operator,
+                first,
+                others,
+            } => self.lazy_row(*operator, first, others, slot),
+            ExprKind::Conditional {
+                condition,
+                then,
+                otherwise,
+            } => self.conditional(condition, then, otherwise, slot),
+            _ => Err(AllocError),
+        }
+    }
+
+    /// What a variable holds.
+    fn variable(&mut self, variable: Variable, slot: usize) -> Result<(), AllocError>
+        ensures emits { IfOk result (λ u. Emits self.old self.new (Read (Stored variable)) slot) }
+    {
+        match variable {
+            Variable::Local { slot: from, of } => self.put(slot, read_local(from, of, slot)),
+            Variable::Global { place, .. } => {
+                self.put(slot, Instruction::ReadGlobal { place, to: slot })
+            }
+        }
+    }
+
+    /// Converts the value of a slot.
+    fn conversion(&mut self, conversion: Conversion, slot: usize) -> Result<(), AllocError>
+        ensures emits { IfOk result (λ u. (start : Written) (e : ExprData) → Emits start self.old e slot
+            → Emits start self.new (converted (Some conversion) e) slot) }
+    {
+        self.put(
+            slot,
+            Instruction::Convert {
+                int_type: conversion.to,
+                from: slot,
+                to: slot,
+            },
+        )
+    }
+
+    /// Converts the value of a slot where a conversion is named.
+    fn conversion_before(&mut self, before: Option<Conversion>, slot: usize) -> Result<(), AllocError>
+        ensures emits { IfOk result (λ u. (start : Written) (e : ExprData) → Emits start self.old e slot
+            → Emits start self.new (converted before e) slot) }
+    {
+        match before {
+            None => Ok(()),
+            Some(conversion) => self.conversion(conversion, slot),
+        }
+    }
+
+    /// What an operator makes of the values of a slot and the next one.
+    fn operation(&mut self, operation: Operation, slot: usize, right: usize) -> Result<(), AllocError>
+        requires next { right ≡ slot + 1 }
+        ensures emits { IfOk result (λ u. (start mid : Written) (a b : ExprData) → Emits start mid a slot
+            → Emits mid self.old b (slot + 1) → Emits start self.new (Operate operation a b) slot) }
+    {
+        match operation {
+            Operation::Calculate(calculation) => self.put(
+                slot,
+                Instruction::Calculate {
+                    calculation,
+                    left: slot,
+                    right,
+                    to: slot,
+                },
+            ),
+            Operation::Compare(comparator, operands) => self.put(
+                slot,
+                Instruction::Compare {
+                    comparator,
+                    operands,
+                    left: slot,
+                    right,
+                    to: slot,
+                },
+            ),
+        }
+    }
+
+    /// What an operator with its right operand makes of the value of a slot.
+    #[cycle(expressions)]
+    fn operand(&mut self, operand: &Operand, slot: usize) -> Result<(), AllocError>
+        ensures emits { IfOk result (λ u. (start : Written) (e : ExprData) → Emits start self.old e slot
+            → Emits start self.new (chained e operand.now) slot) }
+    {
+        self.conversion_before(operand.before, slot)?;
+        let right = after(slot)?;
+        self.expression(&operand.value, right)?;
+        self.operation(operand.operation, slot, right)
+    }
+
+    /// What operators make of the value of an expression, one after the other.
+    #[cycle(expressions)]
+    fn chain(&mut self, first: &Expr, operands: &[Operand], slot: usize) -> Result<(), AllocError>
+        ensures emits { IfOk result (λ u. Emits self.old self.new
+            (all_chained (expr_of first.now) operands.now) slot) }
+    {
+        self.expression(first, slot)?;
+        for operand in operands {
+            self.operand(operand, slot)?;
+        }
+        Ok(())
+    }
+
+    /// What a lazy operator with its right operand makes of the value of a slot.
+    #[cycle(expressions)]
+    fn lazily(&mut self, operator: Lazy, right: &Expr, slot: usize) -> Result<(), AllocError>
+        ensures emits { IfOk result (λ u. (start : Written) (e : ExprData) → Emits start self.old e slot
+            → Emits start self.new (Lazily operator e (expr_of right.now)) slot) }
+    {
+        let branch = self.here();
+        self.put(slot, jump_over(operator, slot, 0))?;
+        self.expression(right, slot)?;
+        let end = self.here();
+        self.lead(branch, jump_over(operator, slot, end));
+        Ok(())
+    }
+
+    /// What a lazy operator makes of a row of operands.
+    #[cycle(expressions)]
+    fn lazy_row(
+        &mut self,
+        operator: Lazy,
+        first: &Expr,
+        others: &[Expr],
+        slot: usize,
+    ) -> Result<(), AllocError>
+        ensures emits { IfOk result (λ u. Emits self.old self.new
+            (all_lazies operator (expr_of first.now) others.now) slot) }
+    {
+        self.expression(first, slot)?;
+        for other in others {
+            self.lazily(operator, other, slot)?;
+        }
+        Ok(())
+    }
+
+    /// `condition ? then : otherwise`
+    #[cycle(expressions)]
+    fn conditional(
+        &mut self,
+        condition: &Expr,
+        then: &Expr,
+        otherwise: &Expr,
+        slot: usize,
+    ) -> Result<(), AllocError>
+        ensures emits { IfOk result (λ u. Emits self.old self.new
+            (Conditional (expr_of condition.now) (expr_of then.now) (expr_of otherwise.now)) slot) }
+    {
+        self.expression(condition, slot)?;
+        let branch = self.here();
+        self.put(
+            slot,
+            Instruction::JumpUnless {
+                condition: slot,
+                to: 0,
+            },
+        )?;
+        self.expression(then, slot)?;
+        let back = self.here();
+        self.put(slot, Instruction::Jump { to: 0 })?;
+        let other = self.here();
+        self.expression(otherwise, slot)?;
+        let end = self.here();
+        self.lead(
+            branch,
+            Instruction::JumpUnless {
+                condition: slot,
+                to: other,
+            },
+        );
+        self.lead(back, Instruction::Jump { to: end });
+        Ok(())
+    }
+}
