@@ -1,0 +1,5 @@
+pub mod Entries
+pub mod Jumps
+pub mod Loops
+pub mod Puts
+pub mod Returns

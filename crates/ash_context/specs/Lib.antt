@@ -1,0 +1,4 @@
+pub mod Calls
+pub mod Composed
+pub mod Positions
+pub mod Turns
