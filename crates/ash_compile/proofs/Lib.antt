@@ -7,7 +7,6 @@ pub mod Loops
 pub mod Switches
 pub mod Calling
 pub mod Functions
-pub mod Expressions
 pub mod Phrases
 pub mod Branches
 pub mod Emission
