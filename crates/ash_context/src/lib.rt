@@ -6,15 +6,19 @@
 //! and does what `denote` of the code says: `HasRun` in `specs/Turns.antt` is its invariant.
 //!
 //! Code that was compiled from a sound module never ends with `Stop::Unsound`. Of a run that ends so nothing is said.
-//! These instructions are not done yet, and end so too: `AddNumber`, `Cast`, those of globals, fields, elements and
-//! properties, `CallInterface`, `Construct`, and those of arrays and host objects.
+//! These instructions are not done yet, and end so too: `AddNumber`, and those of globals, fields, elements and arrays.
 //!
 //! In reading order: `turning` (what is left after an instruction), `storing` (slots), `operators`, `calculating`,
-//! `stepping` (statements), `jumping`, `calling`, `returning`, `running`.
+//! `stepping` (statements), `jumping`, `calling`, `returning`, `classes` (of objects), `casting` (casts, and calls by an
+//! interface), `constructing`, `hosts` (host objects and services), `running`.
 #![tactic(auto)]
 
 mod calculating;
 pub mod calling;
+mod casting;
+mod classes;
+mod constructing;
+mod hosts;
 mod jumping;
 mod operators;
 mod returning;
