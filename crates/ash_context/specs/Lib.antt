@@ -1,4 +1,5 @@
 pub mod Calls
 pub mod Composed
+pub mod Members
 pub mod Positions
 pub mod Turns

@@ -11,7 +11,7 @@ ghost use Rattle.ash_host.specs.declared.word.Word.TheVariants as words;
 ghost use Rattle.ash_host.specs.Records.{HostRecord};
 ghost use Rattle.ash_run_steps.specs.Becoming.{Comes};
 ghost use Rattle.ash_run_steps.specs.FrameChanges.{in_running, with_word};
-ghost use Rattle.ash_run_steps.specs.Guarded.{Guarded};
+ghost use Rattle.ash_run_steps.specs.Guarded.{Guarded, ◌>>◌};
 ghost use Rattle.ash_run_steps.specs.RunStates.{Names, State, shown};
 
 use crate::turning::{Turn, going_on};
@@ -102,6 +102,26 @@ pub(crate) fn store_given<B: HostObject>(
 {
     match step {
         Ok(word) => store(state, at, to, word),
+        Err(stop) => Err(stop),
+    }
+}
+
+/// Stores null after a step that has no value, unless it ended the run.
+pub(crate) fn store_null<B: HostObject>(
+    step: Result<(), Stop>,
+    state: &mut RunState<B>,
+    at: usize,
+    to: usize,
+) -> Result<Turn, Stop>
+    requires within { at < usize.MAX }
+    ensures put { (s : Setting) (run : Guarded (Unit {0})) (c : Control) (start : State B)
+        → Comes B.HostObject s.names run start step state.old
+        → OnOk step (control_of at state.old.frames ≡ c)
+        → Comes B.HostObject s.names (run >> put to c words.Null) start (came_to result state.new.frames)
+        state.new }
+{
+    match step {
+        Ok(()) => store(state, at, to, Word::Null),
         Err(stop) => Err(stop),
     }
 }
