@@ -1,10 +1,8 @@
 //! Instructions that ask for the class of an object: casts, and calls by an interface.
-ghost use Rattle.std.specs.Prelude.{◌≡◌, ◌<◌, ℕ};
-ghost use Rattle.ash_code.specs.Performing.{perform, call, own_name, classes_of};
-ghost use Rattle.ash_code.specs.Steps.{method_of};
+ghost use Rattle.std.specs.Prelude.{◌≡◌, ◌<◌};
+ghost use Rattle.ash_code.specs.Performing.{perform};
+ghost use Rattle.ash_context.specs.Asked.{call_through};
 ghost use Rattle.ash_context.specs.Turns.{DoesIn};
-ghost use Rattle.ash_host.specs.declared.word.Word.{Word};
-ghost use Rattle.ash_run_steps.specs.Guarded.{◌>>=◌};
 
 use crate::calling::call_with;
 use crate::classes::{cast, method_of};
@@ -45,8 +43,8 @@ fn call_through<B: HostObject>(
     first: usize,
 ) -> Result<Turn, Stop>
     requires within { at < usize.MAX }
-    ensures called { DoesIn B.HostObject code.now (λ s c. method_of (own_name s) (classes_of s) interface method number
-        >>= (λ function. call s function (Word.Object number) first c)) at state.old result state.new }
+    ensures called { DoesIn B.HostObject code.now (λ s. call_through s interface method number first) at
+        state.old result state.new }
 {
     match method_of(code, state, interface, method, number) {
         Ok(function) => call_with(code, state, at, function, Word::Object(number), first),

@@ -1,11 +1,9 @@
 //! Objects of classes that are constructed.
-ghost use Rattle.std.specs.Prelude.{◌≡◌, ◌<◌, ℕ, option_copied, slice_get};
+ghost use Rattle.std.specs.Prelude.{◌≡◌, ◌<◌, option_copied, slice_get};
 ghost use Rattle.ash_code.specs.Performing.{perform, construct as construct_class};
+ghost use Rattle.ash_context.specs.Asked.{new_object};
 ghost use Rattle.ash_context.specs.Turns.{DoesIn};
-ghost use Rattle.ash_meaning.specs.Frames as frames;
 ghost use Rattle.ash_run_steps.specs.Becoming.{Comes};
-ghost use Rattle.ash_run_steps.specs.Guarded.{plain, ◌>>◌};
-ghost use Rattle.ash_run_steps.specs.MakingSteps.{make_script};
 ghost use Rattle.ash_run_steps.specs.RunStates.{Names};
 
 use crate::calling::enter_at;
@@ -29,9 +27,8 @@ fn new_object<B: HostObject>(
     state: &mut RunState<B>,
     class: &ClassCode,
 ) -> Result<u64, Stop>
-    ensures made { (names : Names) → Comes B.HostObject names (plain frames.demand_frame
-        >> make_script (names.modules owner) class.now.place class.now.fields.items) state.old result
-        state.new }
+    ensures made { (names : Names) → Comes B.HostObject names (new_object (names.modules owner)
+        class.now) state.old result state.new }
     ensures frames { state.new.frames ≡ state.old.frames }
 {
     match state.demand_frame() {

@@ -1,12 +1,9 @@
 //! Properties and calls of host objects, calls of services, and host objects that are constructed.
-ghost use Rattle.std.specs.Prelude.{◌≡◌, ◌<◌, ◌≤◌, ◌+◌, ◌∷◌, [], List, ℕ, length, take, drop, IfOk, OnOk};
+ghost use Rattle.std.specs.Prelude.{◌≡◌, ◌<◌, ◌≤◌, ◌+◌, length, take, drop};
 ghost use Rattle.ash_code.specs.Performing.{perform};
+ghost use Rattle.ash_context.specs.Asked.{property_of, property_set, answer_of};
 ghost use Rattle.ash_context.specs.Turns.{Does};
-ghost use Rattle.ash_host.specs.declared.event.Target.{Target};
-ghost use Rattle.ash_meaning.specs.ObjectSteps as objects;
 ghost use Rattle.ash_run_steps.specs.Becoming.{Comes};
-ghost use Rattle.ash_run_steps.specs.Guarded.{plain, ◌>>=◌};
-ghost use Rattle.ash_run_steps.specs.HostGuards as guards;
 ghost use Rattle.ash_run_steps.specs.RunStates.{Names};
 
 use crate::storing::{store_given, word_at};
@@ -43,8 +40,8 @@ fn property_of<B: HostObject>(
     id: u16,
     of: VarType,
 ) -> Result<Word, Stop>
-    ensures read { (names : Names) → Comes B.HostObject names (plain (objects.object_of object)
-        >>= (λ number. guards.get_property number id of)) state.now result state.now }
+    ensures read { (names : Names) → Comes B.HostObject names (property_of object id of) state.now
+        result state.now }
 {
     match state.object_of(object) {
         Ok(number) => state.get_property(number, id, of),
@@ -76,8 +73,8 @@ fn property_set<B: HostObject>(
     id: u16,
     word: Word,
 ) -> Result<(), Stop>
-    ensures written { (names : Names) → Comes B.HostObject names (plain (objects.object_of object)
-        >>= (λ number. guards.set_property number id word)) state.old result state.new }
+    ensures written { (names : Names) → Comes B.HostObject names (property_set object id word) state.old
+        result state.new }
     ensures frames { state.new.frames ≡ state.old.frames }
 {
     match state.object_of(object) {
@@ -112,9 +109,8 @@ fn answer_of<B: HostObject>(
     row: Row,
 ) -> Result<Word, Stop>
     requires within { row.first + row.count ≤ length state.old.frames.frame.slots }
-    ensures answered { (names : Names) → Comes B.HostObject names (plain (objects.object_of object)
-        >>= (λ number. guards.invoke_host (Target.Object number) id declared
-        (take row.count (drop row.first state.old.frames.frame.slots)))) state.old result state.new }
+    ensures answered { (names : Names) → Comes B.HostObject names (answer_of object id declared
+        (take row.count (drop row.first state.old.frames.frame.slots))) state.old result state.new }
     ensures frames { state.new.frames ≡ state.old.frames }
 {
     match state.object_of(object) {
