@@ -1,3 +1,4 @@
+pub mod ClassSteps
 pub mod Entries
 pub mod Jumps
 pub mod Loops

@@ -8,14 +8,19 @@
 //! Code that was compiled from a sound module never ends with `Stop::Unsound`. Of a run that ends so nothing is said.
 //!
 //! In reading order: `turning` (what is left after an instruction), `storing` (slots), `operators`, `calculating`,
-//! `members` (globals and fields), `elements`, `arrays`, `stepping` (statements), `jumping`, `calling`, `returning`,
-//! `running`.
+//! `members` (globals and fields), `elements`, `arrays`, `hosts` (host objects and services), `stepping` (statements),
+//! `jumping`, `calling`, `returning`, `classes` (of objects), `casting` (casts, and calls by an interface),
+//! `constructing`, `running`.
 #![tactic(auto)]
 
 mod arrays;
 mod calculating;
 pub mod calling;
+mod casting;
+mod classes;
+mod constructing;
 mod elements;
+mod hosts;
 mod jumping;
 mod members;
 mod operators;
