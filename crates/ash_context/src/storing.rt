@@ -3,7 +3,7 @@ ghost use Rattle.std.specs.Prelude.{◌≡◌, ◌<◌, ◌≤◌, ℕ, List, le
 ghost use Rattle.ash_code.specs.Controls.{Control};
 ghost use Rattle.ash_code.specs.Performing.{Setting, put};
 ghost use Rattle.ash_code.specs.Steps.{give_held};
-ghost use Rattle.ash_context.specs.Composed.{putting};
+ghost use Rattle.ash_context.specs.Composed.{putting, putting_null};
 ghost use Rattle.ash_context.specs.Positions.{control_of, came_to};
 ghost use Rattle.ash_context.specs.Turns.{Does, SameControl};
 ghost use Rattle.ash_host.specs.declared.word.Word.{Word};
@@ -11,7 +11,7 @@ ghost use Rattle.ash_host.specs.declared.word.Word.TheVariants as words;
 ghost use Rattle.ash_host.specs.Records.{HostRecord};
 ghost use Rattle.ash_run_steps.specs.Becoming.{Comes};
 ghost use Rattle.ash_run_steps.specs.FrameChanges.{in_running, with_word};
-ghost use Rattle.ash_run_steps.specs.Guarded.{Guarded, ◌>>◌};
+ghost use Rattle.ash_run_steps.specs.Guarded.{Guarded};
 ghost use Rattle.ash_run_steps.specs.RunStates.{Names, State, shown};
 
 use crate::turning::{Turn, going_on};
@@ -117,8 +117,7 @@ pub(crate) fn store_null<B: HostObject>(
     ensures put { (s : Setting) (run : Guarded (Unit {0})) (c : Control) (start : State B)
         → Comes B.HostObject s.names run start step state.old
         → OnOk step (control_of at state.old.frames ≡ c)
-        → Comes B.HostObject s.names (run >> put to c words.Null) start (came_to result state.new.frames)
-        state.new }
+        → Comes B.HostObject s.names (putting_null run to c) start (came_to result state.new.frames) state.new }
 {
     match step {
         Ok(()) => store(state, at, to, Word::Null),

@@ -1,4 +1,4 @@
-use Rattle.std.proofs.Common.{◌≡◌, ap, subst, [], ◌∷◌}
+use Rattle.std.proofs.Common.{ap, subst}
 use Rattle.ash_host.specs.declared.word.Word.{Word}
 use Rattle.ash_object_ranks.specs.ShownTables.{elements_shown}
 use Rattle.ash_run_steps.specs.ArrayGuards.{construct_array}

@@ -1,4 +1,4 @@
-use Rattle.std.proofs.Common.{◌≡◌, subst}
+use Rattle.std.proofs.Common.{subst}
 use Rattle.ash_host.specs.declared.word.Word.{Word}
 use Rattle.ash_run_steps.specs.Becoming.{Comes}
 use Rattle.ash_code.specs.Controls.{word_at}
