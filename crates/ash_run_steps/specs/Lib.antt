@@ -1,6 +1,9 @@
+pub mod Answered
 pub mod ArrayGuards
 pub mod Becoming
 pub mod ClassPlaces
+pub mod Drawing
+pub mod Following
 pub mod FrameChanges
 pub mod FrameSteps
 pub mod GlobalSteps
