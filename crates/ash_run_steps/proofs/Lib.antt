@@ -25,6 +25,7 @@ pub mod MadeObjects
 pub mod MakingSteps
 pub mod MarkedChanges
 pub mod PartSteps
+pub mod RankTests
 pub mod Roots
 pub mod Stacking
 pub mod Swept

@@ -14,6 +14,8 @@ pub mod Keeping
 pub mod MakingSteps
 pub mod Outcomes
 pub mod PartSteps
+pub mod RankedObjects
+pub mod Ranks
 pub mod RunStates
 pub mod Stacks
 pub mod Worlds

@@ -9,7 +9,7 @@
 //! `holding` (what frames hold, ticks), `locals`, `declaring`, `globals`, `parts` (fields and elements), `constructing`,
 //! `classes`, `arrays`, `releasing` (release points), `jumping`, `calling`, `entering`, `leaving`, `beginning`, `ending`,
 //! `answering` (who answers a call, and what is made of an answer), `host_calls`, `properties`, `drawing` (boxes of the
-//! pool, and host objects).
+//! pool, and host objects), `laws` (the test of ranks).
 #![tactic(auto)]
 
 mod answering;
@@ -27,6 +27,7 @@ pub mod globals;
 pub mod holding;
 pub mod host_calls;
 pub mod jumping;
+pub mod laws;
 pub mod leaving;
 pub mod locals;
 pub mod parts;
