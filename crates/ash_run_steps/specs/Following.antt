@@ -1,5 +1,6 @@
 -- What a table still is of one before it: its boxes are what they were, and what came, changed or went is marked.
-use Rattle.std.specs.Prelude.{◌≡◌, ◌⊎◌, ◌↔◌, ◌<◌, ◌≤◌, ℕ, false, cond, nat_le, List, [], slice_get, Option, Some, None, Contains}
+use Rattle.std.specs.Prelude.{◌≡◌, ◌⊎◌, ◌↔◌, ◌<◌, ◌≤◌}
+use Rattle.std.specs.Prelude.{ℕ, false, cond, nat_le, List, [], slice_get, Option, Some, None, Contains}
 use Rattle.std.specs.List.{AllByRecursion}
 use Rattle.ash_host.specs.declared.event.Target.{Target}
 use Rattle.ash_host.specs.declared.event.Target.TheVariants as targets
@@ -12,7 +13,7 @@ use Rattle.ash_run_steps.specs.Drawing.{Enough, draw_all, kinds_of}
 use Rattle.ash_run_steps.specs.RunStates.{bare_living}
 
 module _ {B : Type 0} where
-  -- The box that a call goes to: that of a service, of an object whose number was given, or of one that was drawn since.
+  -- The box that a call goes to: that of a service, of an object whose number was given, or of one drawn since.
   abbrev pub box_for : Table B → List (ℕ × B) → Target → Option B
   box_for old drawn (targets.Object number) =
       cond (nat_le number old.last) (box_at number old) (object_at number drawn)

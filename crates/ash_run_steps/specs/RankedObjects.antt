@@ -1,5 +1,6 @@
 -- Whether objects have ranks that fall along every reference.
-use Rattle.std.specs.Prelude.{◌≡◌, ℕ, ◌&&◌, Bool, true, Option, Some, None, List, [], ◌∷◌, Contains, is_some, nat_eq, nat_lt, refl}
+use Rattle.std.specs.Prelude.{◌≡◌, ℕ, ◌&&◌, Bool, true, Option, Some, None, List, [], ◌∷◌}
+use Rattle.std.specs.Prelude.{Contains, is_some, nat_eq, nat_lt, refl}
 use Rattle.std.specs.List.{list_all}
 use Rattle.std.specs.Option.{option_map_or}
 use Rattle.std.proofs.Common.{ap, ◌∙◌, arith, inl, inr}
@@ -32,22 +33,27 @@ all_at test (m ∷ ns) n all among =
     ]
 
 -- what refers to something lives
-refers_from : (objects : LiveObjects (List ℕ)) (one other : ℕ) → Contains (references objects one) other → is_some (object_at one objects) ≡ true
+refers_from : (objects : LiveObjects (List ℕ)) (one other : ℕ) → Contains (references objects one) other
+    → is_some (object_at one objects) ≡ true
 refers_from objects one other refers = go (object_at one objects) refers
   where
-    go : (o : Option (Plain (List ℕ))) → Contains (option_map_or (λ object. handles (fields_of object)) o []) other → is_some o ≡ true
+    go : (o : Option (Plain (List ℕ))) → Contains (option_map_or (λ object. handles (fields_of object)) o []) other
+        → is_some o ≡ true
     go None refers = absurd (omega (arith, refers.1))
     go (Some object) refers = refl
 
 -- ranks that pass fall along every reference
-pub ranked_says : (rank : ℕ → ℕ) (top : ℕ) (objects : LiveObjects (List ℕ)) → are_ranked rank top objects ≡ true → AreObjectRanks rank top objects
+pub ranked_says : (rank : ℕ → ℕ) (top : ℕ) (objects : LiveObjects (List ℕ)) → are_ranked rank top objects ≡ true
+    → AreObjectRanks rank top objects
 ranked_says rank top objects is = record {
   below = λ n lives.
       let low = (and_both (nat_lt (rank n) top) (fall_from rank objects n) (ranked n lives)).0 in
       grind (arith, nat_tests);
   falls = λ one other refers.
-      let all = (and_both (nat_lt (rank one) top) (fall_from rank objects one) (ranked one (refers_from objects one other refers))).1 in
-      let falls = all_at (λ m. nat_lt (rank m) (rank one)) (references objects one) other all (is_among_yes other (references objects one) refers) in
+      let lives = refers_from objects one other refers in
+      let all = (and_both (nat_lt (rank one) top) (fall_from rank objects one) (ranked one lives)).1 in
+      let among = is_among_yes other (references objects one) refers in
+      let falls = all_at (λ m. nat_lt (rank m) (rank one)) (references objects one) other all among in
       grind (arith, nat_tests);
 }
   where
