@@ -5,7 +5,8 @@
 //! does nothing, as the meaning of code says. `running::run` goes on from instruction to instruction until the run
 //! ends, and does what `denote` of the code says: `HasRun` in `specs/Turns.antt` is its invariant.
 //!
-//! Code that was compiled from a sound module never ends with `Stop::Unsound`. Of a run that ends so nothing is said.
+//! A run ends with `Stop::Unsound` only if the guards of its code leave nothing of it. Code that was compiled from a
+//! sound module never ends so.
 //!
 //! In reading order: `turning` (what is left after an instruction), `storing` (slots), `operators`, `calculating`,
 //! `members` (globals and fields), `elements`, `arrays`, `hosts` (host objects and services), `stepping` (statements),
