@@ -2,4 +2,6 @@ pub mod Controls
 pub mod Steps
 pub mod Performing
 pub mod Running
+pub mod Arrivals
+pub mod CompiledCode
 pub mod Validity
