@@ -1,4 +1,5 @@
 pub mod Entries
+pub mod Falling
 pub mod Jumps
 pub mod Loops
 pub mod Puts
