@@ -1,6 +1,8 @@
+pub mod ClassSteps
 pub mod Entries
 pub mod Falling
 pub mod Jumps
 pub mod Loops
 pub mod Puts
+pub mod Regrouping
 pub mod Returns

@@ -1,5 +1,7 @@
+pub mod Asked
 pub mod Bounds
 pub mod Calls
 pub mod Composed
+pub mod Members
 pub mod Positions
 pub mod Turns
