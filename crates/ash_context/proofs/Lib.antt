@@ -6,3 +6,4 @@ pub mod Loops
 pub mod Puts
 pub mod Regrouping
 pub mod Returns
+pub mod Walked

@@ -3,5 +3,6 @@ pub mod Bounds
 pub mod Calls
 pub mod Composed
 pub mod Members
+pub mod Outcomes
 pub mod Positions
 pub mod Turns
