@@ -1,7 +1,9 @@
 pub mod ClassSteps
+pub mod Endings
 pub mod Entries
 pub mod Falling
 pub mod Jumps
+pub mod Lengths
 pub mod Loops
 pub mod Puts
 pub mod Regrouping

@@ -1,8 +1,9 @@
 //! The machine, with the memory that its runs use.
-ghost use Rattle.std.specs.Prelude.{◌≡◌, ◌≤◌, ◌<◌, ◌++◌, ◌∷◌, [], ℕ, List, All, IsTrue, IfOk, IfSome, Some, Err, slice_get, length, map};
+ghost use Rattle.std.specs.Prelude.{◌≡◌, ◌≤◌, ◌<◌, ◌++◌, ◌∷◌, [], ℕ, List, All, IsTrue, IfOk, IfSome, OnOk, Option, Some, Err, ◌+◌, slice_get, length, map};
 ghost use Rattle.ash_code.specs.CompiledCode as compiled;
 ghost use Rattle.ash_code.specs.CompiledCode.{IsCodeOf, IsSetFor, env_of};
 ghost use Rattle.ash_code.specs.Performing.{Setting};
+ghost use Rattle.ash_code.specs.Running as running;
 ghost use Rattle.ash_code.specs.Sizes as sizes;
 ghost use Rattle.ash_context.specs.Bounds as bounds;
 ghost use Rattle.ash_context.specs.Outcomes.{Compiles, Says, world_in};
@@ -105,6 +106,7 @@ fn run_on<B: HostObject>(code: &Code, parts: Parts<B>, stack: Stack, budget: u64
         result.ended.outcome result.ended.parts }
     ensures held { HoldsRoots result.ended.parts.table
         (result.ended.parts.outside.items ++ handles result.ended.parts.globals.items) }
+    ensures begun { result.ended.outcome ≡ Err RunFault.NotBegun → ⊥ }
     ensures bounded { result.steps ≤ bounds.bound code.now budget }
 {
     let mut state = RunState::begin(parts, stack, budget);
@@ -112,5 +114,92 @@ fn run_on<B: HostObject>(code: &Code, parts: Parts<B>, stack: Stack, budget: u64
     Done {
         ended: finish(state, ran.end),
         steps: ran.steps,
+    }
+}
+
+// Begins a stack with the frame of a function of the code, and slots for all frames.
+fn begin_on(stack: &mut Stack, code: &Code, function: usize, args: &[Word]) -> Result<(), NoMemory>
+    ensures begun { OnOk result ((rest : List Word)
+        × (stack.new ≡ beginning_over function (running.code_of code.now function).line args.now rest)
+        × (sizes.slots_of_frames code.now ≤ length args.now + length rest)) }
+{
+    let slots = slots_of_frames(code).ok_or(NoMemory)?;
+    let line = code_of(code.parts(), function).line;
+    stack.begin(function, line, args, slots)
+}
+
+impl Context {
+    /// A machine with memory for the deepest run of the code: for as many frames as there may be, each as wide as the
+    /// widest.
+    pub fn new(alloc: Global, code: &Code) -> Result<Context, NoMemory>
+        ensures none { IfOk result (λ context. context ≡ 0) }
+    {
+        let slots = slots_of_frames(code).ok_or(NoMemory)?;
+        Ok(Context {
+            alloc,
+            stack: Stack::reserve(alloc, slots, MAX_FRAMES - 1)?,
+            steps: 0,
+        })
+    }
+
+    /// How many instructions the last run did; none before the first.
+    pub fn steps(&self) -> u128
+        ensures steps { result ≡ self.now }
+    {
+        self.steps
+    }
+
+    /// Runs a function of the code with these arguments and so many ticks; the place behind the last function is that
+    /// of the initializers. If the code is that of a sound module, the outcome is the one that its meaning says, and so
+    /// is the world that is left.
+    pub fn run<B: HostObject>(
+        &mut self,
+        code: &Code,
+        parts: Parts<B>,
+        function: usize,
+        args: &[Word],
+        budget: u64,
+    ) -> Left<B>
+        requires held { HoldsRoots parts.table (parts.outside.items ++ handles parts.globals.items) }
+        requires alive { All (λ word. IsTrue (is_alive_in word parts.table)) args.now }
+        ensures called { (c : well_formed.Context) (s : Setting) (f : Function) → IsContext c
+            → IsCodeOf code.now c → IsSetFor code.now c s
+            → slice_get c.program.tree.functions function ≡ Some f
+            → IsWellFormed c (env_of c f.parameters) []
+            (compiled.first_of_function f args.now budget (world_in B.HostObject s.names [] parts))
+            → Says B.HostObject s.names
+            (λ (world : World). call_entry c.program args.now budget world (entry_of_function f)) parts
+            result.outcome result.parts }
+        ensures loaded { (c : well_formed.Context) (s : Setting) → IsContext c → IsCodeOf code.now c
+            → IsSetFor code.now c s → function ≡ length code.now.functions.items → args.now ≡ []
+            → parts.globals.items ≡ map zero_of (types_of_globals c.program.tree.globals)
+            → IsWellFormed c (env_of c []) []
+            (compiled.first_of_load c.program.tree budget (world_in B.HostObject s.names [] parts))
+            → Says B.HostObject s.names (λ (world : World). load_module c.program budget world) parts
+            result.outcome result.parts }
+        ensures unchanged { result.outcome ≡ Err RunFault.NotBegun → result.parts ≡ parts }
+        ensures held { HoldsRoots result.parts.table
+            (result.parts.outside.items ++ handles result.parts.globals.items) }
+        ensures bounded { self.new ≤ bounds.bound code.now budget }
+    {
+        self.steps = 0;
+        match begin_on(&mut self.stack, code, function, args) {
+            Ok(()) => {
+                let stack = replace(&mut self.stack, Stack::new(self.alloc));
+                let Done { ended, steps } = run_on(code, parts, stack, budget);
+                let Ended {
+                    outcome,
+                    parts,
+                    stack,
+                } = ended;
+                self.stack = stack;
+                self.steps = steps;
+                Left { parts, outcome }
+            }
+            Err(_) => Left {
+                parts,
+                outcome: Err(RunFault::NotBegun),
+            },
+        }
     }
 }

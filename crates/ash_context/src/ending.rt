@@ -1,5 +1,5 @@
 //! The end of a run.
-ghost use Rattle.std.specs.Prelude.{◌≡◌, ◌++◌, Option};
+ghost use Rattle.std.specs.Prelude.{◌≡◌, ◌++◌, Option, Err};
 ghost use Rattle.ash_context.specs.Outcomes.{CameTo};
 ghost use Rattle.ash_host.specs.Objects.{handles};
 ghost use Rattle.ash_host.specs.declared.word.Word.{Word};
@@ -31,6 +31,7 @@ pub(crate) fn finish<B: HostObject>(
     ensures came { (names : Names) (test : RankTest) (run : Guarded (Option Word)) (start : State B)
         → Comes B.HostObject names run start end state
         → CameTo B.HostObject names test run start result.outcome result.parts }
+    ensures begun { result.outcome ≡ Err RunFault.NotBegun → ⊥ }
     ensures held { HoldsRoots result.parts.table (result.parts.outside.items ++ handles result.parts.globals.items) }
 {
     let (function, line) = state.place();
