@@ -5,6 +5,7 @@ ghost use Rattle.ash_code.specs.CompiledCode.{IsCodeOf, IsSetFor, env_of};
 ghost use Rattle.ash_code.specs.Performing.{Setting};
 ghost use Rattle.ash_code.specs.Running as running;
 ghost use Rattle.ash_code.specs.Sizes as sizes;
+ghost use Rattle.ash_code.specs.Validity.{is_valid};
 ghost use Rattle.ash_context.specs.Bounds as bounds;
 ghost use Rattle.ash_context.specs.Outcomes.{Compiles, Says, world_in};
 ghost use Rattle.ash_context.specs.Positions.{control_of};
@@ -122,9 +123,11 @@ fn begin_on(stack: &mut Stack, code: &Code, function: usize, args: &[Word]) -> R
     ensures begun { OnOk result ((rest : List Word)
         × (stack.new ≡ beginning_over function (running.code_of code.now function).line args.now rest)
         × (sizes.slots_of_frames code.now ≤ length args.now + length rest)) }
+    ensures valid { IsTrue (is_valid code.now) }
 {
+    let parts = code.parts();
     let slots = slots_of_frames(code).ok_or(NoMemory)?;
-    let line = code_of(code.parts(), function).line;
+    let line = code_of(parts, function).line;
     stack.begin(function, line, args, slots)
 }
 
