@@ -3,6 +3,7 @@ pub mod Bounds
 pub mod Calls
 pub mod Composed
 pub mod Members
+pub mod ObjectClasses
 pub mod Outcomes
 pub mod Positions
 pub mod Turns

@@ -3,6 +3,7 @@ ghost use Rattle.std.specs.Prelude.{◌≡◌, find, nat_eq, position, option_co
 ghost use Rattle.ash_code.specs.declared.code.ClassCode.{ClassCode};
 ghost use Rattle.ash_code.specs.declared.code.ImplementationCode.{ImplementationCode};
 ghost use Rattle.ash_code.specs.Steps as steps;
+ghost use Rattle.ash_context.specs.ObjectClasses as tables;
 ghost use Rattle.ash_host.specs.declared.word.Word.{Word};
 ghost use Rattle.ash_run_steps.specs.declared.stop.Stop.{Stop};
 ghost use Rattle.ash_run_steps.specs.Becoming.{Becomes, Comes};
@@ -24,7 +25,7 @@ fn class_declared_at(classes: &[ClassCode], place: u16) -> Option<usize>
 }
 
 fn class_at(classes: &[ClassCode], place: Option<u16>) -> Option<usize>
-    ensures class { result ≡ steps.class_at classes.now place }
+    ensures class { result ≡ tables.class_at classes.now place }
 {
     match place {
         Some(place) => class_declared_at(classes, place),
@@ -66,7 +67,7 @@ fn method_at(
     method: usize,
     place: Option<u16>,
 ) -> Option<usize>
-    ensures method { result ≡ steps.method_at classes.now interface method place }
+    ensures method { result ≡ tables.method_at classes.now interface method place }
 {
     let class = class_at(classes, place)?;
     let implementation = implementation_in(classes, interface, class)?;
@@ -86,7 +87,7 @@ fn is_class_of(classes: &[ClassCode], to: ObjectType, class: usize) -> bool
 
 // Whether an object of the class at a place is of a type.
 fn is_at(classes: &[ClassCode], to: ObjectType, place: Option<u16>) -> bool
-    ensures of { result ≡ steps.is_at classes.now to place }
+    ensures of { result ≡ tables.is_at classes.now to place }
 {
     match class_at(classes, place) {
         Some(class) => is_class_of(classes, to, class),
@@ -104,7 +105,7 @@ pub(crate) fn method_of<B: HostObject>(
     number: u64,
 ) -> Result<usize, Stop>
     ensures method { (names : Names) → IsAlone names code.now.module → Comes B.HostObject names
-        (steps.method_of (names.modules code.now.module) code.now.classes.items interface method number)
+        (steps.found (steps.method_of (names.modules code.now.module) code.now.classes.items interface method number))
         state.now result state.now }
     ensures memory { IsErrOf result Stop.NoMemory → ⊥ }
 {

@@ -6,7 +6,8 @@
 //! ends, and does what `denote` of the code says: `HasRun` in `specs/Turns.antt` is its invariant. Each instruction leaves
 //! fewer to be done (`specs/Bounds.antt`), so that the ticks bound how many are done.
 //!
-//! Code that was compiled from a sound module never ends with `Stop::Unsound`. Of a run that ends so nothing is said.
+//! A run ends with `Stop::Unsound` only if the guards of its code leave nothing of it. Code that was compiled from a
+//! sound module never ends so.
 //!
 //! In reading order: `turning` (what is left after an instruction), `storing` (slots), `operators`, `calculating`,
 //! `members` (globals and fields), `elements`, `arrays`, `hosts` (host objects and services), `stepping` (statements),

@@ -1,4 +1,4 @@
-use Rattle.std.proofs.Common.{◌≡◌, sym, subst}
+use Rattle.std.proofs.Common.{sym, subst}
 use Rattle.ash_host.specs.declared.word.Word.{Word}
 use Rattle.ash_run_steps.specs.Becoming.{Becomes}
 use Rattle.ash_run_steps.specs.ClassPlaces.{IsAlone}

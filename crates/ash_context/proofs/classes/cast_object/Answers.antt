@@ -1,6 +1,6 @@
 use Rattle.std.proofs.Common.{◌≡◌, ◌∙◌, List, true, false, ap, sym, rules}
 use Rattle.ash_code.specs.declared.code.ClassCode.{ClassCode}
-use Rattle.ash_code.specs.Steps.{is_at}
+use Rattle.ash_context.specs.ObjectClasses.{is_at}
 use Rattle.ash_context.proofs.ClassSteps.{cast_gives}
 use Rattle.ash_context.proofs.classes.cast_object.Goals as goal
 

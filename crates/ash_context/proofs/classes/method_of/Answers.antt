@@ -1,7 +1,7 @@
 use Rattle.std.proofs.Common.{◌≡◌, ◌∙◌, List, ap, sym}
 use Rattle.std.specs.Prelude.{Some, None}
 use Rattle.ash_code.specs.declared.code.ClassCode.{ClassCode}
-use Rattle.ash_code.specs.Steps.{method_at}
+use Rattle.ash_context.specs.ObjectClasses.{method_at}
 use Rattle.ash_context.proofs.ClassSteps.{method_gives, method_lacks}
 use Rattle.ash_context.proofs.classes.method_of.Goals as goal
 

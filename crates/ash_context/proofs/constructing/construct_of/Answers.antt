@@ -1,5 +1,4 @@
-use Rattle.std.proofs.Common.{◌≡◌, ℕ, sym, subst}
-use Rattle.std.specs.Prelude.{Ok, Err}
+use Rattle.std.proofs.Common.{sym, subst}
 use Rattle.ash_host.specs.declared.word.Word.TheVariants as words
 use Rattle.ash_meaning.specs.Frames as frames
 use Rattle.ash_run_steps.specs.Becoming.{Comes}

@@ -1,5 +1,4 @@
 use Rattle.std.proofs.Common.{List, refl, subst}
-use Rattle.std.specs.Prelude.{Ok, Err}
 use Rattle.ash_host.specs.declared.word.Word.{Word}
 use Rattle.ash_meaning.specs.Frames as frames
 use Rattle.ash_run_steps.specs.Becoming.{Comes}

@@ -1,5 +1,4 @@
 use Rattle.std.proofs.Common.{refl, take, drop}
-use Rattle.std.specs.Prelude.{Ok, Err}
 use Rattle.ash_host.specs.declared.event.Target.TheVariants as targets
 use Rattle.ash_meaning.specs.ObjectSteps.{object_of}
 use Rattle.ash_run_steps.specs.Guarded.{plain}

@@ -1,4 +1,3 @@
-use Rattle.std.specs.Prelude.{Ok, Err}
 use Rattle.ash_meaning.specs.ObjectSteps.{object_of}
 use Rattle.ash_run_steps.specs.Guarded.{plain}
 use Rattle.ash_run_steps.specs.HostGuards.{get_property}

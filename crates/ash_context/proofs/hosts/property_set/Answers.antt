@@ -1,5 +1,4 @@
 use Rattle.std.proofs.Common.{refl}
-use Rattle.std.specs.Prelude.{Ok, Err}
 use Rattle.ash_meaning.specs.ObjectSteps.{object_of}
 use Rattle.ash_run_steps.specs.Guarded.{plain}
 use Rattle.ash_run_steps.specs.HostGuards.{set_property}
