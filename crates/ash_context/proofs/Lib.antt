@@ -3,6 +3,7 @@ pub mod Endings
 pub mod Entered
 pub mod Entries
 pub mod Falling
+pub mod Fitting
 pub mod Initializing
 pub mod Jumps
 pub mod Lengths

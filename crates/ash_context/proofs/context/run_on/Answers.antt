@@ -43,7 +43,8 @@ returns-clause-says g c = λ s run same compiles.
     let there : Compiles G s at first run c.args.parts
     = subst (λ (f : Frames). Compiles G s (control_of 0 f) first run c.args.parts) (sym c.begin-state.ensures.frames)
     compiles in
-    says G s valid at first run c.args.parts c.finish.result.parts start c.begin-state.ensures.keeps
+    says G s valid at first run c.args.parts c.finish.result.parts start c.begin-state.ensures.same
+    c.begin-state.ensures.events
     (λ records. c.begin-state.ensures.begun s.names records) there (done + more) many c.finish.result.outcome
     (c.finish.ensures.came s.names s.test (denote s (done + more) at) start
     (comes_of G code c.parts.ensures.valid 0 start done c.run-ran.result.end c.run-ran.new.state c.run-ran.ensures.ran s
