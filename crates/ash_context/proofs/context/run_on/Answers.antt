@@ -7,11 +7,12 @@ use Rattle.ash_code.specs.declared.code.CodeParts.{CodeParts}
 use Rattle.ash_code.specs.Running.{denote}
 use Rattle.ash_code.specs.Validity.{is_valid}
 use Rattle.ash_context.specs.Bounds.{bound, left_of, left_in}
-use Rattle.ash_context.specs.Outcomes.{Compiles}
+use Rattle.std.specs.Prelude.{IfOk}
+use Rattle.ash_context.specs.Outcomes.{Compiles, Takes}
 use Rattle.ash_context.specs.Positions.{callers_of, control_of}
 use Rattle.ash_context.proofs.Falling.{starts_within}
 use Rattle.ash_context.proofs.Loops.{comes_of}
-use Rattle.ash_context.proofs.Meant.{says}
+use Rattle.ash_context.proofs.Meant.{says, takes_if}
 use Rattle.ash_context.proofs.context.run_on.Goals as goal
 
 pub run-ran-requires-clause-enough : goal.run-ran-requires-clause-enough
@@ -49,3 +50,20 @@ returns-clause-says g c = λ s run same compiles.
     (c.finish.ensures.came s.names s.test (denote s (done + more) at) start
     (comes_of G code c.parts.ensures.valid 0 start done c.run-ran.result.end c.run-ran.new.state c.run-ran.ensures.ran s
     here more))
+
+pub returns-clause-counted : goal.returns-clause-counted
+returns-clause-counted g c = λ s run same compiles.
+    let G = g.B.HostObject in
+    let code = c.parts.result.now in
+    let start = c.begin-state.result in
+    let first : World → Activity = λ world. begun world c.args.budget (frame_shown s.names c.args.stack.frame) in
+    let here : s.code ≡ code = same ∙ sym c.parts.ensures.parts in
+    let there : Compiles G s (control_of 0 start.frames) first run c.args.parts
+    = subst (λ (f : Frames). Compiles G s (control_of 0 f) first run c.args.parts) (sym c.begin-state.ensures.frames)
+    compiles in
+    let done = c.run-ran.result.steps in
+    subst (λ (f : Frames). IfOk c.finish.result.outcome (λ _. Takes G s (control_of 0 f) first c.args.parts done))
+    c.begin-state.ensures.frames
+    (takes_if G s first run c.args.parts start c.run-ran.new.state c.begin-state.ensures.same c.begin-state.ensures.events
+    (λ records. c.begin-state.ensures.begun s.names records) there done code c.run-ran.result.end here c.run-ran.ensures.ran
+    c.finish.result.outcome c.finish.ensures.memory)
