@@ -1,0 +1,63 @@
+-- Lists that stand for each other, place by place, and where what is in one is in a longer one.
+use Rattle.std.proofs.Common.{◌≡◌, ◌<◌, ℕ, zero, suc, ◌+◌, List, [], ◌∷◌, ◌++◌, take, length, map, flat_map, refl, sym, ap, ◌∙◌, arith, length-append}
+use Rattle.std.specs.Prelude.{Some, slice_get}
+use Rattle.std.specs.List.{AllZip}
+use Rattle.std.proofs.lemmas.Option.{same_Some}
+use Rattle.std.proofs.lemmas.List.{append_assoc, append-nil}
+
+-- what is in a list stays where it is if the list grows
+pub get_first : {A : Type 0} (xs ys : List A) (k : ℕ) (x : A) → slice_get xs k ≡ Some x → slice_get (xs ++ ys) k ≡ Some x
+get_first [] ys k x is = absurd (cc)
+get_first (y ∷ xs) ys zero x is = is
+get_first (y ∷ xs) ys (suc k) x is = get_first xs ys k x is
+
+-- what is in the second of two lists
+pub get_second : {A : Type 0} (xs ys : List A) (k : ℕ) → slice_get (xs ++ ys) (length xs + k) ≡ slice_get ys k
+get_second [] ys k = ap (λ (n : ℕ). slice_get ys n) (nothing_more k)
+  where
+  nothing_more : (n : ℕ) → 0 + n ≡ n
+  nothing_more n = omega arith
+get_second (x ∷ xs) ys k = ap (λ (n : ℕ). slice_get (x ∷ (xs ++ ys)) n) (one_more (length xs) k) ∙ get_second xs ys k
+  where
+  one_more : (m n : ℕ) → suc m + n ≡ suc (m + n)
+  one_more m n = omega arith
+
+-- what is in the list of one of the items
+pub get_part : {A B : Type 0} (g : A → List B) (xs : List A) (c k : ℕ) (x : A) (y : B) → slice_get xs c ≡ Some x
+    → slice_get (g x) k ≡ Some y → slice_get (flat_map g xs) (length (flat_map g (take c xs)) + k) ≡ Some y
+get_part g [] c k x y at there = absurd (cc)
+get_part g (z ∷ xs) zero k x y at there =
+    ap (λ (n : ℕ). slice_get (g z ++ flat_map g xs) n) (nothing_more k)
+    ∙ get_first (g z) (flat_map g xs) k y (ap (λ (w : _). slice_get (g w) k) (same_Some z x at) ∙ there)
+  where
+  nothing_more : (n : ℕ) → 0 + n ≡ n
+  nothing_more n = omega arith
+get_part g (z ∷ xs) (suc c) k x y at there =
+    ap (λ (n : ℕ). slice_get (g z ++ flat_map g xs) n)
+    (ap (λ (m : ℕ). m + k) (length-append (g z) (flat_map g (take c xs)))
+    ∙ grouped (length (g z)) (length (flat_map g (take c xs))) k)
+    ∙ get_second (g z) (flat_map g xs) (length (flat_map g (take c xs)) + k)
+    ∙ get_part g xs c k x y at there
+  where
+  grouped : (l m n : ℕ) → l + m + n ≡ l + (m + n)
+  grouped l m n = omega arith
+
+-- lists that stand for each other
+
+pub zip_more : {A B : Type 0} (R : A → B → Type 0) (xs : List A) (ys : List B) (x : A) (y : B) → AllZip R xs ys → R x y
+    → AllZip R (xs ++ x ∷ []) (ys ++ y ∷ [])
+zip_more R [] [] x y are one = (one, tt)
+zip_more R [] (z ∷ ys) x y are one = absurd are
+zip_more R (w ∷ xs) [] x y are one = absurd are
+zip_more R (w ∷ xs) (z ∷ ys) x y are one = (are.0, zip_more R xs ys x y are.1 one)
+
+pub zip_at : {A B : Type 0} (R : A → B → Type 0) (xs : List A) (ys : List B) (k : ℕ) (x : A) → AllZip R xs ys
+    → slice_get xs k ≡ Some x → (y : B) × (slice_get ys k ≡ Some y) × R x y
+zip_at R [] [] k x are at = absurd (cc)
+zip_at R [] (z ∷ ys) k x are at = absurd are
+zip_at R (w ∷ xs) [] k x are at = absurd are
+zip_at R (w ∷ xs) (z ∷ ys) zero x are at = (z, refl, here)
+  where
+  here : R x z
+  here = rw (sym (same_Some w x at)) are.0
+zip_at R (w ∷ xs) (z ∷ ys) (suc k) x are at = zip_at R xs ys k x are.1 at

@@ -1,0 +1,100 @@
+-- What the code of functions is of, and when it does what their frames do, wherever it stands.
+use Rattle.std.specs.Prelude.{◌≡◌, ◌≤◌, ℕ, suc, Bool, true, false, List, [], ◌++◌, map, flat_map, length, Option, Some, None, slice_get}
+use Rattle.std.specs.Option.{option_map_or}
+use Rattle.ash_host.specs.declared.word.Word.{Word}
+use Rattle.ash_typed.specs.declared.types.VarType.{VarType}
+use Rattle.ash_typed.specs.StatementTree.{Initialization}
+use Rattle.ash_typed.specs.Modules.{Variables, Function, Class, Module}
+use Rattle.ash_typed.specs.Signatures.{parameters_of}
+use Rattle.ash_typed.specs.SoundExpressions.{TypedEnvironment}
+use Rattle.ash_typed.specs.SoundStatements.{AreSoundStmts}
+use Rattle.ash_meaning.specs.Activity.{Activity}
+use Rattle.ash_meaning.specs.Runs.{Run, look, ◌>>◌}
+use Rattle.ash_meaning.specs.Frames.{tick}
+use Rattle.ash_meaning.specs.Classes.{Entry, entry_of_function, entry_of_method, entry_of_construction}
+use Rattle.ash_meaning.specs.Functions.{body, initialize_fields, initialize_module}
+use Rattle.ash_soundness.specs.WellFormed.{Context, declared}
+use Rattle.ash_code.specs.declared.code.FunctionCode.{FunctionCode}
+use Rattle.ash_code.specs.declared.instruction.Instruction.TheVariants as i
+use Rattle.ash_code.specs.Running as running
+use Rattle.ash_compile.specs.declared.layout.Layout.{Layout}
+use Rattle.ash_compile.specs.Stretches.{Has}
+use Rattle.ash_compile.specs.Performances.{Acts, Enters}
+use Rattle.ash_compile.specs.Layout.{IsLayout}
+use Rattle.ash_compile.specs.Callees.{Entering}
+use Rattle.ash_compile.specs.Emission.{Scene, IsScene, calls_of, Good}
+
+-- What the code of a function is of: its entry, how many parameters it has, and whether it constructs an object.
+pub record FrameSource : Type 0 where
+  pub entry : Entry
+  pub parameters : ℕ
+  pub constructs : Bool
+
+abbrev pub frame_of_function : Function → FrameSource
+frame_of_function f =
+    record { entry = entry_of_function f; parameters = length f.parameters; constructs = false }
+
+abbrev pub frame_of_method : Class → Function → FrameSource
+frame_of_method c f =
+    record { entry = entry_of_method c f; parameters = length f.parameters; constructs = false }
+
+abbrev pub frame_of_construction : Class → FrameSource
+frame_of_construction c =
+    record {
+      entry = entry_of_construction c;
+      parameters = length (parameters_of c.constructor);
+      constructs = true;
+    }
+
+-- what the functions of code are of: free functions, constructions, then methods, class by class
+abbrev pub frames_of : Module → List FrameSource
+frames_of m =
+    map frame_of_function m.functions ++ map frame_of_construction m.classes
+    ++ flat_map (λ (c : Class). map (frame_of_method c) c.methods) m.classes
+
+-- what a frame gives, by what its body does: a construction gives `this`
+abbrev pub given_if : Bool → Run (Option Word) → Run (Option Word)
+given_if true run = run >> look (λ activity. Some (activity.frame).this)
+given_if false run = run
+
+-- The fields that a frame initializes: none, or those of the class of the object that is constructed.
+pub data AreFieldsOf (c : Context) (env : TypedEnvironment) : List Initialization → Type 0 where
+  no_field : AreFieldsOf c env []
+  all_fields : {class : ℕ} {source : Class}
+      → env.this ≡ Some class
+      → slice_get ((c.program).tree).classes class ≡ Some source
+      → AreFieldsOf c env source.fields
+
+-- An entry is sound in an environment, and gives this.
+pub record IsSoundEntry (c : Context) (env : TypedEnvironment) (result : Option VarType) (e : Entry) : Type 0 where
+  pub fields : AreFieldsOf c env e.fields
+  pub body : AreSoundStmts (record { env = env; result = result; may_break = false; may_continue = false }) e.body
+
+-- The code is that of a function: wherever it stands in the code of a module with this layout, it does what the frame
+-- does from its entry on.
+pub record IsFrameCode (layout : Layout) (x : FrameSource) (f : FunctionCode) : Type 0 where
+  pub line : f.line ≡ (x.entry).line
+  pub parameters : f.parameters ≡ x.parameters
+  pub begins : slice_get (f.instructions).items 0 ≡ Some (i.Tick (x.entry).line)
+  pub enters : (s : Scene) (result : Option VarType)
+      → IsScene s
+      → IsSoundEntry s.context s.env result x.entry
+      → length (s.env).locals ≡ x.parameters
+      → running.code_of (s.setting).code s.function ≡ f
+      → f.slots ≤ s.greatest
+      → IsLayout ((s.setting).code).module ((s.context).program).tree layout
+      → Enters s.setting (Entering s.context (suc s.depth) s.env s.envs) s.function s.room
+      (tick (x.entry).line >> given_if x.constructs (body (s.context).program (suc s.depth) x.entry)) x.parameters
+
+-- The code is that of the initializers of a module, up to its last instruction, which ends the run.
+pub record IsInitCode (layout : Layout) (m : Module) (f : FunctionCode) : Type 0 where
+  pub end : ℕ
+  pub ends : slice_get (f.instructions).items end ≡ Some i.ReturnNothing
+  pub acts : (s : Scene)
+      → IsScene s
+      → s.env ≡ record { signatures = declared s.context; this = None; locals = [] }
+      → ((s.context).program).tree ≡ m
+      → running.code_of (s.setting).code s.function ≡ f
+      → f.slots ≤ s.greatest
+      → IsLayout ((s.setting).code).module m layout
+      → Acts s.setting (Good s) s.function s.room (initialize_module (calls_of s) 0 m.globals) 0 end 0 0
