@@ -1,3 +1,5 @@
 pub mod Stretches
 pub mod Performances
+pub mod Layout
+pub mod Callees
 pub mod Emission
