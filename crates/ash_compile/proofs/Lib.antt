@@ -21,3 +21,11 @@ pub mod FunctionCode
 pub mod Constructing
 pub mod EmittedBranches
 pub mod EmittedRows
+pub mod StoredCode
+pub mod FieldCode
+pub mod EmittedFields
+pub mod GlobalCode
+pub mod Listings
+pub mod ModuleFrames
+pub mod EveryCallee
+pub mod CompiledModules

@@ -93,7 +93,7 @@ count_of_all (c ∷ cs) =
     ∙ ap (λ (n : ℕ). n + length (flat_map methods_of cs)) (long_map (frame_of_method c) c.methods)
     ∙ ap (λ (n : ℕ). length c.methods + n) (count_of_all cs)
 
-function_at : (m : Module) (place : ℕ) (f : Function) → slice_get m.functions place ≡ Some f
+pub function_at : (m : Module) (place : ℕ) (f : Function) → slice_get m.functions place ≡ Some f
     → slice_get (frames_of m) place ≡ Some (frame_of_function f)
 function_at m place f at =
     get_first (map frame_of_function m.functions ++ map frame_of_construction m.classes) (flat_map methods_of m.classes)
@@ -143,6 +143,7 @@ pub record Stands (c : Context) (callee : ModuleCallee) (env : TypedEnvironment)
   pub entry : frame.entry ≡ e
   pub parameters : length env.locals ≡ frame.parameters
   pub gives : frame.constructs ≡ constructs callee
+  pub declares : env.signatures ≡ declared c
   pub sound : IsSoundEntry c env result e
 
 module _ {c : Context} (context : IsContext c) where
@@ -171,6 +172,7 @@ module _ {c : Context} (context : IsContext c) where
     entry = refl;
     parameters = refl;
     gives = refl;
+    declares = refl;
     sound = record {
       fields = no_field;
       body = (rec_at (IsSoundFunction (outside (declared c))) ((c.program).tree).functions place f (context.sound).functions at).body;
@@ -182,6 +184,7 @@ module _ {c : Context} (context : IsContext c) where
     entry = refl;
     parameters = refl;
     gives = refl;
+    declares = refl;
     sound = record {
       fields = no_field;
       body = (rec_at (IsSoundFunction (inside (declared c) class)) k.methods place f (class_is context class k at).methods here).body;
@@ -193,6 +196,7 @@ module _ {c : Context} (context : IsContext c) where
     entry = refl;
     parameters = refl;
     gives = refl;
+    declares = refl;
     sound = record {
       fields = all_fields refl at;
       body = body_of_construction class k k.constructor (class_is context class k at).constructor;

@@ -43,7 +43,7 @@ IsRanked s =
     → ((s.setting).test).has_ranks a.world ≡ true
 
 pub ranked_of : (s : Scene) → IsScene s → IsRanked s
-ranked_of s scene env a well = scene.ranks a.world well.world
+ranked_of s scene env a well = scene.ranks env s.envs a well
 
 -- how a phrase came to its value
 

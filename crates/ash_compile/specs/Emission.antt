@@ -6,11 +6,11 @@ use Rattle.ash_typed.specs.declared.types.VarType.TheVariants as vars
 use Rattle.ash_typed.specs.TypeOf.{ValueType}
 use Rattle.ash_typed.specs.TypedTree.{Expr}
 use Rattle.ash_typed.specs.SoundExpressions.{TypedEnvironment, IsWellTyped}
-use Rattle.ash_meaning.specs.Activity.{World, Activity}
+use Rattle.ash_meaning.specs.Activity.{Activity}
 use Rattle.ash_meaning.specs.CallMeaning.{Calls}
 use Rattle.ash_meaning.specs.ExpressionMeaning.{expression}
 use Rattle.ash_meaning.specs.Functions.{calls_within}
-use Rattle.ash_soundness.specs.WellFormed.{Context, IsContext, declared, IsWorld, IsWellFormed}
+use Rattle.ash_soundness.specs.WellFormed.{Context, IsContext, declared, IsWellFormed}
 use Rattle.ash_typed.specs.declared.tree.operations.Lazy.{Lazy}
 use Rattle.ash_typed.specs.declared.tree.operations.Lazy.TheVariants as lazies
 use Rattle.ash_code.specs.declared.instruction.Instruction.{Instruction}
@@ -74,13 +74,14 @@ pub record Scene : Type 0 where
   pub room : ℕ
   pub greatest : ℕ
 
--- The module is sound, and runs under its name. Objects have ranks in each of its worlds. The code has its functions, up
+-- The module is sound, and runs under its name. Objects have ranks in its activities. The code has its functions, up
 -- to this depth of calls, and its classes. The frame has slots for itself and for each frame that it may call.
 pub record IsScene (s : Scene) : Type 0 where
   pub sound : IsContext s.context
   pub declares : (s.env).signatures ≡ declared s.context
   pub owner : own_name s.setting ≡ ((s.context).program).name
-  pub ranks : (w : World) → IsWorld s.context w → ((s.setting).test).has_ranks w ≡ true
+  pub ranks : (env : TypedEnvironment) (envs : List TypedEnvironment) (a : Activity) → IsWellFormed s.context env envs a
+      → ((s.setting).test).has_ranks a.world ≡ true
   pub callees : HasCallees s.setting s.context s.depth s.greatest
   pub classes : HasClasses s.setting ((s.context).program).tree
   pub roomy : room_for s.greatest (length s.envs) ≤ s.room

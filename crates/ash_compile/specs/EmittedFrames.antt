@@ -1,6 +1,6 @@
 -- What the code of functions is of, and when it does what their frames do, wherever it stands.
 use Rattle.std.specs.Prelude.{◌≡◌, ◌≤◌, ℕ, suc, Bool, true, false, List, [], ◌++◌, map, flat_map, length, Option, Some, None, slice_get}
-use Rattle.std.specs.Option.{option_map_or}
+use Rattle.std.specs.List.{AllZip}
 use Rattle.ash_host.specs.declared.word.Word.{Word}
 use Rattle.ash_typed.specs.declared.types.VarType.{VarType}
 use Rattle.ash_typed.specs.StatementTree.{Initialization}
@@ -14,6 +14,8 @@ use Rattle.ash_meaning.specs.Frames.{tick}
 use Rattle.ash_meaning.specs.Classes.{Entry, entry_of_function, entry_of_method, entry_of_construction}
 use Rattle.ash_meaning.specs.Functions.{body, initialize_fields, initialize_module}
 use Rattle.ash_soundness.specs.WellFormed.{Context, declared}
+use Rattle.ash_code.specs.declared.code.ClassCode.{ClassCode}
+use Rattle.ash_code.specs.declared.code.CodeParts.{CodeParts}
 use Rattle.ash_code.specs.declared.code.FunctionCode.{FunctionCode}
 use Rattle.ash_code.specs.declared.instruction.Instruction.TheVariants as i
 use Rattle.ash_code.specs.Running as running
@@ -21,7 +23,7 @@ use Rattle.ash_compile.specs.declared.layout.Layout.{Layout}
 use Rattle.ash_compile.specs.Stretches.{Has}
 use Rattle.ash_compile.specs.Performances.{Acts, Enters}
 use Rattle.ash_compile.specs.Layout.{IsLayout}
-use Rattle.ash_compile.specs.Callees.{Entering}
+use Rattle.ash_compile.specs.Callees.{Entering, IsClassCode}
 use Rattle.ash_compile.specs.Emission.{Scene, IsScene, calls_of, Good}
 
 -- What the code of a function is of: its entry, how many parameters it has, and whether it constructs an object.
@@ -70,6 +72,13 @@ pub record IsSoundEntry (c : Context) (env : TypedEnvironment) (result : Option 
   pub fields : AreFieldsOf c env e.fields
   pub body : AreSoundStmts (record { env = env; result = result; may_break = false; may_continue = false }) e.body
 
+-- These are what the code knows of the classes of a module, each at its place.
+pub record AreClassCodes (m : Module) (codes : List ClassCode) : Type 0 where
+  pub count : length codes ≡ length m.classes
+  pub each : (class : ℕ) (k : Class)
+      → slice_get m.classes class ≡ Some k
+      → (code : ClassCode) × (slice_get codes class ≡ Some code) × IsClassCode m class k code
+
 -- The code is that of a function: wherever it stands in the code of a module with this layout, it does what the frame
 -- does from its entry on.
 pub record IsFrameCode (layout : Layout) (x : FrameSource) (f : FunctionCode) : Type 0 where
@@ -98,3 +107,10 @@ pub record IsInitCode (layout : Layout) (m : Module) (f : FunctionCode) : Type 0
       → f.slots ≤ s.greatest
       → IsLayout ((s.setting).code).module m layout
       → Acts s.setting (Good s) s.function s.room (initialize_module (calls_of s) 0 m.globals) 0 end 0 0
+
+-- The parts are the code of a module with this layout.
+pub record IsCompiled (layout : Layout) (m : Module) (parts : CodeParts) : Type 0 where
+  pub layout : IsLayout parts.module m layout
+  pub functions : AllZip (IsFrameCode layout) (frames_of m) (parts.functions).items
+  pub init : IsInitCode layout m parts.init
+  pub classes : AreClassCodes m (parts.classes).items

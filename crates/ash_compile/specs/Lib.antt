@@ -3,3 +3,5 @@ pub mod Performances
 pub mod Layout
 pub mod Callees
 pub mod Emission
+pub mod EmittedFrames
+pub mod EmittedParts
