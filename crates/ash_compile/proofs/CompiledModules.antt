@@ -58,7 +58,7 @@ module _ (layout : Layout) (parts : CodeParts) (c : Context) (context : IsContex
       (end_of (run_of_call c.program budget (entry_of_function f) (first_of_function f args budget world)))
   calls place f at s args budget world slots set long within are well =
       let callee = has_callees s c context layout (compiled_in s set) (owner_in s set) set.functions set.ranked budget
-          (FreeFunction place) (env_of c f.parameters) f.result (entry_of_function f) (a_function at) in
+      (FreeFunction place) (env_of c f.parameters) f.result (entry_of_function f) (a_function at) in
       let first = first_of_function f args budget world in
       let many : (callee.code).parameters ≡ length args = callee.parameters ∙ sym (values_length (well.frame).locals) in
       let room = room_in s slots set long in
@@ -72,7 +72,7 @@ module _ (layout : Layout) (parts : CodeParts) (c : Context) (context : IsContex
       → IsCodeOfFunction parts c place f
   function_code place f at =
       let (code, there, is) = zip_at (IsFrameCode layout) (frames_of (c.program).tree) (parts.functions).items place
-          (frame_of_function f) compiled.functions (function_at (c.program).tree place f at) in
+      (frame_of_function f) compiled.functions (function_at (c.program).tree place f at) in
       record {
         code = code;
         at = there;
@@ -102,15 +102,15 @@ module _ (layout : Layout) (parts : CodeParts) (c : Context) (context : IsContex
       let callees = has_callees s c context layout inside (owner_in s set) set.functions set.ranked budget in
       let function = length (parts.functions).items in
       let scene = scene_of s c context layout inside (owner_in s set) set.functions set.ranked budget (env_of c []) []
-          function in
+      function in
       let init = inside.init in
       let there = init_there s set in
       let room = room_in s slots set long in
       let acts = init.acts scene
-          (is_scene s c context layout inside (owner_in s set) set.functions set.ranked budget (env_of c []) [] function
-          callees refl) refl refl there (omega arith) inside.layout in
+      (is_scene s c context layout inside (owner_in s set) set.functions set.ranked budget (env_of c []) [] function
+      callees refl) refl refl there (omega arith) inside.layout in
       let has : Has s (Good scene) function scene.room init.end i.ReturnNothing
-          = ap (λ (g : FunctionCode). slice_get (g.instructions).items init.end) there ∙ init.ends in
+      = ap (λ (g : FunctionCode). slice_get (g.instructions).items init.end) there ∙ init.ends in
       loads_module s (Good scene) function scene.room c.program budget world slots init.end 0 acts has (omega arith)
       (well, omega arith)
 

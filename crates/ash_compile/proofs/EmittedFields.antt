@@ -26,6 +26,7 @@ use Rattle.ash_compile.specs.declared.builder.CodeBuilder.{CodeBuilder}
 use Rattle.ash_compile.specs.Performances.{Acts}
 use Rattle.ash_compile.specs.Emission.{code_of, end_of, Keeps, Puts, Scene, IsScene, Suits, calls_of, Good, Stands, Emits, DoesExpression}
 use Rattle.ash_compile.specs.EmittedParts.{IsWritten, ActsFrom, Constructs, EmitsField, EmitsFields}
+use Rattle.ash_compile.proofs.Listings.{first_of_rest, others_of_rest}
 use Rattle.ash_compile.proofs.Statements as code
 use Rattle.ash_compile.proofs.Emission.{keeps_on, put_one, put_keeps, HasAt, suits_before, stands_before, stands_after, has_put}
 use Rattle.ash_compile.proofs.TypedStatements.{Ready, ranked_of}
@@ -139,9 +140,9 @@ field_does : (s : Scene) (class : ℕ) (source : Class) (old new : CodeBuilder) 
     → ActsFrom s old new count (initialize_field (calls_of s) place v)
 field_does s class source old new place count v e some x constructs at written =
     let begins = subst (λ (o : Option Expr). IsSoundBeginning (inside (declared s.context) class) v.of o) some
-        (field_begins s class source place count v constructs at) in
+    (field_begins s class source place count v constructs at) in
     let narrow = begins_fitting begins in
-    let wide = fits_wide s.env class v.of e (constructs.scene).declares constructs.this narrow in
+    let wide = fits_wide s.context s.env class v.of e (constructs.scene).declares constructs.this narrow in
     let run = full (expression (calls_of s) e >>= write_field place) in
     subst (λ (o : Option Expr). ActsFrom s old new count
     (option_map_or (λ d. full (expression (calls_of s) d >>= write_field place)) o skip)) (sym some)
@@ -162,28 +163,10 @@ field_with old new place v e count some x = record {
 pub no_fields : (b : CodeBuilder) (place count : ℕ) → EmitsFields b b place [] count
 no_fields b place count = record {
   keeps = keeps_itself b;
+  none = λ is. refl;
   does = λ s class source constructs rest written.
       code.acts_none s.setting (Good s) s.function s.room (end_of b) count;
 }
-
--- what is behind the first places of a list
-
-first_of_rest : {A : Type 0} (xs : List A) (k : ℕ) (x : A) (rest : List A) → drop k xs ≡ x ∷ rest → slice_get xs k ≡ Some x
-first_of_rest [] zero x rest is = absurd (cc)
-first_of_rest [] (suc k) x rest is = absurd (cc)
-first_of_rest (y ∷ xs) zero x rest is = ap (λ (zs : List _). slice_get zs 0) is
-first_of_rest (y ∷ xs) (suc k) x rest is = first_of_rest xs k x rest is
-
-others_of_rest : {A : Type 0} (xs : List A) (k : ℕ) (x : A) (rest : List A) → drop k xs ≡ x ∷ rest
-    → drop (k + 1) xs ≡ rest
-others_of_rest [] zero x rest is = absurd (cc)
-others_of_rest [] (suc k) x rest is = absurd (cc)
-others_of_rest (y ∷ xs) zero x rest is = ap (λ (zs : List _). drop 1 zs) is
-others_of_rest (y ∷ xs) (suc k) x rest is =
-    ap (λ (n : ℕ). drop n (y ∷ xs)) (one_more k) ∙ others_of_rest xs k x rest is
-  where
-  one_more : (n : ℕ) → suc n + 1 ≡ suc (n + 1)
-  one_more n = omega arith
 
 fields_do : (s : Scene) (class : ℕ) (source : Class) (old mid new : CodeBuilder) (place : ℕ) (v : Initialization)
     (vs : List Initialization) (count : ℕ)
@@ -203,6 +186,7 @@ pub more_fields : (old mid new : CodeBuilder) (place : ℕ) (v : Initialization)
     → EmitsFields old new place (v ∷ vs) count
 more_fields old mid new place v vs count first second = record {
   keeps = keeps_on old mid new first.keeps second.keeps;
+  none = λ is. absurd (cc);
   does = λ s class source constructs rest written.
       let at = first_of_rest source.fields place v vs rest in
       fields_do s class source old mid new place v vs count constructs at

@@ -73,7 +73,6 @@ module _ (s : Setting) (c : Context) (context : IsContext c) (layout : Layout)
     → (s.names).functions index ≡ e.name)
     (ranked : (env : TypedEnvironment) (envs : List TypedEnvironment) (a : Activity) → IsWellFormed c env envs a
     → (s.test).has_ranks a.world ≡ true) where
-
   pub has_classes : HasClasses s (c.program).tree
   has_classes = record { count = (compiled.classes).count; each = (compiled.classes).each }
 
@@ -108,7 +107,8 @@ module _ (s : Setting) (c : Context) (context : IsContext c) (layout : Layout)
   module _ (x : FrameSource) (f : FunctionCode) (index : ℕ) (code : IsFrameCode layout x f)
       (there : slice_get ((s.code).functions).items index ≡ Some f)
       (env : TypedEnvironment) (declares : env.signatures ≡ declared c) (result : Option VarType)
-      (sound : IsSoundEntry c env result x.entry) (parameters : length env.locals ≡ x.parameters) where
+      (sound : IsSoundEntry c env result x.entry) (nothing : x.constructs ≡ true → result ≡ None)
+      (parameters : length env.locals ≡ x.parameters) where
     -- the frame at a depth
     abbrev FrameEnters : ℕ → List TypedEnvironment → Type 0
     FrameEnters depth envs =
@@ -125,7 +125,8 @@ module _ (s : Setting) (c : Context) (context : IsContext c) (layout : Layout)
     frame_enters : (depth : ℕ) (envs : List TypedEnvironment) → HasCallees s c depth (most_slots s.code)
         → FrameEnters (suc depth) envs
     frame_enters depth envs callees =
-        code.enters (scene_of depth env envs index) result (is_scene depth env envs index callees declares) sound parameters
+        code.enters (scene_of depth env envs index) result (is_scene depth env envs index callees declares) sound
+        nothing parameters
         (code_there s.code index f there) (function_slots s.code index f there) compiled.layout
 
   -- a callee, by its frame
@@ -179,15 +180,15 @@ module _ (s : Setting) (c : Context) (context : IsContext c) (layout : Layout)
       let x = callee_stands context callee env result e is in
       let index = index_of (c.program).tree callee in
       let (f, at, code) = zip_at (IsFrameCode layout) (frames_of (c.program).tree) ((s.code).functions).items index x.frame
-          compiled.functions x.at in
+      compiled.functions x.at in
       callee_there zero callee env result e x f at code (λ envs.
       frame_enters_not x.frame f index code at env x.declares result
-      (sound_entry env result (x.frame).entry e x.entry x.sound) x.parameters envs)
+      (sound_entry env result (x.frame).entry e x.entry x.sound) x.nothing x.parameters envs)
   has_callees (suc depth) callee env result e is =
       let x = callee_stands context callee env result e is in
       let index = index_of (c.program).tree callee in
       let (f, at, code) = zip_at (IsFrameCode layout) (frames_of (c.program).tree) ((s.code).functions).items index x.frame
-          compiled.functions x.at in
+      compiled.functions x.at in
       callee_there (suc depth) callee env result e x f at code (λ envs.
       frame_enters x.frame f index code at env x.declares result
-      (sound_entry env result (x.frame).entry e x.entry x.sound) x.parameters depth envs (has_callees depth))
+      (sound_entry env result (x.frame).entry e x.entry x.sound) x.nothing x.parameters depth envs (has_callees depth))

@@ -1,9 +1,10 @@
 -- The code of the fields of a construction does what initializes them.
-use Rattle.std.proofs.Common.{◌≡◌, ◌≤◌, ◌<◌, ℕ, zero, suc, ◌+◌, List, [], ◌∷◌, map, length, refl, sym, ap, ◌∙◌, subst, arith, true, Bool}
+use Rattle.std.proofs.Common.{◌≡◌, ◌≤◌, ◌<◌, ℕ, zero, suc, ◌+◌, List, [], ◌∷◌, drop, map, length, option_map, refl, sym, ap, ◌∙◌, subst, arith, true, Bool}
 use Rattle.std.proofs.Common.{nat_lt}
 use Rattle.std.specs.Prelude.{Option, Some, None, slice_get, ◌&&◌}
+use Rattle.std.specs.List.{AllByRecursion}
 use Rattle.std.specs.Option.{option_map_or}
-use Rattle.std.proofs.lemmas.Option.{same_Some, slice_get_within}
+use Rattle.std.proofs.lemmas.Option.{same_Some, slice_get-map, slice_get_within}
 use Rattle.std.proofs.lemmas.Bool.Decides.{nat_tests}
 use Rattle.ash_host.specs.declared.word.Word.{Word}
 use Rattle.ash_host.specs.declared.word.Word.TheVariants as words
@@ -14,7 +15,7 @@ use Rattle.ash_typed.specs.StatementTree.{Initialization}
 use Rattle.ash_typed.specs.Modules.{Class}
 use Rattle.ash_typed.specs.Signatures.{ModuleSignatures, type_declared}
 use Rattle.ash_typed.specs.SoundExpressions.{TypedEnvironment, Fits, fits}
-use Rattle.ash_typed.specs.SoundStatements.{IsSoundBeginning}
+use Rattle.ash_typed.specs.SoundStatements.{IsSoundBeginning, IsInitialized}
 use Rattle.ash_typed.specs.SoundModules.{inside}
 use Rattle.ash_meaning.specs.Activity.{Activity}
 use Rattle.ash_meaning.specs.Runs.{Run, Done, skip, ◌>>=◌, ◌>>◌}
@@ -25,14 +26,14 @@ use Rattle.ash_meaning.specs.ExpressionMeaning.{expression}
 use Rattle.ash_meaning.specs.Functions.{write_field, initialize_field, initialize_fields}
 use Rattle.ash_meaning.proofs.Walks.{Walk, bound, looked}
 use Rattle.ash_meaning.proofs.StepWalks.{to_object_of, to_write}
-use Rattle.ash_soundness.specs.WellFormed.{Context, IsOfClass, IsReference, to_object, IsThis, is_this, AreValues, shape_at, Shape, declared}
+use Rattle.ash_soundness.specs.WellFormed.{Context, IsContext, IsOfClass, IsReference, to_object, IsThis, no_this, is_this, AreValues, shape_at, Shape, declared}
 use Rattle.ash_soundness.specs.WellFormedLaws.{Leaves, Passes}
 use Rattle.ash_soundness.proofs.Triples.{weaken, safe}
 use Rattle.ash_soundness.proofs.Arrays.{after_object, object_with, words_of}
 use Rattle.ash_soundness.proofs.Parts.{fields_fit}
 use Rattle.ash_soundness.proofs.Lists.{values_length}
 use Rattle.ash_soundness.proofs.Locations.{in_field, write_goes}
-use Rattle.ash_soundness.proofs.Entries.{AreFields, no_fields, and_field, HasFields, none_initialized, all_initialized, in_class}
+use Rattle.ash_soundness.proofs.Entries.{AreFields, no_fields, and_field, HasFields, none_initialized, all_initialized, in_class, class_is}
 use Rattle.ash_soundness.proofs.Bodies.{begins_fitting}
 use Rattle.ash_soundness.proofs.Widening.{widened_fit}
 use Rattle.ash_run_steps.specs.GuardedSteps.{is_alive}
@@ -41,6 +42,7 @@ use Rattle.ash_code.specs.Steps.{has_part}
 use Rattle.ash_compile.specs.Stretches.{Has, Computes}
 use Rattle.ash_compile.specs.Performances.{Acts}
 use Rattle.ash_compile.specs.Emission.{Scene, IsScene, calls_of}
+use Rattle.ash_compile.proofs.Listings.{first_of_rest, others_of_rest}
 use Rattle.ash_compile.proofs.Typed.{evaluates}
 use Rattle.ash_compile.proofs.Loops.{Spends}
 use Rattle.ash_compile.proofs.Statements as code
@@ -50,18 +52,34 @@ use Rattle.ash_compile.proofs.BlockCode.{given_alive}
 use Rattle.ash_compile.proofs.StoredCode.{Well, Stores, spends_stored, stored_ranks}
 
 -- the environment of a class, by its parts
-class_env : {c : Context} (env : TypedEnvironment) (class : ℕ) → env.signatures ≡ declared c → env.this ≡ Some class
+class_env : (c : Context) (env : TypedEnvironment) (class : ℕ) → env.signatures ≡ declared c → env.this ≡ Some class
     → env ≡ in_class c class env.locals
-class_env {c} env class same this =
+class_env c env class same this =
     ap (λ (m : ModuleSignatures). record { signatures = m; this = env.this; locals = env.locals }) same
     ∙ ap (λ (t : Option ℕ). record { signatures = declared c; this = t; locals = env.locals }) this
 
 -- What begins a field fits it where the frame has locals too.
-pub fits_wide : {c : Context} (env : TypedEnvironment) (class : ℕ) (of : VarType) (e : Expr) → env.signatures ≡ declared c
+pub fits_wide : (c : Context) (env : TypedEnvironment) (class : ℕ) (of : VarType) (e : Expr) → env.signatures ≡ declared c
     → env.this ≡ Some class → Fits (inside (declared c) class) of e → Fits env of e
-fits_wide {c} env class of e same this fit =
-    subst (λ (x : TypedEnvironment). Fits x of e) (sym (class_env env class same this))
+fits_wide c env class of e same this fit =
+    subst (λ (x : TypedEnvironment). Fits x of e) (sym (class_env c env class same this))
     (widened_fit (declared c) (Some class) env.locals fit)
+
+-- The fields of a class that is sound, from a place on.
+fields_from : (c : Context) (class : ℕ) (source : Class) (place : ℕ) (vs : List Initialization)
+    → AllByRecursion (IsInitialized (inside (declared c) class)) vs
+    → drop place source.fields ≡ vs
+    → AreFields c class source place vs
+fields_from c class source place [] sound rest = no_fields
+fields_from c class source place (v ∷ vs) sound rest =
+    let at = first_of_rest source.fields place v vs rest in
+    and_field (slice_get-map type_declared source.fields place ∙ ap (option_map type_declared) at) (sound.0).value
+    (fields_from c class source (place + 1) vs sound.1 (others_of_rest source.fields place v vs rest))
+
+pub fields_of_class : (c : Context) → IsContext c → (class : ℕ) (source : Class)
+    → slice_get ((c.program).tree).classes class ≡ Some source → AreFields c class source 0 source.fields
+fields_of_class c context class source there =
+    fields_from c class source 0 source.fields (class_is context class source there).fields refl
 
 -- the object that is constructed
 pub record Own (s : Scene) (class : ℕ) (b : Activity) : Type 0 where
@@ -73,12 +91,8 @@ pub record Own (s : Scene) (class : ℕ) (b : Activity) : Type 0 where
 
 own_by : (s : Scene) (class : ℕ) (b : Activity) (t : Option ℕ) (w : Word) → t ≡ Some class → (b.frame).this ≡ w
     → IsThis (s.context).program (b.world).objects t w → Own s class b
-own_by s class b None w is this own = absurd (cc)
-own_by s class b (Some other) words.Null is this own = absurd (null_is own)
-  where
-  null_is : IsThis (s.context).program (b.world).objects (Some other) words.Null → ⊥
-  null_is (is_this at of) = cc
-own_by s class b (Some other) w is this (is_this {number = number} {shape = shape} at of) = record {
+own_by s class b None words.Null is this no_this = absurd (cc)
+own_by s class b (Some other) (words.Object k) is this (is_this {number = number} {shape = shape} at of) = record {
   number = number;
   this = this;
   shape = shape;
@@ -98,13 +112,13 @@ module _ (s : Scene) (scene : IsScene s) (class : ℕ) (source : Class) (this : 
   has_field b place of good field o =
       let object = object_with o.number (b.world).objects o.shape o.at in
       let values : AreValues (s.context).program (b.world).objects (map type_declared ((o.of).source).fields)
-          (words_in o.number b.world)
-          = subst (AreValues (s.context).program (b.world).objects (map type_declared ((o.of).source).fields))
-          (sym (words_of o.number b.world object.0 object.1))
-          (fields_fit scene.sound o.of object.0 object.2 ((good.world).living.each o.number object.0 object.1)) in
+      (words_in o.number b.world)
+      = subst (AreValues (s.context).program (b.world).objects (map type_declared ((o.of).source).fields))
+      (sym (words_of o.number b.world object.0 object.1))
+      (fields_fit scene.sound o.of object.0 object.2 ((good.world).living.each o.number object.0 object.1)) in
       let one : source ≡ (o.of).source = same_Some source (o.of).source (sym there ∙ (o.of).at) in
       let within = slice_get_within (map type_declared ((o.of).source).fields) place of
-          (subst (λ (k : Class). slice_get (map type_declared k.fields) place ≡ Some of) one field) in
+      (subst (λ (k : Class). slice_get (map type_declared k.fields) place ≡ Some of) one field) in
       let long = values_length values in
       grind (arith, nat_tests)
 
@@ -114,7 +128,7 @@ module _ (s : Scene) (scene : IsScene s) (class : ℕ) (source : Class) (this : 
       let o = own s class b this good in
       let one : source ≡ (o.of).source = same_Some source (o.of).source (sym there ∙ (o.of).at) in
       let reference : IsReference (b.world).objects (IsOfClass (s.context).program class) (b.frame).this
-          = subst (IsReference (b.world).objects (IsOfClass (s.context).program class)) (sym o.this) (to_object o.at o.of) in
+      = subst (IsReference (b.world).objects (IsOfClass (s.context).program class)) (sym o.this) (to_object o.at o.of) in
       after_object _ b (safe good) reference (λ number shape is at i.
       let same : source ≡ i.source = same_Some source i.source (sym there ∙ i.at) in
       weaken (λ u d g. g.passes) (write_goes scene.sound (Part number place) w good (in_field i at
@@ -125,7 +139,7 @@ module _ (s : Scene) (scene : IsScene s) (class : ℕ) (source : Class) (this : 
       bound (bound (looked (λ a. a.frame.this) (λ more a. refl)) to_object_of) (λ number. to_write (Part number place) w)
 
   field_fits : (of : VarType) (e : Expr) → Fits (inside (declared s.context) class) of e → Fits s.env of e
-  field_fits of e fit = fits_wide (s.env) class of e scene.declares this fit
+  field_fits of e fit = fits_wide s.context s.env class of e scene.declares this fit
 
   -- fields keep activities good
 
@@ -164,12 +178,14 @@ module _ (s : Scene) (scene : IsScene s) (ranked : IsRanked s) (class : ℕ) (so
       → Fits s.env of e → (a b : Activity) (v : Word) → Ready s a → expression (calls_of s) e a ≡ Done v b
       → (number : ℕ) × ((b.frame).this ≡ words.Object number) × (has_part number place b && is_alive v b ≡ true)
   field_alive place of e field (fits {actual = from} typed subtype) a b v good is =
-      let got = evaluates s e from a b v scene typed good.0 is in
+      let got = evaluates s e from a b v scene typed good is in
       let well = ((got.goes).passes).well in
-      let o = own s class b this well in
-      (o.number, o.this,
-      both_hold (has_part o.number place b) (is_alive v b)
-      (has_field s scene class source this there b place of well field o) (given_alive v b (got.carried).value))
+      let o = own s class b this well in (
+        o.number,
+        o.this,
+        both_hold (has_part o.number place b) (is_alive v b)
+            (has_field s scene class source this there b place of well field o) (given_alive v b (got.carried).value),
+      )
 
   -- a field with a value
   pub does_field : (place : ℕ) (of : VarType) (e : Expr) (from mid : ℕ)

@@ -35,6 +35,7 @@ use Rattle.ash_code.specs.Steps.{has_global}
 use Rattle.ash_compile.specs.Stretches.{Has, Computes}
 use Rattle.ash_compile.specs.Performances.{Acts}
 use Rattle.ash_compile.specs.Emission.{Scene, IsScene, calls_of}
+use Rattle.ash_compile.specs.EmittedParts.{AreTypesFrom}
 use Rattle.ash_compile.proofs.Typed.{evaluates}
 use Rattle.ash_compile.proofs.Loops.{Spends}
 use Rattle.ash_compile.proofs.Statements as code
@@ -42,12 +43,6 @@ use Rattle.ash_compile.proofs.Functions as frames
 use Rattle.ash_compile.proofs.TypedStatements.{Ready, IsRanked, spends_then, spends_give, spends_tick}
 use Rattle.ash_compile.proofs.BlockCode.{given_alive}
 use Rattle.ash_compile.proofs.StoredCode.{Stores, spends_stored, stored_ranks}
-
--- These are the types of the globals from a place on.
-abbrev pub AreTypesFrom : Scene → ℕ → List VarType → Type 0
-AreTypesFrom s place types =
-    (k : ℕ) (of : VarType) → slice_get types k ≡ Some of
-    → slice_get (types_of_globals (((s.context).program).tree).globals) (place + k) ≡ Some of
 
 pub type_here : (s : Scene) (place : ℕ) (of : VarType) (types : List VarType) → AreTypesFrom s place (of ∷ types)
     → slice_get (types_of_globals (((s.context).program).tree).globals) place ≡ Some of
@@ -117,7 +112,7 @@ module _ (s : Scene) (scene : IsScene s) (ranked : IsRanked s) where
       → Fits s.env of e → (a b : Activity) (v : Word) → Ready s a → expression (calls_of s) e a ≡ Done v b
       → has_global place b && is_alive v b ≡ true
   global_alive place of e at (fits {actual = from} typed subtype) a b v good is =
-      let got = evaluates s e from a b v scene typed good.0 is in
+      let got = evaluates s e from a b v scene typed good is in
       let long = values_length ((((got.goes).passes).well).world).globals in
       let within = slice_get_within (types_of_globals (((s.context).program).tree).globals) place of at in
       both_hold (has_global place b) (is_alive v b) (grind (arith, nat_tests)) (given_alive v b (got.carried).value)
@@ -161,7 +156,7 @@ module _ (s : Scene) (scene : IsScene s) (ranked : IsRanked s) where
   does_variables place d ds from mid to are begins has first second =
       let globals = initialize_globals (calls_of s) place d.values in
       let one = spends_then (tick d.line) (λ _. globals) (spends_tick s scene d.line)
-          (λ _. spends_globals s scene place d.values (types_of_globals ds) are begins) in
+      (λ _. spends_globals s scene place d.values (types_of_globals ds) are begins) in
       code.acts_then s.setting (Ready s) s.function s.room (Ready s) (tick d.line >> globals)
       (initialize_module (calls_of s) (place + length d.values) ds) from mid to locals locals locals
       (code.acts_then s.setting (Ready s) s.function s.room (Ready s) (tick d.line) globals from (from + 1) mid locals locals

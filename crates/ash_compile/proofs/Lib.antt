@@ -24,7 +24,9 @@ pub mod EmittedRows
 pub mod StoredCode
 pub mod FieldCode
 pub mod EmittedFields
+pub mod EmittedFrame
 pub mod GlobalCode
+pub mod EmittedGlobals
 pub mod Listings
 pub mod ModuleFrames
 pub mod EveryCallee

@@ -1,9 +1,9 @@
 -- Lists that stand for each other, place by place, and where what is in one is in a longer one.
-use Rattle.std.proofs.Common.{◌≡◌, ◌<◌, ℕ, zero, suc, ◌+◌, List, [], ◌∷◌, ◌++◌, take, length, map, flat_map, refl, sym, ap, ◌∙◌, arith, length-append}
+use Rattle.std.proofs.Common.{◌≡◌, ◌<◌, ◌≤◌, ℕ, zero, suc, ◌+◌, List, [], ◌∷◌, ◌++◌, take, drop, get_or, length, map, flat_map, refl, sym, ap, ◌∙◌, arith, length-append}
 use Rattle.std.specs.Prelude.{Some, slice_get}
 use Rattle.std.specs.List.{AllZip}
 use Rattle.std.proofs.lemmas.Option.{same_Some}
-use Rattle.std.proofs.lemmas.List.{append_assoc, append-nil}
+use Rattle.std.proofs.lemmas.List.{drop_more, drop_all}
 
 -- what is in a list stays where it is if the list grows
 pub get_first : {A : Type 0} (xs ys : List A) (k : ℕ) (x : A) → slice_get xs k ≡ Some x → slice_get (xs ++ ys) k ≡ Some x
@@ -15,12 +15,12 @@ get_first (y ∷ xs) ys (suc k) x is = get_first xs ys k x is
 pub get_second : {A : Type 0} (xs ys : List A) (k : ℕ) → slice_get (xs ++ ys) (length xs + k) ≡ slice_get ys k
 get_second [] ys k = ap (λ (n : ℕ). slice_get ys n) (nothing_more k)
   where
-  nothing_more : (n : ℕ) → 0 + n ≡ n
-  nothing_more n = omega arith
+    nothing_more : (n : ℕ) → 0 + n ≡ n
+    nothing_more n = omega arith
 get_second (x ∷ xs) ys k = ap (λ (n : ℕ). slice_get (x ∷ (xs ++ ys)) n) (one_more (length xs) k) ∙ get_second xs ys k
   where
-  one_more : (m n : ℕ) → suc m + n ≡ suc (m + n)
-  one_more m n = omega arith
+    one_more : (m n : ℕ) → suc m + n ≡ suc (m + n)
+    one_more m n = omega arith
 
 -- what is in the list of one of the items
 pub get_part : {A B : Type 0} (g : A → List B) (xs : List A) (c k : ℕ) (x : A) (y : B) → slice_get xs c ≡ Some x
@@ -30,8 +30,8 @@ get_part g (z ∷ xs) zero k x y at there =
     ap (λ (n : ℕ). slice_get (g z ++ flat_map g xs) n) (nothing_more k)
     ∙ get_first (g z) (flat_map g xs) k y (ap (λ (w : _). slice_get (g w) k) (same_Some z x at) ∙ there)
   where
-  nothing_more : (n : ℕ) → 0 + n ≡ n
-  nothing_more n = omega arith
+    nothing_more : (n : ℕ) → 0 + n ≡ n
+    nothing_more n = omega arith
 get_part g (z ∷ xs) (suc c) k x y at there =
     ap (λ (n : ℕ). slice_get (g z ++ flat_map g xs) n)
     (ap (λ (m : ℕ). m + k) (length-append (g z) (flat_map g (take c xs)))
@@ -39,8 +39,8 @@ get_part g (z ∷ xs) (suc c) k x y at there =
     ∙ get_second (g z) (flat_map g xs) (length (flat_map g (take c xs)) + k)
     ∙ get_part g xs c k x y at there
   where
-  grouped : (l m n : ℕ) → l + m + n ≡ l + (m + n)
-  grouped l m n = omega arith
+    grouped : (l m n : ℕ) → l + m + n ≡ l + (m + n)
+    grouped l m n = omega arith
 
 -- lists that stand for each other
 
@@ -58,6 +58,34 @@ zip_at R [] (z ∷ ys) k x are at = absurd are
 zip_at R (w ∷ xs) [] k x are at = absurd are
 zip_at R (w ∷ xs) (z ∷ ys) zero x are at = (z, refl, here)
   where
-  here : R x z
-  here = rw (sym (same_Some w x at)) are.0
+    here : R x z
+    here = rw (sym (same_Some w x at)) are.0
 zip_at R (w ∷ xs) (z ∷ ys) (suc k) x are at = zip_at R xs ys k x are.1 at
+
+-- what is left of a list
+
+pub rest_here : {A B : Type 0} (f : A → B) (xs : List A) (k : ℕ) (x : A) → k < length xs → x ≡ get_or xs k x
+    → map f (drop k xs) ≡ f x ∷ map f (drop (k + 1) xs)
+rest_here f xs k x low is = ap (map f) (drop_more xs k x low ∙ ap (λ (y : _). y ∷ drop (k + 1) xs) (sym is))
+
+pub rest_none : {A B : Type 0} (f : A → B) (xs : List A) (k : ℕ) → length xs ≤ k → map f (drop k xs) ≡ []
+rest_none f xs k over = ap (map f) (drop_all k xs over)
+
+-- what is behind the first places of a list
+
+pub first_of_rest : {A : Type 0} (xs : List A) (k : ℕ) (x : A) (rest : List A) → drop k xs ≡ x ∷ rest → slice_get xs k ≡ Some x
+first_of_rest [] zero x rest is = absurd (cc)
+first_of_rest [] (suc k) x rest is = absurd (cc)
+first_of_rest (y ∷ xs) zero x rest is = ap (λ (zs : List _). slice_get zs 0) is
+first_of_rest (y ∷ xs) (suc k) x rest is = first_of_rest xs k x rest is
+
+pub others_of_rest : {A : Type 0} (xs : List A) (k : ℕ) (x : A) (rest : List A) → drop k xs ≡ x ∷ rest
+    → drop (k + 1) xs ≡ rest
+others_of_rest [] zero x rest is = absurd (cc)
+others_of_rest [] (suc k) x rest is = absurd (cc)
+others_of_rest (y ∷ xs) zero x rest is = ap (λ (zs : List _). drop 1 zs) is
+others_of_rest (y ∷ xs) (suc k) x rest is =
+    ap (λ (n : ℕ). drop n (y ∷ xs)) (one_more k) ∙ others_of_rest xs k x rest is
+  where
+    one_more : (n : ℕ) → suc n + 1 ≡ suc (n + 1)
+    one_more n = omega arith

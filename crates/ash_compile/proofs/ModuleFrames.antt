@@ -144,6 +144,7 @@ pub record Stands (c : Context) (callee : ModuleCallee) (env : TypedEnvironment)
   pub parameters : length env.locals ≡ frame.parameters
   pub gives : frame.constructs ≡ constructs callee
   pub declares : env.signatures ≡ declared c
+  pub nothing : frame.constructs ≡ true → result ≡ None
   pub sound : IsSoundEntry c env result e
 
 module _ {c : Context} (context : IsContext c) where
@@ -173,6 +174,7 @@ module _ {c : Context} (context : IsContext c) where
     parameters = refl;
     gives = refl;
     declares = refl;
+    nothing = λ is. absurd (cc);
     sound = record {
       fields = no_field;
       body = (rec_at (IsSoundFunction (outside (declared c))) ((c.program).tree).functions place f (context.sound).functions at).body;
@@ -185,6 +187,7 @@ module _ {c : Context} (context : IsContext c) where
     parameters = refl;
     gives = refl;
     declares = refl;
+    nothing = λ is. absurd (cc);
     sound = record {
       fields = no_field;
       body = (rec_at (IsSoundFunction (inside (declared c) class)) k.methods place f (class_is context class k at).methods here).body;
@@ -197,6 +200,7 @@ module _ {c : Context} (context : IsContext c) where
     parameters = refl;
     gives = refl;
     declares = refl;
+    nothing = λ is. refl;
     sound = record {
       fields = all_fields refl at;
       body = body_of_construction class k k.constructor (class_is context class k at).constructor;

@@ -88,6 +88,7 @@ pub record IsFrameCode (layout : Layout) (x : FrameSource) (f : FunctionCode) : 
   pub enters : (s : Scene) (result : Option VarType)
       → IsScene s
       → IsSoundEntry s.context s.env result x.entry
+      → (x.constructs ≡ true → result ≡ None)
       → length (s.env).locals ≡ x.parameters
       → running.code_of (s.setting).code s.function ≡ f
       → f.slots ≤ s.greatest

@@ -1,6 +1,6 @@
 -- What code that is emitted for parts of functions does, wherever it stands: for the fields of a construction, and for
 -- the initializers of a module.
-use Rattle.std.specs.Prelude.{◌≡◌, ℕ, ◌+◌, List, ◌++◌, map, drop, length, Some, slice_get}
+use Rattle.std.specs.Prelude.{◌≡◌, ℕ, ◌+◌, List, [], ◌++◌, map, drop, length, Some, slice_get}
 use Rattle.std.specs.List.{AllByRecursion}
 use Rattle.ash_typed.specs.declared.types.VarType.{VarType}
 use Rattle.ash_typed.specs.StatementTree.{Initialization}
@@ -45,6 +45,7 @@ pub record EmitsField (old new : CodeBuilder) (place : ℕ) (v : Initialization)
 -- The code has grown by that of the fields of a class from this place on.
 pub record EmitsFields (old new : CodeBuilder) (place : ℕ) (vs : List Initialization) (count : ℕ) : Type 0 where
   pub keeps : Keeps old new
+  pub none : vs ≡ [] → new ≡ old
   pub does : (s : Scene) (class : ℕ) (source : Class)
       → Constructs s class source count
       → drop place source.fields ≡ vs
@@ -85,7 +86,7 @@ pub record EmitsGlobals (old new : CodeBuilder) (place : ℕ) (vs : List Initial
       → ActsFrom s old new 0 (initialize_globals (calls_of s) place vs)
 
 -- The code has grown by that of variables that are declared, from this place on, each with its tick.
-pub record EmitsVariables (old new : CodeBuilder) (place : ℕ) (ds : List Variables) : Type 0 where
+pub record EmitsDeclarations (old new : CodeBuilder) (place : ℕ) (ds : List Variables) : Type 0 where
   pub keeps : Keeps old new
   pub does : (s : Scene)
       → Initializes s

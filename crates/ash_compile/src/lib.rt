@@ -7,5 +7,7 @@
 #![tactic(auto)]
 
 pub mod builder;
+mod classes;
 pub mod expressions;
+mod initializers;
 pub mod layout;
