@@ -1,0 +1,253 @@
+//! The code of statements.
+//!
+//! A statement leaves as many locals as it found, except that a declaration in a list of statements leaves its
+//! variables. What is computed uses the slots behind the locals. A `break` or a `continue` leaves the locals of blocks
+//! and jumps to a release point, where those blocks end. That place is not known yet when the jump is appended: the
+//! statement that it leads out of writes the jump again.
+
+ghost use Rattle.std.specs.Prelude.{◌≡◌, ◌+◌, IfOk, map};
+ghost use Rattle.ash_typed.specs.TypedTreeViews.{expr_of};
+ghost use Rattle.ash_typed.specs.BodyViews.{stmt_of, body_of, value_of};
+ghost use Rattle.ash_typed.specs.StatementTree.{Block, If, Break, Continue, Return};
+ghost use Rattle.ash_compile.specs.Emission.{Puts, end_of};
+ghost use Rattle.ash_compile.specs.EmittedStatements.{AreBelow, LeadsAll, Scope, draft, EmitsStatement};
+ghost use Rattle.ash_compile.specs.EmittedStatements.{EmitsListed, EmitsStatements, EmitsBody};
+
+use crate::builder::CodeBuilder;
+use ash_code::instruction::Instruction;
+use ash_typed::{Expr, Initialization, Stmt, StmtKind};
+use std::alloc::{AllocError, Global};
+
+/// What a statement is in.
+#[derive(Clone, Copy)]
+pub struct Scope {
+    /// How many locals there are.
+    pub locals: usize,
+    /// How many of them a `break` keeps.
+    pub broken: usize,
+    /// How many of them a `continue` keeps.
+    pub continued: usize,
+    /// Whether the function constructs an object: a `return` gives that.
+    pub constructs: bool,
+}
+
+/// The places of jumps whose targets are not known yet.
+#[derive(Drop)]
+pub struct Jumps {
+    pub alloc: Global,
+    /// Jumps of `break`.
+    pub breaks: Vec<usize>,
+    /// Jumps of `continue`.
+    pub continues: Vec<usize>,
+}
+
+/// How a function is left without a value.
+fn end_of_function(constructs: bool) -> Instruction {
+    if constructs {
+        Instruction::ReturnThis
+    } else {
+        Instruction::ReturnNothing
+    }
+}
+
+impl CodeBuilder {
+    /// Appends the code of the statements of a function, which has so many locals before them.
+    ///
+    /// # Errors
+    ///
+    /// If there is no memory, or there are no more slots.
+    pub fn body(
+        &mut self,
+        alloc: Global,
+        stmts: &[Stmt],
+        locals: usize,
+        constructs: bool,
+    ) -> Result<(), AllocError>
+        ensures emits { IfOk result (λ u. EmitsBody self.old self.new (body_of stmts.now) locals constructs) }
+    {
+        let scope = Scope {
+            locals,
+            broken: locals,
+            continued: locals,
+            constructs,
+        };
+        let mut jumps = Jumps {
+            alloc,
+            breaks: Vec::new(alloc),
+            continues: Vec::new(alloc),
+        };
+        self.statements(stmts, scope, &mut jumps)?;
+        let end = self.here();
+        self.lead_all(&jumps.breaks, end);
+        self.lead_all(&jumps.continues, end);
+        Ok(())
+    }
+
+    /// Appends the code of a statement.
+    ///
+    /// # Errors
+    ///
+    /// If there is no memory, or there are no more slots.
+    #[cycle(statements)]
+    pub(crate) fn statement(&mut self, stmt: &Stmt, scope: Scope, jumps: &mut Jumps) -> Result<(), AllocError>
+        ensures emits { IfOk result (λ u. EmitsStatement (draft self.old jumps.old)
+            (draft self.new jumps.new) (stmt_of stmt.now) scope) }
+    {
+        let line = stmt.line;
+        match &stmt.kind {
+            StmtKind::Empty => self.tick(line, scope.locals),
+            StmtKind::Declare(values) => {
+                self.declaration(line, values, scope)?;
+                Ok(())
+            }
+            StmtKind::Evaluate(expr) => {
+                self.tick(line, scope.locals)?;
+                self.evaluation(expr, scope.locals)
+            }
+            StmtKind::Block(stmts) => self.block(stmts, scope, jumps),
+            StmtKind::If {
+                condition,
+                then,
+                otherwise,
+            } => {
+                self.tick(line, scope.locals)?;
+                let branch = self.condition(condition, scope.locals)?;
+                self.statement(then, scope, jumps)?;
+                self.otherwise(branch, otherwise, scope, jumps)
+            }
+            StmtKind::Repeat(inside) => self.repeat(line, inside, scope, jumps),
+            StmtKind::For { head, inside } => self.for_loop(line, head, inside, scope, jumps),
+            StmtKind::Switch { of, value, cases } => {
+                self.switch(line, *of, value, cases, scope, jumps)
+            }
+            StmtKind::Break => self.break_out(line, scope, jumps),
+            StmtKind::Continue => self.continue_on(line, scope, jumps),
+            StmtKind::Return(value) => self.returning(line, value, scope),
+        }
+    }
+
+    /// Variables, with their tick. How many locals there are then is returned.
+    fn declaration(&mut self, line: usize, values: &[Initialization], scope: Scope) -> Result<usize, AllocError> {
+        self.tick(line, scope.locals)?;
+        self.variables(values, scope.locals)
+    }
+
+    /// A statement of a list. How many locals there are after it is returned.
+    #[cycle(statements)]
+    fn listed(&mut self, stmt: &Stmt, scope: Scope, jumps: &mut Jumps) -> Result<usize, AllocError>
+        ensures emits { IfOk result (λ locals. EmitsListed (draft self.old jumps.old)
+            (draft self.new jumps.new) (stmt_of stmt.now) scope locals) }
+    {
+        if let StmtKind::Declare(values) = &stmt.kind {
+            return self.declaration(stmt.line, values, scope);
+        }
+        self.statement(stmt, scope, jumps)?;
+        Ok(scope.locals)
+    }
+
+    /// A list of statements, each of which sees the variables that those before it declare.
+    #[cycle(statements)]
+    pub(crate) fn statements(&mut self, stmts: &[Stmt], scope: Scope, jumps: &mut Jumps) -> Result<(), AllocError>
+        ensures emits { IfOk result (λ u. EmitsStatements (draft self.old jumps.old)
+            (draft self.new jumps.new) (body_of stmts.now) scope) }
+    {
+        let mut locals = scope.locals;
+        for stmt in stmts {
+            locals = self.listed(stmt, Scope { locals, ..scope }, jumps)?;
+        }
+        Ok(())
+    }
+
+    /// A block. Its end is a release point.
+    #[cycle(statements)]
+    fn block(&mut self, stmts: &[Stmt], scope: Scope, jumps: &mut Jumps) -> Result<(), AllocError> {
+        self.statements(stmts, scope, jumps)?;
+        self.put(
+            scope.locals,
+            Instruction::EndBlock {
+                count: scope.locals,
+            },
+        )
+    }
+
+    /// What comes after the statement of an `if`, which begins with the branch of its condition.
+    #[cycle(statements)]
+    fn otherwise(
+        &mut self,
+        branch: usize,
+        otherwise: &Option<Box<Stmt>>,
+        scope: Scope,
+        jumps: &mut Jumps,
+    ) -> Result<(), AllocError> {
+        match otherwise {
+            None => {
+                self.lead_branch(branch, scope.locals);
+                Ok(())
+            }
+            Some(otherwise) => {
+                let back = self.here();
+                self.put(scope.locals, Instruction::Jump { to: 0 })?;
+                self.lead_branch(branch, scope.locals);
+                self.statement(otherwise, scope, jumps)?;
+                let end = self.here();
+                self.lead(back, Instruction::Jump { to: end });
+                Ok(())
+            }
+        }
+    }
+
+    /// The branch of a condition leads to the next instruction.
+    pub(crate) fn lead_branch(&mut self, branch: usize, condition: usize) {
+        let to = self.here();
+        self.lead(branch, Instruction::Branch { condition, to });
+    }
+
+    /// Writes jumps again, once their target is known.
+    pub(crate) fn lead_all(&mut self, places: &[usize], to: usize)
+        requires there { AreBelow (end_of self.old) places.now }
+        ensures leads { LeadsAll self.old self.new places.now to }
+    {
+        for at in places {
+            self.lead(*at, Instruction::Jump { to });
+        }
+    }
+
+    /// `break`
+    fn break_out(&mut self, line: usize, scope: Scope, jumps: &mut Jumps) -> Result<(), AllocError>
+        ensures emits { IfOk result (λ u. EmitsStatement (draft self.old jumps.old)
+            (draft self.new jumps.new) (Break line) scope) }
+    {
+        let jump = self.leave(line, scope.broken, scope.locals)?;
+        jumps.breaks.push(jump)
+    }
+
+    /// `continue`
+    fn continue_on(&mut self, line: usize, scope: Scope, jumps: &mut Jumps) -> Result<(), AllocError>
+        ensures emits { IfOk result (λ u. EmitsStatement (draft self.old jumps.old)
+            (draft self.new jumps.new) (Continue line) scope) }
+    {
+        let jump = self.leave(line, scope.continued, scope.locals)?;
+        jumps.continues.push(jump)
+    }
+
+    /// Leaves blocks. The place of the jump is returned.
+    fn leave(&mut self, line: usize, count: usize, slot: usize) -> Result<usize, AllocError> {
+        self.tick(line, slot)?;
+        self.put(slot, Instruction::LeaveBlocks { count })?;
+        let jump = self.here();
+        self.put(slot, Instruction::Jump { to: 0 })?;
+        Ok(jump)
+    }
+
+    /// `return`
+    fn returning(&mut self, line: usize, value: &Option<Expr>, scope: Scope) -> Result<(), AllocError> {
+        self.tick(line, scope.locals)?;
+        match value {
+            None => self.put(scope.locals, end_of_function(scope.constructs)),
+            Some(expr) => {
+                self.expression(expr, scope.locals)?;
+                self.put(scope.locals, Instruction::Return { from: scope.locals })
+            }
+        }
+    }
+}
