@@ -28,10 +28,19 @@ use Rattle.ash_soundness.specs.WellFormedLaws.{Leads, IsLeftBy, by_itself, by_br
 use Rattle.ash_soundness.proofs.SoundStaysSound as sound
 use Rattle.ash_soundness.proofs.Frames.{tick_goes, release_passes, end_passes}
 use Rattle.ash_compile.specs.Emission.{Scene, IsScene, calls_of, Good}
-pub use Rattle.ash_compile.specs.EmittedStatements.{Ready, IsRanked}
 use Rattle.ash_compile.proofs.Typed.{left_done, values_long, stays_good}
 use Rattle.ash_compile.proofs.Statements.{spent, LeadsTo}
 use Rattle.ash_compile.proofs.Loops.{Spends, Whole, released_ticks}
+
+-- Activities in which the statements of a function run: well-formed ones with no more ticks than turns of loops.
+abbrev pub Ready : Scene → Activity → Type 0
+Ready s a = Good s a × (a.ticks ≤ s.depth)
+
+-- Objects have ranks in every well-formed activity whose callers are those of the function.
+abbrev pub IsRanked : Scene → Type 0
+IsRanked s =
+    (env : TypedEnvironment) (a : Activity) → IsWellFormed s.context env s.envs a
+    → ((s.setting).test).has_ranks a.world ≡ true
 
 -- how a phrase came to its value
 
