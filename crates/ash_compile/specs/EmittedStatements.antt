@@ -11,13 +11,10 @@ use Rattle.ash_typed.specs.declared.tree.statements.Test.{Test}
 use Rattle.ash_typed.specs.declared.tree.statements.Test.TheVariants as tests
 use Rattle.ash_typed.specs.TypedTree.{Expr}
 use Rattle.ash_typed.specs.StatementTree.{Initialization, Head, Loop, Stmt, Stmts, stmt}
-use Rattle.ash_typed.specs.SoundExpressions.{TypedEnvironment}
 use Rattle.ash_typed.specs.SoundStatements.{TypedScope, IsSoundStmt, AreSoundStmts, IsLoop, IsSoundHead, AreSoundDeclarations}
 use Rattle.ash_typed.specs.SoundStatements.{IsEvaluated}
-use Rattle.ash_meaning.specs.Activity.{Activity}
 use Rattle.ash_meaning.specs.Runs.{Run}
 use Rattle.ash_meaning.specs.StatementMeaning.{Flow, Continued, statement, statements, loop, begin, declare_all, evaluate_all}
-use Rattle.ash_soundness.specs.WellFormed.{IsWellFormed}
 use Rattle.ash_code.specs.declared.instruction.Instruction.{Instruction}
 use Rattle.ash_code.specs.declared.instruction.Instruction.TheVariants as i
 use Rattle.ash_code.specs.Running.{instruction_at}
@@ -25,7 +22,8 @@ use Rattle.ash_compile.specs.declared.builder.CodeBuilder.{CodeBuilder}
 use Rattle.ash_compile.specs.declared.bodies.Scope.{Scope}
 use Rattle.ash_compile.specs.declared.bodies.Jumps.{Jumps}
 use Rattle.ash_compile.specs.Performances.{Exit, Exits, Acts, Performs, Reaches, Lands}
-use Rattle.ash_compile.specs.Emission.{code_of, end_of, Keeps, Puts, Leads, Scene, IsScene, calls_of, Good, Stands, Emits}
+use Rattle.ash_compile.specs.Emission.{code_of, end_of, Keeps, Puts, Leads, Scene, IsScene, Suits, calls_of}
+use Rattle.ash_compile.specs.Emission.{Good, Stands, Emits}
 
 -- jumps that wait
 
@@ -44,6 +42,7 @@ pub record LeadsAll (old new : CodeBuilder) (places : List ℕ) (to : ℕ) : Typ
       → slice_get (code_of new) k ≡ (if waits places k then Some (i.Jump to) else slice_get (code_of old) k)
   pub long : end_of new ≡ end_of old
   pub slots : new.slots ≡ old.slots
+  pub layout : new.layout ≡ old.layout
 
 -- code of statements, with the places of its jumps of `break` and of `continue` that wait
 pub record Draft : Type 0 where
@@ -53,6 +52,10 @@ pub record Draft : Type 0 where
 
 abbrev pub draft : CodeBuilder → Jumps → Draft
 draft code jumps = record { code = code; breaks = (jumps.breaks).items; continues = (jumps.continues).items }
+
+-- code with these jumps that wait
+abbrev pub with_jumps : CodeBuilder → List ℕ → List ℕ → Draft
+with_jumps code breaks continues = record { code = code; breaks = breaks; continues = continues }
 
 abbrev pub end_in : Draft → ℕ
 end_in d = end_of d.code
@@ -82,16 +85,6 @@ StandsWith s exits d from to =
 
 -- where statements run
 
--- Activities in which the statements of a function run: well-formed ones with no more ticks than turns of loops.
-abbrev pub Ready : Scene → Activity → Type 0
-Ready s a = Good s a × (a.ticks ≤ s.depth)
-
--- Objects have ranks in every well-formed activity whose callers are those of the function.
-abbrev pub IsRanked : Scene → Type 0
-IsRanked s =
-    (env : TypedEnvironment) (a : Activity) → IsWellFormed s.context env s.envs a
-    → ((s.setting).test).has_ranks a.world ≡ true
-
 -- what a statement of the function sees
 abbrev pub typed_scope : Scene → Option VarType → Bool → Bool → TypedScope
 typed_scope s result breaks continues = record {
@@ -107,7 +100,7 @@ pub record Returns (constructs : Bool) (result : Option VarType) (gives : Option
   pub value : (of : VarType) → result ≡ Some of → (v this : Word) → gives (Some v) this ≡ Some v
 
 -- The function has as many locals as the scope, and its exits leave as many as that says.
-pub record Suits (scope : Scope) (s : Scene) (exits : Exits) (result : Option VarType) : Type 0 where
+pub record IsIn (scope : Scope) (s : Scene) (exits : Exits) (result : Option VarType) : Type 0 where
   pub locals : scope.locals ≡ length (s.env).locals
   pub broken : scope.broken ≡ (exits.broken).outer
   pub continued : scope.continued ≡ (exits.continued).outer
@@ -118,10 +111,10 @@ pub record Suits (scope : Scope) (s : Scene) (exits : Exits) (result : Option Va
 -- From here to there the code does what a statement does.
 abbrev pub DoesFlow : Scene → Exits → Run Flow → ℕ → ℕ → ℕ → Type 0
 DoesFlow s exits run from to more =
-    Performs s.setting (Ready s) s.function s.room exits run from to (length (s.env).locals) more
+    Performs s.setting (Good s) s.function s.room exits run from to (length (s.env).locals) more
 
 abbrev pub DoesActs : Scene → Run (Unit {0}) → ℕ → ℕ → ℕ → Type 0
-DoesActs s run from to more = Acts s.setting (Ready s) s.function s.room run from to (length (s.env).locals) more
+DoesActs s run from to more = Acts s.setting (Good s) s.function s.room run from to (length (s.env).locals) more
 
 -- What is said of code from one place to another, where it is in the code of a function that suits.
 abbrev pub Wherever : Draft → Draft → Scope
@@ -129,13 +122,12 @@ abbrev pub Wherever : Draft → Draft → Scope
 Wherever old new scope IsSound Does =
     (s : Scene) (exits : Exits) (result : Option VarType) (breaks continues : Bool)
     → IsScene s
-    → IsRanked s
-    → Suits scope s exits result
+    → IsIn scope s exits result
     → IsSound s exits result breaks continues
     → AreBelow (end_in old) old.breaks
     → AreBelow (end_in old) old.continues
     → StandsWith s exits new (end_in old) (end_in new)
-    → (new.code).slots ≤ s.room
+    → Suits s new.code
     → Does s exits
 
 -- statements
@@ -169,14 +161,28 @@ pub record EmitsBody (old new : CodeBuilder) (xs : Stmts) (locals : ℕ) (constr
   pub keeps : Keeps old new
   pub does : (s : Scene) (result : Option VarType) (gives : Option Word → Word → Option Word)
       → IsScene s
-      → IsRanked s
       → Returns constructs result gives
       → locals ≡ length (s.env).locals
       → AreSoundStmts (typed_scope s result false false) xs
       → Stands s (code_of new) (end_of old) (end_of new)
-      → new.slots ≤ s.room
+      → Suits s new
       → (exits : Exits) × (more : ℕ) × (exits.gives ≡ gives)
       × DoesFlow s exits (statements (calls_of s) s.depth xs) (end_of old) (end_of new) more
+
+-- jumps
+
+-- The code has grown by a tick, the end of blocks and a jump, whose target is not known yet.
+pub record LeavesBlocks (old new : CodeBuilder) (line count slot jump : ℕ) : Type 0 where
+  pub ticked : CodeBuilder
+  pub left : CodeBuilder
+  pub ticks : Puts old ticked slot (i.Tick line)
+  pub leaves : Puts ticked left slot (i.LeaveBlocks count)
+  pub jumps : Puts left new slot (i.Jump 0)
+  pub place : jump ≡ end_of left
+
+-- how a function is left without a value
+abbrev pub frame_end : Bool → Instruction
+frame_end constructs = if constructs then i.ReturnThis else i.ReturnNothing
 
 -- full expressions of statements
 
@@ -191,11 +197,10 @@ pub record EmitsEvaluations (old new : CodeBuilder) (es : List Expr) (slot : ℕ
   pub keeps : Keeps old new
   pub does : (s : Scene)
       → IsScene s
-      → IsRanked s
       → slot ≡ length (s.env).locals
       → AllByRecursion (IsEvaluated s.env) es
       → Stands s (code_of new) (end_of old) (end_of new)
-      → new.slots ≤ s.room
+      → Suits s new
       → DoesActs s (evaluate_all (calls_of s) es) (end_of old) (end_of new) (length (s.env).locals)
 
 -- The code has grown by that of a condition and a branch, whose target is not known yet.
@@ -222,11 +227,10 @@ pub record EmitsVariables (old new : CodeBuilder) (vs : List Initialization) (lo
   pub keeps : Keeps old new
   pub does : (s : Scene) (types : List VarType)
       → IsScene s
-      → IsRanked s
       → locals ≡ length (s.env).locals
       → AreSoundDeclarations s.env vs types
       → Stands s (code_of new) (end_of old) (end_of new)
-      → new.slots ≤ s.room
+      → Suits s new
       → (more ≡ length ((s.env).locals ++ types))
       × DoesActs s (declare_all (calls_of s) vs) (end_of old) (end_of new) more
 
@@ -241,11 +245,10 @@ pub record EmitsHead (old new : CodeBuilder) (head : Head) (locals more : ℕ) :
   pub keeps : Keeps old new
   pub does : (s : Scene) (types : List VarType)
       → IsScene s
-      → IsRanked s
       → locals ≡ length (s.env).locals
       → IsSoundHead s.env head types
       → Stands s (code_of new) (end_of old) (end_of new)
-      → new.slots ≤ s.room
+      → Suits s new
       → (more ≡ length ((s.env).locals ++ types))
       × DoesActs s (begin (calls_of s) head) (end_of old) (end_of new) more
 
@@ -264,6 +267,7 @@ pub record Landing (old new : CodeBuilder) (places : List ℕ) : Type 0 where
   pub release : slice_get (code_of new) (end_of old + 1) ≡ Some i.Release
   pub long : end_of new ≡ end_of old + 1 + 1
   pub slots : old.slots ≤ new.slots
+  pub layout : new.layout ≡ old.layout
 
 -- The code of the body of a loop comes to its steps, also by `continue`.
 pub record EmitsLoopBody (old new : Draft) (x : Stmt) (scope : Scope) : Type 0 where
@@ -274,7 +278,7 @@ pub record EmitsLoopBody (old new : Draft) (x : Stmt) (scope : Scope) : Type 0 w
       × DoesFlow s (record exits { continued = record { at = again; outer = length (s.env).locals } })
       (statement (calls_of s) s.depth x) (end_in old) done (length (s.env).locals)
       × Reaches s.setting s.function done (end_in new)
-      × Lands s.setting (Ready s) s.function s.room Continued (statement (calls_of s) s.depth x) again (end_in new))
+      × Lands s.setting (Good s) s.function s.room Continued (statement (calls_of s) s.depth x) again (end_in new))
 
 -- The code has grown by that of what is repeated.
 pub record EmitsLoop (old new : Draft) (line : ℕ) (inside : Loop) (scope : Scope) : Type 0 where

@@ -88,7 +88,11 @@ impl CodeBuilder {
     }
 
     /// Variables, which become the locals from this slot on. How many locals there are then is returned.
-    pub(crate) fn variables(&mut self, values: &[Initialization], locals: usize) -> Result<usize, AllocError>
+    pub(crate) fn variables(
+        &mut self,
+        values: &[Initialization],
+        locals: usize,
+    ) -> Result<usize, AllocError>
         ensures emits { IfOk result (λ more. EmitsVariables self.old self.new (map value_of values.now) locals more) }
     {
         let mut locals = locals;

@@ -5,13 +5,15 @@
 //! and jumps to a release point, where those blocks end. That place is not known yet when the jump is appended: the
 //! statement that it leads out of writes the jump again.
 
-ghost use Rattle.std.specs.Prelude.{◌≡◌, ◌+◌, IfOk, map};
+ghost use Rattle.std.specs.Prelude.{◌≡◌, ℕ, List, IfOk, map, option_map};
 ghost use Rattle.ash_typed.specs.TypedTreeViews.{expr_of};
 ghost use Rattle.ash_typed.specs.BodyViews.{stmt_of, body_of, value_of};
-ghost use Rattle.ash_typed.specs.StatementTree.{Block, If, Break, Continue, Return};
-ghost use Rattle.ash_compile.specs.Emission.{Puts, end_of};
-ghost use Rattle.ash_compile.specs.EmittedStatements.{AreBelow, LeadsAll, Scope, draft, EmitsStatement};
+ghost use Rattle.ash_typed.specs.StatementTree.{Declare, Block, If, no_branch, branch, Break, Continue, Return};
+ghost use Rattle.ash_code.specs.declared.instruction.Instruction.TheVariants as i;
+ghost use Rattle.ash_compile.specs.Emission.{end_of};
+ghost use Rattle.ash_compile.specs.EmittedStatements.{AreBelow, LeadsAll, draft, with_jumps, EmitsStatement};
 ghost use Rattle.ash_compile.specs.EmittedStatements.{EmitsListed, EmitsStatements, EmitsBody};
+ghost use Rattle.ash_compile.specs.EmittedStatements.{LeavesBlocks, frame_end};
 
 use crate::builder::CodeBuilder;
 use ash_code::instruction::Instruction;
@@ -42,12 +44,21 @@ pub struct Jumps {
 }
 
 /// How a function is left without a value.
-fn end_of_function(constructs: bool) -> Instruction {
+pub(crate) fn function_end(constructs: bool) -> Instruction
+    ensures end { result ≡ frame_end constructs }
+{
     if constructs {
         Instruction::ReturnThis
     } else {
         Instruction::ReturnNothing
     }
+}
+
+/// A branch to a place, if the condition in a slot is not met.
+pub(crate) fn branch_to(condition: usize, to: usize) -> Instruction
+    ensures branch { result ≡ i.Branch condition to }
+{
+    Instruction::Branch { condition, to }
 }
 
 impl CodeBuilder {
@@ -89,7 +100,12 @@ impl CodeBuilder {
     ///
     /// If there is no memory, or there are no more slots.
     #[cycle(statements)]
-    pub(crate) fn statement(&mut self, stmt: &Stmt, scope: Scope, jumps: &mut Jumps) -> Result<(), AllocError>
+    pub(crate) fn statement(
+        &mut self,
+        stmt: &Stmt,
+        scope: Scope,
+        jumps: &mut Jumps,
+    ) -> Result<(), AllocError>
         ensures emits { IfOk result (λ u. EmitsStatement (draft self.old jumps.old)
             (draft self.new jumps.new) (stmt_of stmt.now) scope) }
     {
@@ -104,17 +120,15 @@ impl CodeBuilder {
                 self.tick(line, scope.locals)?;
                 self.evaluation(expr, scope.locals)
             }
-            StmtKind::Block(stmts) => self.block(stmts, scope, jumps),
+            StmtKind::Block(stmts) => self.block(line, stmts, scope, jumps),
             StmtKind::If {
                 condition,
                 then,
                 otherwise,
-            } => {
-                self.tick(line, scope.locals)?;
-                let branch = self.condition(condition, scope.locals)?;
-                self.statement(then, scope, jumps)?;
-                self.otherwise(branch, otherwise, scope, jumps)
-            }
+            } => match otherwise {
+                None => self.if_only(line, condition, then, scope, jumps),
+                Some(otherwise) => self.if_else(line, condition, then, otherwise, scope, jumps),
+            },
             StmtKind::Repeat(inside) => self.repeat(line, inside, scope, jumps),
             StmtKind::For { head, inside } => self.for_loop(line, head, inside, scope, jumps),
             StmtKind::Switch { of, value, cases } => {
@@ -127,7 +141,16 @@ impl CodeBuilder {
     }
 
     /// Variables, with their tick. How many locals there are then is returned.
-    fn declaration(&mut self, line: usize, values: &[Initialization], scope: Scope) -> Result<usize, AllocError> {
+    fn declaration(
+        &mut self,
+        line: usize,
+        values: &[Initialization],
+        scope: Scope,
+    ) -> Result<usize, AllocError>
+        ensures emits { IfOk result (λ more. (breaks continues : List ℕ) → EmitsListed
+            (with_jumps self.old breaks continues) (with_jumps self.new breaks continues)
+            (Declare line (map value_of values.now)) scope more) }
+    {
         self.tick(line, scope.locals)?;
         self.variables(values, scope.locals)
     }
@@ -147,7 +170,12 @@ impl CodeBuilder {
 
     /// A list of statements, each of which sees the variables that those before it declare.
     #[cycle(statements)]
-    pub(crate) fn statements(&mut self, stmts: &[Stmt], scope: Scope, jumps: &mut Jumps) -> Result<(), AllocError>
+    pub(crate) fn statements(
+        &mut self,
+        stmts: &[Stmt],
+        scope: Scope,
+        jumps: &mut Jumps,
+    ) -> Result<(), AllocError>
         ensures emits { IfOk result (λ u. EmitsStatements (draft self.old jumps.old)
             (draft self.new jumps.new) (body_of stmts.now) scope) }
     {
@@ -160,7 +188,16 @@ impl CodeBuilder {
 
     /// A block. Its end is a release point.
     #[cycle(statements)]
-    fn block(&mut self, stmts: &[Stmt], scope: Scope, jumps: &mut Jumps) -> Result<(), AllocError> {
+    fn block(
+        &mut self,
+        line: usize,
+        stmts: &[Stmt],
+        scope: Scope,
+        jumps: &mut Jumps,
+    ) -> Result<(), AllocError>
+        ensures emits { IfOk result (λ u. EmitsStatement (draft self.old jumps.old)
+            (draft self.new jumps.new) (Block line (body_of stmts.now)) scope) }
+    {
         self.statements(stmts, scope, jumps)?;
         self.put(
             scope.locals,
@@ -170,36 +207,52 @@ impl CodeBuilder {
         )
     }
 
-    /// What comes after the statement of an `if`, which begins with the branch of its condition.
+    /// `if` without `else`
     #[cycle(statements)]
-    fn otherwise(
+    fn if_only(
         &mut self,
-        branch: usize,
-        otherwise: &Option<Box<Stmt>>,
+        line: usize,
+        condition: &Expr,
+        then: &Stmt,
         scope: Scope,
         jumps: &mut Jumps,
-    ) -> Result<(), AllocError> {
-        match otherwise {
-            None => {
-                self.lead_branch(branch, scope.locals);
-                Ok(())
-            }
-            Some(otherwise) => {
-                let back = self.here();
-                self.put(scope.locals, Instruction::Jump { to: 0 })?;
-                self.lead_branch(branch, scope.locals);
-                self.statement(otherwise, scope, jumps)?;
-                let end = self.here();
-                self.lead(back, Instruction::Jump { to: end });
-                Ok(())
-            }
-        }
+    ) -> Result<(), AllocError>
+        ensures emits { IfOk result (λ u. EmitsStatement (draft self.old jumps.old) (draft self.new jumps.new)
+            (If line (expr_of condition.now) (stmt_of then.now) no_branch) scope) }
+    {
+        self.tick(line, scope.locals)?;
+        let branch = self.condition(condition, scope.locals)?;
+        self.statement(then, scope, jumps)?;
+        let end = self.here();
+        self.lead(branch, branch_to(scope.locals, end));
+        Ok(())
     }
 
-    /// The branch of a condition leads to the next instruction.
-    pub(crate) fn lead_branch(&mut self, branch: usize, condition: usize) {
-        let to = self.here();
-        self.lead(branch, Instruction::Branch { condition, to });
+    /// `if` and `else`
+    #[cycle(statements)]
+    fn if_else(
+        &mut self,
+        line: usize,
+        condition: &Expr,
+        then: &Stmt,
+        otherwise: &Stmt,
+        scope: Scope,
+        jumps: &mut Jumps,
+    ) -> Result<(), AllocError>
+        ensures emits { IfOk result (λ u. EmitsStatement (draft self.old jumps.old) (draft self.new jumps.new)
+            (If line (expr_of condition.now) (stmt_of then.now) (branch (stmt_of otherwise.now))) scope) }
+    {
+        self.tick(line, scope.locals)?;
+        let test = self.condition(condition, scope.locals)?;
+        self.statement(then, scope, jumps)?;
+        let back = self.here();
+        self.put(scope.locals, Instruction::Jump { to: 0 })?;
+        let other = self.here();
+        self.statement(otherwise, scope, jumps)?;
+        let end = self.here();
+        self.lead(test, branch_to(scope.locals, other));
+        self.lead(back, Instruction::Jump { to: end });
+        Ok(())
     }
 
     /// Writes jumps again, once their target is known.
@@ -222,7 +275,12 @@ impl CodeBuilder {
     }
 
     /// `continue`
-    fn continue_on(&mut self, line: usize, scope: Scope, jumps: &mut Jumps) -> Result<(), AllocError>
+    fn continue_on(
+        &mut self,
+        line: usize,
+        scope: Scope,
+        jumps: &mut Jumps,
+    ) -> Result<(), AllocError>
         ensures emits { IfOk result (λ u. EmitsStatement (draft self.old jumps.old)
             (draft self.new jumps.new) (Continue line) scope) }
     {
@@ -231,7 +289,9 @@ impl CodeBuilder {
     }
 
     /// Leaves blocks. The place of the jump is returned.
-    fn leave(&mut self, line: usize, count: usize, slot: usize) -> Result<usize, AllocError> {
+    fn leave(&mut self, line: usize, count: usize, slot: usize) -> Result<usize, AllocError>
+        ensures leaves { IfOk result (λ jump. LeavesBlocks self.old self.new line count slot jump) }
+    {
         self.tick(line, slot)?;
         self.put(slot, Instruction::LeaveBlocks { count })?;
         let jump = self.here();
@@ -240,10 +300,19 @@ impl CodeBuilder {
     }
 
     /// `return`
-    fn returning(&mut self, line: usize, value: &Option<Expr>, scope: Scope) -> Result<(), AllocError> {
+    fn returning(
+        &mut self,
+        line: usize,
+        value: &Option<Expr>,
+        scope: Scope,
+    ) -> Result<(), AllocError>
+        ensures emits { IfOk result (λ u. (breaks continues : List ℕ) → EmitsStatement
+            (with_jumps self.old breaks continues) (with_jumps self.new breaks continues)
+            (Return line (option_map expr_of value.now)) scope) }
+    {
         self.tick(line, scope.locals)?;
         match value {
-            None => self.put(scope.locals, end_of_function(scope.constructs)),
+            None => self.put(scope.locals, function_end(scope.constructs)),
             Some(expr) => {
                 self.expression(expr, scope.locals)?;
                 self.put(scope.locals, Instruction::Return { from: scope.locals })

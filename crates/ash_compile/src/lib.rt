@@ -3,9 +3,13 @@
 //! `specs/Stretches.antt` says when a stretch of code does what a phrase does, and `specs/Emission.antt` what emitted
 //! code does, wherever it stands.
 //!
-//! In reading order: `layout`, `builder`, `expressions`.
+//! In reading order: `layout`, `builder`, `expressions`, `blocks`, `bodies`, `looping`, `switching`.
 #![tactic(auto)]
 
+mod blocks;
+pub mod bodies;
 pub mod builder;
 pub mod expressions;
 pub mod layout;
+mod looping;
+mod switching;

@@ -3,6 +3,12 @@
 //! The constants of the labels are tested one after the other. Behind the tests come the statements of all labels, so
 //! that each label falls through to the next one.
 
+ghost use Rattle.std.specs.Prelude.{◌≡◌, ℕ, IfOk, map};
+ghost use Rattle.ash_typed.specs.TypedTreeViews.{expr_of};
+ghost use Rattle.ash_typed.specs.BodyViews.{case_of};
+ghost use Rattle.ash_typed.specs.StatementTree.{Switch, cases as case_list};
+ghost use Rattle.ash_compile.specs.EmittedStatements.{draft, EmitsStatement};
+
 use crate::bodies::{Jumps, Scope};
 use crate::builder::CodeBuilder;
 use ash_code::instruction::Instruction;
@@ -40,7 +46,10 @@ impl CodeBuilder {
         cases: &[Case],
         scope: Scope,
         jumps: &mut Jumps,
-    ) -> Result<(), AllocError> {
+    ) -> Result<(), AllocError>
+        ensures emits { IfOk result (λ u. EmitsStatement (draft self.old jumps.old)
+            (draft self.new jumps.new) (Switch line of (expr_of value.now) (case_list (map case_of cases.now))) scope) }
+    {
         self.tick(line, scope.locals)?;
         self.evaluation(value, scope.locals)?;
         let tests = self.here();
