@@ -21,3 +21,6 @@ pub mod FunctionCode
 pub mod Constructing
 pub mod EmittedBranches
 pub mod EmittedRows
+pub mod Drafts
+pub mod EmittedParts
+pub mod Remaining

@@ -271,7 +271,8 @@ impl CodeBuilder {
             (draft self.new jumps.new) (Break line) scope) }
     {
         let jump = self.leave(line, scope.broken, scope.locals)?;
-        jumps.breaks.push(jump)
+        jumps.breaks.push(jump)?;
+        Ok(())
     }
 
     /// `continue`
@@ -285,7 +286,8 @@ impl CodeBuilder {
             (draft self.new jumps.new) (Continue line) scope) }
     {
         let jump = self.leave(line, scope.continued, scope.locals)?;
-        jumps.continues.push(jump)
+        jumps.continues.push(jump)?;
+        Ok(())
     }
 
     /// Leaves blocks. The place of the jump is returned.
