@@ -31,3 +31,6 @@ pub mod Listings
 pub mod ModuleFrames
 pub mod EveryCallee
 pub mod CompiledModules
+pub mod Drafts
+pub mod EmittedParts
+pub mod Remaining

@@ -5,3 +5,4 @@ pub mod Callees
 pub mod Emission
 pub mod EmittedFrames
 pub mod EmittedParts
+pub mod EmittedStatements

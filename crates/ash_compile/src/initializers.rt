@@ -5,8 +5,6 @@
 ghost use Rattle.std.specs.Prelude.{◌≡◌, ◌+◌, IfOk, map};
 ghost use Rattle.ash_typed.specs.BodyViews.{value_of};
 ghost use Rattle.ash_typed.specs.Modules.{variables_of};
-ghost use Rattle.ash_code.specs.declared.instruction.Instruction.TheVariants as i;
-ghost use Rattle.ash_compile.specs.Emission.{Puts};
 ghost use Rattle.ash_compile.specs.EmittedParts.{EmitsField, EmitsFields, EmitsGlobal, EmitsGlobals, EmitsDeclarations};
 
 use crate::builder::CodeBuilder;
@@ -22,14 +20,6 @@ fn behind(place: usize, count: usize) -> Result<usize, AllocError>
 }
 
 impl CodeBuilder {
-    /// A tick at a line.
-    pub(crate) fn tick(&mut self, line: usize, slot: usize) -> Result<(), AllocError>
-        ensures puts { IfOk result (λ u. Puts self.old self.new slot (i.Tick line)) }
-    {
-        let line = u32::try_from(line).map_err(|_| AllocError)?;
-        self.put(slot, Instruction::Tick { line })
-    }
-
     /// A field of the object that is constructed, if it has a value. There are so many locals.
     fn field(
         &mut self,
