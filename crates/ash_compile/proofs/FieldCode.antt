@@ -89,10 +89,10 @@ pub record Own (s : Scene) (class : ℕ) (b : Activity) : Type 0 where
   pub at : shape_at number (b.world).objects ≡ Some shape
   pub of : IsOfClass (s.context).program class shape
 
-own_by : (s : Scene) (class : ℕ) (b : Activity) (t : Option ℕ) (w : Word) → t ≡ Some class → (b.frame).this ≡ w
-    → IsThis (s.context).program (b.world).objects t w → Own s class b
-own_by s class b None words.Null is this no_this = absurd (cc)
-own_by s class b (Some other) (words.Object k) is this (is_this {number = number} {shape = shape} at of) = record {
+own_by : (s : Scene) (class : ℕ) (b : Activity) (t : Option ℕ) (w : Word)
+    → IsThis (s.context).program (b.world).objects t w → t ≡ Some class → (b.frame).this ≡ w → Own s class b
+own_by s class b _ _ no_this is this = absurd (cc)
+own_by s class b _ _ (is_this {class = other} {number = number} {shape = shape} at of) is this = record {
   number = number;
   this = this;
   shape = shape;
@@ -101,7 +101,7 @@ own_by s class b (Some other) (words.Object k) is this (is_this {number = number
 }
 
 pub own : (s : Scene) (class : ℕ) (b : Activity) → (s.env).this ≡ Some class → Well s b → Own s class b
-own s class b is good = own_by s class b (s.env).this (b.frame).this is refl (good.frame).this
+own s class b is good = own_by s class b (s.env).this (b.frame).this (good.frame).this is refl
 
 module _ (s : Scene) (scene : IsScene s) (class : ℕ) (source : Class) (this : (s.env).this ≡ Some class)
     (there : slice_get (((s.context).program).tree).classes class ≡ Some source) where
@@ -158,7 +158,7 @@ module _ (s : Scene) (scene : IsScene s) (class : ℕ) (source : Class) (this : 
 
   pub spends_fields : (place : ℕ) (vs : List Initialization) → AreFields s.context class source place vs
       → Spends (Ready s) (initialize_fields (calls_of s) place vs)
-  spends_fields place [] fields = spends_give (Ready s) tt
+  spends_fields place [] _ = spends_give (Ready s) tt
   spends_fields place (v ∷ vs) (and_field field begins rest) =
       spends_then (initialize_field (calls_of s) place v) (λ _. initialize_fields (calls_of s) (place + 1) vs)
       (spends_one place v field begins) (λ _. spends_fields (place + 1) vs rest)

@@ -27,6 +27,7 @@ pub mod EmittedFields
 pub mod EmittedFrame
 pub mod GlobalCode
 pub mod EmittedGlobals
+pub mod EmittedInit
 pub mod Listings
 pub mod ModuleFrames
 pub mod EveryCallee

@@ -17,7 +17,7 @@ use Rattle.ash_soundness.proofs.Hosts.{rec_at}
 use Rattle.ash_code.specs.CompiledCode.{entries_of}
 use Rattle.ash_compile.specs.Layout.{count_of_methods, methods_before, index_of}
 use Rattle.ash_compile.specs.Callees.{IsCallee, a_function, a_method, a_construction, given_by}
-use Rattle.ash_compile.specs.EmittedFrames.{FrameSource, frame_of_function, frame_of_method, frame_of_construction, frames_of, given_if, AreFieldsOf, no_field, all_fields, IsSoundEntry}
+use Rattle.ash_compile.specs.EmittedFrames.{FrameSource, frame_of_function, frame_of_method, frame_of_construction, methods_of, frames_of, given_if, AreFieldsOf, no_field, all_fields, IsSoundEntry}
 use Rattle.ash_compile.proofs.Listings.{get_first, get_second, get_part}
 
 -- maps
@@ -38,9 +38,6 @@ map_both f (x ∷ xs) ys = ap (λ (zs : List _). f x ∷ zs) (map_both f xs ys)
 
 abbrev entry_in : FrameSource → Entry
 entry_in x = x.entry
-
-abbrev methods_of : Class → List FrameSource
-methods_of c = map (frame_of_method c) c.methods
 
 functions_seen : (fs : List Function) → map entry_in (map frame_of_function fs) ≡ map entry_of_function fs
 functions_seen [] = refl

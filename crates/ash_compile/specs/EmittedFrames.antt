@@ -3,7 +3,7 @@ use Rattle.std.specs.Prelude.{◌≡◌, ◌≤◌, ℕ, suc, Bool, true, false,
 use Rattle.std.specs.List.{AllZip}
 use Rattle.ash_host.specs.declared.word.Word.{Word}
 use Rattle.ash_typed.specs.declared.types.VarType.{VarType}
-use Rattle.ash_typed.specs.StatementTree.{Initialization}
+use Rattle.ash_typed.specs.StatementTree.{Initialization, Body}
 use Rattle.ash_typed.specs.Modules.{Variables, Function, Class, Module}
 use Rattle.ash_typed.specs.Signatures.{parameters_of}
 use Rattle.ash_typed.specs.SoundExpressions.{TypedEnvironment}
@@ -19,12 +19,13 @@ use Rattle.ash_code.specs.declared.code.CodeParts.{CodeParts}
 use Rattle.ash_code.specs.declared.code.FunctionCode.{FunctionCode}
 use Rattle.ash_code.specs.declared.instruction.Instruction.TheVariants as i
 use Rattle.ash_code.specs.Running as running
+use Rattle.ash_compile.specs.declared.builder.CodeBuilder.{CodeBuilder}
 use Rattle.ash_compile.specs.declared.layout.Layout.{Layout}
 use Rattle.ash_compile.specs.Stretches.{Has}
 use Rattle.ash_compile.specs.Performances.{Acts, Enters}
 use Rattle.ash_compile.specs.Layout.{IsLayout}
 use Rattle.ash_compile.specs.Callees.{Entering, IsClassCode}
-use Rattle.ash_compile.specs.Emission.{Scene, IsScene, calls_of, Good}
+use Rattle.ash_compile.specs.Emission.{code_of, Scene, IsScene, calls_of, Good}
 
 -- What the code of a function is of: its entry, how many parameters it has, and whether it constructs an object.
 pub record FrameSource : Type 0 where
@@ -48,11 +49,15 @@ frame_of_construction c =
       constructs = true;
     }
 
+-- the methods of a class
+abbrev pub methods_of : Class → List FrameSource
+methods_of c = map (frame_of_method c) c.methods
+
 -- what the functions of code are of: free functions, constructions, then methods, class by class
 abbrev pub frames_of : Module → List FrameSource
 frames_of m =
     map frame_of_function m.functions ++ map frame_of_construction m.classes
-    ++ flat_map (λ (c : Class). map (frame_of_method c) c.methods) m.classes
+    ++ flat_map methods_of m.classes
 
 -- what a frame gives, by what its body does: a construction gives `this`
 abbrev pub given_if : Bool → Run (Option Word) → Run (Option Word)
@@ -96,6 +101,25 @@ pub record IsFrameCode (layout : Layout) (x : FrameSource) (f : FunctionCode) : 
       → Enters s.setting (Entering s.context (suc s.depth) s.env s.envs) s.function s.room
       (tick (x.entry).line >> given_if x.constructs (body (s.context).program (suc s.depth) x.entry)) x.parameters
 
+-- The code is that of every function that is entered at this line, has so many parameters, initializes these fields and
+-- does these statements.
+abbrev pub IsCodeOfAny : Layout → ℕ → ℕ → List Initialization → Body → Bool → FunctionCode → Type 0
+IsCodeOfAny layout line parameters fields statements constructs f =
+    (x : FrameSource)
+    → (x.entry).line ≡ line
+    → (x.entry).fields ≡ fields
+    → (x.entry).body ≡ statements
+    → x.parameters ≡ parameters
+    → x.constructs ≡ constructs
+    → IsFrameCode layout x f
+
+-- What was written is the code of a function.
+pub record IsFinished (written : CodeBuilder) (entry count : ℕ) (f : FunctionCode) : Type 0 where
+  pub line : f.line ≡ entry
+  pub parameters : f.parameters ≡ count
+  pub slots : f.slots ≡ written.slots
+  pub instructions : (f.instructions).items ≡ code_of written
+
 -- The code is that of the initializers of a module, up to its last instruction, which ends the run.
 pub record IsInitCode (layout : Layout) (m : Module) (f : FunctionCode) : Type 0 where
   pub end : ℕ
@@ -110,8 +134,8 @@ pub record IsInitCode (layout : Layout) (m : Module) (f : FunctionCode) : Type 0
       → Acts s.setting (Good s) s.function s.room (initialize_module (calls_of s) 0 m.globals) 0 end 0 0
 
 -- The parts are the code of a module with this layout.
-pub record IsCompiled (layout : Layout) (m : Module) (parts : CodeParts) : Type 0 where
-  pub layout : IsLayout parts.module m layout
-  pub functions : AllZip (IsFrameCode layout) (frames_of m) (parts.functions).items
-  pub init : IsInitCode layout m parts.init
+pub record IsCompiled (places : Layout) (m : Module) (parts : CodeParts) : Type 0 where
+  pub layout : IsLayout parts.module m places
+  pub functions : AllZip (IsFrameCode places) (frames_of m) (parts.functions).items
+  pub init : IsInitCode places m parts.init
   pub classes : AreClassCodes m (parts.classes).items

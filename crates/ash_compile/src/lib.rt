@@ -3,7 +3,8 @@
 //! `specs/Stretches.antt` says when a stretch of code does what a phrase does, and `specs/Emission.antt` what emitted
 //! code does, wherever it stands.
 //!
-//! In reading order: `layout`, `builder`, `expressions`, `blocks`, `bodies`, `looping`, `switching`.
+//! In reading order: `layout`, `builder`, `expressions`, `blocks`, `bodies`, `looping`, `switching`, `initializers`,
+//! `frames`, `classes`, `module`.
 #![tactic(auto)]
 
 mod blocks;
@@ -11,7 +12,9 @@ pub mod bodies;
 pub mod builder;
 mod classes;
 pub mod expressions;
+mod frames;
 mod initializers;
 pub mod layout;
 mod looping;
+pub mod module;
 mod switching;
