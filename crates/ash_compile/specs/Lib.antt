@@ -3,3 +3,4 @@ pub mod Performances
 pub mod Layout
 pub mod Callees
 pub mod Emission
+pub mod Arguments
