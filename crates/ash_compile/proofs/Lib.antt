@@ -21,3 +21,4 @@ pub mod FunctionCode
 pub mod Constructing
 pub mod EmittedBranches
 pub mod EmittedRows
+pub mod Arguments

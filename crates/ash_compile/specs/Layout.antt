@@ -28,10 +28,10 @@ abbrev pub classes_before : ℕ → List Interface → ℕ
 classes_before interface interfaces =
     option_map_or (λ (i : Interface). i.classes_before) (slice_get interfaces interface) 0
 
--- The layout is that of a module, whose objects know it by this slot: it has the first method of each class, and the
+-- The layout is that of a module, which has this slot in the table of objects: it has the first method of each class, and the
 -- places of classes and interfaces in the source.
-pub record IsLayout (slot : ℕ) (m : Module) (layout : Layout) : Type 0 where
-  pub slot : layout.slot ≡ slot
+pub record IsLayout (number : ℕ) (m : Module) (layout : Layout) : Type 0 where
+  pub slot : layout.slot ≡ number
   pub functions : layout.functions ≡ length m.functions
   pub methods : (class : ℕ) → class < length m.classes
       → slice_get (layout.methods).items class ≡ Some (index_of m (Method class 0))

@@ -7,7 +7,7 @@ ghost use Rattle.std.specs.Prelude.{◌≡◌, ◌+◌, List, map, IfOk, pos};
 ghost use Rattle.ash_typed.specs.declared.types.VarType.{VarType as VarTypeData};
 ghost use Rattle.ash_typed.specs.TypedTree.{Expr as ExprData, Read, Stored, Alter, Operate, Lazily, Conditional, converted};
 ghost use Rattle.ash_typed.specs.TypedTree.{Invoke, exprs};
-ghost use Rattle.ash_typed.specs.TypedTreeViews.{expr_of, chained, all_chained, all_lazies};
+ghost use Rattle.ash_typed.specs.TypedTreeViews.{expr_of, linked, all_linked, chained, all_chained, all_lazies};
 ghost use Rattle.ash_meaning.specs.OperatorMeaning.{word_at};
 ghost use Rattle.ash_compile.specs.Emission.{Emits, lazy_jump, read_local};
 ghost use Rattle.ash_compile.specs.Arguments.{EmitsArguments};
@@ -17,7 +17,7 @@ use crate::builder::CodeBuilder;
 use ash_code::instruction::Instruction;
 use ash_host::Word;
 use ash_integers::{IntType, word_from};
-use ash_typed::{Conversion, Expr, ExprKind, Lazy, Method, Operand, Operation, VarType, Variable};
+use ash_typed::{Conversion, Expr, ExprKind, Lazy, Link, Method, Operand, Operation, VarType, Variable};
 use std::alloc::AllocError;
 
 /// The slot after one.
@@ -111,6 +111,7 @@ impl CodeBuilder {
                 then,
                 otherwise,
             } => self.conditional(condition, then, otherwise, slot),
+            ExprKind::Path { base, links } => self.path(base, links, slot),
             ExprKind::Call {
                 target,
                 arguments,
@@ -293,6 +294,34 @@ impl CodeBuilder {
         );
         self.lead(back, Instruction::Jump { to: end });
         Ok(())
+    }
+
+    /// What links make of the value of an expression, one after the other.
+    #[cycle(expressions)]
+    fn path(&mut self, base: &Expr, links: &[Link], slot: usize) -> Result<(), AllocError>
+        ensures emits { IfOk result (λ u. Emits self.old self.new (all_linked (expr_of base.now) links.now) slot) }
+    {
+        self.expression(base, slot)?;
+        for link in links {
+            self.link(link, slot)?;
+        }
+        Ok(())
+    }
+
+    /// What a link makes of the value of a slot.
+    #[cycle(expressions)]
+    fn link(&mut self, link: &Link, slot: usize) -> Result<(), AllocError>
+        ensures emits { IfOk result (λ u. (start : Written) (e : ExprData) → Emits start self.old e slot
+            → Emits start self.new (linked e link.now) slot) }
+    {
+        match link {
+            Link::Invoke {
+                method,
+                arguments,
+                ..
+            } => self.invoke(*method, arguments, slot),
+            Link::Member(_) | Link::Index { .. } => Err(AllocError),
+        }
     }
 
     /// Arguments, from left to right, in slots one after another.

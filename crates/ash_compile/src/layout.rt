@@ -102,18 +102,18 @@ impl Layout {
     /// # Errors
     ///
     /// If there is no memory, or a place is too great.
-    pub fn new(alloc: Global, slot: u8, module: &Module) -> Result<Layout, AllocError>
-        ensures layout { IfOk result (λ layout. IsLayout slot (module_of module.now) layout) }
+    pub fn new(alloc: Global, slot: u8, tree: &Module) -> Result<Layout, AllocError>
+        ensures layout { IfOk result (λ layout. IsLayout slot (module_of tree.now) layout) }
     {
-        let functions = module.functions.len();
-        let count = module.classes.len();
+        let functions = tree.functions.len();
+        let count = tree.classes.len();
         let first = functions.checked_add(count).ok_or(AllocError)?;
         Ok(Layout {
             slot,
             functions,
-            methods: first_methods(alloc, first, &module.classes)?,
-            classes: places_of_classes(alloc, count, &module.interfaces)?,
-            interfaces: places_of_interfaces(alloc, &module.interfaces)?,
+            methods: first_methods(alloc, first, &tree.classes)?,
+            classes: places_of_classes(alloc, count, &tree.interfaces)?,
+            interfaces: places_of_interfaces(alloc, &tree.interfaces)?,
         })
     }
 
