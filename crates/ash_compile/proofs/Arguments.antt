@@ -79,17 +79,19 @@ more_after word NoStep last = refl
 pub arguments_more : (calls : Calls) (es : List Expr) (e : Expr) (a : Activity)
     → arguments calls (exprs (es ++ e ∷ [])) a ≡ one_more (arguments calls (exprs es)) (expression calls e) a
 arguments_more calls [] e a = refl
-arguments_more calls (x ∷ es) e a = after_first (expression calls x a)
+arguments_more calls (x ∷ es) e a = after_first (expression calls x a) (arguments_more calls es e)
   where
   after_first : (p : Progress Word)
+      → ((b : Activity) → arguments calls (exprs (es ++ e ∷ [])) b
+      ≡ one_more (arguments calls (exprs es)) (expression calls e) b)
       → onward p (λ word. arguments calls (exprs (es ++ e ∷ [])) >>= (λ rest. give (word ∷ rest)))
       ≡ onward (onward p (λ word. arguments calls (exprs es) >>= (λ rest. give (word ∷ rest))))
       (λ ws. expression calls e >>= (λ v. give (ws ++ v ∷ [])))
-  after_first (Done word b) =
-      ap (λ (p : Progress (List Word)). onward p (λ rest. give (word ∷ rest))) (arguments_more calls es e b)
+  after_first (Done word b) later =
+      ap (λ (p : Progress (List Word)). onward p (λ rest. give (word ∷ rest))) (later b)
       ∙ more_after word (arguments calls (exprs es) b) (expression calls e)
-  after_first (Ended i b) = refl
-  after_first NoStep = refl
+  after_first (Ended i b) later = refl
+  after_first NoStep later = refl
 
 -- what arguments are of
 
@@ -144,7 +146,7 @@ module _ (s : Setting) (Good : Activity → Type 0) (function room : ℕ) where
         goes [] a w.slots refl (record { long = refl; kept = λ k lower below. refl; values = refl; locals = fits.locals });
   }
 
-  all_refit : (w : Window) (slot count : ℕ) (ws slots : List Word) (b : Activity) → w.count ≤ length w.slots
+  pub all_refit : (w : Window) (slot count : ℕ) (ws slots : List Word) (b : Activity) → w.count ≤ length w.slots
       → HoldsAll w slot count ws slots b → Fits (with_slots slots w) b
   all_refit w slot count ws slots b within held =
       record { locals = held.locals; within = omega (arith, within, held.long) }

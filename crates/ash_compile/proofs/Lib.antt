@@ -22,3 +22,7 @@ pub mod Constructing
 pub mod EmittedBranches
 pub mod EmittedRows
 pub mod Arguments
+pub mod Callees
+pub mod CallCode
+pub mod Layouts
+pub mod MethodCode
