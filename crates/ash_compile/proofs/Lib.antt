@@ -35,3 +35,8 @@ pub mod CompiledModules
 pub mod Drafts
 pub mod EmittedParts
 pub mod Remaining
+pub mod Arguments
+pub mod Callees
+pub mod CallCode
+pub mod Layouts
+pub mod MethodCode

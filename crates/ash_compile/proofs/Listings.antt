@@ -1,5 +1,5 @@
 -- Lists that stand for each other, place by place, and where what is in one is in a longer one.
-use Rattle.std.proofs.Common.{◌≡◌, ◌<◌, ◌≤◌, ℕ, zero, suc, ◌+◌, List, [], ◌∷◌, ◌++◌, take, drop, get_or, length, map, flat_map, refl, sym, ap, ◌∙◌, arith, length-append}
+use Rattle.std.proofs.Common.{◌≡◌, ◌<◌, ◌≤◌, ℕ, zero, suc, ◌+◌, List, [], ◌∷◌, ◌++◌, take, drop, get_or, length, map, flat_map, refl, sym, ap, ◌∙◌, subst, arith, length-append, append_assoc, append-nil}
 use Rattle.std.specs.Prelude.{Some, slice_get}
 use Rattle.std.specs.List.{AllZip}
 use Rattle.std.proofs.lemmas.Option.{same_Some}
@@ -89,3 +89,14 @@ others_of_rest (y ∷ xs) (suc k) x rest is =
   where
     one_more : (n : ℕ) → suc n + 1 ≡ suc (n + 1)
     one_more n = omega arith
+
+-- A list that stands for another one may grow: with what is left it is the whole.
+pub zip_grows : {A B : Type 0} (R : A → B → Type 0) (zs rest whole : List A) (ys : List B) (x : A) (y : B) → AllZip R zs ys
+    → R x y → zs ++ x ∷ rest ≡ whole
+    → (ws : List A) × AllZip R ws (ys ++ y ∷ []) × (ws ++ rest ≡ whole)
+zip_grows R zs rest whole ys x y are one is =
+    (zs ++ x ∷ [], zip_more R zs ys x y are one, append_assoc zs (x ∷ []) rest ∙ is)
+
+pub zip_grown : {A B : Type 0} (R : A → B → Type 0) (zs whole : List A) (ys : List B) → AllZip R zs ys → zs ++ [] ≡ whole
+    → AllZip R whole ys
+zip_grown R zs whole ys are is = subst (λ (ws : List _). AllZip R ws ys) (sym (append-nil zs) ∙ is) are

@@ -6,3 +6,4 @@ pub mod Emission
 pub mod EmittedFrames
 pub mod EmittedParts
 pub mod EmittedStatements
+pub mod Arguments

@@ -3,18 +3,21 @@
 //! An expression leaves its value in a slot of no local, and uses no slot below that. Its parts use the slots from
 //! there on.
 
-ghost use Rattle.std.specs.Prelude.{◌≡◌, ◌+◌, IfOk, pos};
+ghost use Rattle.std.specs.Prelude.{◌≡◌, ◌+◌, List, map, IfOk, pos};
+ghost use Rattle.ash_typed.specs.declared.types.VarType.{VarType as VarTypeData};
 ghost use Rattle.ash_typed.specs.TypedTree.{Expr as ExprData, Read, Stored, Alter, Operate, Lazily, Conditional, converted};
-ghost use Rattle.ash_typed.specs.TypedTreeViews.{expr_of, chained, all_chained, all_lazies};
+ghost use Rattle.ash_typed.specs.TypedTree.{Invoke, exprs};
+ghost use Rattle.ash_typed.specs.TypedTreeViews.{expr_of, linked, all_linked, chained, all_chained, all_lazies};
 ghost use Rattle.ash_meaning.specs.OperatorMeaning.{word_at};
 ghost use Rattle.ash_compile.specs.Emission.{Emits, lazy_jump, read_local};
+ghost use Rattle.ash_compile.specs.Arguments.{EmitsArguments};
 ghost use Rattle.ash_compile.specs.declared.builder.CodeBuilder.{CodeBuilder as Written};
 
 use crate::builder::CodeBuilder;
 use ash_code::instruction::Instruction;
 use ash_host::Word;
 use ash_integers::{IntType, word_from};
-use ash_typed::{Conversion, Expr, ExprKind, Lazy, Operand, Operation, VarType, Variable};
+use ash_typed::{Conversion, Expr, ExprKind, Lazy, Link, Method, Operand, Operation, VarType, Variable};
 use std::alloc::AllocError;
 
 /// The slot after one.
@@ -108,6 +111,15 @@ impl CodeBuilder {
                 then,
                 otherwise,
             } => self.conditional(condition, then, otherwise, slot),
+            ExprKind::Path { base, links } => self.path(base, links, slot),
+            ExprKind::Call {
+                target,
+                arguments,
+                ..
+            } => {
+                self.arguments(arguments, slot)?;
+                self.call(*target, slot, arguments.len())
+            }
             _ => Err(AllocError),
         }
     }
@@ -140,7 +152,11 @@ impl CodeBuilder {
     }
 
     /// Converts the value of a slot where a conversion is named.
-    fn conversion_before(&mut self, before: Option<Conversion>, slot: usize) -> Result<(), AllocError>
+    fn conversion_before(
+        &mut self,
+        before: Option<Conversion>,
+        slot: usize,
+    ) -> Result<(), AllocError>
         ensures emits { IfOk result (λ u. (start : Written) (e : ExprData) → Emits start self.old e slot
             → Emits start self.new (converted before e) slot) }
     {
@@ -151,7 +167,12 @@ impl CodeBuilder {
     }
 
     /// What an operator makes of the values of a slot and the next one.
-    fn operation(&mut self, operation: Operation, slot: usize, right: usize) -> Result<(), AllocError>
+    fn operation(
+        &mut self,
+        operation: Operation,
+        slot: usize,
+        right: usize,
+    ) -> Result<(), AllocError>
         requires next { right ≡ slot + 1 }
         ensures emits { IfOk result (λ u. (start mid : Written) (a b : ExprData) → Emits start mid a slot
             → Emits mid self.old b (slot + 1) → Emits start self.new (Operate operation a b) slot) }
@@ -273,5 +294,58 @@ impl CodeBuilder {
         );
         self.lead(back, Instruction::Jump { to: end });
         Ok(())
+    }
+
+    /// What links make of the value of an expression, one after the other.
+    #[cycle(expressions)]
+    fn path(&mut self, base: &Expr, links: &[Link], slot: usize) -> Result<(), AllocError>
+        ensures emits { IfOk result (λ u. Emits self.old self.new (all_linked (expr_of base.now) links.now) slot) }
+    {
+        self.expression(base, slot)?;
+        for link in links {
+            self.link(link, slot)?;
+        }
+        Ok(())
+    }
+
+    /// What a link makes of the value of a slot.
+    #[cycle(expressions)]
+    fn link(&mut self, link: &Link, slot: usize) -> Result<(), AllocError>
+        ensures emits { IfOk result (λ u. (start : Written) (e : ExprData) → Emits start self.old e slot
+            → Emits start self.new (linked e link.now) slot) }
+    {
+        match link {
+            Link::Invoke {
+                method,
+                arguments,
+                ..
+            } => self.invoke(*method, arguments, slot),
+            Link::Member(_) | Link::Index { .. } => Err(AllocError),
+        }
+    }
+
+    /// Arguments, from left to right, in slots one after another.
+    #[cycle(expressions)]
+    fn arguments(&mut self, arguments: &[Expr], slot: usize) -> Result<(), AllocError>
+        ensures emits { IfOk result (λ u. EmitsArguments self.old self.new (map expr_of arguments.now) slot) }
+    {
+        let mut next = slot;
+        for argument in arguments {
+            self.expression(argument, next)?;
+            next = after(next)?;
+        }
+        Ok(())
+    }
+
+    /// What a method makes of the object in a slot. Its arguments are in the slots after that.
+    #[cycle(expressions)]
+    fn invoke(&mut self, method: Method, arguments: &[Expr], slot: usize) -> Result<(), AllocError>
+        ensures emits { IfOk result (λ u. (start : Written) (e : ExprData) (parameters : List VarTypeData)
+            → Emits start self.old e slot
+            → Emits start self.new (Invoke e method parameters (exprs (map expr_of arguments.now))) slot) }
+    {
+        let first = after(slot)?;
+        self.arguments(arguments, first)?;
+        self.method(method, slot, first, arguments.len())
     }
 }

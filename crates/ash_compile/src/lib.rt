@@ -3,13 +3,14 @@
 //! `specs/Stretches.antt` says when a stretch of code does what a phrase does, and `specs/Emission.antt` what emitted
 //! code does, wherever it stands.
 //!
-//! In reading order: `layout`, `builder`, `expressions`, `blocks`, `bodies`, `looping`, `switching`, `initializers`,
-//! `frames`, `classes`, `module`.
+//! In reading order: `layout`, `builder`, `expressions`, `calls`, `blocks`, `bodies`, `looping`, `switching`,
+//! `initializers`, `frames`, `classes`, `module`.
 #![tactic(auto)]
 
 mod blocks;
 pub mod bodies;
 pub mod builder;
+mod calls;
 mod classes;
 pub mod expressions;
 mod frames;
