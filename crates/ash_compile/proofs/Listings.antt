@@ -1,9 +1,10 @@
 -- Lists that stand for each other, place by place, and where what is in one is in a longer one.
-use Rattle.std.proofs.Common.{◌≡◌, ◌<◌, ◌≤◌, ℕ, zero, suc, ◌+◌, List, [], ◌∷◌, ◌++◌, take, drop, get_or, length, map, flat_map, refl, sym, ap, ◌∙◌, subst, arith, length-append, append_assoc, append-nil}
+use Rattle.std.proofs.Common.{◌≡◌, ◌<◌, ◌≤◌, ℕ, Bool, true, false, nat_lt, zero, suc, ◌+◌, List, [], ◌∷◌, ◌++◌, take, drop, get_or, length, map, flat_map, option_map, refl, sym, ap, ◌∙◌, subst, arith, length-append, append_assoc, append-nil}
 use Rattle.std.specs.Prelude.{Some, slice_get}
 use Rattle.std.specs.List.{AllZip}
-use Rattle.std.proofs.lemmas.Option.{same_Some}
-use Rattle.std.proofs.lemmas.List.{drop_more, drop_all}
+use Rattle.std.proofs.lemmas.Option.{same_Some, slice_get-map, slice_get-get_or}
+use Rattle.std.proofs.lemmas.Bool.Decides.{nat_tests}
+use Rattle.std.proofs.lemmas.List.{drop_more, drop_all, map_more}
 
 -- what is in a list stays where it is if the list grows
 pub get_first : {A : Type 0} (xs ys : List A) (k : ℕ) (x : A) → slice_get xs k ≡ Some x → slice_get (xs ++ ys) k ≡ Some x
@@ -100,3 +101,50 @@ zip_grows R zs rest whole ys x y are one is =
 pub zip_grown : {A B : Type 0} (R : A → B → Type 0) (zs whole : List A) (ys : List B) → AllZip R zs ys → zs ++ [] ≡ whole
     → AllZip R whole ys
 zip_grown R zs whole ys are is = subst (λ (ws : List _). AllZip R ws ys) (sym (append-nil zs) ∙ is) are
+
+-- what holds of each number below one, and of that one
+pub each_below : (P : ℕ → Type 0) (n : ℕ) → ((k : ℕ) → k < n → P k) → P n → (k : ℕ) → k < n + 1 → P k
+each_below P n before here k low = by_test (nat_lt k n) refl
+  where
+    by_test : (t : Bool) → nat_lt k n ≡ t → P k
+    by_test true is = before k (grind (arith, nat_tests))
+    by_test false is =
+        let level : n ≡ k = grind (arith, nat_tests) in
+        subst P level here
+
+-- the last of a list that has grown
+pub last_added : {A : Type 0} (xs ys : List A) (n : ℕ) (x : A) → ys ≡ xs ++ x ∷ [] → length xs ≡ n → slice_get ys n ≡ Some x
+last_added xs ys n x is long =
+    ap (λ (zs : List _). slice_get zs n) is ∙ ap (λ (k : ℕ). slice_get (xs ++ x ∷ []) k) (sym long ∙ nothing (length xs))
+    ∙ get_second xs (x ∷ []) 0
+  where
+    nothing : (k : ℕ) → k ≡ k + 0
+    nothing k = omega arith
+
+-- One more of what stands for a list, with what is left of it.
+pub added : {A B : Type 0} (R : A → B → Type 0) (zs rest whole : List A) (ys new : List B) (x : A) (y : B) → AllZip R zs ys
+    → R x y → new ≡ ys ++ y ∷ [] → zs ++ x ∷ rest ≡ whole
+    → (ws : List A) × AllZip R ws new × (ws ++ rest ≡ whole)
+added R zs rest whole ys new x y are one more is =
+    let all = zip_grows R zs rest whole ys x y are one is in
+    (all.0, subst (λ (bs : List _). AllZip R all.0 bs) (sym more) all.1, all.2)
+
+-- maps of lists that grow
+
+pub map_both : {A B : Type 0} (f : A → B) (xs ys : List A) → map f (xs ++ ys) ≡ map f xs ++ map f ys
+map_both f [] ys = refl
+map_both f (x ∷ xs) ys = ap (λ (zs : List _). f x ∷ zs) (map_both f xs ys)
+
+pub map_twice_more : {A B C : Type 0} (f : B → C) (g : A → B) (xs : List A) (k : ℕ) (x : A) → k < length xs
+    → x ≡ get_or xs k x
+    → map f (map g (take (k + 1) xs)) ≡ map f (map g (take k xs)) ++ f (g x) ∷ []
+map_twice_more f g xs k x low is =
+    ap (map f) (map_more g xs k x low)
+    ∙ map_both f (map g (take k xs)) (g (get_or xs k x) ∷ [])
+    ∙ ap (λ (y : _). map f (map g (take k xs)) ++ f (g y) ∷ []) (sym is)
+
+-- an item of a list that is mapped
+pub item_at : {A B : Type 0} (f : A → B) (xs : List A) (k : ℕ) (x : A) → k < length xs → x ≡ get_or xs k x
+    → slice_get (map f xs) k ≡ Some (f x)
+item_at f xs k x low is =
+    slice_get-map f xs k ∙ ap (option_map f) (slice_get-get_or xs k x low) ∙ ap (λ (y : _). Some (f y)) (sym is)

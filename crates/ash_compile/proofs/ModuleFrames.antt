@@ -1,5 +1,5 @@
 -- Where the frames of a module stand among the functions of its code.
-use Rattle.std.proofs.Common.{◌≡◌, ◌<◌, ℕ, zero, suc, ◌+◌, Bool, true, false, List, [], ◌∷◌, ◌++◌, take, length, map, flat_map, sum, refl, sym, ap, ◌∙◌, subst, arith, option_map, length-append}
+use Rattle.std.proofs.Common.{◌≡◌, ◌<◌, ℕ, zero, suc, ◌+◌, Bool, true, false, List, [], ◌∷◌, ◌++◌, take, length, map, flat_map, fold, sum, refl, sym, ap, ◌∙◌, subst, arith, option_map, length-append}
 use Rattle.std.specs.Prelude.{Option, Some, None, slice_get, IfSome}
 use Rattle.std.specs.Option.{option_map_or}
 use Rattle.std.proofs.lemmas.Option.{same_Some, slice_get-map, slice_get_within}
@@ -18,7 +18,7 @@ use Rattle.ash_code.specs.CompiledCode.{entries_of}
 use Rattle.ash_compile.specs.Layout.{count_of_methods, methods_before, index_of}
 use Rattle.ash_compile.specs.Callees.{IsCallee, a_function, a_method, a_construction, given_by}
 use Rattle.ash_compile.specs.EmittedFrames.{FrameSource, frame_of_function, frame_of_method, frame_of_construction, methods_of, frames_of, given_if, AreFieldsOf, no_field, all_fields, IsSoundEntry}
-use Rattle.ash_compile.proofs.Listings.{get_first, get_second, get_part}
+use Rattle.ash_compile.proofs.Listings.{get_first, get_second, get_part, map_both}
 
 -- maps
 
@@ -29,10 +29,6 @@ mapped_at f xs k x at = slice_get-map f xs k ∙ ap (option_map f) at
 long_map : {A B : Type 0} (f : A → B) (xs : List A) → length (map f xs) ≡ length xs
 long_map f [] = refl
 long_map f (x ∷ xs) = ap suc (long_map f xs)
-
-map_both : {A B : Type 0} (f : A → B) (xs ys : List A) → map f (xs ++ ys) ≡ map f xs ++ map f ys
-map_both f [] ys = refl
-map_both f (x ∷ xs) ys = ap (λ (zs : List _). f x ∷ zs) (map_both f xs ys)
 
 -- frames and entries
 
@@ -83,12 +79,21 @@ entry_at m k x at =
 
 -- places
 
+sum_from : (n : ℕ) (xs : List ℕ) → fold ◌+◌ n xs ≡ n + sum xs
+sum_from n [] = omega arith
+sum_from n (x ∷ xs) =
+    let one = sum_from (n + x) xs in
+    let other = sum_from (0 + x) xs in
+    omega (arith, one, other)
+
 count_of_all : (cs : List Class) → length (flat_map methods_of cs) ≡ sum (map count_of_methods cs)
 count_of_all [] = refl
 count_of_all (c ∷ cs) =
-    length-append (methods_of c) (flat_map methods_of cs)
-    ∙ ap (λ (n : ℕ). n + length (flat_map methods_of cs)) (long_map (frame_of_method c) c.methods)
-    ∙ ap (λ (n : ℕ). length c.methods + n) (count_of_all cs)
+    let own = long_map (frame_of_method c) c.methods in
+    let others = count_of_all cs in
+    let all = length-append (methods_of c) (flat_map methods_of cs) in
+    let counted = sum_from (0 + length c.methods) (map count_of_methods cs) in
+    omega (arith, own, others, all, counted)
 
 pub function_at : (m : Module) (place : ℕ) (f : Function) → slice_get m.functions place ≡ Some f
     → slice_get (frames_of m) place ≡ Some (frame_of_function f)

@@ -9,7 +9,8 @@ ghost use Rattle.ash_compile.specs.Layout.{IsLayout, index_of};
 ghost use Rattle.ash_compile.specs.Callees.{implementation_of, implementation_at, IsClassCode};
 ghost use Rattle.ash_compile.specs.EmittedFrames.{AreClassCodes};
 
-use crate::layout::Layout;
+use crate::initializers::behind;
+use crate::layout::{Layout, place_in};
 use ash_code::code::{ClassCode, ImplementationCode};
 use ash_host::Word;
 use ash_integers::word_from;
@@ -50,7 +51,8 @@ fn method_codes(
 {
     let mut codes = Vec::with_capacity(alloc, methods.len())?;
     for method in methods {
-        codes.push(layout.method(class, *method)?)?;
+        let code = layout.method(class, *method)?;
+        codes.push(code)?;
     }
     Ok(codes)
 }
@@ -88,14 +90,17 @@ fn class_code(
         → slice_get m.classes place ≡ Some (class_of class.now)
         → IsClassCode m place (class_of class.now) code) }
 {
-    let Some(source) = layout.classes.get(place).copied() else {
+    let Some(source) = place_in(&layout.classes, place) else {
         return Err(AllocError);
     };
+    let fields = zero_words(alloc, &class.fields)?;
+    let construction = layout.construction(place)?;
+    let interfaces = implementation_codes(alloc, layout, place, &class.interfaces)?;
     Ok(ClassCode {
         place: source,
-        fields: zero_words(alloc, &class.fields)?,
-        construction: layout.construction(place)?,
-        interfaces: implementation_codes(alloc, layout, place, &class.interfaces)?,
+        fields,
+        construction,
+        interfaces,
     })
 }
 
@@ -109,8 +114,11 @@ pub(crate) fn class_codes(
         → m.classes ≡ map class_of classes.now → AreClassCodes m codes.items) }
 {
     let mut codes = Vec::with_capacity(alloc, classes.len())?;
-    for (place, class) in classes.iter().enumerate() {
-        codes.push(class_code(alloc, layout, place, class)?)?;
+    let mut place: usize = 0;
+    for class in classes {
+        let code = class_code(alloc, layout, place, class)?;
+        codes.push(code)?;
+        place = behind(place, 1)?;
     }
     Ok(codes)
 }

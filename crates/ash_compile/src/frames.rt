@@ -19,6 +19,13 @@ use ash_typed::{Class, Function, Initialization, Stmt, Variables};
 use std::alloc::{AllocError, Global};
 use std::mem;
 
+/// A line, as instructions have it.
+fn entry_line(line: usize) -> Result<u32, AllocError>
+    ensures line { IfOk result (λ entry. entry ≡ line) }
+{
+    u32::try_from(line).map_err(|_| AllocError)
+}
+
 impl CodeBuilder {
     /// Begins the code of another function.
     fn clear(&mut self, alloc: Global)
@@ -56,7 +63,7 @@ impl CodeBuilder {
             (body_of body.now) constructs code) }
         ensures layout { IfOk result (λ code. self.new.layout ≡ self.old.layout) }
     {
-        let entry = u32::try_from(line).map_err(|_| AllocError)?;
+        let entry = entry_line(line)?;
         self.clear(alloc);
         self.tick(line, parameters)?;
         self.fields(fields, parameters)?;

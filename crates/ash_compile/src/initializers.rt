@@ -13,7 +13,7 @@ use ash_typed::{Initialization, Variables};
 use std::alloc::AllocError;
 
 /// The place so many behind one.
-fn behind(place: usize, count: usize) -> Result<usize, AllocError>
+pub(crate) fn behind(place: usize, count: usize) -> Result<usize, AllocError>
     ensures place { IfOk result (λ behind. behind ≡ place + count) }
 {
     place.checked_add(count).ok_or(AllocError)

@@ -36,7 +36,7 @@ fn sum(a: usize, b: usize) -> Result<usize, AllocError>
 }
 
 /// The place of a class or an interface in the source, among these places.
-fn place_in(places: &[u16], index: usize) -> Option<u16>
+pub(crate) fn place_in(places: &[u16], index: usize) -> Option<u16>
     ensures place { result ≡ slice_get places.now index }
 {
     places.get(index).copied()

@@ -2,7 +2,7 @@
 
 ghost use Rattle.std.specs.Prelude.{◌≡◌, ◌++◌, IfOk, List, map};
 ghost use Rattle.std.specs.List.{AllZip, flat_map};
-ghost use Rattle.ash_typed.specs.Modules.{class_of, function_of, module_of};
+ghost use Rattle.ash_typed.specs.Modules.{Class as ClassData, class_of, function_of, module_of};
 ghost use Rattle.ash_soundness.specs.WellFormed.{Context, IsContext};
 ghost use Rattle.ash_code.specs.CompiledCode.{IsCodeOf};
 ghost use Rattle.ash_compile.specs.declared.layout.Layout.{Layout as LayoutData};
@@ -32,7 +32,8 @@ impl CodeBuilder {
         ensures layout { IfOk result (λ u. self.new.layout ≡ self.old.layout) }
     {
         for function in functions {
-            codes.push(self.function(alloc, function)?)?;
+            let code = self.function(alloc, function)?;
+            codes.push(code)?;
         }
         Ok(())
     }
@@ -51,7 +52,8 @@ impl CodeBuilder {
         ensures layout { IfOk result (λ u. self.new.layout ≡ self.old.layout) }
     {
         for class in classes {
-            codes.push(self.construction(alloc, class)?)?;
+            let code = self.construction(alloc, class)?;
+            codes.push(code)?;
         }
         Ok(())
     }
@@ -61,15 +63,17 @@ impl CodeBuilder {
         &mut self,
         alloc: Global,
         codes: &mut Vec<FunctionCode>,
-        class: &Class,
+        methods: &[Function],
     ) -> Result<(), AllocError>
-        ensures added { IfOk result (λ u. (xs : List FrameSource)
+        ensures added { IfOk result (λ u. (class : ClassData) (xs : List FrameSource)
             → AllZip (IsFrameCode self.old.layout) xs codes.old.items
-            → AllZip (IsFrameCode self.old.layout) (xs ++ methods_of (class_of class.now)) codes.new.items) }
+            → AllZip (IsFrameCode self.old.layout) (xs ++ map (frame_of_method class) (map function_of methods.now))
+            codes.new.items) }
         ensures layout { IfOk result (λ u. self.new.layout ≡ self.old.layout) }
     {
-        for method in &class.methods {
-            codes.push(self.function(alloc, method)?)?;
+        for method in methods {
+            let code = self.function(alloc, method)?;
+            codes.push(code)?;
         }
         Ok(())
     }
@@ -88,7 +92,7 @@ impl CodeBuilder {
         ensures layout { IfOk result (λ u. self.new.layout ≡ self.old.layout) }
     {
         for class in classes {
-            self.add_methods(alloc, codes, class)?;
+            self.add_methods(alloc, codes, &class.methods)?;
         }
         Ok(())
     }

@@ -1,4 +1,5 @@
-use Rattle.std.proofs.Common.{◌≡◌, ◌∷◌, List, ℕ, ◌+◌, drop, map, length, length-map, sym, ap, ◌∙◌, subst}
+use Rattle.std.proofs.Common.{◌≡◌, ◌∷◌, List, ℕ, ◌+◌, drop, map, length, sym, ap, arith, ◌∙◌, subst}
+use Rattle.std.proofs.lemmas.List.{length-map}
 use Rattle.ash_typed.specs.BodyViews.{value_of}
 use Rattle.ash_typed.specs.Modules.{Variables, variables_of}
 use Rattle.ash_compile.specs.EmittedParts.{EmitsDeclarations, EmitsGlobals}
@@ -14,7 +15,8 @@ loop-declared-preserved c = λ new emits.
     let l = c.loop-declared in
     let declared = c.declared-item.result in
     let rest = map variables_of (drop (l.declared-index + 1) c.args.variables.now) in
-    let many = length-map value_of declared.initializations.items in
+    let many : c.len.result ≡ length (map value_of declared.initializations.items)
+        = omega (arith, length-map declared.initializations.items value_of, c.len.ensures, declared.initializations.ok.0) in
     l.invariant new (subst (λ (ds : List Variables). EmitsDeclarations l.self new l.place ds)
     (sym (rest_here variables_of c.args.variables.now l.declared-index declared c.loop-declared-test.true c.declared-item.is))
     (more_variables l.self c.tick.new.self c.globals.new.self new l.place (variables_of declared) rest
@@ -22,7 +24,7 @@ loop-declared-preserved c = λ new emits.
     (subst (λ (vs : List _). EmitsGlobals c.tick.new.self c.globals.new.self l.place (map value_of vs)) c.deref.ensures.value
     c.in_ok-globals.ensures.emits)
     (subst (λ (n : ℕ). EmitsDeclarations c.globals.new.self new n rest)
-    (c.in_ok-place.ensures.place ∙ ?) emits)))
+    (c.in_ok-place.ensures.place ∙ ap (λ (k : ℕ). l.place + k) many) emits)))
 
 pub returns : goal.returns
 returns c = record {
