@@ -26,3 +26,9 @@ pub mod Callees
 pub mod CallCode
 pub mod Layouts
 pub mod MethodCode
+pub mod EmittedCalls
+pub mod KeptLocals
+pub mod ConstructionCode
+pub mod HostCode
+pub mod ArrayCode
+pub mod HostMethodCode
