@@ -109,8 +109,8 @@ array_done : (p : Program) (of : typed_element.Element) (method : ArrayMethod) (
     → take (length (parameters_of_array_method of method)) (drop (slot + 1) w.slots) ≡ ws
     → on_array method slot (control function at w) number d
     ≡ guarded_onward (Some (invoke_array method number ws d)) (put slot (control function at w))
-array_done p of methods.Length w function at slot number shape ws d there fits values are = refl
-array_done p of methods.IsEmpty w function at slot number shape ws d there fits values are = refl
+array_done p of methods.Length w function at slot number shape ws d there fits vs are = refl
+array_done p of methods.IsEmpty w function at slot number shape ws d there fits vs are = refl
 array_done p of methods.Resize w function at slot number shape _ d there fits (and_value {word = count} v no_values) are =
     let c = control function at w in
     ap (λ (x : Word). guarded_onward (resize_array number x d) (λ _. put slot c words.Null)) (first_word w.slots (slot + 1) count are)
@@ -125,7 +125,7 @@ array_done p of methods.InsertLast w function at slot number shape _ d there fit
     ∙ ap (λ (t : Bool). guarded_onward (cond t (Some (arrays.insert_last number word d)) None)
     (λ _. put slot c words.Null)) (value_alive p (type_of_element of) word d v)
     ∙ null_given (arrays.insert_last number word d) (put slot c)
-array_done p of methods.RemoveLast w function at slot number shape ws d there fits values are =
+array_done p of methods.RemoveLast w function at slot number shape ws d there fits vs are =
     let c = control function at w in
     ap (λ (t : Bool). guarded_onward (cond t (Some (arrays.remove_last number d)) None)
     (λ _. put slot c words.Null)) (array_there p of number shape d there fits)

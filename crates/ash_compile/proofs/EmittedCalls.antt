@@ -210,16 +210,16 @@ method start mid old put new class place index result e ps es slot first second 
 
 -- services and what hosts construct
 
-pub service : (start old new : CodeBuilder) (service id : ℕ) (result : Option VarType) (ps : List VarType) (es : List Expr)
+pub service : (start old new : CodeBuilder) (index id : ℕ) (result : Option VarType) (ps : List VarType) (es : List Expr)
     (slot count : ℕ) → EmitsArguments start old es slot → length es ≡ count
-    → Puts old new slot (i.CallService service id result slot count)
-    → Emits start new (Call (targets.Service service id result) ps (exprs es)) slot
-service start old new service id result ps es slot count first long puts =
-    emits_call start old new es (Call (targets.Service service id result) ps (exprs es)) slot
-    (i.CallService service id result slot count) first puts (λ s of typed. (ps, typed_arguments typed))
+    → Puts old new slot (i.CallService index id result slot count)
+    → Emits start new (Call (targets.Service index id result) ps (exprs es)) slot
+service start old new index id result ps es slot count first long puts =
+    emits_call start old new es (Call (targets.Service index id result) ps (exprs es)) slot
+    (i.CallService index id result slot count) first puts (λ s of typed. (ps, typed_arguments typed))
     (λ s of from at scene typed suits under does has.
-    does_service s scene service id result es from at slot under does
-    (subst (λ (n : ℕ). HasAt s at (i.CallService service id result slot n)) (sym long) has))
+    does_service s scene index id result es from at slot under does
+    (subst (λ (n : ℕ). HasAt s at (i.CallService index id result slot n)) (sym long) has))
 
 pub host : (start old new : CodeBuilder) (kind : ℕ) (ps : List VarType) (es : List Expr) (slot count : ℕ)
     → EmitsArguments start old es slot → length es ≡ count → Puts old new slot (i.ConstructHost kind slot count)

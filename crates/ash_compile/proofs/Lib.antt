@@ -32,3 +32,5 @@ pub mod ConstructionCode
 pub mod HostCode
 pub mod ArrayCode
 pub mod HostMethodCode
+pub mod Tables
+pub mod InterfaceCode
