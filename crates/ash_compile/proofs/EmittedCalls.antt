@@ -38,6 +38,7 @@ use Rattle.ash_compile.specs.Emission.{code_of, end_of, Keeps, Puts, Scene, IsSc
 use Rattle.ash_compile.proofs.Emission.{HasAt, keeps_on, put_keeps, put_one, put_greatest, suits_before, stands_before, stands_after, has_put}
 use Rattle.ash_compile.proofs.CallCode.{does_function}
 use Rattle.ash_compile.proofs.MethodCode.{does_method}
+use Rattle.ash_compile.proofs.InterfaceCode.{does_through}
 use Rattle.ash_compile.proofs.ConstructionCode.{does_construction}
 use Rattle.ash_compile.proofs.HostCode.{does_service, does_host_construction, does_empty_array}
 use Rattle.ash_compile.proofs.HostMethodCode.{does_host_method}
@@ -394,3 +395,42 @@ host_method start mid old put new id result e ps es slot count first second long
     let invoked = typed_invoked typed in
     does_host_method s scene invoked.object id result e es ps from between at slot invoked.typed invoked.args under object does
     (subst (λ (n : ℕ). HasAt s at (i.CallHost slot id result (slot + 1) n)) (sym long) has) moves)
+
+-- methods that interfaces declare
+
+-- what an interface of the module declares, which takes these
+record IsDeclared (signatures : ModuleSignatures) (interface method : ℕ) (ps : List VarType) : Type 0 where
+  pub all : List Signature
+  pub one : Signature
+  pub there : slice_get signatures.interfaces interface ≡ Some all
+  pub here : slice_get all method ≡ Some one
+  pub takes : ps ≡ one.parameters
+
+declared_is : {s : ModuleSignatures} {o : ObjectType} {interface method : ℕ} {result other : Option VarType}
+    {ps : List VarType} → IsMethod s o (methods.Interface interface method result) ps other → IsDeclared s interface method ps
+declared_is (operations.of_interface at here) = record { all = _; one = _; there = at; here = here; takes = refl }
+
+interface_is : {s : ModuleSignatures} {o : ObjectType} {interface method : ℕ} {result other : Option VarType}
+    {ps : List VarType} → IsMethod s o (methods.Interface interface method result) ps other
+    → o ≡ objects.Interface interface
+interface_is (operations.of_interface at here) = refl
+
+pub through : (start mid old put new : CodeBuilder) (interface method : ℕ) (result : Option VarType) (e : Expr)
+    (ps : List VarType) (es : List Expr) (slot : ℕ)
+    → Emits start mid e slot → EmitsArguments mid old es (slot + 1)
+    → Puts old put (slot + 1) (i.CallInterface interface method slot (slot + 1))
+    → Puts put new slot (i.Move (slot + 1) slot)
+    → Emits start new (Invoke e (methods.Interface interface method result) ps (exprs es)) slot
+through start mid old put new interface method result e ps es slot first second call move =
+    emits_method start mid old put new e es (Invoke e (methods.Interface interface method result) ps (exprs es)) slot
+    (i.CallInterface interface method slot (slot + 1)) first second call move
+    (λ s of typed. (_, (typed_invoked typed).typed)) (λ s of typed. (ps, (typed_invoked typed).args))
+    (λ s of from between at scene typed suits under object does has moves.
+    let invoked = typed_invoked typed in
+    let d = declared_is invoked.is in
+    does_through s scene interface method d.all d.one
+    (ap (λ (x : ModuleSignatures). slice_get x.interfaces interface) (sym scene.declares) ∙ d.there) d.here e es from between
+    at slot
+    (subst (λ (o : ObjectType). IsWellTyped s.env e (value (vars.Handle o))) (interface_is invoked.is) invoked.typed)
+    (subst (λ (types : List VarType). AreSoundArguments s.env types (exprs es)) d.takes invoked.args) under object does has
+    moves)

@@ -46,9 +46,6 @@ find_mapped {X} {Y} f p (x ∷ xs) =
     found_first f (p (f x)) x (find (λ x. p (f x)) xs)
     ∙ ap (λ (o : Option Y). cond (p (f x)) (Some (f x)) o) (find_mapped f p xs)
 
-some_not_none : {X : Type 0} {x : X} → Some x ≡ None {T = X} → ⊥
-some_not_none is = cc
-
 module _ (s : Setting) (m : Module) (has : HasClasses s m) where
   -- places
 
@@ -107,8 +104,8 @@ module _ (s : Setting) (m : Module) (has : HasClasses s m) where
       → option_and_then (λ (x : ImplementationCode). slice_get (x.methods).items method) o
       ≡ option_map (λ (own : ℕ). index_of m (Method class own)) (option_and_then (λ (x : Implementation). slice_get x.methods method) i)
   method_listed method class None None same = refl
-  method_listed method class None (Some i) same = absurd (some_not_none (sym same))
-  method_listed method class (Some code) None same = absurd (some_not_none same)
+  method_listed method class None (Some i) same = absurd (cc)
+  method_listed method class (Some code) None same = absurd (cc)
   method_listed method class (Some code) (Some i) same =
       ap (λ (o : Option Implementation). option_and_then (λ (x : Implementation). slice_get x.methods method) o) same
       ∙ slice_get-map (λ (own : ℕ). index_of m (Method class own)) i.methods method
