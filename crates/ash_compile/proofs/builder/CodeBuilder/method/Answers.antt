@@ -6,8 +6,18 @@ use Rattle.ash_compile.proofs.Emitted.{if_ok}
 use Rattle.ash_compile.proofs.EmittedCalls as emitted
 use Rattle.ash_compile.proofs.builder.CodeBuilder.method.Goals as goal
 
-pub returns-in_ok-function : goal.returns-in_ok-function
-returns-in_ok-function c = ?
+pub returns-in_ok-function-in-Script : goal.returns-in_ok-function-in-Script
+returns-in_ok-function-in-Script c =
+    let function = c.in_ok-function-in-Script.function in
+    record {
+      emits = rw c.in-Script.is (if_ok c.put_and_move.result
+          (λ u puts start mid e ps es first second long.
+          emitted.method start mid c.args.self.now puts.0 c.put_and_move.new.self c.in-Script.class c.in-Script.method function _
+          e ps es c.args.slot first second c.in_ok-function-in-Script.ensures.place
+          (subst (λ (n : ℕ). Puts c.args.self.now puts.0 n (i.CallMethod function c.args.slot n)) c.requires.next puts.1)
+          (subst (λ (n : ℕ). Puts puts.0 c.put_and_move.new.self c.args.slot (i.Move n c.args.slot)) c.requires.next puts.2))
+          c.put_and_move.ensures.puts);
+    }
 
 pub returns-in-Interface : goal.returns-in-Interface
 returns-in-Interface c = record {
