@@ -21,3 +21,5 @@ pub mod FunctionCode
 pub mod Constructing
 pub mod EmittedBranches
 pub mod EmittedRows
+pub mod PlaceGuards
+pub mod PlaceSteps

@@ -76,7 +76,7 @@ held_alive word a alive =
     ap (λ (t : Bool). guarded_onward (cond t (Some (Done tt (in_frame (holding (handles (word ∷ []))) a))) None)
     (λ _. guarded_give word)) alive
 
-put_held : (word : Word) (a : Activity) (next : Word → Guarded Next) → is_alive word a ≡ true
+pub put_held : (word : Word) (a : Activity) (next : Word → Guarded Next) → is_alive word a ≡ true
     → guarded_onward (guarded_give_held word a) next ≡ guarded_onward (Some (give_held word a)) next
 put_held word a next alive = ap (λ (o : Option (Progress Word)). guarded_onward o next) (held_alive word a alive)
 

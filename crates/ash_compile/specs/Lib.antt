@@ -1,3 +1,4 @@
 pub mod Stretches
 pub mod Performances
 pub mod Emission
+pub mod Places
