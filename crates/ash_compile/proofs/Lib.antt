@@ -23,3 +23,6 @@ pub mod EmittedBranches
 pub mod EmittedRows
 pub mod PlaceGuards
 pub mod PlaceSteps
+pub mod PlaceLocals
+pub mod PlaceCode
+pub mod EmittedPlaces

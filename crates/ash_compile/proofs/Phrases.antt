@@ -90,7 +90,7 @@ none_held (words.Int64 n) a is = refl
 none_held (words.Uint64 n) a is = refl
 none_held (words.Object number) a is = cc
 
-local_in : (w : Window) (a : Activity) (n : ℕ) → Fits w a → n < length (a.frame).locals
+pub local_in : (w : Window) (a : Activity) (n : ℕ) → Fits w a → n < length (a.frame).locals
     → slice_index_or w.slots n words.Null ≡ slice_index_or (a.frame).locals n words.Null
 local_in w a n fits within =
     sym (ap (λ (ws : List Word). slice_index_or ws n words.Null) fits.locals

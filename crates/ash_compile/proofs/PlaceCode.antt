@@ -128,12 +128,15 @@ module _ (s : Scene) where
         (goes_itself (well_of s a good)) (global is);
   }
 
-  bears_of : {b : Activity} {ws : List Word} {slot : ℕ} {o : ObjectType} {member : ObjectMember} {of : VarType}
+  pub carried_as : (of : ValueType) (b : Activity) (x y : Word) → y ≡ x → IsCarried s.context of b x → IsCarried s.context of b y
+  carried_as of b x y is carried = subst (λ (z : Word). IsCarried s.context of b z) (sym is) carried
+
+  bears_of : (b : Activity) (ws : List Word) (slot : ℕ) {o : ObjectType} {member : ObjectMember} {of : VarType}
       → IsSoundMember (s.env).signatures o member of
       → IsCarried s.context (value (vars.Handle o)) b (slice_index_or ws slot words.Null)
       → Bears s b ws (spot_of_member member slot) of
-  bears_of (operations.field at is) carried = field (operations.field at is) carried
-  bears_of (operations.property offered) carried = property (operations.property offered) carried
+  bears_of b ws slot (operations.field at is) carried = field (operations.field at is) carried
+  bears_of b ws slot (operations.property offered) carried = property (operations.property offered) carried
 
   -- The object of a member is tested as soon as it is computed: nothing comes between.
   pub member_place : (object : Expr) (member : ObjectMember) (of : VarType) (from to slot : ℕ) → IsScene s
@@ -155,7 +158,7 @@ module _ (s : Scene) where
         (goes b slots
         (ap (λ (p : Progress Word). onward (onward p object_of) (λ number. give (location_of_member member number))) ran ∙ sym is)
         (below w slot x slots b held) left.goes
-        (bears_of m (subst (λ (y : Word). IsCarried s.context _ b y) (sym held.value) left.carried)))));
+        (bears_of b slots slot m (carried_as _ b x (slice_index_or slots slot words.Null) held.value left.carried)))));
   }
 
   -- The array of an element is tested after its index.
@@ -194,8 +197,8 @@ module _ (s : Scene) where
           locals = also.locals;
         })
         (goes_more left.goes right.goes)
-        (element (subst (λ (y : Word). IsCarried s.context _ d y) (sym array_is)
-        (carry (well_of s b still) right.goes left.carried))))))));
+        (element (carried_as _ d x (slice_index_or more slot words.Null) array_is
+        (carry (well_of s b still) right.goes left.carried)))))))));
   }
 
   -- one instruction at a place

@@ -1,9 +1,9 @@
 -- Where a place lies, and the guards of steps that read and write there.
 use Rattle.std.proofs.Common.{◌≡◌, ◌≤◌, ◌<◌, ℕ, List, [], ◌∷◌, length, map, refl, sym, ap, ◌∙◌, subst, arith, true, Bool, nat_lt}
-use Rattle.std.specs.Prelude.{Option, Some, None, slice_get, slice_index_or, is_some}
+use Rattle.std.specs.Prelude.{Option, Some, None, slice_get, slice_index_or, is_some, option_map}
 use Rattle.std.specs.Option.{option_map_or, option_and_then}
 use Rattle.std.proofs.lemmas.Bool.Decides.{nat_tests}
-use Rattle.std.proofs.lemmas.Option.{slice_get_within}
+use Rattle.std.proofs.lemmas.Option.{slice_get_within, same_Some, slice_get-map}
 use Rattle.ash_host.specs.declared.event.Target.TheVariants as targets
 use Rattle.ash_host.specs.declared.word.Word.{Word}
 use Rattle.ash_host.specs.declared.word.Word.TheVariants as words
@@ -13,10 +13,12 @@ use Rattle.ash_tree.specs.declared.tree.types.Primitive.TheVariants as primitive
 use Rattle.ash_integers.specs.declared.int_type.IntType.{IntType}
 use Rattle.ash_typed.specs.declared.types.VarType.{VarType}
 use Rattle.ash_typed.specs.declared.types.VarType.TheVariants as vars
+use Rattle.ash_typed.specs.declared.types.ObjectType.{ObjectType}
 use Rattle.ash_typed.specs.declared.types.ObjectType.TheVariants as objects
+use Rattle.ash_typed.specs.declared.tree.operations.ObjectMember.{ObjectMember}
 use Rattle.ash_typed.specs.declared.tree.operations.ObjectMember.TheVariants as members
 use Rattle.ash_typed.specs.TypeOf.{value, as_value, type_of_element}
-use Rattle.ash_typed.specs.Signatures.{ModuleSignatures, type_declared, type_of_primitive}
+use Rattle.ash_typed.specs.Signatures.{ModuleSignatures, ClassTypes, signature_of_class, type_declared, type_of_primitive}
 use Rattle.ash_typed.specs.SoundOperations as operations
 use Rattle.ash_typed.specs.SoundOperations.{IsSoundMember}
 use Rattle.ash_typed.specs.SoundExpressions.{TypedEnvironment}
@@ -27,15 +29,14 @@ use Rattle.ash_meaning.specs.Releases.{give_held}
 use Rattle.ash_meaning.specs.ObjectSteps.{words_in}
 use Rattle.ash_meaning.specs.ArraySteps.{natural_of, index_in}
 use Rattle.ash_meaning.specs.HostSteps.{state_in, get_property}
-use Rattle.ash_meaning.specs.Locations.{Location, Local, Global, Part, Property, read}
-use Rattle.ash_soundness.specs.WellFormed.{Context, declared, Shape, OfKind, shape_of, shape_at, IsValue, AreValues, IsGiven, IsWellFormed}
-use Rattle.ash_soundness.specs.WellFormedLaws.{Goes, Leaves, done, Evaluates, a_property}
+use Rattle.ash_meaning.specs.Locations.{Location, Local, Global, Part, Property, location_of_member, read}
+use Rattle.ash_soundness.specs.WellFormed.{Context, declared, Shape, OfKind, IsOf, shape_of, shape_at, IsValue, AreValues, IsGiven, IsWellFormed}
+use Rattle.ash_soundness.specs.WellFormedLaws.{Goes, Offers, Leaves, done, Evaluates, a_property}
 use Rattle.ash_soundness.proofs.Arrays.{object_with, words_of, after_object}
 use Rattle.ash_soundness.proofs.Parts.{fields_fit}
 use Rattle.ash_soundness.proofs.Calls.{handle_of}
 use Rattle.ash_soundness.proofs.Constructions.{bind_here, lt_from}
 use Rattle.ash_soundness.proofs.Fits.{kept_value, given_value, unkept}
-use Rattle.ash_soundness.proofs.Expressions.{member_located}
 use Rattle.ash_soundness.proofs.Hosts.{get_property_gives, well_after}
 use Rattle.ash_soundness.proofs.Locations.{IsLocated, in_local, in_global, in_field, in_element, in_property, IsRead, read_gives}
 use Rattle.ash_soundness.proofs.Triples.{bind, weaken, after_demand, safe, goes_more, given_held}
@@ -61,6 +62,16 @@ pub well_of : (s : Scene) (a : Activity) → Good s a → Well s a
 well_of s a good = good
 
 -- where a place lies
+
+pub member_located : {c : Context} {env : TypedEnvironment} {o : ObjectType} {held : ObjectMember} {of : VarType} {a : Activity}
+    (number : ℕ) (shape : Shape) → IsSoundMember (declared c) o held of → shape_at number (a.world).objects ≡ Some shape
+    → IsOf c.program o shape → IsLocated c env a (location_of_member held number) of
+member_located {c} number shape (operations.field {class} {place} {of} {c = cs} at here) there i =
+    let of_source : cs ≡ signature_of_class i.source =
+        same_Some cs (signature_of_class i.source)
+        (sym at ∙ slice_get-map signature_of_class ((c.program).tree).classes class ∙ ap (option_map signature_of_class) i.at) in
+    in_field i there (subst (λ (x : ClassTypes). slice_get x.fields place ≡ Some of) of_source here)
+member_located number shape (operations.property {kind} {id} {of} i) there typed = in_property (a_property kind id of i)
 
 element_located : (s : Scene) (number : ℕ) (index : Word) (b : Activity) → Well s b
     → Leaves s.context (λ (k : ℕ) d. (d ≡ b) × (k < length (words_in number b.world))) (index_in number index b)
@@ -97,14 +108,14 @@ located_gives s (spots.Element array index) _ ws b scene well (element carried) 
 
 pub part_there : (s : Scene) (number place : ℕ) (of : VarType) (b : Activity) → IsScene s → Well s b
     → IsLocated s.context s.env b (Part number place) of → has_part number place b ≡ true
-part_there s number place of b scene well (in_field i at field) =
+part_there s number place of b scene well (in_field i at there_of) =
     let there = object_with number (b.world).objects _ at in
     let values : AreValues (s.context).program (b.world).objects (map type_declared (i.source).fields) (words_in number b.world) =
         subst (λ (ws : List Word). AreValues (s.context).program (b.world).objects (map type_declared (i.source).fields) ws)
         (sym (words_of number b.world there.0 there.1))
         (fields_fit scene.sound i there.0 there.2 ((well.world).living.each number there.0 there.1)) in
     lt_true place (length (words_in number b.world))
-    (omega (arith, values_long values, slice_get_within (map type_declared (i.source).fields) place of field))
+    (omega (arith, values_long values, slice_get_within (map type_declared (i.source).fields) place of there_of))
 part_there s number place of b scene well (in_element i at within same) =
     lt_true place (length (words_in number b.world)) within
 
@@ -118,7 +129,7 @@ global_there s place of b scene well at =
 host_in : (x : Plain (List ℕ)) (kind : ℕ) → shape_of x ≡ OfKind kind → is_some (state_in x) ≡ true
 host_in (Host kind state) k is = refl
 host_in (Script owner place fields) k is = absurd (cc)
-host_in (Array elements) k is = absurd (cc)
+host_in (Array of elements) k is = absurd (cc)
 
 pub host_there : (number kind : ℕ) (shape : Shape) (b : Activity) → shape_at number (b.world).objects ≡ Some shape
     → shape ≡ OfKind kind → is_there (targets.Object number) b ≡ true
@@ -162,10 +173,17 @@ no_handle_of_primitive primitives.Uint = no_handle_in_integer _
 no_handle_of_primitive primitives.Uint64 = no_handle_in_integer _
 
 -- Hosts give no handles.
+
+property_offered : (c : Context) {kind : ℕ} {member : ObjectMember} {of : VarType}
+    → IsSoundMember (declared c) (objects.Host kind) member of
+    → (p : Primitive) × (of ≡ type_of_primitive p) × Offers c.host
+property_offered c (operations.property {kind} {id} {of} offered) = (of, refl, a_property kind id of offered)
+
 pub property_none : (s : Scene) (kind number id : ℕ) (of : VarType) (b d : Activity) (v : Word) → IsScene s → Well s b
     → IsSoundMember (declared s.context) (objects.Host kind) (members.Property id of) of
     → get_property number id of b ≡ Done v d → handle v ≡ None
-property_none s kind number id _ b d v scene well (operations.property {of = of} offered) ran =
-    no_handle_of_primitive of (s.context).program (d.world).objects v
-    (given_value ((left_done v d (get_property_gives (a_property kind id of offered) number id (type_of_primitive of) well)
-    ran).carried).value)
+property_none s kind number id of b d v scene well m ran =
+    let offered = property_offered s.context m in
+    subst (λ (t : VarType). HasNoHandle (as_value t)) (sym offered.1) (no_handle_of_primitive offered.0) (s.context).program
+    (d.world).objects v
+    (given_value ((left_done v d (get_property_gives offered.2 number id of well) ran).carried).value)

@@ -1,6 +1,6 @@
 -- What reading and writing at a place leaves of the locals of the frame.
 use Rattle.std.proofs.Common.{◌≡◌, ◌≤◌, ◌<◌, ℕ, List, take, length, refl, sym, ap, ◌∙◌, subst, arith, true, false, Bool, nat_lt}
-use Rattle.std.specs.Prelude.{Option, Some, None, slice_set, if◌then◌else◌}
+use Rattle.std.specs.Prelude.{Option, Some, None, slice_index_or, slice_set, if◌then◌else◌}
 use Rattle.std.proofs.Math.Seq.{take-set-lt}
 use Rattle.ash_host.specs.declared.word.Word.{Word}
 use Rattle.ash_host.specs.declared.word.Word.TheVariants as words
@@ -106,13 +106,18 @@ located_locals : (spot : Spot) (ws : List Word) (b : Activity)
 located_locals (spots.Local n) ws b = refl
 located_locals (spots.Global n) ws b = refl
 located_locals (spots.Field object place) ws b =
-    bound_locals _ (λ number. give (Part number place)) (b.frame).locals (object_locals _ b) (λ number d. refl)
+    let x = slice_index_or ws object words.Null in
+    bound_locals (object_of x b) (λ number. give (Part number place)) (b.frame).locals (object_locals x b) (λ number d. refl)
 located_locals (spots.Property object id of) ws b =
-    bound_locals _ (λ number. give (Property number id of)) (b.frame).locals (object_locals _ b) (λ number d. refl)
+    let x = slice_index_or ws object words.Null in
+    bound_locals (object_of x b) (λ number. give (Property number id of)) (b.frame).locals (object_locals x b) (λ number d. refl)
 located_locals (spots.Element array index) ws b =
-    bound_locals _ (λ number. index_in number _ >>= (λ place. give (Part number place))) (b.frame).locals (object_locals _ b)
-    (λ number d. bound_locals (index_in number _ d) (λ place. give (Part number place)) (d.frame).locals
-    (index_locals (nat_lt (natural_of _) (length (words_in number d.world))) (natural_of _) d) (λ place e. refl))
+    let x = slice_index_or ws array words.Null in
+    let i = slice_index_or ws index words.Null in
+    bound_locals (object_of x b) (λ number. index_in number i >>= (λ place. give (Part number place))) (b.frame).locals
+    (object_locals x b)
+    (λ number d. bound_locals (index_in number i d) (λ place. give (Part number place)) (d.frame).locals
+    (index_locals (nat_lt (natural_of i) (length (words_in number d.world))) (natural_of i) d) (λ place e. refl))
 
 read_locals : (l : Location) (b : Activity) → locals_in (b.frame).locals (read l b) ≡ (b.frame).locals
 read_locals (Local n) b = refl
@@ -173,9 +178,10 @@ pub writes_locals : (spot : Spot) (ws : List Word) (word : Word) (b : Activity)
     ≡ slots_after spot word (b.frame).locals
 writes_locals (spots.Local n) ws word b = refl
 writes_locals (spots.Global n) ws word b = refl
-writes_locals (spots.Field object place) ws word b = field_locals _ place word b
-writes_locals (spots.Property object id of) ws word b = property_locals _ id of word b
-writes_locals (spots.Element array index) ws word b = element_locals _ _ word b
+writes_locals (spots.Field object place) ws word b = field_locals (slice_index_or ws object words.Null) place word b
+writes_locals (spots.Property object id of) ws word b = property_locals (slice_index_or ws object words.Null) id of word b
+writes_locals (spots.Element array index) ws word b =
+    element_locals (slice_index_or ws array words.Null) (slice_index_or ws index words.Null) word b
 
 -- The locals stay the first slots.
 pub after_take : (spot : Spot) (word : Word) (ws : List Word) (count : ℕ) → ((n : ℕ) → spot ≡ spots.Local n → n < count)

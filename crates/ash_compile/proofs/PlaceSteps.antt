@@ -8,8 +8,8 @@ use Rattle.ash_host.specs.declared.word.Word.{Word}
 use Rattle.ash_host.specs.declared.word.Word.TheVariants as words
 use Rattle.ash_host.specs.Objects.{handle}
 use Rattle.ash_typed.specs.declared.types.VarType.{VarType}
-use Rattle.ash_typed.specs.declared.types.ObjectType.TheVariants as objects
-use Rattle.ash_typed.specs.declared.tree.operations.ObjectMember.TheVariants as members
+use Rattle.ash_typed.specs.declared.types.ObjectType.{ObjectType}
+use Rattle.ash_typed.specs.declared.tree.operations.ObjectMember.{ObjectMember}
 use Rattle.ash_typed.specs.Signatures.{ModuleSignatures}
 use Rattle.ash_typed.specs.SoundOperations.{IsSoundMember}
 use Rattle.ash_meaning.specs.declared.exception.Exception.TheVariants.{IndexOutOfBounds}
@@ -21,10 +21,8 @@ use Rattle.ash_meaning.specs.ArraySteps.{natural_of, index_in}
 use Rattle.ash_meaning.specs.HostSteps.{get_property, set_property}
 use Rattle.ash_meaning.specs.Locations.{Location, Local, Global, Part, Property, read, write}
 use Rattle.ash_meaning.specs.ExpressionMeaning.{element_at}
-use Rattle.ash_soundness.specs.WellFormed.{Shape, shape_at, IsReference, to_nothing, to_object, IsOf}
-use Rattle.ash_soundness.proofs.Arrays.{after_object}
+use Rattle.ash_soundness.specs.WellFormed.{Shape, shape_at, IsReference, to_nothing, to_object, declared}
 use Rattle.ash_soundness.proofs.Calls.{handle_of}
-use Rattle.ash_soundness.proofs.Expressions.{member_located}
 use Rattle.ash_soundness.proofs.Constructions.{lt_from}
 use Rattle.ash_soundness.proofs.Locations.{in_element}
 use Rattle.ash_run_steps.specs.Guarded.{Guarded, plain, onward as guarded_onward, give as guarded_give}
@@ -42,7 +40,7 @@ use Rattle.ash_compile.specs.Emission.{Scene, IsScene}
 use Rattle.ash_compile.specs.Places.{located, reading, writing, Bears, local, global, field, property, element}
 use Rattle.ash_compile.proofs.Phrases.{put_held, none_held, local_in}
 use Rattle.ash_compile.proofs.Typed.{HasNoHandle}
-use Rattle.ash_compile.proofs.PlaceGuards.{lt_true, Well, local_within, local_none, part_there, global_there, host_there, global_alive, part_alive, property_none}
+use Rattle.ash_compile.proofs.PlaceGuards.{lt_true, Well, member_located, local_within, local_none, part_there, global_there, host_there, global_alive, part_alive, property_none}
 
 -- parts of objects that are there
 
@@ -167,8 +165,8 @@ locals_below w b n fits low =
 -- instructions
 
 module _ (s : Scene) where
-  declared_member : {o : _} {held : _} {of : VarType} → IsScene s → IsSoundMember (s.env).signatures o held of
-      → IsSoundMember _ o held of
+  declared_member : {o : ObjectType} {held : ObjectMember} {of : VarType} → IsScene s
+      → IsSoundMember (s.env).signatures o held of → IsSoundMember (declared s.context) o held of
   declared_member {o} {held} {of} scene m = subst (λ (x : ModuleSignatures). IsSoundMember x o held of) scene.declares m
 
   -- What is read is held. A local that is read is no handle.
