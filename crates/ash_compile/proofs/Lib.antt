@@ -26,3 +26,4 @@ pub mod PlaceSteps
 pub mod PlaceLocals
 pub mod PlaceCode
 pub mod EmittedPlaces
+pub mod Moves

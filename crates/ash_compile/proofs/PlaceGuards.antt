@@ -139,7 +139,7 @@ host_there number kind shape b at is =
 
 -- what is read
 
-read_is : (s : Scene) (l : Location) (of : VarType) (b d : Activity) (v : Word) → IsScene s → Well s b
+pub read_is : (s : Scene) (l : Location) (of : VarType) (b d : Activity) (v : Word) → IsScene s → Well s b
     → IsLocated s.context s.env b l of → read l b ≡ Done v d → IsValue (s.context).program (d.world).objects of v
 read_is s l of b d v scene well at ran = (left_done v d (read_gives scene.sound l well at) ran).value
 
