@@ -27,3 +27,4 @@ pub mod PlaceLocals
 pub mod PlaceCode
 pub mod EmittedPlaces
 pub mod Moves
+pub mod UpdateCode

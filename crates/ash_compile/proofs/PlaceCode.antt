@@ -101,7 +101,7 @@ continued_twice (Done v b) f g rest = refl
 continued_twice (Ended e b) f g rest = refl
 continued_twice NoStep f g rest = refl
 
-stored_is : (p : Progress Location) (word : Word) (rest : Word → Activity → Option Outcome)
+pub stored_is : (p : Progress Location) (word : Word) (rest : Word → Activity → Option Outcome)
     → continued (onward p (λ l. write l word)) (λ _ e. rest word e) ≡ continued p (λ l d. continued (store word l d) rest)
 stored_is (Done l d) word rest = sym (continued_then (write l word d) (λ _. give word) rest)
 stored_is (Ended e d) word rest = refl
