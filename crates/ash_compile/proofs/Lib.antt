@@ -28,3 +28,4 @@ pub mod PlaceCode
 pub mod EmittedPlaces
 pub mod Moves
 pub mod UpdateCode
+pub mod EmittedUpdates
