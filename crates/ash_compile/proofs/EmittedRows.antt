@@ -3,9 +3,10 @@ use Rattle.std.proofs.Common.{◌≡◌, ◌<◌, ◌≤◌, ℕ, ◌+◌, List,
 use Rattle.std.proofs.lemmas.List.{drop_more, drop_all}
 use Rattle.ash_typed.specs.declared.tree.expressions.Expr as expr_code
 use Rattle.ash_typed.specs.declared.tree.expressions.Operand as operand_code
+use Rattle.ash_typed.specs.declared.tree.expressions.Link as link_code
 use Rattle.ash_typed.specs.declared.tree.operations.Lazy.{Lazy}
 use Rattle.ash_typed.specs.TypedTree.{Expr, Lazily}
-use Rattle.ash_typed.specs.TypedTreeViews.{expr_of, chained, all_chained, all_lazies}
+use Rattle.ash_typed.specs.TypedTreeViews.{expr_of, linked, all_linked, chained, all_chained, all_lazies}
 
 pub chain_step : (e : Expr) (os : List operand_code.Operand) (k : ℕ) (o : operand_code.Operand) → k < length os
     → o ≡ get_or os k o → all_chained (chained e o) (drop (k + 1) os) ≡ all_chained e (drop k os)
@@ -23,3 +24,11 @@ lazy_step op e xs k x low is =
 pub lazy_end : (op : Lazy) (e f : Expr) (xs : List expr_code.Expr) (k : ℕ) → length xs ≤ k
     → all_lazies op e (drop k xs) ≡ f → e ≡ f
 lazy_end op e f xs k over is = sym (ap (all_lazies op e) (drop_all k xs over)) ∙ is
+
+pub link_step : (e : Expr) (ls : List link_code.Link) (k : ℕ) (l : link_code.Link) → k < length ls → l ≡ get_or ls k l
+    → all_linked (linked e l) (drop (k + 1) ls) ≡ all_linked e (drop k ls)
+link_step e ls k l low is =
+    sym (ap (all_linked e) (drop_more ls k l low ∙ ap (λ (x : link_code.Link). x ∷ drop (k + 1) ls) (sym is)))
+
+pub link_end : (e f : Expr) (ls : List link_code.Link) (k : ℕ) → length ls ≤ k → all_linked e (drop k ls) ≡ f → e ≡ f
+link_end e f ls k over is = sym (ap (all_linked e) (drop_all k ls over)) ∙ is
