@@ -14,7 +14,7 @@ use Rattle.ash_compile.specs.declared.places.Spot.{Spot}
 use Rattle.ash_compile.specs.declared.places.Spot.TheVariants as spots
 use Rattle.ash_compile.specs.Emission.{code_of, end_of, Keeps, Puts, DoesExpression, Emits}
 use Rattle.ash_compile.specs.Places.{spot_of_variable, spot_of_member, reading, writing, EmitsPlace}
-use Rattle.ash_compile.proofs.Emission.{keeps_on, put_keeps, put_one, stands_before, stands_after, has_put, emits_then, emits_both}
+use Rattle.ash_compile.proofs.Emission.{keeps_on, put_keeps, put_one, suits_before, stands_before, stands_after, has_put, emits_then, emits_both}
 use Rattle.ash_compile.proofs.PlaceCode.{variable_place, member_place, element_place, does_read, does_assign}
 
 -- types of parts
@@ -49,7 +49,7 @@ typed_given (typing.assign at is fitted) = fitting fitted
 -- places
 
 keeps_itself : (old : CodeBuilder) → Keeps old old
-keeps_itself old = record { longer = omega arith; same = λ k low. refl; slots = omega arith }
+keeps_itself old = record { longer = omega arith; same = λ k low. refl; slots = omega arith; layout = refl }
 
 pub variable : (old : CodeBuilder) (v : Variable) (slot : ℕ) → EmitsPlace old old (Stored v) (spot_of_variable v) slot
 variable old v slot = record {
@@ -73,7 +73,7 @@ element start mid new a i e slot first second = record {
   does = λ s of scene at stands within.
       element_place s a i e of (end_of start) (end_of mid) (end_of new) slot scene at
       (first.does s (typed_array at).0 scene (typed_array at).1 (stands_before s mid new (end_of start) second.keeps stands)
-      (omega (arith, (second.keeps).slots, within)))
+      (suits_before s mid new second.keeps within))
       (second.does s (typed_index at).0 scene (typed_index at).1
       (stands_after s (code_of new) (end_of start) (end_of mid) (end_of new) (first.keeps).longer stands) within);
 }
@@ -110,20 +110,20 @@ read_element start mid old new a i e slot first second puts =
 pub assign : (start mid old new : CodeBuilder) (place : Place) (e : Expr) (spot : Spot) (slot : ℕ) → Emits start mid e slot
     → EmitsPlace mid old place spot (slot + 1) → Puts old new slot (writing spot slot) → Emits start new (Assign place e) slot
 assign start mid old new place e spot slot first second puts =
-  let last = put_keeps old new slot (writing spot slot) puts in
-  let later = keeps_on mid old new second.keeps last in
-  record {
-    keeps = keeps_on start mid new first.keeps later;
-    does = λ s of scene typed stands within.
-        subst (λ (to : ℕ). DoesExpression s (Assign place e) (end_of start) to slot)
-        (sym (put_one old new slot (writing spot slot) puts))
-        (does_assign s place (typed_assigned typed).0 e (typed_given typed).0 spot (end_of start) (end_of mid) (end_of old) slot
-        scene (typed_given typed).1
-        (first.does s (typed_given typed).0 scene (typed_given typed).1 (stands_before s mid new (end_of start) later stands)
-        (omega (arith, later.slots, within)))
-        (second.does s (typed_assigned typed).0 scene (typed_assigned typed).1
-        (stands_after s (code_of old) (end_of start) (end_of mid) (end_of old) (first.keeps).longer
-        (stands_before s old new (end_of start) last stands)) (omega (arith, last.slots, within)))
-        (has_put s old new (end_of start) slot (writing spot slot)
-        (omega (arith, (first.keeps).longer, (second.keeps).longer)) puts stands));
-  }
+    let last = put_keeps old new slot (writing spot slot) puts in
+    let later = keeps_on mid old new second.keeps last in
+    record {
+      keeps = keeps_on start mid new first.keeps later;
+      does = λ s of scene typed stands within.
+          subst (λ (to : ℕ). DoesExpression s (Assign place e) (end_of start) to slot)
+          (sym (put_one old new slot (writing spot slot) puts))
+          (does_assign s place (typed_assigned typed).0 e (typed_given typed).0 spot (end_of start) (end_of mid) (end_of old) slot
+          scene (typed_given typed).1
+          (first.does s (typed_given typed).0 scene (typed_given typed).1 (stands_before s mid new (end_of start) later stands)
+          (suits_before s mid new later within))
+          (second.does s (typed_assigned typed).0 scene (typed_assigned typed).1
+          (stands_after s (code_of old) (end_of start) (end_of mid) (end_of old) (first.keeps).longer
+          (stands_before s old new (end_of start) last stands)) (suits_before s old new last within))
+          (has_put s old new (end_of start) slot (writing spot slot)
+          (omega (arith, (first.keeps).longer, (second.keeps).longer)) puts stands));
+    }

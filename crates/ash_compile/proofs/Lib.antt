@@ -29,3 +29,8 @@ pub mod EmittedPlaces
 pub mod Moves
 pub mod UpdateCode
 pub mod EmittedUpdates
+pub mod Arguments
+pub mod Callees
+pub mod CallCode
+pub mod Layouts
+pub mod MethodCode

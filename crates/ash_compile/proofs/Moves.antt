@@ -92,10 +92,10 @@ pub reads_go : (s : Scene) (spot : Spot) (of : VarType) (ws : List Word) (b d : 
     → Goes s.context s.env s.envs b d
 reads_go s spot of ws b d v scene well bears ran =
     let gives_so : Leaves s.context (λ (x : Word) e. Goes s.context s.env s.envs b e)
-        (onward (located spot ws b) (λ l. read l >>= give_held)) =
-        bind_here (λ l. read l >>= give_held) (located_gives s spot of ws b scene well bears) (λ l at.
-        bind (read_gives scene.sound l well at) (λ x e r.
-        weaken (λ y f more. goes_more r.goes more.goes) (given_held x (well_after r.goes) (gives (kept_value r.value))))) in
+    (onward (located spot ws b) (λ l. read l >>= give_held)) =
+    bind_here (λ l. read l >>= give_held) (located_gives s spot of ws b scene well bears) (λ l at.
+    bind (read_gives scene.sound l well at) (λ x e r.
+    weaken (λ y f more. goes_more r.goes more.goes) (given_held x (well_after r.goes) (gives (kept_value r.value))))) in
     left_done v d gives_so ran
 
 -- a place that is tested again is the same

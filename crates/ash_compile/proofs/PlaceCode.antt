@@ -153,7 +153,7 @@ module _ (s : Scene) where
         (λ x b slots ran held.
         let left = evaluates s object _ a b x scene typed good ran in
         let is = member_located_is member slot slots b ∙ ap (λ (y : Word). onward (object_of y b)
-            (λ number. give (location_of_member member number))) held.value in
+        (λ number. give (location_of_member member number))) held.value in
         subst (λ (p : Progress Location). At to (with_slots slots w) b (continued p rest)) is
         (goes b slots
         (ap (λ (p : Progress Word). onward (onward p object_of) (λ number. give (location_of_member member number))) ran ∙ sym is)
@@ -290,7 +290,7 @@ module _ (s : Scene) where
         let fits_there = refits_below (with_slots slots w) (slot + 1) more b d (refits w slot word slots a b fits held) also in
         let is = also.kept slot low (omega arith) ∙ held.value in
         let lower : (n : ℕ) → spot ≡ spots.Local n → n < w.count
-            = λ n same. local_below (with_slots more w) d spot of n (well_after went) fits_there bears same in
+        = λ n same. local_below (with_slots more w) d spot of n (well_after went) fits_there bears same in
         subst (λ (o : Option Outcome). At at (with_slots more w) d o) (stored_is (located spot more d) word rest)
         (writes_on (with_slots more w) d spot of at slot word (λ _ f. rest word f) scene (well_after went) fits_there bears has is
         (alive_of word (handle word) d refl (λ n there. given_lives n carried.value there))

@@ -59,7 +59,7 @@ abbrev pub Well : Scene → Activity → Type 0
 Well s = IsWellFormed s.context s.env s.envs
 
 pub well_of : (s : Scene) (a : Activity) → Good s a → Well s a
-well_of s a good = good
+well_of s a good = good.0
 
 -- where a place lies
 
@@ -68,8 +68,8 @@ pub member_located : {c : Context} {env : TypedEnvironment} {o : ObjectType} {he
     → IsOf c.program o shape → IsLocated c env a (location_of_member held number) of
 member_located {c} number shape (operations.field {class} {place} {of} {c = cs} at here) there i =
     let of_source : cs ≡ signature_of_class i.source =
-        same_Some cs (signature_of_class i.source)
-        (sym at ∙ slice_get-map signature_of_class ((c.program).tree).classes class ∙ ap (option_map signature_of_class) i.at) in
+    same_Some cs (signature_of_class i.source)
+    (sym at ∙ slice_get-map signature_of_class ((c.program).tree).classes class ∙ ap (option_map signature_of_class) i.at) in
     in_field i there (subst (λ (x : ClassTypes). slice_get x.fields place ≡ Some of) of_source here)
 member_located number shape (operations.property {kind} {id} {of} i) there typed = in_property (a_property kind id of i)
 
@@ -90,14 +90,20 @@ located_gives s (spots.Global place) of ws b scene well (global at) =
     done (refl, in_global (subst (λ (m : ModuleSignatures). slice_get m.globals place ≡ Some of) scene.declares at))
 located_gives s (spots.Field object place) of ws b scene well (field {class = class} m carried) =
     after_object (λ number. give (Part number place)) b (safe well) (handle_of carried.value) (λ number shape is at fits.
-    done (refl, member_located number shape
-    (subst (λ (x : ModuleSignatures). IsSoundMember x (objects.Class class) (members.Field class place of) of) scene.declares m)
-    at fits))
+    done (
+      refl,
+      member_located number shape
+          (subst (λ (x : ModuleSignatures). IsSoundMember x (objects.Class class) (members.Field class place of) of) scene.declares m)
+          at fits,
+    ))
 located_gives s (spots.Property object id of) _ ws b scene well (property {kind = kind} m carried) =
     after_object (λ number. give (Property number id of)) b (safe well) (handle_of carried.value) (λ number shape is at fits.
-    done (refl, member_located number shape
-    (subst (λ (x : ModuleSignatures). IsSoundMember x (objects.Host kind) (members.Property id of) of) scene.declares m)
-    at fits))
+    done (
+      refl,
+      member_located number shape
+          (subst (λ (x : ModuleSignatures). IsSoundMember x (objects.Host kind) (members.Property id of) of) scene.declares m)
+          at fits,
+    ))
 located_gives s (spots.Element array index) _ ws b scene well (element carried) =
     after_object (λ number. index_in number (slice_index_or ws index words.Null) >>= (λ k. give (Part number k))) b (safe well)
     (handle_of carried.value) (λ number shape is at fits.
@@ -111,9 +117,9 @@ pub part_there : (s : Scene) (number place : ℕ) (of : VarType) (b : Activity) 
 part_there s number place of b scene well (in_field i at there_of) =
     let there = object_with number (b.world).objects _ at in
     let values : AreValues (s.context).program (b.world).objects (map type_declared (i.source).fields) (words_in number b.world) =
-        subst (λ (ws : List Word). AreValues (s.context).program (b.world).objects (map type_declared (i.source).fields) ws)
-        (sym (words_of number b.world there.0 there.1))
-        (fields_fit scene.sound i there.0 there.2 ((well.world).living.each number there.0 there.1)) in
+    subst (λ (ws : List Word). AreValues (s.context).program (b.world).objects (map type_declared (i.source).fields) ws)
+    (sym (words_of number b.world there.0 there.1))
+    (fields_fit scene.sound i there.0 there.2 ((well.world).living.each number there.0 there.1)) in
     lt_true place (length (words_in number b.world))
     (omega (arith, values_long values, slice_get_within (map type_declared (i.source).fields) place of there_of))
 part_there s number place of b scene well (in_element i at within same) =
@@ -123,8 +129,11 @@ pub global_there : (s : Scene) (place : ℕ) (of : VarType) (b : Activity) → I
     → slice_get ((s.env).signatures).globals place ≡ Some of → has_global place b ≡ true
 global_there s place of b scene well at =
     lt_true place (length (b.world).globals)
-    (omega (arith, values_long (well.world).globals,
-    slice_get_within _ place of (subst (λ (m : ModuleSignatures). slice_get m.globals place ≡ Some of) scene.declares at)))
+    (omega (
+      arith,
+      values_long (well.world).globals,
+      slice_get_within _ place of (subst (λ (m : ModuleSignatures). slice_get m.globals place ≡ Some of) scene.declares at),
+    ))
 
 host_in : (x : Plain (List ℕ)) (kind : ℕ) → shape_of x ≡ OfKind kind → is_some (state_in x) ≡ true
 host_in (Host kind state) k is = refl

@@ -241,38 +241,38 @@ module _ (s : Scene) where
       → DoesExpression s (Update place int_type calculation e) from (at + 1 + 1 + 1 + 1 + 1) slot
   does_update place int_type calculation e given spot from mid at slot scene typed operand second within
       read_first first convert_next third fourth = record {
-    within = operand.within;
-    comes = λ w a rest low long fits good goes.
-        subst (λ (o : Option Outcome). At from w a o)
-        (sym (continued_then (expression (calls_of s) e a)
-        (λ right. location (calls_of s) place >>= update int_type calculation right) rest))
-        (operand.comes w a
-        (λ right b. continued (onward (location (calls_of s) place b) (update int_type calculation right)) rest) low long fits good
-        (λ right b slots ran held.
-        let still = stays_good s e given a b right scene typed good ran in
-        subst (λ (o : Option Outcome). At mid (with_slots slots w) b o)
-        (sym (continued_then (location (calls_of s) place b) (update int_type calculation right) rest))
-        (second.comes (with_slots slots w) b (λ l d. continued (update int_type calculation right l d) rest) (omega (arith, low))
-        (omega (arith, long, held.long)) (refits w slot right slots a b fits held) still
-        (λ d more was also went bears.
-        subst (λ (o : Option Outcome). At at (with_slots more w) d o)
-        (continued_then (located spot more d) (update int_type calculation right) rest)
-        (update_on (with_slots more w) d spot int_type calculation right at slot rest scene (well_after went)
-        (refits_below (with_slots slots w) (slot + 2) more b d (refits w slot right slots a b fits held) also) bears second.lies
-        (omega (arith, long, held.long, also.long)) low within (also.kept slot low (omega arith) ∙ held.value)
-        read_first first convert_next third fourth
-        (λ word f xs made kept.
-        goes word f xs
-        (then_is (expression (calls_of s) e a) right b
-        (λ x. location (calls_of s) place >>= update int_type calculation x) _ ran
-        (ap (λ (p : Progress Location). onward p (update int_type calculation right)) was ∙ made))
-        (record {
-          long = kept.long ∙ also.long ∙ held.long;
-          kept = λ k low_k under. kept.kept k low_k under ∙ also.kept k low_k (omega (arith, under)) ∙ held.kept k low_k under;
-          value = kept.value;
-          locals = kept.locals;
-        })))))));
-  }
+        within = operand.within;
+        comes = λ w a rest low long fits good goes.
+            subst (λ (o : Option Outcome). At from w a o)
+            (sym (continued_then (expression (calls_of s) e a)
+            (λ right. location (calls_of s) place >>= update int_type calculation right) rest))
+            (operand.comes w a
+            (λ right b. continued (onward (location (calls_of s) place b) (update int_type calculation right)) rest) low long fits good
+            (λ right b slots ran held.
+            let still = stays_good s e given a b right scene typed good ran in
+            subst (λ (o : Option Outcome). At mid (with_slots slots w) b o)
+            (sym (continued_then (location (calls_of s) place b) (update int_type calculation right) rest))
+            (second.comes (with_slots slots w) b (λ l d. continued (update int_type calculation right l d) rest) (omega (arith, low))
+            (omega (arith, long, held.long)) (refits w slot right slots a b fits held) still
+            (λ d more was also went bears.
+            subst (λ (o : Option Outcome). At at (with_slots more w) d o)
+            (continued_then (located spot more d) (update int_type calculation right) rest)
+            (update_on (with_slots more w) d spot int_type calculation right at slot rest scene (well_after went)
+            (refits_below (with_slots slots w) (slot + 2) more b d (refits w slot right slots a b fits held) also) bears second.lies
+            (omega (arith, long, held.long, also.long)) low within (also.kept slot low (omega arith) ∙ held.value)
+            read_first first convert_next third fourth
+            (λ word f xs made kept.
+            goes word f xs
+            (then_is (expression (calls_of s) e a) right b
+            (λ x. location (calls_of s) place >>= update int_type calculation x) _ ran
+            (ap (λ (p : Progress Location). onward p (update int_type calculation right)) was ∙ made))
+            (record {
+              long = kept.long ∙ also.long ∙ held.long;
+              kept = λ k low_k under. kept.kept k low_k under ∙ also.kept k low_k (omega (arith, under)) ∙ held.kept k low_k under;
+              value = kept.value;
+              locals = kept.locals;
+            })))))));
+      }
 
   -- after what was read for `++` or `--`
   count_after : (w : Window) (d e : Activity) (spot : Spot) (int_type : IntType) (step : IncrementOp) (old : Word)

@@ -1,4 +1,7 @@
 pub mod Stretches
 pub mod Performances
+pub mod Layout
+pub mod Callees
 pub mod Emission
 pub mod Places
+pub mod Arguments

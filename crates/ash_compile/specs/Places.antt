@@ -30,7 +30,7 @@ use Rattle.ash_compile.specs.declared.builder.CodeBuilder.{CodeBuilder}
 use Rattle.ash_compile.specs.declared.places.Spot.{Spot}
 use Rattle.ash_compile.specs.declared.places.Spot.TheVariants as spots
 use Rattle.ash_compile.specs.Stretches.{continued, Arrives, with_slots, Fits}
-use Rattle.ash_compile.specs.Emission.{code_of, end_of, Keeps, Scene, IsScene, calls_of, Good, Stands}
+use Rattle.ash_compile.specs.Emission.{code_of, end_of, Keeps, Scene, IsScene, Suits, calls_of, Good, Stands}
 
 -- spots
 
@@ -137,5 +137,5 @@ pub record EmitsPlace (old new : CodeBuilder) (place : Place) (spot : Spot) (slo
       → IsScene s
       → HasPlace s.env place of
       → Stands s (code_of new) (end_of old) (end_of new)
-      → new.slots ≤ s.room
+      → Suits s new
       → DoesPlace s place of spot (end_of old) (end_of new) slot

@@ -3,12 +3,15 @@
 //! An expression leaves its value in a slot of no local, and uses no slot below that. Its parts use the slots from
 //! there on.
 
-ghost use Rattle.std.specs.Prelude.{◌≡◌, ◌+◌, IfOk, pos};
+ghost use Rattle.std.specs.Prelude.{◌≡◌, ◌+◌, List, map, IfOk, pos};
+ghost use Rattle.ash_typed.specs.declared.types.VarType.{VarType as VarTypeData};
 ghost use Rattle.ash_typed.specs.TypedTree.{Expr as ExprData, Read, Stored, Alter, Operate, Lazily, Conditional, converted};
+ghost use Rattle.ash_typed.specs.TypedTree.{Invoke, exprs};
 ghost use Rattle.ash_typed.specs.TypedTreeViews.{expr_of, place_of, linked, all_linked, chained, all_chained, all_lazies};
 ghost use Rattle.ash_meaning.specs.OperatorMeaning.{word_at};
 ghost use Rattle.ash_compile.specs.Emission.{Emits, lazy_jump, read_local};
 ghost use Rattle.ash_compile.specs.Places.{EmitsPlace};
+ghost use Rattle.ash_compile.specs.Arguments.{EmitsArguments};
 ghost use Rattle.ash_compile.specs.declared.builder.CodeBuilder.{CodeBuilder as Written};
 
 use crate::builder::CodeBuilder;
@@ -17,7 +20,7 @@ use ash_code::instruction::Instruction;
 use ash_host::Word;
 use ash_integers::{IntType, word_from};
 use ash_typed::{
-    Conversion, Expr, ExprKind, Lazy, Link, Operand, Operation, Place, VarType, Variable,
+    Conversion, Expr, ExprKind, Lazy, Link, Method, Operand, Operation, Place, VarType, Variable,
 };
 use std::alloc::AllocError;
 
@@ -148,7 +151,14 @@ impl CodeBuilder {
                 let spot = self.place(place, next)?;
                 self.step(spot, *of, *step, slot, other)
             }
-            _ => Err(AllocError),
+            ExprKind::Call {
+                target,
+                arguments,
+                ..
+            } => {
+                self.arguments(arguments, slot)?;
+                self.call(*target, slot, arguments.len())
+            }
         }
     }
 
@@ -349,7 +359,11 @@ impl CodeBuilder {
                 self.expression(index, next)?;
                 self.read_element(slot, next)
             }
-            Link::Invoke { .. } => Err(AllocError),
+            Link::Invoke {
+                method,
+                arguments,
+                ..
+            } => self.invoke(*method, arguments, slot),
         }
     }
 
@@ -374,5 +388,30 @@ impl CodeBuilder {
                 })
             }
         }
+    }
+
+    /// Arguments, from left to right, in slots one after another.
+    #[cycle(expressions)]
+    fn arguments(&mut self, arguments: &[Expr], slot: usize) -> Result<(), AllocError>
+        ensures emits { IfOk result (λ u. EmitsArguments self.old self.new (map expr_of arguments.now) slot) }
+    {
+        let mut next = slot;
+        for argument in arguments {
+            self.expression(argument, next)?;
+            next = after(next)?;
+        }
+        Ok(())
+    }
+
+    /// What a method makes of the object in a slot. Its arguments are in the slots after that.
+    #[cycle(expressions)]
+    fn invoke(&mut self, method: Method, arguments: &[Expr], slot: usize) -> Result<(), AllocError>
+        ensures emits { IfOk result (λ u. (start : Written) (e : ExprData) (parameters : List VarTypeData)
+            → Emits start self.old e slot
+            → Emits start self.new (Invoke e method parameters (exprs (map expr_of arguments.now))) slot) }
+    {
+        let first = after(slot)?;
+        self.arguments(arguments, first)?;
+        self.method(method, slot, first, arguments.len())
     }
 }
