@@ -34,3 +34,5 @@ pub mod Callees
 pub mod CallCode
 pub mod Layouts
 pub mod MethodCode
+pub mod ClassTables
+pub mod CastCode

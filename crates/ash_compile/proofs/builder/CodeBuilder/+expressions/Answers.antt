@@ -15,6 +15,7 @@ use Rattle.ash_compile.proofs.Emitted.{if_ok, of_kind}
 use Rattle.ash_compile.proofs.Emitted as emitted
 use Rattle.ash_compile.proofs.EmittedBranches as branches
 use Rattle.ash_compile.proofs.EmittedPlaces as places
+use Rattle.ash_compile.proofs.CastCode as casts
 use Rattle.ash_compile.proofs.EmittedRows.{link_step, link_end, chain_step, chain_end, lazy_step, lazy_end}
 use Rattle.ash_compile.proofs.builder.CodeBuilder.+expressions.Goals as goal
 
@@ -181,7 +182,12 @@ expression-returns-in-Path t c = record {
 }
 
 pub expression-returns-in_ok-expression-in-Cast : goal.expression-returns-in_ok-expression-in-Cast
-expression-returns-in_ok-expression-in-Cast t c = ?
+expression-returns-in_ok-expression-in-Cast t c = record {
+  emits = if_ok c.put-in-Cast.result
+      (λ u puts. of_kind c.args.self.now c.put-in-Cast.new.self c.args.expr.now.kind.value _ _ c.args.slot (sym c.deref.ensures ∙ c.in-Cast.is) refl
+      (casts.cast c.args.self.now c.expression-in-Cast.new.self c.put-in-Cast.new.self c.in-Cast.to (expr_of c.in-Cast.value) c.args.slot c.in_ok-expression-in-Cast.ensures.emits puts))
+      c.put-in-Cast.ensures.puts;
+}
 
 pub expression-returns-in_ok-spot-in-Assign : goal.expression-returns-in_ok-spot-in-Assign
 expression-returns-in_ok-spot-in-Assign t c = record {
