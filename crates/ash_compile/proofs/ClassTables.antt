@@ -1,5 +1,6 @@
 -- What code knows of the classes of a module is what their trees say: the class of an object, and what it is cast to.
-use Rattle.std.proofs.Common.{◌≡◌, ◌≤◌, ◌<◌, ℕ, zero, suc, ◌+◌, List, [], ◌∷◌, length, map, refl, sym, ap, ◌∙◌, subst, arith, true, false, Bool, cond, not, nat_eq, nat_lt, nat_le}
+use Rattle.std.proofs.Common.{◌≡◌, ◌≤◌, ◌<◌, ℕ, zero, suc, ◌+◌, List, [], ◌∷◌, length, map, refl, sym, ap, ◌∙◌, subst}
+use Rattle.std.proofs.Common.{arith, true, false, Bool, cond, not, nat_eq, nat_lt, nat_le}
 use Rattle.std.specs.Prelude.{Option, Some, None, slice_get, position, find, is_some, option_map, if◌then◌else◌}
 use Rattle.std.specs.List.{range_with_len, prefix_len}
 use Rattle.std.specs.Option.{option_map_or, option_and_then}
@@ -28,7 +29,8 @@ same_at_each [] [] same = refl
 same_at_each [] (y ∷ ys) same = absurd (let h : None ≡ Some y = same 0 in cc)
 same_at_each (x ∷ xs) [] same = absurd (let h : Some x ≡ None = same 0 in cc)
 same_at_each (x ∷ xs) (y ∷ ys) same =
-    ap (λ (z : ℕ). z ∷ xs) (same_Some x y (same 0)) ∙ ap (λ (zs : List ℕ). y ∷ zs) (same_at_each xs ys (λ k. same (suc k)))
+    ap (λ (z : ℕ). z ∷ xs) (same_Some x y (same 0)) ∙ ap (λ (zs : List ℕ). y ∷ zs)
+    (same_at_each xs ys (λ k. same (suc k)))
 
 get_ranged : (f : ℕ → ℕ) (from n k : ℕ) → k < n → slice_get (map f (range_with_len from n)) k ≡ Some (f (from + k))
 get_ranged f from zero k low = absurd (omega (arith, low))
@@ -47,14 +49,17 @@ get_here [] k low = absurd (omega (arith, low))
 get_here (x ∷ xs) zero low = (x, refl)
 get_here (x ∷ xs) (suc k) low = get_here xs k (omega (arith, low))
 
-prefix_mapped : {A : Type 0} (p : ℕ → Bool) (f : A → ℕ) (xs : List A) → prefix_len p (map f xs) ≡ prefix_len (λ x. p (f x)) xs
+prefix_mapped : {A : Type 0} (p : ℕ → Bool) (f : A → ℕ) (xs : List A) → prefix_len p (map f xs)
+    ≡ prefix_len (λ x. p (f x)) xs
 prefix_mapped p f [] = refl
 prefix_mapped p f (x ∷ xs) = ap (λ (n : ℕ). cond (p (f x)) (1 + n) 0) (prefix_mapped p f xs)
 
-position_mapped : {A : Type 0} (p : ℕ → Bool) (f : A → ℕ) (xs : List A) → position (λ x. p (f x)) xs ≡ position p (map f xs)
+position_mapped : {A : Type 0} (p : ℕ → Bool) (f : A → ℕ) (xs : List A) → position (λ x. p (f x)) xs
+    ≡ position p (map f xs)
 position_mapped p f xs =
     ap (λ (n : ℕ). cond (nat_lt n (length xs)) (Some n) None) (sym (prefix_mapped (λ x. not (p x)) f xs))
-    ∙ ap (λ (m : ℕ). cond (nat_lt (prefix_len (λ x. not (p x)) (map f xs)) m) (Some (prefix_len (λ x. not (p x)) (map f xs))) None)
+    ∙ ap (λ (m : ℕ). cond (nat_lt (prefix_len (λ x. not (p x)) (map f xs)) m)
+    (Some (prefix_len (λ x. not (p x)) (map f xs))) None)
     (sym (length-map xs f))
 
 -- An implementation is found by its interface alone.
@@ -73,7 +78,8 @@ found_mapped f p q same (x ∷ xs) =
 -- tables
 
 module _ (s : Setting) (p : Program) (owner : own_name s ≡ p.name) (has : HasClasses s p.tree) where
-  place_at : (k : ℕ) → slice_get (map (λ (c : ClassCode). c.place) (classes_of s)) k ≡ slice_get (places_of_classes p.tree) k
+  place_at : (k : ℕ) → slice_get (map (λ (c : ClassCode). c.place) (classes_of s)) k
+      ≡ slice_get (places_of_classes p.tree) k
   place_at k = placed (nat_lt k (length (p.tree).classes)) refl
     where
       placed : (b : Bool) → nat_lt k (length (p.tree).classes) ≡ b
@@ -83,7 +89,8 @@ module _ (s : Setting) (p : Program) (owner : own_name s ≡ p.name) (has : HasC
           let class = get_here (p.tree).classes k low in
           let code = has.each k class.0 class.1 in
           let same : 0 + k ≡ k = omega arith in
-          slice_get-map (λ (c : ClassCode). c.place) (classes_of s) k ∙ ap (option_map (λ (c : ClassCode). c.place)) code.1
+          slice_get-map (λ (c : ClassCode). c.place) (classes_of s) k ∙ ap (option_map (λ (c : ClassCode). c.place))
+          code.1
           ∙ ap Some (code.2).place
           ∙ sym (get_ranged (place_of_class p.tree) 0 (length (p.tree).classes) k low
           ∙ ap (λ (n : ℕ). Some (place_of_class p.tree n)) same)
@@ -92,22 +99,29 @@ module _ (s : Setting) (p : Program) (owner : own_name s ≡ p.name) (has : HasC
           get_past (map (λ (c : ClassCode). c.place) (classes_of s)) k
           (omega (arith, high, has.count, length-map (classes_of s) (λ (c : ClassCode). c.place)))
           ∙ sym (get_past (places_of_classes p.tree) k
-          (omega (arith, high, length-map (range_with_len 0 (length (p.tree).classes)) (place_of_class p.tree),
-          length-range_with_len 0 (length (p.tree).classes))))
+          (omega (
+            arith,
+            high,
+            length-map (range_with_len 0 (length (p.tree).classes)) (place_of_class p.tree),
+            length-range_with_len 0 (length (p.tree).classes),
+          )))
 
   -- the class of an object
   pub class_is : (x : Plain (List ℕ)) → steps.class_in (own_name s) (classes_of s) x ≡ classes.class_of p x
   class_is (Script name place fields) =
-      ap (λ (n : List ℕ). cond (bytes_eq name n) (position (λ (c : ClassCode). nat_eq place c.place) (classes_of s)) None) owner
+      ap (λ (n : List ℕ). cond (bytes_eq name n) (position (λ (c : ClassCode). nat_eq place c.place) (classes_of s))
+      None) owner
       ∙ ap (λ (o : Option ℕ). cond (bytes_eq name p.name) o None)
       (position_mapped (nat_eq place) (λ (c : ClassCode). c.place) (classes_of s)
-      ∙ ap (position (nat_eq place)) (same_at_each (map (λ (c : ClassCode). c.place) (classes_of s)) (places_of_classes p.tree) place_at))
+      ∙ ap (position (nat_eq place)) (same_at_each (map (λ (c : ClassCode). c.place) (classes_of s))
+      (places_of_classes p.tree) place_at))
   class_is (Array of elements) = refl
   class_is (Host kind state) = refl
 
   -- whether a class lists an interface
   listed : (interface class : ℕ)
-      → is_some (steps.implementation_in (classes_of s) interface class) ≡ is_some (classes.implementation_in p.tree class interface)
+      → is_some (steps.implementation_in (classes_of s) interface class) ≡ is_some
+      (classes.implementation_in p.tree class interface)
   listed interface class = lists (nat_lt class (length (p.tree).classes)) refl
     where
       by_code : ClassCode → Option ImplementationCode
@@ -124,10 +138,12 @@ module _ (s : Setting) (p : Program) (owner : own_name s ≡ p.name) (has : HasC
           let k = get_here (p.tree).classes class low in
           let code = has.each class k.0 k.1 in
           ap (λ (o : Option ClassCode). is_some (option_and_then
-          (λ (c : ClassCode). find (λ (i : ImplementationCode). nat_eq i.interface interface) (c.interfaces).items) o)) code.1
+          (λ (c : ClassCode). find (λ (i : ImplementationCode). nat_eq i.interface interface) (c.interfaces).items) o))
+          code.1
           ∙ sym (found_mapped implementation_of (λ (i : ImplementationCode). nat_eq i.interface interface)
           (λ (i : Implementation). nat_eq i.interface interface) (λ i. refl) ((code.0).interfaces).items)
-          ∙ ap (λ (all : List Implementation). is_some (find (λ (i : Implementation). nat_eq i.interface interface) all))
+          ∙ ap (λ (all : List Implementation). is_some (find (λ (i : Implementation). nat_eq i.interface interface)
+          all))
           (code.2).interfaces
           ∙ found_mapped (implementation_at p.tree class) (λ (i : Implementation). nat_eq i.interface interface)
           (λ (i : Implementation). nat_eq i.interface interface) (λ i. refl) (k.0).interfaces
@@ -142,20 +158,23 @@ module _ (s : Setting) (p : Program) (owner : own_name s ≡ p.name) (has : HasC
           (λ (c : Class). find (λ (i : Implementation). nat_eq i.interface interface) c.interfaces) o))
           (get_past (p.tree).classes class high))
 
-  class_fits : (to : ObjectType) (class : ℕ) → steps.is_class_of (classes_of s) to class ≡ classes.is_class_of p.tree to class
+  class_fits : (to : ObjectType) (class : ℕ) → steps.is_class_of (classes_of s) to class
+      ≡ classes.is_class_of p.tree to class
   class_fits (objects.Class other) class = refl
   class_fits (objects.Interface interface) class = listed interface class
   class_fits (objects.Host kind) class = refl
   class_fits (objects.Array of) class = refl
 
   class_of_fits : (to : ObjectType) (o : Option ℕ)
-      → option_map_or (steps.is_class_of (classes_of s) to) o false ≡ option_map_or (classes.is_class_of p.tree to) o false
+      → option_map_or (steps.is_class_of (classes_of s) to) o false ≡ option_map_or (classes.is_class_of p.tree to) o
+      false
   class_of_fits to None = refl
   class_of_fits to (Some class) = class_fits to class
 
   -- whether an object is of a type
   pub object_fits : (to : ObjectType) (o : Option (Plain (List ℕ)))
-      → option_map_or (steps.is_class_of (classes_of s) to) (option_and_then (steps.class_in (own_name s) (classes_of s)) o) false
+      → option_map_or (steps.is_class_of (classes_of s) to) (option_and_then
+      (steps.class_in (own_name s) (classes_of s)) o) false
       ≡ option_map_or (classes.is_object_of p to) o false
   object_fits to None = refl
   object_fits to (Some x) =

@@ -14,7 +14,8 @@ use Rattle.ash_compile.specs.declared.places.Spot.{Spot}
 use Rattle.ash_compile.specs.declared.places.Spot.TheVariants as spots
 use Rattle.ash_compile.specs.Emission.{code_of, end_of, Keeps, Puts, DoesExpression, Emits}
 use Rattle.ash_compile.specs.Places.{spot_of_variable, spot_of_member, reading, writing, EmitsPlace}
-use Rattle.ash_compile.proofs.Emission.{keeps_on, put_keeps, put_one, suits_before, stands_before, stands_after, has_put, emits_then, emits_both}
+use Rattle.ash_compile.proofs.Emission.{keeps_on, put_keeps, put_one, suits_before, stands_before, stands_after}
+use Rattle.ash_compile.proofs.Emission.{has_put, emits_then, emits_both}
 use Rattle.ash_compile.proofs.PlaceCode.{variable_place, member_place, element_place, does_read, does_assign}
 
 -- types of parts
@@ -23,7 +24,8 @@ pub typed_read : {env : TypedEnvironment} {place : Place} {t : ValueType} → Is
     → (of : VarType) × HasPlace env place of
 typed_read (typing.read at) = (_, at)
 
-typed_object : {env : TypedEnvironment} {e : Expr} {member : ObjectMember} {of : VarType} → HasPlace env (Held e member) of
+typed_object : {env : TypedEnvironment} {e : Expr} {member : ObjectMember} {of : VarType}
+    → HasPlace env (Held e member) of
     → (inner : ValueType) × IsWellTyped env e inner
 typed_object (typing.member typed m) = (_, typed)
 
@@ -35,11 +37,13 @@ typed_index : {env : TypedEnvironment} {a i : Expr} {e : Element} {of : VarType}
     → (inner : ValueType) × IsWellTyped env i inner
 typed_index (typing.element first second) = (_, second)
 
-typed_assigned : {env : TypedEnvironment} {place : Place} {e : Expr} {t : ValueType} → IsWellTyped env (Assign place e) t
+typed_assigned : {env : TypedEnvironment} {place : Place} {e : Expr} {t : ValueType}
+    → IsWellTyped env (Assign place e) t
     → (of : VarType) × HasPlace env place of
 typed_assigned (typing.assign at is fitted) = (_, at)
 
-fitting : {env : TypedEnvironment} {of : VarType} {e : Expr} → typing.Fits env of e → (inner : ValueType) × IsWellTyped env e inner
+fitting : {env : TypedEnvironment} {of : VarType} {e : Expr} → typing.Fits env of e
+    → (inner : ValueType) × IsWellTyped env e inner
 fitting (typing.fits typed is) = (_, typed)
 
 typed_given : {env : TypedEnvironment} {place : Place} {e : Expr} {t : ValueType} → IsWellTyped env (Assign place e) t
@@ -72,7 +76,8 @@ element start mid new a i e slot first second = record {
   keeps = keeps_on start mid new first.keeps second.keeps;
   does = λ s of scene at stands within.
       element_place s a i e of (end_of start) (end_of mid) (end_of new) slot scene at
-      (first.does s (typed_array at).0 scene (typed_array at).1 (stands_before s mid new (end_of start) second.keeps stands)
+      (first.does s (typed_array at).0 scene (typed_array at).1 (stands_before s mid new (end_of start) second.keeps
+      stands)
       (suits_before s mid new second.keeps within))
       (second.does s (typed_index at).0 scene (typed_index at).1
       (stands_after s (code_of new) (end_of start) (end_of mid) (end_of new) (first.keeps).longer stands) within);
@@ -98,7 +103,8 @@ pub read_element : (start mid old new : CodeBuilder) (a i : Expr) (e : Element) 
     → Emits mid old i (slot + 1) → Puts old new slot (reading (spots.Element slot (slot + 1)) slot)
     → Emits start new (Read (Indexed a i e)) slot
 read_element start mid old new a i e slot first second puts =
-    emits_both start mid old new a i (Read (Indexed a i e)) slot (reading (spots.Element slot (slot + 1)) slot) first second puts
+    emits_both start mid old new a i (Read (Indexed a i e)) slot (reading (spots.Element slot (slot + 1)) slot) first
+    second puts
     (λ s of typed. typed_array (typed_read typed).1) (λ s of typed. typed_index (typed_read typed).1)
     (λ s of from between at scene typed left right has.
     does_read s (Indexed a i e) (typed_read typed).0 (spots.Element slot (slot + 1)) from at slot scene
@@ -107,8 +113,10 @@ read_element start mid old new a i e slot first second puts =
 
 -- what is stored
 
-pub assign : (start mid old new : CodeBuilder) (place : Place) (e : Expr) (spot : Spot) (slot : ℕ) → Emits start mid e slot
-    → EmitsPlace mid old place spot (slot + 1) → Puts old new slot (writing spot slot) → Emits start new (Assign place e) slot
+pub assign : (start mid old new : CodeBuilder) (place : Place) (e : Expr) (spot : Spot) (slot : ℕ)
+    → Emits start mid e slot
+    → EmitsPlace mid old place spot (slot + 1) → Puts old new slot (writing spot slot)
+    → Emits start new (Assign place e) slot
 assign start mid old new place e spot slot first second puts =
     let last = put_keeps old new slot (writing spot slot) puts in
     let later = keeps_on mid old new second.keeps last in
@@ -117,9 +125,11 @@ assign start mid old new place e spot slot first second puts =
       does = λ s of scene typed stands within.
           subst (λ (to : ℕ). DoesExpression s (Assign place e) (end_of start) to slot)
           (sym (put_one old new slot (writing spot slot) puts))
-          (does_assign s place (typed_assigned typed).0 e (typed_given typed).0 spot (end_of start) (end_of mid) (end_of old) slot
+          (does_assign s place (typed_assigned typed).0 e (typed_given typed).0 spot (end_of start) (end_of mid)
+          (end_of old) slot
           scene (typed_given typed).1
-          (first.does s (typed_given typed).0 scene (typed_given typed).1 (stands_before s mid new (end_of start) later stands)
+          (first.does s (typed_given typed).0 scene (typed_given typed).1 (stands_before s mid new (end_of start) later
+          stands)
           (suits_before s mid new later within))
           (second.does s (typed_assigned typed).0 scene (typed_assigned typed).1
           (stands_after s (code_of old) (end_of start) (end_of mid) (end_of old) (first.keeps).longer

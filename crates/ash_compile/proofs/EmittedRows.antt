@@ -13,7 +13,8 @@ pub chain_step : (e : Expr) (os : List operand_code.Operand) (k : ℕ) (o : oper
 chain_step e os k o low is =
     sym (ap (all_chained e) (drop_more os k o low ∙ ap (λ (x : operand_code.Operand). x ∷ drop (k + 1) os) (sym is)))
 
-pub chain_end : (e f : Expr) (os : List operand_code.Operand) (k : ℕ) → length os ≤ k → all_chained e (drop k os) ≡ f → e ≡ f
+pub chain_end : (e f : Expr) (os : List operand_code.Operand) (k : ℕ) → length os ≤ k → all_chained e (drop k os) ≡ f
+    → e ≡ f
 chain_end e f os k over is = sym (ap (all_chained e) (drop_all k os over)) ∙ is
 
 pub lazy_step : (op : Lazy) (e : Expr) (xs : List expr_code.Expr) (k : ℕ) (x : expr_code.Expr) → k < length xs

@@ -14,7 +14,8 @@ use Rattle.ash_compile.specs.declared.builder.CodeBuilder.{CodeBuilder}
 use Rattle.ash_compile.specs.declared.places.Spot.{Spot}
 use Rattle.ash_compile.specs.Emission.{code_of, end_of, Puts, DoesExpression, Emits}
 use Rattle.ash_compile.specs.Places.{reading, writing, slot_of_old, slot_of_new, EmitsPlace}
-use Rattle.ash_compile.proofs.Emission.{HasAt, keeps_on, put_keeps, put_one, put_within, suits_before, stands_before, stands_after, has_put}
+use Rattle.ash_compile.proofs.Emission.{HasAt, keeps_on, put_keeps, put_one, put_within, suits_before, stands_before}
+use Rattle.ash_compile.proofs.Emission.{stands_after, has_put}
 use Rattle.ash_compile.proofs.UpdateCode.{does_update, does_count}
 
 -- an instruction that is the same, which names the same slot
@@ -24,12 +25,14 @@ put_as old new m n j k slots same puts =
 
 -- types of parts
 
-typed_updated : {env : TypedEnvironment} {place : Place} {int_type : IntType} {calculation : Calculation} {e : Expr} {t : ValueType}
+typed_updated : {env : TypedEnvironment} {place : Place} {int_type : IntType} {calculation : Calculation} {e : Expr}
+    {t : ValueType}
     → IsWellTyped env (Update place int_type calculation e) t → HasPlace env place (vars.Integer int_type)
 typed_updated (typing.update at typed) = at
 typed_updated (typing.update_by_shift is at typed) = at
 
-typed_operand : {env : TypedEnvironment} {place : Place} {int_type : IntType} {calculation : Calculation} {e : Expr} {t : ValueType}
+typed_operand : {env : TypedEnvironment} {place : Place} {int_type : IntType} {calculation : Calculation} {e : Expr}
+    {t : ValueType}
     → IsWellTyped env (Update place int_type calculation e) t → (inner : ValueType) × IsWellTyped env e inner
 typed_operand (typing.update at typed) = (_, typed)
 typed_operand (typing.update_by_shift is at typed) = (_, typed)
@@ -38,7 +41,8 @@ typed_counted : {env : TypedEnvironment} {place : Place} {int_type : IntType} {s
     → IsWellTyped env (Count place int_type step) t → HasPlace env place (vars.Integer int_type)
 typed_counted (typing.count at) = at
 
-pub update : (start mid old n1 n2 n3 n4 new : CodeBuilder) (place : Place) (int_type : IntType) (calculation : Calculation)
+pub update : (start mid old n1 n2 n3 n4 new : CodeBuilder) (place : Place) (int_type : IntType)
+    (calculation : Calculation)
     (e : Expr) (spot : Spot) (slot : ℕ) → Emits start mid e slot → EmitsPlace mid old place spot (slot + 2)
     → Puts old n1 (slot + 1) (reading spot (slot + 1))
     → Puts n1 n2 (slot + 1) (i.Convert calculation.of (slot + 1) (slot + 1))
@@ -70,7 +74,8 @@ update start mid old n1 n2 n3 n4 new place int_type calculation e spot slot firs
           let s1 = stands_before s n1 n2 (end_of start) k2 s2 in
           let s0 = stands_before s old n1 (end_of start) k1 s1 in
           subst (λ (to : ℕ). DoesExpression s (Update place int_type calculation e) (end_of start) to slot) (sym e5)
-          (does_update s place int_type calculation e (typed_operand typed).0 spot (end_of start) (end_of mid) (end_of old) slot
+          (does_update s place int_type calculation e (typed_operand typed).0 spot (end_of start) (end_of mid)
+          (end_of old) slot
           scene (typed_operand typed).1
           (first.does s (typed_operand typed).0 scene (typed_operand typed).1
           (stands_before s mid new (end_of start) later stands) (suits_before s mid new later within))
@@ -93,10 +98,12 @@ update start mid old n1 n2 n3 n4 new place int_type calculation e spot slot firs
           (omega (arith, low0, k1.longer, k2.longer, k3.longer, k4.longer)) p5 stands)));
     }
 
-pub count : (start old n1 n2 new : CodeBuilder) (place : Place) (int_type : IntType) (step : IncrementOp) (spot : Spot) (slot : ℕ)
+pub count : (start old n1 n2 new : CodeBuilder) (place : Place) (int_type : IntType) (step : IncrementOp) (spot : Spot)
+    (slot : ℕ)
     → EmitsPlace start old place spot (slot + 2)
     → Puts old n1 (slot + 1) (reading spot (slot_of_old step slot (slot + 1)))
-    → Puts n1 n2 (slot + 1) (i.Count step int_type (slot_of_old step slot (slot + 1)) (slot_of_new step slot (slot + 1)))
+    → Puts n1 n2 (slot + 1) (i.Count step int_type (slot_of_old step slot (slot + 1))
+    (slot_of_new step slot (slot + 1)))
     → Puts n2 new (slot + 1) (writing spot (slot_of_new step slot (slot + 1)))
     → Emits start new (Count place int_type step) slot
 count start old n1 n2 new place int_type step spot slot first p1 p2 p3 =

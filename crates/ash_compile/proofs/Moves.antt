@@ -1,5 +1,6 @@
 -- Slots in which a phrase stores what it needs for a while, two of them, and what of a place stays.
-use Rattle.std.proofs.Common.{◌≡◌, ◌≤◌, ◌<◌, ℕ, ◌+◌, List, take, length, refl, sym, ap, ◌∙◌, subst, arith, true, false, Bool, nat_lt}
+use Rattle.std.proofs.Common.{◌≡◌, ◌≤◌, ◌<◌, ℕ, ◌+◌, List, take, length, refl, sym, ap, ◌∙◌, subst, arith, true}
+use Rattle.std.proofs.Common.{false, Bool, nat_lt}
 use Rattle.std.specs.Prelude.{Option, Some, None, Result, Ok, Err, slice_index_or, slice_set}
 use Rattle.std.proofs.lemmas.List.{length-set, get_or-set_same, get_or-set_other, take-set-le}
 use Rattle.ash_host.specs.declared.word.Word.{Word}
@@ -76,18 +77,22 @@ pub bears_moved : (s : Scene) (spot : Spot) (of : VarType) (count slot high : �
 bears_moved s (spots.Local n) of count slot high ws xs b d lies moved well went (local at) = local at
 bears_moved s (spots.Global n) of count slot high ws xs b d lies moved well went (global at) = global at
 bears_moved s (spots.Field object place) of count slot high ws xs b d lies moved well went (field m carried) =
-    field m (carried_as s _ d (slice_index_or ws object words.Null) (slice_index_or xs object words.Null) (moved.high object lies.0)
+    field m (carried_as s _ d (slice_index_or ws object words.Null) (slice_index_or xs object words.Null)
+    (moved.high object lies.0)
     (carry well went carried))
 bears_moved s (spots.Property object id t) of count slot high ws xs b d lies moved well went (property m carried) =
-    property m (carried_as s _ d (slice_index_or ws object words.Null) (slice_index_or xs object words.Null) (moved.high object lies.0)
+    property m (carried_as s _ d (slice_index_or ws object words.Null) (slice_index_or xs object words.Null)
+    (moved.high object lies.0)
     (carry well went carried))
 bears_moved s (spots.Element array index) _ count slot high ws xs b d lies moved well went (element carried) =
-    element (carried_as s _ d (slice_index_or ws array words.Null) (slice_index_or xs array words.Null) (moved.high array lies.0)
+    element (carried_as s _ d (slice_index_or ws array words.Null) (slice_index_or xs array words.Null)
+    (moved.high array lies.0)
     (carry well went carried))
 
 -- what is read leaves the activity well-formed
 
-pub reads_go : (s : Scene) (spot : Spot) (of : VarType) (ws : List Word) (b d : Activity) (v : Word) → IsScene s → Well s b
+pub reads_go : (s : Scene) (spot : Spot) (of : VarType) (ws : List Word) (b d : Activity) (v : Word) → IsScene s
+    → Well s b
     → Bears s b ws spot of → onward (located spot ws b) (λ l. read l >>= give_held) ≡ Done v d
     → Goes s.context s.env s.envs b d
 reads_go s spot of ws b d v scene well bears ran =
@@ -126,7 +131,8 @@ index_again : (t : Bool) (number k : ℕ) (l : Location) (d e : Activity) (v : W
 index_again true number k l d e v is ran = part_read number k l d e v (let same : Part number k ≡ l = cc in same) ran
 index_again false number k l d e v is ran = absurd (cc)
 
-element_again : (x i : Word) (l : Location) (d e : Activity) (v : Word) → element_at x i d ≡ Done l d → read l d ≡ Done v e
+element_again : (x i : Word) (l : Location) (d e : Activity) (v : Word) → element_at x i d ≡ Done l d → read l d
+    ≡ Done v e
     → d ≡ e
 element_again words.Null i l d e v is ran = absurd (cc)
 element_again (words.Bool t) i l d e v is ran = absurd (cc)
@@ -148,7 +154,8 @@ located_again (spots.Field object place) ws l d e v is ran =
 located_again (spots.Property object id of) ws l d e v is ran =
     object_again (slice_index_or ws object words.Null) (λ number. Property number id of) l d e is
 located_again (spots.Element array index) ws l d e v is ran =
-    subst (λ (y : Activity). element_at (slice_index_or ws array words.Null) (slice_index_or ws index words.Null) y ≡ Done l y)
+    subst (λ (y : Activity). element_at (slice_index_or ws array words.Null) (slice_index_or ws index words.Null) y
+    ≡ Done l y)
     (element_again (slice_index_or ws array words.Null) (slice_index_or ws index words.Null) l d e v is ran) is
 
 -- an integer that is read is no handle
@@ -170,7 +177,8 @@ module _ (spot : Spot) (ws : List Word) (int_type : IntType) where
   -- after what was read for `++` or `--`
   abbrev pub counting : IncrementOp → Word → Run Word
   counting step old =
-      located spot ws >>= (λ l. write l (counted step int_type old)) >> give (given_by step old (counted step int_type old))
+      located spot ws >>= (λ l. write l (counted step int_type old)) >> give
+      (given_by step old (counted step int_type old))
 
   calculated_same : (r : Result Word DivisionFault) (l : Location) (e : Activity) → located spot ws e ≡ Done l e
       → onward (give_or_raise r e) (λ word. store (converted_to int_type word) l)
@@ -180,11 +188,14 @@ module _ (spot : Spot) (ws : List Word) (int_type : IntType) where
   calculated_same (Err faults.ByZero) l e again = refl
   calculated_same (Err faults.Overflow) l e again = refl
 
-  module _ (s : Scene) (d : Activity) (scene : IsScene s) (well : Well s d) (bears : Bears s d ws spot (vars.Integer int_type)) where
-    located_here : (l : Location) (b : Activity) → located spot ws d ≡ Done l b → LocatedIn s d (vars.Integer int_type) l b
+  module _ (s : Scene) (d : Activity) (scene : IsScene s) (well : Well s d)
+      (bears : Bears s d ws spot (vars.Integer int_type)) where
+    located_here : (l : Location) (b : Activity) → located spot ws d ≡ Done l b
+        → LocatedIn s d (vars.Integer int_type) l b
     located_here l b is = left_done l b (located_gives s spot (vars.Integer int_type) ws d scene well bears) is
 
-    update_read : (calculation : Calculation) (right : Word) (l : Location) → located spot ws d ≡ Done l d → (r : Progress Word)
+    update_read : (calculation : Calculation) (right : Word) (l : Location) → located spot ws d ≡ Done l d
+        → (r : Progress Word)
         → read l d ≡ r
         → onward (onward r (λ left. calculate calculation (converted_to calculation.of left) right))
         (λ word. store (converted_to int_type word) l)
@@ -230,7 +241,8 @@ module _ (spot : Spot) (ws : List Word) (int_type : IntType) where
     count_from step (Done l b) is =
         let here : b ≡ d = (located_here l b is).0 in
         let is_here : located spot ws d ≡ Done l d = is ∙ ap (λ (y : Activity). Done l y) here in
-        subst (λ (y : Activity). count_at int_type step l y ≡ onward (onward (read l y) give_held) (counting step)) (sym here)
+        subst (λ (y : Activity). count_at int_type step l y ≡ onward (onward (read l y) give_held) (counting step))
+        (sym here)
         (count_read step l is_here (read l d) refl)
     count_from step (Ended i e) is = refl
     count_from step NoStep is = refl

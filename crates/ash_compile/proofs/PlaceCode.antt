@@ -1,5 +1,6 @@
 -- The code of places, of what is read there, and of assignments.
-use Rattle.std.proofs.Common.{◌≡◌, ◌≤◌, ◌<◌, ℕ, ◌+◌, List, [], ◌∷◌, length, take, refl, sym, ap, ◌∙◌, subst, arith, true, false, Bool}
+use Rattle.std.proofs.Common.{◌≡◌, ◌≤◌, ◌<◌, ℕ, ◌+◌, List, [], ◌∷◌, length, take, refl, sym, ap, ◌∙◌, subst, arith}
+use Rattle.std.proofs.Common.{true, false, Bool}
 use Rattle.std.specs.Prelude.{Option, Some, None, slice_index_or, slice_set}
 use Rattle.std.proofs.lemmas.List.{length-set, get_or-set_same, get_or-set_other, take-set-le}
 use Rattle.ash_host.specs.declared.word.Word.{Word}
@@ -36,7 +37,8 @@ use Rattle.ash_compile.specs.declared.places.Spot.{Spot}
 use Rattle.ash_compile.specs.declared.places.Spot.TheVariants as spots
 use Rattle.ash_compile.specs.Stretches.{continued, Arrives, with_slots, Fits, Holds}
 use Rattle.ash_compile.specs.Emission.{Scene, IsScene, Good, DoesExpression, calls_of}
-use Rattle.ash_compile.specs.Places.{spot_of_variable, spot_of_member, located, reading, writing, LiesIn, Bears, local, global, field, property, element, HoldsBelow, DoesPlace}
+use Rattle.ash_compile.specs.Places.{spot_of_variable, spot_of_member, located, reading, writing, LiesIn, Bears}
+use Rattle.ash_compile.specs.Places.{local, global, field, property, element, HoldsBelow, DoesPlace}
 use Rattle.ash_compile.proofs.Simulation.{continued_then, then_is, goes_by, step_is, puts, refits}
 use Rattle.ash_compile.proofs.Phrases.{grouped}
 use Rattle.ash_compile.proofs.Emission.{HasAt}
@@ -53,7 +55,10 @@ below w slot word slots b held = record { long = held.long; kept = held.kept; lo
 
 pub refits_below : (w : Window) (slot : ℕ) (slots : List Word) (a b : Activity) → Fits w a → HoldsBelow w slot slots b
     → Fits (with_slots slots w) b
-refits_below w slot slots a b fits held = record { locals = held.locals; within = omega (arith, fits.within, held.long) }
+refits_below w slot slots a b fits held = record {
+  locals = held.locals;
+  within = omega (arith, fits.within, held.long);
+}
 
 pub after_long : (spot : Spot) (word : Word) (ws : List Word) → length (slots_after spot word ws) ≡ length ws
 after_long (spots.Local n) word ws = length-set ws n word
@@ -62,7 +67,8 @@ after_long (spots.Field object place) word ws = refl
 after_long (spots.Property object id of) word ws = refl
 after_long (spots.Element array index) word ws = refl
 
-pub after_kept : (spot : Spot) (word : Word) (ws : List Word) (count k : ℕ) → ((n : ℕ) → spot ≡ spots.Local n → n < count)
+pub after_kept : (spot : Spot) (word : Word) (ws : List Word) (count k : ℕ)
+    → ((n : ℕ) → spot ≡ spots.Local n → n < count)
     → count ≤ k → slice_index_or (slots_after spot word ws) k words.Null ≡ slice_index_or ws k words.Null
 after_kept (spots.Local n) word ws count k low high =
     get_or-set_other ws n k word words.Null (let lower = low n refl in omega (arith, lower, high))
@@ -72,7 +78,8 @@ after_kept (spots.Property object id of) word ws count k low high = refl
 after_kept (spots.Element array index) word ws count k low high = refl
 
 -- A value in a slot behind those that were computed.
-pub put_anew : (w : Window) (slot : ℕ) (v : Word) (slots : List Word) (b d : Activity) → w.count ≤ slot → slot < length w.slots
+pub put_anew : (w : Window) (slot : ℕ) (v : Word) (slots : List Word) (b d : Activity) → w.count ≤ slot
+    → slot < length w.slots
     → HoldsBelow w slot slots b → (d.frame).locals ≡ (b.frame).locals → Holds w slot v (slice_set slots slot v) d
 put_anew w slot v slots b d low within held same = record {
   long = length-set slots slot v ∙ held.long;
@@ -95,14 +102,16 @@ member_located_is (members.Property id of) slot ws b = refl
 
 -- two phrases, then a third one
 
-continued_twice : {A B C : Type 0} (p : Progress A) (f : A → Run B) (g : B → Run C) (rest : C → Activity → Option Outcome)
+continued_twice : {A B C : Type 0} (p : Progress A) (f : A → Run B) (g : B → Run C)
+    (rest : C → Activity → Option Outcome)
     → continued (onward (onward p f) g) rest ≡ continued p (λ v b. continued (onward (f v b) g) rest)
 continued_twice (Done v b) f g rest = refl
 continued_twice (Ended e b) f g rest = refl
 continued_twice NoStep f g rest = refl
 
 pub stored_is : (p : Progress Location) (word : Word) (rest : Word → Activity → Option Outcome)
-    → continued (onward p (λ l. write l word)) (λ _ e. rest word e) ≡ continued p (λ l d. continued (store word l d) rest)
+    → continued (onward p (λ l. write l word)) (λ _ e. rest word e) ≡ continued p
+    (λ l d. continued (store word l d) rest)
 stored_is (Done l d) word rest = sym (continued_then (write l word d) (λ _. give word) rest)
 stored_is (Ended e d) word rest = refl
 stored_is NoStep word rest = refl
@@ -128,7 +137,8 @@ module _ (s : Scene) where
         (goes_itself (well_of s a good)) (global is);
   }
 
-  pub carried_as : (of : ValueType) (b : Activity) (x y : Word) → y ≡ x → IsCarried s.context of b x → IsCarried s.context of b y
+  pub carried_as : (of : ValueType) (b : Activity) (x y : Word) → y ≡ x → IsCarried s.context of b x
+      → IsCarried s.context of b y
   carried_as of b x y is carried = subst (λ (z : Word). IsCarried s.context of b z) (sym is) carried
 
   bears_of : (b : Activity) (ws : List Word) (slot : ℕ) {o : ObjectType} {member : ObjectMember} {of : VarType}
@@ -148,7 +158,8 @@ module _ (s : Scene) where
         subst (λ (o : Option Outcome). At from w a o)
         (sym (continued_twice (expression (calls_of s) object a) object_of
         (λ number. give (location_of_member member number)) rest))
-        (does.comes w a (λ x b. continued (onward (object_of x b) (λ number. give (location_of_member member number))) rest)
+        (does.comes w a (λ x b. continued (onward (object_of x b) (λ number. give (location_of_member member number)))
+        rest)
         low long fits good
         (λ x b slots ran held.
         let left = evaluates s object _ a b x scene typed good ran in
@@ -156,7 +167,8 @@ module _ (s : Scene) where
         (λ number. give (location_of_member member number))) held.value in
         subst (λ (p : Progress Location). At to (with_slots slots w) b (continued p rest)) is
         (goes b slots
-        (ap (λ (p : Progress Word). onward (onward p object_of) (λ number. give (location_of_member member number))) ran ∙ sym is)
+        (ap (λ (p : Progress Word). onward (onward p object_of) (λ number. give (location_of_member member number)))
+        ran ∙ sym is)
         (below w slot x slots b held) left.goes
         (bears_of b slots slot m (carried_as _ b x (slice_index_or slots slot words.Null) held.value left.carried)))));
   }
@@ -172,7 +184,8 @@ module _ (s : Scene) where
         subst (λ (o : Option Outcome). At from w a o)
         (sym (continued_then (expression (calls_of s) array a)
         (λ handle. expression (calls_of s) index >>= element_at handle) rest))
-        (does.comes w a (λ x b. continued (onward (expression (calls_of s) index b) (element_at x)) rest) low long fits good
+        (does.comes w a (λ x b. continued (onward (expression (calls_of s) index b) (element_at x)) rest) low long fits
+        good
         (λ x b slots ran held.
         let left = evaluates s array _ a b x scene first good ran in
         let still = stays_good s array _ a b x scene first good ran in
@@ -187,7 +200,8 @@ module _ (s : Scene) where
         (subst (λ (j : Word). At to (with_slots more w) d
         (continued (element_at (slice_index_or more slot words.Null) j d) rest)) also.value
         (goes d more
-        (then_is (expression (calls_of s) array a) x b (λ handle. expression (calls_of s) index >>= element_at handle) _ ran
+        (then_is (expression (calls_of s) array a) x b (λ handle. expression (calls_of s) index >>= element_at handle)
+        _ ran
         (then_is (expression (calls_of s) index b) i d (element_at x) _ run
         (ap (λ (y : Word). element_at y i d) (sym array_is)
         ∙ ap (λ (j : Word). element_at (slice_index_or more slot words.Null) j d) (sym also.value))))
@@ -214,14 +228,16 @@ module _ (s : Scene) where
   local_below w b (spots.Element array index) of n well fits bears is = absurd (cc)
 
   -- What is read comes into a slot of no local, and is held.
-  pub reads_on : (w : Window) (b : Activity) (spot : Spot) (of : VarType) (at to : ℕ) (rest : Word → Activity → Option Outcome)
+  pub reads_on : (w : Window) (b : Activity) (spot : Spot) (of : VarType) (at to : ℕ)
+      (rest : Word → Activity → Option Outcome)
       → IsScene s → Well s b → Fits w b → Bears s b w.slots spot of → ((n : ℕ) → spot ≡ spots.Local n → HasNoHandle of)
       → HasAt s at (reading spot to) → w.count ≤ to
       → ((v : Word) (d : Activity) → onward (located spot w.slots b) (λ l. read l >>= give_held) ≡ Done v d
       → (d.frame).locals ≡ (b.frame).locals → At (at + 1) (with_slots (slice_set w.slots to v) w) d (rest v d))
       → At at w b (continued (onward (located spot w.slots b) (λ l. read l >>= give_held)) rest)
   reads_on w b spot of at to rest scene well fits bears none has low goes =
-      puts s.setting (Good s) s.function s.room w at to b (onward (located spot w.slots b) (λ l. read l >>= give_held)) rest
+      puts s.setting (Good s) s.function s.room w at to b (onward (located spot w.slots b) (λ l. read l >>= give_held))
+      rest
       (step_is s.setting (Good s) s.function s.room w b at (reading spot to) has
       ∙ reads s w b spot of at to scene well fits bears none) low
       (λ v d ran. goes v d ran
@@ -261,15 +277,18 @@ module _ (s : Scene) where
         (λ b slots was held went bears.
         subst (λ (o : Option Outcome). At at (with_slots slots w) b o)
         (continued_then (located spot slots b) (λ l. read l >>= give_held) rest)
-        (reads_on (with_slots slots w) b spot of at slot rest scene (well_after went) (refits_below w slot slots a b fits held)
+        (reads_on (with_slots slots w) b spot of at slot rest scene (well_after went)
+        (refits_below w slot slots a b fits held)
         bears none has low (λ v d ran locals.
         goes v d (slice_set slots slot v)
-        (ap (λ (p : Progress Location). onward (onward p read) give_held) was ∙ grouped (located spot slots b) read give_held ∙ ran)
+        (ap (λ (p : Progress Location). onward (onward p read) give_held) was
+        ∙ grouped (located spot slots b) read give_held ∙ ran)
         (put_anew w slot v slots b d low (omega (arith, within, long)) held locals)))));
   }
 
   -- The right side comes before the place.
-  pub does_assign : (place : Place) (of : VarType) (e : Expr) (given : ValueType) (spot : Spot) (from mid at slot : ℕ) → IsScene s
+  pub does_assign : (place : Place) (of : VarType) (e : Expr) (given : ValueType) (spot : Spot) (from mid at slot : ℕ)
+      → IsScene s
       → IsWellTyped s.env e given → DoesExpression s e from mid slot → DoesPlace s place of spot mid at (slot + 1)
       → HasAt s at (writing spot slot) → DoesExpression s (Assign place e) from (at + 1) slot
   does_assign place of e given spot from mid at slot scene typed first second has = record {
@@ -277,7 +296,8 @@ module _ (s : Scene) where
     comes = λ w a rest low long fits good goes.
         subst (λ (o : Option Outcome). At from w a o)
         (sym (continued_then (expression (calls_of s) e a) (λ word. location (calls_of s) place >>= store word) rest))
-        (first.comes w a (λ word b. continued (onward (location (calls_of s) place b) (store word)) rest) low long fits good
+        (first.comes w a (λ word b. continued (onward (location (calls_of s) place b) (store word)) rest) low long fits
+        good
         (λ word b slots ran held.
         let left = evaluates s e given a b word scene typed good ran in
         let still = stays_good s e given a b word scene typed good ran in
@@ -287,12 +307,14 @@ module _ (s : Scene) where
         (omega (arith, long, held.long)) (refits w slot word slots a b fits held) still
         (λ d more was also went bears.
         let carried = carry (well_of s b still) went left.carried in
-        let fits_there = refits_below (with_slots slots w) (slot + 1) more b d (refits w slot word slots a b fits held) also in
+        let fits_there = refits_below (with_slots slots w) (slot + 1) more b d (refits w slot word slots a b fits held)
+        also in
         let is = also.kept slot low (omega arith) ∙ held.value in
         let lower : (n : ℕ) → spot ≡ spots.Local n → n < w.count
         = λ n same. local_below (with_slots more w) d spot of n (well_after went) fits_there bears same in
         subst (λ (o : Option Outcome). At at (with_slots more w) d o) (stored_is (located spot more d) word rest)
-        (writes_on (with_slots more w) d spot of at slot word (λ _ f. rest word f) scene (well_after went) fits_there bears has is
+        (writes_on (with_slots more w) d spot of at slot word (λ _ f. rest word f) scene (well_after went) fits_there
+        bears has is
         (alive_of word (handle word) d refl (λ n there. given_lives n carried.value there))
         (λ v f wrote locals.
         goes word f (slots_after spot word more)
@@ -302,7 +324,8 @@ module _ (s : Scene) where
         ∙ ap (λ (p : Progress (Unit {0})). onward p (λ _. give word)) wrote))
         (record {
           long = after_long spot word more ∙ also.long ∙ held.long;
-          kept = λ k low_k under. after_kept spot word more w.count k lower low_k ∙ also.kept k low_k (omega (arith, under))
+          kept = λ k low_k under. after_kept spot word more w.count k lower low_k
+              ∙ also.kept k low_k (omega (arith, under))
               ∙ held.kept k low_k under;
           value = after_kept spot word more w.count slot lower low ∙ is;
           locals = locals;

@@ -1,5 +1,6 @@
 -- Where a place lies, and the guards of steps that read and write there.
-use Rattle.std.proofs.Common.{◌≡◌, ◌≤◌, ◌<◌, ℕ, List, [], ◌∷◌, length, map, refl, sym, ap, ◌∙◌, subst, arith, true, Bool, nat_lt}
+use Rattle.std.proofs.Common.{◌≡◌, ◌≤◌, ◌<◌, ℕ, List, [], ◌∷◌, length, map, refl, sym, ap, ◌∙◌, subst, arith, true}
+use Rattle.std.proofs.Common.{Bool, nat_lt}
 use Rattle.std.specs.Prelude.{Option, Some, None, slice_get, slice_index_or, is_some, option_map}
 use Rattle.std.specs.Option.{option_map_or, option_and_then}
 use Rattle.std.proofs.lemmas.Bool.Decides.{nat_tests}
@@ -18,7 +19,8 @@ use Rattle.ash_typed.specs.declared.types.ObjectType.TheVariants as objects
 use Rattle.ash_typed.specs.declared.tree.operations.ObjectMember.{ObjectMember}
 use Rattle.ash_typed.specs.declared.tree.operations.ObjectMember.TheVariants as members
 use Rattle.ash_typed.specs.TypeOf.{value, as_value, type_of_element}
-use Rattle.ash_typed.specs.Signatures.{ModuleSignatures, ClassTypes, signature_of_class, type_declared, type_of_primitive}
+use Rattle.ash_typed.specs.Signatures.{ModuleSignatures, ClassTypes, signature_of_class, type_declared}
+use Rattle.ash_typed.specs.Signatures.{type_of_primitive}
 use Rattle.ash_typed.specs.SoundOperations as operations
 use Rattle.ash_typed.specs.SoundOperations.{IsSoundMember}
 use Rattle.ash_typed.specs.SoundExpressions.{TypedEnvironment}
@@ -30,7 +32,8 @@ use Rattle.ash_meaning.specs.ObjectSteps.{words_in}
 use Rattle.ash_meaning.specs.ArraySteps.{natural_of, index_in}
 use Rattle.ash_meaning.specs.HostSteps.{state_in, get_property}
 use Rattle.ash_meaning.specs.Locations.{Location, Local, Global, Part, Property, location_of_member, read}
-use Rattle.ash_soundness.specs.WellFormed.{Context, declared, Shape, OfKind, IsOf, shape_of, shape_at, IsValue, AreValues, IsGiven, IsWellFormed}
+use Rattle.ash_soundness.specs.WellFormed.{Context, declared, Shape, OfKind, IsOf, shape_of, shape_at, IsValue}
+use Rattle.ash_soundness.specs.WellFormed.{AreValues, IsGiven, IsWellFormed}
 use Rattle.ash_soundness.specs.WellFormedLaws.{Goes, Offers, Leaves, done, Evaluates, a_property}
 use Rattle.ash_soundness.proofs.Arrays.{object_with, words_of, after_object}
 use Rattle.ash_soundness.proofs.Parts.{fields_fit}
@@ -38,7 +41,8 @@ use Rattle.ash_soundness.proofs.Calls.{handle_of}
 use Rattle.ash_soundness.proofs.Constructions.{bind_here, lt_from}
 use Rattle.ash_soundness.proofs.Fits.{kept_value, given_value, unkept}
 use Rattle.ash_soundness.proofs.Hosts.{get_property_gives, well_after}
-use Rattle.ash_soundness.proofs.Locations.{IsLocated, in_local, in_global, in_field, in_element, in_property, IsRead, read_gives}
+use Rattle.ash_soundness.proofs.Locations.{IsLocated, in_local, in_global, in_field, in_element, in_property, IsRead}
+use Rattle.ash_soundness.proofs.Locations.{read_gives}
 use Rattle.ash_soundness.proofs.Triples.{bind, weaken, after_demand, safe, goes_more, given_held}
 use Rattle.ash_run_steps.specs.GuardedSteps.{is_alive}
 use Rattle.ash_run_steps.specs.HostGuards.{is_there}
@@ -47,7 +51,8 @@ use Rattle.ash_compile.specs.declared.places.Spot.{Spot}
 use Rattle.ash_compile.specs.declared.places.Spot.TheVariants as spots
 use Rattle.ash_compile.specs.Emission.{Scene, IsScene, Good}
 use Rattle.ash_compile.specs.Places.{located, Bears, local, global, field, property, element}
-use Rattle.ash_compile.proofs.Typed.{left_done, values_long, value_alive, HasNoHandle, no_handle_in_bool, no_handle_in_integer}
+use Rattle.ash_compile.proofs.Typed.{left_done, values_long, value_alive, HasNoHandle, no_handle_in_bool}
+use Rattle.ash_compile.proofs.Typed.{no_handle_in_integer}
 
 pub lt_true : (m n : ℕ) → m < n → nat_lt m n ≡ true
 lt_true m n low = grind (arith, nat_tests)
@@ -63,13 +68,15 @@ well_of s a good = good.0
 
 -- where a place lies
 
-pub member_located : {c : Context} {env : TypedEnvironment} {o : ObjectType} {held : ObjectMember} {of : VarType} {a : Activity}
+pub member_located : {c : Context} {env : TypedEnvironment} {o : ObjectType} {held : ObjectMember} {of : VarType}
+    {a : Activity}
     (number : ℕ) (shape : Shape) → IsSoundMember (declared c) o held of → shape_at number (a.world).objects ≡ Some shape
     → IsOf c.program o shape → IsLocated c env a (location_of_member held number) of
 member_located {c} number shape (operations.field {class} {place} {of} {c = cs} at here) there i =
     let of_source : cs ≡ signature_of_class i.source =
     same_Some cs (signature_of_class i.source)
-    (sym at ∙ slice_get-map signature_of_class ((c.program).tree).classes class ∙ ap (option_map signature_of_class) i.at) in
+    (sym at ∙ slice_get-map signature_of_class ((c.program).tree).classes class
+    ∙ ap (option_map signature_of_class) i.at) in
     in_field i there (subst (λ (x : ClassTypes). slice_get x.fields place ≡ Some of) of_source here)
 member_located number shape (operations.property {kind} {id} {of} i) there typed = in_property (a_property kind id of i)
 
@@ -89,23 +96,28 @@ located_gives s (spots.Local slot) of ws b scene well (local at) = done (refl, i
 located_gives s (spots.Global place) of ws b scene well (global at) =
     done (refl, in_global (subst (λ (m : ModuleSignatures). slice_get m.globals place ≡ Some of) scene.declares at))
 located_gives s (spots.Field object place) of ws b scene well (field {class = class} m carried) =
-    after_object (λ number. give (Part number place)) b (safe well) (handle_of carried.value) (λ number shape is at fits.
+    after_object (λ number. give (Part number place)) b (safe well) (handle_of carried.value)
+    (λ number shape is at fits.
     done (
       refl,
       member_located number shape
-          (subst (λ (x : ModuleSignatures). IsSoundMember x (objects.Class class) (members.Field class place of) of) scene.declares m)
+          (subst (λ (x : ModuleSignatures). IsSoundMember x (objects.Class class) (members.Field class place of) of)
+          scene.declares m)
           at fits,
     ))
 located_gives s (spots.Property object id of) _ ws b scene well (property {kind = kind} m carried) =
-    after_object (λ number. give (Property number id of)) b (safe well) (handle_of carried.value) (λ number shape is at fits.
+    after_object (λ number. give (Property number id of)) b (safe well) (handle_of carried.value)
+    (λ number shape is at fits.
     done (
       refl,
       member_located number shape
-          (subst (λ (x : ModuleSignatures). IsSoundMember x (objects.Host kind) (members.Property id of) of) scene.declares m)
+          (subst (λ (x : ModuleSignatures). IsSoundMember x (objects.Host kind) (members.Property id of) of)
+          scene.declares m)
           at fits,
     ))
 located_gives s (spots.Element array index) _ ws b scene well (element carried) =
-    after_object (λ number. index_in number (slice_index_or ws index words.Null) >>= (λ k. give (Part number k))) b (safe well)
+    after_object (λ number. index_in number (slice_index_or ws index words.Null) >>= (λ k. give (Part number k))) b
+    (safe well)
     (handle_of carried.value) (λ number shape is at fits.
     bind_here (λ k. give (Part number k)) (element_located s number (slice_index_or ws index words.Null) b well)
     (λ k within. done (refl, in_element fits at within refl)))
@@ -116,7 +128,8 @@ pub part_there : (s : Scene) (number place : ℕ) (of : VarType) (b : Activity) 
     → IsLocated s.context s.env b (Part number place) of → has_part number place b ≡ true
 part_there s number place of b scene well (in_field i at there_of) =
     let there = object_with number (b.world).objects _ at in
-    let values : AreValues (s.context).program (b.world).objects (map type_declared (i.source).fields) (words_in number b.world) =
+    let values : AreValues (s.context).program (b.world).objects (map type_declared (i.source).fields)
+    (words_in number b.world) =
     subst (λ (ws : List Word). AreValues (s.context).program (b.world).objects (map type_declared (i.source).fields) ws)
     (sym (words_of number b.world there.0 there.1))
     (fields_fit scene.sound i there.0 there.2 ((well.world).living.each number there.0 there.1)) in
@@ -132,7 +145,8 @@ global_there s place of b scene well at =
     (omega (
       arith,
       values_long (well.world).globals,
-      slice_get_within _ place of (subst (λ (m : ModuleSignatures). slice_get m.globals place ≡ Some of) scene.declares at),
+      slice_get_within _ place of (subst (λ (m : ModuleSignatures). slice_get m.globals place ≡ Some of) scene.declares
+          at),
     ))
 
 host_in : (x : Plain (List ℕ)) (kind : ℕ) → shape_of x ≡ OfKind kind → is_some (state_in x) ≡ true
@@ -144,7 +158,8 @@ pub host_there : (number kind : ℕ) (shape : Shape) (b : Activity) → shape_at
     → shape ≡ OfKind kind → is_there (targets.Object number) b ≡ true
 host_there number kind shape b at is =
     let there = object_with number (b.world).objects shape at in
-    ap (λ (o : Option (Plain (List ℕ))). is_some (option_and_then state_in o)) there.1 ∙ host_in there.0 kind (there.2 ∙ is)
+    ap (λ (o : Option (Plain (List ℕ))). is_some (option_and_then state_in o)) there.1
+    ∙ host_in there.0 kind (there.2 ∙ is)
 
 -- what is read
 
@@ -156,7 +171,8 @@ pub local_within : (s : Scene) (n : ℕ) (of : VarType) (b : Activity) → Well 
     → n < length (b.frame).locals
 local_within s n of b well at = omega (arith, values_long (well.frame).locals, slice_get_within (s.env).locals n of at)
 
-pub local_none : (s : Scene) (n : ℕ) (of : VarType) (b : Activity) → IsScene s → Well s b → slice_get (s.env).locals n ≡ Some of
+pub local_none : (s : Scene) (n : ℕ) (of : VarType) (b : Activity) → IsScene s → Well s b → slice_get (s.env).locals n
+    ≡ Some of
     → HasNoHandle of → handle (slice_index_or (b.frame).locals n words.Null) ≡ None
 local_none s n of b scene well at none =
     none (s.context).program (b.world).objects _ (read_is s (Local n) of b b _ scene well (in_local at) refl)
@@ -193,6 +209,7 @@ pub property_none : (s : Scene) (kind number id : ℕ) (of : VarType) (b d : Act
     → get_property number id of b ≡ Done v d → handle v ≡ None
 property_none s kind number id of b d v scene well m ran =
     let offered = property_offered s.context m in
-    subst (λ (t : VarType). HasNoHandle (as_value t)) (sym offered.1) (no_handle_of_primitive offered.0) (s.context).program
+    subst (λ (t : VarType). HasNoHandle (as_value t)) (sym offered.1) (no_handle_of_primitive offered.0)
+    (s.context).program
     (d.world).objects v
     (given_value ((left_done v d (get_property_gives offered.2 number id of well) ran).carried).value)

@@ -1,5 +1,6 @@
 -- What reading and writing at a place leaves of the locals of the frame.
-use Rattle.std.proofs.Common.{◌≡◌, ◌≤◌, ◌<◌, ℕ, List, take, length, refl, sym, ap, ◌∙◌, subst, arith, true, false, Bool, nat_lt}
+use Rattle.std.proofs.Common.{◌≡◌, ◌≤◌, ◌<◌, ℕ, List, take, length, refl, sym, ap, ◌∙◌, subst, arith, true, false}
+use Rattle.std.proofs.Common.{Bool, nat_lt}
 use Rattle.std.specs.Prelude.{Option, Some, None, slice_index_or, slice_set, if◌then◌else◌}
 use Rattle.std.proofs.Math.Seq.{take-set-lt}
 use Rattle.ash_host.specs.declared.word.Word.{Word}
@@ -13,7 +14,8 @@ use Rattle.ash_host.specs.Records.{HostRecord}
 use Rattle.ash_typed.specs.declared.types.VarType.{VarType}
 use Rattle.ash_meaning.specs.declared.exception.Exception.TheVariants.{IndexOutOfBounds, BadHostAnswer}
 use Rattle.ash_meaning.specs.Activity.{Activity, in_world}
-use Rattle.ash_meaning.specs.Runs.{Run, Progress, Done, Ended, NoStep, onward, give, raise, found, change, demand, ◌>>=◌, ◌>>◌}
+use Rattle.ash_meaning.specs.Runs.{Run, Progress, Done, Ended, NoStep, onward, give, raise, found, change, demand}
+use Rattle.ash_meaning.specs.Runs.{◌>>=◌, ◌>>◌}
 use Rattle.ash_meaning.specs.Releases.{give_held}
 use Rattle.ash_meaning.specs.ObjectSteps.{object_of, words_in}
 use Rattle.ash_meaning.specs.ArraySteps.{natural_of, index_in}
@@ -33,7 +35,8 @@ locals_in other (Done v b) = (b.frame).locals
 locals_in other (Ended e b) = (b.frame).locals
 locals_in other NoStep = other
 
-pub done_locals : {A : Type 0} (p : Progress A) (v : A) (b : Activity) (ls : List Word) → locals_in ls p ≡ ls → p ≡ Done v b
+pub done_locals : {A : Type 0} (p : Progress A) (v : A) (b : Activity) (ls : List Word) → locals_in ls p ≡ ls → p
+    ≡ Done v b
     → (b.frame).locals ≡ ls
 done_locals {A} p v b ls same is = ap (λ (q : Progress A). locals_in ls q) (sym is) ∙ same
 
@@ -80,7 +83,8 @@ get_locals number id of b =
 set_locals : (number id : ℕ) (of : VarType) (word : Word) (b : Activity)
     → locals_in (b.frame).locals (write (Property number id of) word b) ≡ (b.frame).locals
 set_locals number id of word b =
-    bound_locals (onward (call_host (targets.Object number) (Set id word) b) (accept None)) (λ v. give tt) (b.frame).locals
+    bound_locals (onward (call_host (targets.Object number) (Set id word) b) (accept None)) (λ v. give tt)
+    (b.frame).locals
     (bound_locals (call_host (targets.Object number) (Set id word) b) (accept None) (b.frame).locals
     (call_locals (targets.Object number) (Set id word) b) (λ answer d. accept_locals None answer d))
     (λ v d. refl)
@@ -107,10 +111,12 @@ located_locals (spots.Local n) ws b = refl
 located_locals (spots.Global n) ws b = refl
 located_locals (spots.Field object place) ws b =
     let x = slice_index_or ws object words.Null in
-    bound_locals (object_of x b) (λ number. give (Part number place)) (b.frame).locals (object_locals x b) (λ number d. refl)
+    bound_locals (object_of x b) (λ number. give (Part number place)) (b.frame).locals (object_locals x b)
+    (λ number d. refl)
 located_locals (spots.Property object id of) ws b =
     let x = slice_index_or ws object words.Null in
-    bound_locals (object_of x b) (λ number. give (Property number id of)) (b.frame).locals (object_locals x b) (λ number d. refl)
+    bound_locals (object_of x b) (λ number. give (Property number id of)) (b.frame).locals (object_locals x b)
+    (λ number d. refl)
 located_locals (spots.Element array index) ws b =
     let x = slice_index_or ws array words.Null in
     let i = slice_index_or ws index words.Null in
@@ -135,7 +141,8 @@ reads_locals spot ws b =
 -- Writing changes the local that is written, and no other.
 
 field_locals : (x : Word) (place : ℕ) (word : Word) (b : Activity)
-    → locals_in (b.frame).locals (onward (onward (object_of x b) (λ number. give (Part number place))) (λ l. write l word))
+    → locals_in (b.frame).locals (onward (onward (object_of x b) (λ number. give (Part number place)))
+    (λ l. write l word))
     ≡ (b.frame).locals
 field_locals words.Null place word b = refl
 field_locals (words.Bool t) place word b = refl
@@ -146,7 +153,8 @@ field_locals (words.Uint64 n) place word b = refl
 field_locals (words.Object number) place word b = refl
 
 property_locals : (x : Word) (id : ℕ) (of : VarType) (word : Word) (b : Activity)
-    → locals_in (b.frame).locals (onward (onward (object_of x b) (λ number. give (Property number id of))) (λ l. write l word))
+    → locals_in (b.frame).locals (onward (onward (object_of x b) (λ number. give (Property number id of)))
+    (λ l. write l word))
     ≡ (b.frame).locals
 property_locals words.Null id of word b = refl
 property_locals (words.Bool t) id of word b = refl
@@ -179,7 +187,8 @@ pub writes_locals : (spot : Spot) (ws : List Word) (word : Word) (b : Activity)
 writes_locals (spots.Local n) ws word b = refl
 writes_locals (spots.Global n) ws word b = refl
 writes_locals (spots.Field object place) ws word b = field_locals (slice_index_or ws object words.Null) place word b
-writes_locals (spots.Property object id of) ws word b = property_locals (slice_index_or ws object words.Null) id of word b
+writes_locals (spots.Property object id of) ws word b = property_locals (slice_index_or ws object words.Null) id of
+    word b
 writes_locals (spots.Element array index) ws word b =
     element_locals (slice_index_or ws array words.Null) (slice_index_or ws index words.Null) word b
 

@@ -17,7 +17,8 @@ use Rattle.ash_typed.specs.SoundExpressions.{IsWellTyped}
 use Rattle.ash_meaning.specs.Activity.{Activity}
 use Rattle.ash_meaning.specs.Runs.{Run, Progress, Done, onward, give, ◌>>=◌, ◌>>◌}
 use Rattle.ash_meaning.specs.Releases.{give_held}
-use Rattle.ash_meaning.specs.OperatorMeaning.{calculate, calculated_by, give_or_raise, converted_to, counted, given_by, word_at}
+use Rattle.ash_meaning.specs.OperatorMeaning.{calculate, calculated_by, give_or_raise, converted_to, counted}
+use Rattle.ash_meaning.specs.OperatorMeaning.{given_by, word_at}
 use Rattle.ash_meaning.specs.Locations.{Location, read, write}
 use Rattle.ash_meaning.specs.ExpressionMeaning.{expression, location, store, update, count_at}
 use Rattle.ash_meaning.specs.Ends.{Outcome}
@@ -35,15 +36,18 @@ use Rattle.ash_compile.specs.declared.places.Spot.{Spot}
 use Rattle.ash_compile.specs.declared.places.Spot.TheVariants as spots
 use Rattle.ash_compile.specs.Stretches.{continued, Arrives, with_slots, Fits, Holds}
 use Rattle.ash_compile.specs.Emission.{Scene, IsScene, Good, DoesExpression, calls_of}
-use Rattle.ash_compile.specs.Places.{located, reading, writing, slot_of_old, slot_of_new, LiesIn, Bears, HoldsBelow, DoesPlace}
+use Rattle.ash_compile.specs.Places.{located, reading, writing, slot_of_old, slot_of_new, LiesIn, Bears, HoldsBelow}
+use Rattle.ash_compile.specs.Places.{DoesPlace}
 use Rattle.ash_compile.proofs.Simulation.{continued_then, then_is, step_is, puts, refits}
 use Rattle.ash_compile.proofs.Phrases.{grouped}
 use Rattle.ash_compile.proofs.Emission.{HasAt}
 use Rattle.ash_compile.proofs.Typed.{evaluates, stays_good, alive_of, no_handle_in_integer}
 use Rattle.ash_compile.proofs.PlaceGuards.{Well, well_of}
 use Rattle.ash_compile.proofs.PlaceSteps.{slots_after}
-use Rattle.ash_compile.proofs.PlaceCode.{refits_below, after_long, after_kept, stored_is, local_below, reads_on, writes_on}
-use Rattle.ash_compile.proofs.Moves.{Moved, moved_itself, moved_set, located_moved, bears_moved, reads_go, calculating, counting, update_again, count_again}
+use Rattle.ash_compile.proofs.PlaceCode.{refits_below, after_long, after_kept, stored_is, local_below, reads_on}
+use Rattle.ash_compile.proofs.PlaceCode.{writes_on}
+use Rattle.ash_compile.proofs.Moves.{Moved, moved_itself, moved_set, located_moved, bears_moved, reads_go}
+use Rattle.ash_compile.proofs.Moves.{calculating, counting, update_again, count_again}
 
 calculated_here : (r : Result Word DivisionFault) (b d : Activity) (v : Word) → give_or_raise r b ≡ Done v d → b ≡ d
 calculated_here (Ok word) b d v is = cc
@@ -52,29 +56,35 @@ calculated_here (Err faults.Overflow) b d v is = absurd (cc)
 
 integer_alive : (s : Scene) (int_type : IntType) (v : Word) (b : Activity) → IsInteger int_type v → is_alive v b ≡ true
 integer_alive s int_type v b is =
-    alive_of v None b (no_handle_in_integer int_type (s.context).program (b.world).objects v (is_integer is)) (λ n there. absurd (cc))
+    alive_of v None b (no_handle_in_integer int_type (s.context).program (b.world).objects v (is_integer is))
+    (λ n there. absurd (cc))
 
 -- what `++` and `--` leave in their slots
 
-old_slot : (step : IncrementOp) (slot : ℕ) → (slot ≤ slot_of_old step slot (slot + 1)) × (slot_of_old step slot (slot + 1) < slot + 2)
+old_slot : (step : IncrementOp) (slot : ℕ) → (slot ≤ slot_of_old step slot (slot + 1)) ×
+    (slot_of_old step slot (slot + 1) < slot + 2)
 old_slot steps.Increment slot = (omega arith, omega arith)
 old_slot steps.Decrement slot = (omega arith, omega arith)
 old_slot steps.IncrementAfter slot = (omega arith, omega arith)
 old_slot steps.DecrementAfter slot = (omega arith, omega arith)
 
-new_slot : (step : IncrementOp) (slot : ℕ) → (slot ≤ slot_of_new step slot (slot + 1)) × (slot_of_new step slot (slot + 1) < slot + 2)
+new_slot : (step : IncrementOp) (slot : ℕ) → (slot ≤ slot_of_new step slot (slot + 1)) ×
+    (slot_of_new step slot (slot + 1) < slot + 2)
 new_slot steps.Increment slot = (omega arith, omega arith)
 new_slot steps.Decrement slot = (omega arith, omega arith)
 new_slot steps.IncrementAfter slot = (omega arith, omega arith)
 new_slot steps.DecrementAfter slot = (omega arith, omega arith)
 
 given_there : (step : IncrementOp) (slot : ℕ) (ws : List Word) (old new : Word) → slot + 1 < length ws
-    → slice_index_or (slice_set (slice_set ws (slot_of_old step slot (slot + 1)) old) (slot_of_new step slot (slot + 1)) new) slot words.Null
+    → slice_index_or (slice_set (slice_set ws (slot_of_old step slot (slot + 1)) old)
+    (slot_of_new step slot (slot + 1)) new) slot words.Null
     ≡ given_by step old new
 given_there steps.Increment slot ws old new within =
-    get_or-set_same (slice_set ws (slot + 1) old) slot new words.Null (let same = length-set ws (slot + 1) old in omega (arith, within, same))
+    get_or-set_same (slice_set ws (slot + 1) old) slot new words.Null (let same = length-set ws (slot + 1) old in omega
+    (arith, within, same))
 given_there steps.Decrement slot ws old new within =
-    get_or-set_same (slice_set ws (slot + 1) old) slot new words.Null (let same = length-set ws (slot + 1) old in omega (arith, within, same))
+    get_or-set_same (slice_set ws (slot + 1) old) slot new words.Null (let same = length-set ws (slot + 1) old in omega
+    (arith, within, same))
 given_there steps.IncrementAfter slot ws old new within =
     get_or-set_other (slice_set ws slot old) (slot + 1) slot new words.Null (omega arith)
     ∙ get_or-set_same ws slot old words.Null (omega (arith, within))
@@ -102,14 +112,16 @@ module _ (s : Scene) where
   calculate_on : (w : Window) (b : Activity) (calculation : Calculation) (left right to at : ℕ) (l r : Word)
       (rest : Word → Activity → Option Outcome) → HasAt s at (i.Calculate calculation left right to) → w.count ≤ to
       → slice_index_or w.slots left words.Null ≡ l → slice_index_or w.slots right words.Null ≡ r
-      → ((v : Word) → calculate calculation l r b ≡ Done v b → At (at + 1) (with_slots (slice_set w.slots to v) w) b (rest v b))
+      → ((v : Word) → calculate calculation l r b ≡ Done v b → At (at + 1) (with_slots (slice_set w.slots to v) w) b
+      (rest v b))
       → At at w b (continued (calculate calculation l r b) rest)
   calculate_on w b calculation left right to at l r rest has low is_l is_r goes =
       puts s.setting (Good s) s.function s.room w at to b (calculate calculation l r b) rest
       (step_is s.setting (Good s) s.function s.room w b at (i.Calculate calculation left right to) has
       ∙ ap (λ (x : Word). guarded_onward (Some (calculate calculation x (slice_index_or w.slots right words.Null) b))
       (put to (control s.function at w))) is_l
-      ∙ ap (λ (x : Word). guarded_onward (Some (calculate calculation l x b)) (put to (control s.function at w))) is_r) low
+      ∙ ap (λ (x : Word). guarded_onward (Some (calculate calculation l x b)) (put to (control s.function at w))) is_r)
+      low
       (λ v d ran.
       let here = calculated_here (calculated_by calculation.operator calculation.of l r) b d v ran in
       subst (λ (y : Activity). At (at + 1) (with_slots (slice_set w.slots to v) w) y (rest v y)) here
@@ -124,7 +136,8 @@ module _ (s : Scene) where
     within = omega (arith, fits.within, moved.long);
   }
 
-  holds_moved : (w : Window) (slot : ℕ) (spot : Spot) (word given : Word) (xs : List Word) (f : Activity) → w.count ≤ slot
+  holds_moved : (w : Window) (slot : ℕ) (spot : Spot) (word given : Word) (xs : List Word) (f : Activity)
+      → w.count ≤ slot
       → Moved w.count slot w.slots xs → ((n : ℕ) → spot ≡ spots.Local n → n < w.count)
       → slice_index_or xs slot words.Null ≡ given
       → (f.frame).locals ≡ take w.count (slots_after spot word xs) → Holds w slot given (slots_after spot word xs) f
@@ -136,7 +149,8 @@ module _ (s : Scene) where
   }
 
   -- after what was read for `op=`
-  update_after : (w : Window) (d e : Activity) (spot : Spot) (int_type : IntType) (calculation : Calculation) (left right : Word)
+  update_after : (w : Window) (d e : Activity) (spot : Spot) (int_type : IntType) (calculation : Calculation)
+      (left right : Word)
       (at slot : ℕ) (rest : Word → Activity → Option Outcome)
       → IsScene s → Well s d → Fits w d → Bears s d w.slots spot (vars.Integer int_type) → LiesIn (slot + 2) s.room spot
       → s.room ≤ length w.slots → w.count ≤ slot → slot + 1 < s.room → slice_index_or w.slots slot words.Null ≡ right
@@ -150,12 +164,14 @@ module _ (s : Scene) where
       → Holds w slot word slots f → At (at + 1 + 1 + 1 + 1) (with_slots slots w) f (rest word f))
       → At at (with_slots (slice_set w.slots (slot + 1) left) w) e
       (continued (calculating spot w.slots int_type calculation right left e) rest)
-  update_after w d e spot int_type calculation left right at slot rest scene well fits bears lies long low within is went same
+  update_after w d e spot int_type calculation left right at slot rest scene well fits bears lies long low within is
+      went same
       first second third fourth goes =
       let converted = converted_to calculation.of left in
       let ws1 = slice_set w.slots (slot + 1) left in
       let ws2 = slice_set ws1 (slot + 1) converted in
-      let m1 = moved_set w.count slot (slot + 1) left w.slots w.slots low (omega arith) (omega arith) (moved_itself w.count slot w.slots) in
+      let m1 = moved_set w.count slot (slot + 1) left w.slots w.slots low (omega arith) (omega arith)
+      (moved_itself w.count slot w.slots) in
       let m2 = moved_set w.count slot (slot + 1) converted w.slots ws1 low (omega arith) (omega arith) m1 in
       value_on (i.Convert calculation.of (slot + 1) (slot + 1)) (with_slots ws1 w) e at (slot + 1) converted _ first
       (omega (arith, low))
@@ -177,15 +193,19 @@ module _ (s : Scene) where
       let m4 = moved_set w.count slot slot given w.slots ws3 low (omega arith) (omega arith) m3 in
       let place = located_moved spot w.count slot s.room w.slots ws4 e lies m4 in
       let still = fits_moved w slot ws4 d e fits m4 same in
-      let there = bears_moved s spot (vars.Integer int_type) w.count slot s.room w.slots ws4 d e lies m4 well went bears in
+      let there = bears_moved s spot (vars.Integer int_type) w.count slot s.room w.slots ws4 d e lies m4 well went
+      bears in
       value_on (i.Convert int_type slot slot) (with_slots ws3 w) e (at + 1 + 1) slot given _ third low
       (ap (λ (x : Word). put slot (control s.function (at + 1 + 1) (with_slots ws3 w)) (converted_to int_type x) e)
       (get_or-set_same ws2 slot word words.Null (omega (arith, long, within, m2.long))))
-      (subst (λ (p : Progress Location). At (at + 1 + 1 + 1) (with_slots ws4 w) e (continued (onward p (store given)) rest)) place
+      (subst (λ (p : Progress Location). At (at + 1 + 1 + 1) (with_slots ws4 w) e
+      (continued (onward p (store given)) rest)) place
       (subst (λ (o : Option Outcome). At (at + 1 + 1 + 1) (with_slots ws4 w) e o)
       (stored_is (located spot ws4 e) given rest ∙ sym (continued_then (located spot ws4 e) (store given) rest))
-      (writes_on s (with_slots ws4 w) e spot (vars.Integer int_type) (at + 1 + 1 + 1) slot given (λ _ f. rest given f) scene
-      (well_after went) still there fourth (get_or-set_same ws3 slot given words.Null (omega (arith, long, within, m3.long)))
+      (writes_on s (with_slots ws4 w) e spot (vars.Integer int_type) (at + 1 + 1 + 1) slot given (λ _ f. rest given f)
+      scene
+      (well_after went) still there fourth (get_or-set_same ws3 slot given words.Null
+      (omega (arith, long, within, m3.long)))
       (integer_alive s int_type given e (integer_word int_type _))
       (λ v f wrote locals.
       goes given f (slots_after spot given ws4)
@@ -195,7 +215,8 @@ module _ (s : Scene) where
       ∙ sym (grouped (located spot ws4 e) (λ l. write l given) (λ _. give given))
       ∙ ap (λ (p : Progress (Unit {0})). onward p (λ _. give given)) wrote))
       (holds_moved w slot spot given given ws4 f low m4
-      (λ n at_local. local_below s (with_slots ws4 w) e spot (vars.Integer int_type) n (well_after went) still there at_local)
+      (λ n at_local. local_below s (with_slots ws4 w) e spot (vars.Integer int_type) n (well_after went) still there
+      at_local)
       (get_or-set_same ws3 slot given words.Null (omega (arith, long, within, m3.long))) locals))))))))
 
   update_on : (w : Window) (d : Activity) (spot : Spot) (int_type : IntType) (calculation : Calculation) (right : Word)
@@ -222,7 +243,8 @@ module _ (s : Scene) where
       (λ left e. continued (calculating spot w.slots int_type calculation right left e) rest) scene well fits bears
       (λ n at_local. no_handle_in_integer int_type) read_first (omega (arith, low))
       (λ left e ran same.
-      update_after w d e spot int_type calculation left right (at + 1) slot rest scene well fits bears lies long low within is
+      update_after w d e spot int_type calculation left right (at + 1) slot rest scene well fits bears lies long low
+      within is
       (reads_go s spot (vars.Integer int_type) w.slots d e left scene well bears ran) same first second third fourth
       (λ word f slots made held.
       goes word f slots
@@ -230,7 +252,8 @@ module _ (s : Scene) where
       (calculating spot w.slots int_type calculation right) _ ran made) held))))
 
   -- The right side comes before the place, which is read, then written.
-  pub does_update : (place : Place) (int_type : IntType) (calculation : Calculation) (e : Expr) (given : ValueType) (spot : Spot)
+  pub does_update : (place : Place) (int_type : IntType) (calculation : Calculation) (e : Expr) (given : ValueType)
+      (spot : Spot)
       (from mid at slot : ℕ) → IsScene s → IsWellTyped s.env e given → DoesExpression s e from mid slot
       → DoesPlace s place (vars.Integer int_type) spot mid at (slot + 2) → slot + 1 < s.room
       → HasAt s at (reading spot (slot + 1))
@@ -247,18 +270,21 @@ module _ (s : Scene) where
             (sym (continued_then (expression (calls_of s) e a)
             (λ right. location (calls_of s) place >>= update int_type calculation right) rest))
             (operand.comes w a
-            (λ right b. continued (onward (location (calls_of s) place b) (update int_type calculation right)) rest) low long fits good
+            (λ right b. continued (onward (location (calls_of s) place b) (update int_type calculation right)) rest)
+            low long fits good
             (λ right b slots ran held.
             let still = stays_good s e given a b right scene typed good ran in
             subst (λ (o : Option Outcome). At mid (with_slots slots w) b o)
             (sym (continued_then (location (calls_of s) place b) (update int_type calculation right) rest))
-            (second.comes (with_slots slots w) b (λ l d. continued (update int_type calculation right l d) rest) (omega (arith, low))
+            (second.comes (with_slots slots w) b (λ l d. continued (update int_type calculation right l d) rest)
+            (omega (arith, low))
             (omega (arith, long, held.long)) (refits w slot right slots a b fits held) still
             (λ d more was also went bears.
             subst (λ (o : Option Outcome). At at (with_slots more w) d o)
             (continued_then (located spot more d) (update int_type calculation right) rest)
             (update_on (with_slots more w) d spot int_type calculation right at slot rest scene (well_after went)
-            (refits_below (with_slots slots w) (slot + 2) more b d (refits w slot right slots a b fits held) also) bears second.lies
+            (refits_below (with_slots slots w) (slot + 2) more b d (refits w slot right slots a b fits held) also)
+            bears second.lies
             (omega (arith, long, held.long, also.long)) low within (also.kept slot low (omega arith) ∙ held.value)
             read_first first convert_next third fourth
             (λ word f xs made kept.
@@ -268,7 +294,8 @@ module _ (s : Scene) where
             (ap (λ (p : Progress Location). onward p (update int_type calculation right)) was ∙ made))
             (record {
               long = kept.long ∙ also.long ∙ held.long;
-              kept = λ k low_k under. kept.kept k low_k under ∙ also.kept k low_k (omega (arith, under)) ∙ held.kept k low_k under;
+              kept = λ k low_k under. kept.kept k low_k under ∙ also.kept k low_k (omega (arith, under))
+                  ∙ held.kept k low_k under;
               value = kept.value;
               locals = kept.locals;
             })))))));
@@ -286,7 +313,8 @@ module _ (s : Scene) where
       → Holds w slot word slots f → At (at + 1 + 1) (with_slots slots w) f (rest word f))
       → At at (with_slots (slice_set w.slots (slot_of_old step slot (slot + 1)) old) w) e
       (continued (counting spot w.slots int_type step old e) rest)
-  count_after w d e spot int_type step old at slot rest scene well fits bears lies long low within went same first second goes =
+  count_after w d e spot int_type step old at slot rest scene well fits bears lies long low within went same first
+      second goes =
       let new = counted step int_type old in
       let given = given_by step old new in
       let from = slot_of_old step slot (slot + 1) in
@@ -295,11 +323,13 @@ module _ (s : Scene) where
       let to_is = new_slot step slot in
       let ws1 = slice_set w.slots from old in
       let ws2 = slice_set ws1 to new in
-      let m1 = moved_set w.count slot from old w.slots w.slots low from_is.0 from_is.1 (moved_itself w.count slot w.slots) in
+      let m1 = moved_set w.count slot from old w.slots w.slots low from_is.0 from_is.1
+      (moved_itself w.count slot w.slots) in
       let m2 = moved_set w.count slot to new w.slots ws1 low to_is.0 to_is.1 m1 in
       let place = located_moved spot w.count slot s.room w.slots ws2 e lies m2 in
       let still = fits_moved w slot ws2 d e fits m2 same in
-      let there = bears_moved s spot (vars.Integer int_type) w.count slot s.room w.slots ws2 d e lies m2 well went bears in
+      let there = bears_moved s spot (vars.Integer int_type) w.count slot s.room w.slots ws2 d e lies m2 well went
+      bears in
       value_on (i.Count step int_type from to) (with_slots ws1 w) e at to new _ first (omega (arith, low, to_is.0))
       (ap (λ (x : Word). put to (control s.function at (with_slots ws1 w)) (counted step int_type x) e)
       (get_or-set_same w.slots from old words.Null (omega (arith, long, within, from_is.1))))
@@ -308,14 +338,16 @@ module _ (s : Scene) where
       (subst (λ (o : Option Outcome). At (at + 1) (with_slots ws2 w) e o)
       (sym (continued_then (onward (located spot ws2 e) (λ l. write l new)) (λ _. give given) rest))
       (writes_on s (with_slots ws2 w) e spot (vars.Integer int_type) (at + 1) to new (λ _ f. rest given f) scene
-      (well_after went) still there second (get_or-set_same ws1 to new words.Null (omega (arith, long, within, to_is.1, m1.long)))
+      (well_after went) still there second (get_or-set_same ws1 to new words.Null
+      (omega (arith, long, within, to_is.1, m1.long)))
       (integer_alive s int_type new e (counted_integer step int_type old))
       (λ v f wrote locals.
       goes given f (slots_after spot new ws2)
       (ap (λ (p : Progress Location). onward (onward p (λ l. write l new)) (λ _. give given)) (sym place)
       ∙ ap (λ (p : Progress (Unit {0})). onward p (λ _. give given)) wrote)
       (holds_moved w slot spot new given ws2 f low m2
-      (λ n at_local. local_below s (with_slots ws2 w) e spot (vars.Integer int_type) n (well_after went) still there at_local)
+      (λ n at_local. local_below s (with_slots ws2 w) e spot (vars.Integer int_type) n (well_after went) still there
+      at_local)
       (given_there step slot w.slots old new (omega (arith, long, within))) locals)))))
 
   count_on : (w : Window) (d : Activity) (spot : Spot) (int_type : IntType) (step : IncrementOp)
@@ -325,26 +357,31 @@ module _ (s : Scene) where
       → HasAt s at (reading spot (slot_of_old step slot (slot + 1)))
       → HasAt s (at + 1) (i.Count step int_type (slot_of_old step slot (slot + 1)) (slot_of_new step slot (slot + 1)))
       → HasAt s (at + 1 + 1) (writing spot (slot_of_new step slot (slot + 1)))
-      → ((word : Word) (f : Activity) (slots : List Word) → onward (located spot w.slots d) (count_at int_type step) ≡ Done word f
+      → ((word : Word) (f : Activity) (slots : List Word) → onward (located spot w.slots d) (count_at int_type step)
+      ≡ Done word f
       → Holds w slot word slots f → At (at + 1 + 1 + 1) (with_slots slots w) f (rest word f))
       → At at w d (continued (onward (located spot w.slots d) (count_at int_type step)) rest)
   count_on w d spot int_type step at slot rest scene well fits bears lies long low within read_first first second goes =
       let again = count_again spot w.slots int_type s d scene well bears step in
       subst (λ (p : Progress Word). At at w d (continued p rest)) (sym again)
       (subst (λ (o : Option Outcome). At at w d o)
-      (sym (continued_then (onward (located spot w.slots d) (λ l. read l >>= give_held)) (counting spot w.slots int_type step) rest))
+      (sym (continued_then (onward (located spot w.slots d) (λ l. read l >>= give_held))
+      (counting spot w.slots int_type step) rest))
       (reads_on s w d spot (vars.Integer int_type) at (slot_of_old step slot (slot + 1))
       (λ old e. continued (counting spot w.slots int_type step old e) rest) scene well fits bears
-      (λ n at_local. no_handle_in_integer int_type) read_first (let from_is = old_slot step slot in omega (arith, low, from_is.0))
+      (λ n at_local. no_handle_in_integer int_type) read_first (let from_is = old_slot step slot in omega
+      (arith, low, from_is.0))
       (λ old e ran same.
       count_after w d e spot int_type step old (at + 1) slot rest scene well fits bears lies long low within
       (reads_go s spot (vars.Integer int_type) w.slots d e old scene well bears ran) same first second
       (λ word f slots made held.
       goes word f slots
-      (again ∙ then_is (onward (located spot w.slots d) (λ l. read l >>= give_held)) old e (counting spot w.slots int_type step) _
+      (again ∙ then_is (onward (located spot w.slots d) (λ l. read l >>= give_held)) old e
+      (counting spot w.slots int_type step) _
       ran made) held))))
 
-  pub does_count : (place : Place) (int_type : IntType) (step : IncrementOp) (spot : Spot) (from at slot : ℕ) → IsScene s
+  pub does_count : (place : Place) (int_type : IntType) (step : IncrementOp) (spot : Spot) (from at slot : ℕ)
+      → IsScene s
       → DoesPlace s place (vars.Integer int_type) spot from at (slot + 2) → slot + 1 < s.room
       → HasAt s at (reading spot (slot_of_old step slot (slot + 1)))
       → HasAt s (at + 1) (i.Count step int_type (slot_of_old step slot (slot + 1)) (slot_of_new step slot (slot + 1)))

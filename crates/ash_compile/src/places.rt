@@ -4,9 +4,11 @@
 
 ghost use Rattle.std.specs.Prelude.{◌≡◌, ◌+◌, IfOk, max};
 ghost use Rattle.ash_typed.specs.declared.types.Element.{Element as ElementType};
-ghost use Rattle.ash_typed.specs.TypedTree.{Expr as ExprData, Place as PlaceData, Read, Held, Indexed, Assign, Update, Count};
+ghost use Rattle.ash_typed.specs.TypedTree.{Expr as ExprData, Place as PlaceData, Read, Held, Indexed, Assign};
+ghost use Rattle.ash_typed.specs.TypedTree.{Update, Count};
 ghost use Rattle.ash_compile.specs.Emission.{Emits};
-ghost use Rattle.ash_compile.specs.Places.{spot_of_variable, spot_of_member, reading, writing, slot_of_old, slot_of_new, EmitsPlace};
+ghost use Rattle.ash_compile.specs.Places.{spot_of_variable, spot_of_member, reading, writing, slot_of_old};
+ghost use Rattle.ash_compile.specs.Places.{slot_of_new, EmitsPlace};
 ghost use Rattle.ash_compile.specs.declared.builder.CodeBuilder.{CodeBuilder as Written};
 
 use crate::builder::CodeBuilder;
@@ -112,7 +114,8 @@ impl CodeBuilder {
     /// Reads an element of the array in a slot, by the index in the next one.
     pub fn read_element(&mut self, slot: usize, index: usize) -> Result<(), AllocError>
         requires next { index ≡ slot + 1 }
-        ensures emits { IfOk result (λ u. (start mid : Written) (a i : ExprData) (of : ElementType) → Emits start mid a slot
+        ensures emits { IfOk result (λ u. (start mid : Written) (a i : ExprData) (of : ElementType)
+            → Emits start mid a slot
             → Emits mid self.old i (slot + 1) → Emits start self.new (Read (Indexed a i of)) slot) }
     {
         self.put(slot, reading(Spot::Element { array: slot, index }, slot))
@@ -120,7 +123,8 @@ impl CodeBuilder {
 
     /// Stores the value of a slot at a place.
     pub fn assignment(&mut self, spot: Spot, slot: usize) -> Result<(), AllocError>
-        ensures emits { IfOk result (λ u. (start mid : Written) (place : PlaceData) (e : ExprData) → Emits start mid e slot
+        ensures emits { IfOk result (λ u. (start mid : Written) (place : PlaceData) (e : ExprData)
+            → Emits start mid e slot
             → EmitsPlace mid self.old place spot (slot + 1) → Emits start self.new (Assign place e) slot) }
     {
         self.put(slot, writing(spot, slot))
@@ -137,8 +141,10 @@ impl CodeBuilder {
         left: usize,
     ) -> Result<(), AllocError>
         requires next { left ≡ slot + 1 }
-        ensures emits { IfOk result (λ u. (start mid : Written) (place : PlaceData) (e : ExprData) → Emits start mid e slot
-            → EmitsPlace mid self.old place spot (slot + 2) → Emits start self.new (Update place of calculation e) slot) }
+        ensures emits { IfOk result (λ u. (start mid : Written) (place : PlaceData) (e : ExprData)
+            → Emits start mid e slot
+            → EmitsPlace mid self.old place spot (slot + 2) → Emits start self.new (Update place of calculation e)
+            slot) }
     {
         self.put(left, reading(spot, left))?;
         self.put(
@@ -179,7 +185,8 @@ impl CodeBuilder {
         other: usize,
     ) -> Result<(), AllocError>
         requires next { other ≡ slot + 1 }
-        ensures emits { IfOk result (λ u. (start : Written) (place : PlaceData) → EmitsPlace start self.old place spot (slot + 2)
+        ensures emits { IfOk result (λ u. (start : Written) (place : PlaceData)
+            → EmitsPlace start self.old place spot (slot + 2)
             → Emits start self.new (Count place of step) slot) }
     {
         let old = slot_of_old(step, slot, other);

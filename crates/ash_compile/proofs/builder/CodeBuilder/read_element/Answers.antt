@@ -14,6 +14,7 @@ returns c = record {
       (λ u puts start mid a i of first second.
       emitted.read_element start mid c.args.self.now c.put.new.self a i of c.args.slot first second
       (subst (λ (j : Instruction). Puts c.args.self.now c.put.new.self c.args.slot j)
-      (c.reading.ensures.reads ∙ ap (λ (k : ℕ). reading (spots.Element c.args.slot k) c.args.slot) c.requires.next) puts))
+      (c.reading.ensures.reads ∙ ap (λ (k : ℕ). reading (spots.Element c.args.slot k) c.args.slot) c.requires.next)
+      puts))
       c.put.ensures.puts;
 }

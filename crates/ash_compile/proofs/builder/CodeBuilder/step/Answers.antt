@@ -16,7 +16,8 @@ returns c =
     record {
       emits = if_ok c.put-3.result
           (λ u puts start place first.
-          emitted.count start c.args.self.now c.put.new.self c.put-2.new.self c.put-3.new.self place c.args.of c.args.step
+          emitted.count start c.args.self.now c.put.new.self c.put-2.new.self c.put-3.new.self place c.args.of
+          c.args.step
           c.args.spot c.args.slot first
           (emitted.put_as c.args.self.now c.put.new.self c.args.other (c.args.slot + 1) c.reading.result
           (reading c.args.spot old) c.requires.next (c.reading.ensures.reads ∙ ap (reading c.args.spot) old_is)

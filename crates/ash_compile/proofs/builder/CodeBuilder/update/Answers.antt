@@ -11,7 +11,8 @@ pub returns : goal.returns
 returns c = record {
   emits = if_ok c.put-5.result
       (λ u puts start mid place e first second.
-      emitted.update start mid c.args.self.now c.put.new.self c.put-2.new.self c.put-3.new.self c.put-4.new.self c.put-5.new.self
+      emitted.update start mid c.args.self.now c.put.new.self c.put-2.new.self c.put-3.new.self c.put-4.new.self
+      c.put-5.new.self
       place c.args.of c.args.calculation e c.args.spot c.args.slot first second
       (subst (λ (k : ℕ). Puts c.args.self.now c.put.new.self k (reading c.args.spot k)) c.requires.next
       (subst (λ (j : Instruction). Puts c.args.self.now c.put.new.self c.args.left j) c.reading.ensures.reads
