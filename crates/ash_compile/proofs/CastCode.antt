@@ -1,6 +1,6 @@
 -- The code of casts.
-use Rattle.std.proofs.Common.{◌≡◌, ◌<◌, ℕ, ◌+◌, List, refl, sym, ap, ◌∙◌, subst, arith, Bool}
-use Rattle.std.specs.Prelude.{Option, Some, None, slice_index_or, if◌then◌else◌}
+use Rattle.std.proofs.Common.{◌≡◌, ℕ, ◌+◌, refl, sym, ap, ◌∙◌, Bool}
+use Rattle.std.specs.Prelude.{Some, if◌then◌else◌}
 use Rattle.ash_host.specs.declared.word.Word.{Word}
 use Rattle.ash_host.specs.declared.word.Word.TheVariants as words
 use Rattle.ash_host.specs.Objects.{object_at}
@@ -10,7 +10,7 @@ use Rattle.ash_typed.specs.TypedTree.{Expr, Cast}
 use Rattle.ash_typed.specs.SoundExpressions as typing
 use Rattle.ash_typed.specs.SoundExpressions.{TypedEnvironment, IsWellTyped}
 use Rattle.ash_meaning.specs.Activity.{Activity}
-use Rattle.ash_meaning.specs.Runs.{Run, Progress, Done}
+use Rattle.ash_meaning.specs.Runs.{Progress}
 use Rattle.ash_meaning.specs.CallMeaning as meaning
 use Rattle.ash_meaning.specs.Classes.{Program}
 use Rattle.ash_meaning.specs.ExpressionMeaning.{expression}

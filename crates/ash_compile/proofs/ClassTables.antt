@@ -1,7 +1,7 @@
 -- What code knows of the classes of a module is what their trees say: the class of an object, and what it is cast to.
-use Rattle.std.proofs.Common.{◌≡◌, ◌≤◌, ◌<◌, ℕ, zero, suc, ◌+◌, List, [], ◌∷◌, length, map, refl, sym, ap, ◌∙◌, subst}
-use Rattle.std.proofs.Common.{arith, true, false, Bool, cond, not, nat_eq, nat_lt, nat_le}
-use Rattle.std.specs.Prelude.{Option, Some, None, slice_get, position, find, is_some, option_map, if◌then◌else◌}
+use Rattle.std.proofs.Common.{◌≡◌, ◌≤◌, ◌<◌, ℕ, zero, suc, ◌+◌, List, [], ◌∷◌, length, map, refl, sym, ap, ◌∙◌}
+use Rattle.std.proofs.Common.{arith, true, false, Bool, cond, not, nat_eq, nat_lt}
+use Rattle.std.specs.Prelude.{Option, Some, None, slice_get, position, find, is_some, option_map}
 use Rattle.std.specs.List.{range_with_len, prefix_len}
 use Rattle.std.specs.Option.{option_map_or, option_and_then}
 use Rattle.std.specs.Str.{bytes_eq}
@@ -12,14 +12,14 @@ use Rattle.std.proofs.lemmas.List.FromFn.{length-range_with_len}
 use Rattle.ash_host.specs.Objects.{Plain, Script, Array, Host}
 use Rattle.ash_typed.specs.declared.types.ObjectType.{ObjectType}
 use Rattle.ash_typed.specs.declared.types.ObjectType.TheVariants as objects
-use Rattle.ash_typed.specs.Modules.{Implementation, Class, Module}
+use Rattle.ash_typed.specs.Modules.{Implementation, Class}
 use Rattle.ash_meaning.specs.Classes as classes
 use Rattle.ash_meaning.specs.Classes.{Program, place_of_class, places_of_classes}
 use Rattle.ash_code.specs.declared.code.ClassCode.{ClassCode}
 use Rattle.ash_code.specs.declared.code.ImplementationCode.{ImplementationCode}
 use Rattle.ash_code.specs.Performing.{Setting, classes_of, own_name}
 use Rattle.ash_code.specs.Steps as steps
-use Rattle.ash_compile.specs.Callees.{implementation_of, implementation_at, IsClassCode, HasClasses}
+use Rattle.ash_compile.specs.Callees.{implementation_of, implementation_at, HasClasses}
 
 -- lists
 

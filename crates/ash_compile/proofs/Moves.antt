@@ -1,8 +1,8 @@
 -- Slots in which a phrase stores what it needs for a while, two of them, and what of a place stays.
 use Rattle.std.proofs.Common.{◌≡◌, ◌≤◌, ◌<◌, ℕ, ◌+◌, List, take, length, refl, sym, ap, ◌∙◌, subst, arith, true}
 use Rattle.std.proofs.Common.{false, Bool, nat_lt}
-use Rattle.std.specs.Prelude.{Option, Some, None, Result, Ok, Err, slice_index_or, slice_set}
-use Rattle.std.proofs.lemmas.List.{length-set, get_or-set_same, get_or-set_other, take-set-le}
+use Rattle.std.specs.Prelude.{None, Result, Ok, Err, slice_index_or, slice_set}
+use Rattle.std.proofs.lemmas.List.{length-set, get_or-set_other, take-set-le}
 use Rattle.ash_host.specs.declared.word.Word.{Word}
 use Rattle.ash_host.specs.declared.word.Word.TheVariants as words
 use Rattle.ash_host.specs.Objects.{handle}
@@ -22,8 +22,7 @@ use Rattle.ash_meaning.specs.ArraySteps.{natural_of}
 use Rattle.ash_meaning.specs.OperatorMeaning.{calculate, calculated_by, give_or_raise, converted_to, counted, given_by}
 use Rattle.ash_meaning.specs.Locations.{Location, Local, Global, Part, Property, read, write}
 use Rattle.ash_meaning.specs.ExpressionMeaning.{element_at, store, update, count_at}
-use Rattle.ash_soundness.specs.WellFormed.{IsValue}
-use Rattle.ash_soundness.specs.WellFormedLaws.{Goes, Leaves, done}
+use Rattle.ash_soundness.specs.WellFormedLaws.{Goes, Leaves}
 use Rattle.ash_soundness.proofs.Constructions.{bind_here}
 use Rattle.ash_soundness.proofs.Fits.{kept_value}
 use Rattle.ash_soundness.proofs.Hosts.{well_after}
@@ -35,7 +34,7 @@ use Rattle.ash_compile.specs.declared.places.Spot.TheVariants as spots
 use Rattle.ash_compile.specs.Emission.{Scene, IsScene}
 use Rattle.ash_compile.specs.Places.{located, LiesIn, Bears, local, global, field, property, element}
 use Rattle.ash_compile.proofs.Phrases.{none_held}
-use Rattle.ash_compile.proofs.Typed.{left_done, HasNoHandle, no_handle_in_integer}
+use Rattle.ash_compile.proofs.Typed.{left_done, no_handle_in_integer}
 use Rattle.ash_compile.proofs.PlaceGuards.{Well, LocatedIn, located_gives, read_is}
 use Rattle.ash_compile.proofs.PlaceCode.{carried_as}
 

@@ -1,7 +1,7 @@
 -- The code of places, of what is read there, and of assignments.
-use Rattle.std.proofs.Common.{◌≡◌, ◌≤◌, ◌<◌, ℕ, ◌+◌, List, [], ◌∷◌, length, take, refl, sym, ap, ◌∙◌, subst, arith}
-use Rattle.std.proofs.Common.{true, false, Bool}
-use Rattle.std.specs.Prelude.{Option, Some, None, slice_index_or, slice_set}
+use Rattle.std.proofs.Common.{◌≡◌, ◌≤◌, ◌<◌, ℕ, ◌+◌, List, length, take, refl, sym, ap, ◌∙◌, subst, arith}
+use Rattle.std.proofs.Common.{true}
+use Rattle.std.specs.Prelude.{Option, slice_index_or, slice_set}
 use Rattle.std.proofs.lemmas.List.{length-set, get_or-set_same, get_or-set_other, take-set-le}
 use Rattle.ash_host.specs.declared.word.Word.{Word}
 use Rattle.ash_host.specs.declared.word.Word.TheVariants as words
@@ -27,7 +27,7 @@ use Rattle.ash_meaning.specs.ObjectSteps.{object_of}
 use Rattle.ash_meaning.specs.Locations.{Location, location_of_member, read, write}
 use Rattle.ash_meaning.specs.ExpressionMeaning.{expression, location, element_at, store}
 use Rattle.ash_meaning.specs.Ends.{Outcome}
-use Rattle.ash_soundness.specs.WellFormedLaws.{Goes, IsCarried}
+use Rattle.ash_soundness.specs.WellFormedLaws.{IsCarried}
 use Rattle.ash_soundness.proofs.Triples.{goes_itself, goes_more, carry}
 use Rattle.ash_soundness.proofs.Hosts.{well_after}
 use Rattle.ash_soundness.proofs.Values.{given_lives}

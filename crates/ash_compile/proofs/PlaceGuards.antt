@@ -1,24 +1,22 @@
 -- Where a place lies, and the guards of steps that read and write there.
-use Rattle.std.proofs.Common.{◌≡◌, ◌≤◌, ◌<◌, ℕ, List, [], ◌∷◌, length, map, refl, sym, ap, ◌∙◌, subst, arith, true}
-use Rattle.std.proofs.Common.{Bool, nat_lt}
+use Rattle.std.proofs.Common.{◌≡◌, ◌<◌, ℕ, List, length, map, refl, sym, ap, ◌∙◌, subst, arith, true}
+use Rattle.std.proofs.Common.{nat_lt}
 use Rattle.std.specs.Prelude.{Option, Some, None, slice_get, slice_index_or, is_some, option_map}
-use Rattle.std.specs.Option.{option_map_or, option_and_then}
+use Rattle.std.specs.Option.{option_and_then}
 use Rattle.std.proofs.lemmas.Bool.Decides.{nat_tests}
 use Rattle.std.proofs.lemmas.Option.{slice_get_within, same_Some, slice_get-map}
 use Rattle.ash_host.specs.declared.event.Target.TheVariants as targets
 use Rattle.ash_host.specs.declared.word.Word.{Word}
 use Rattle.ash_host.specs.declared.word.Word.TheVariants as words
-use Rattle.ash_host.specs.Objects.{Plain, Script, Array, Host, handle, object_at}
+use Rattle.ash_host.specs.Objects.{Plain, Script, Array, Host, handle}
 use Rattle.ash_tree.specs.declared.tree.types.Primitive.{Primitive}
 use Rattle.ash_tree.specs.declared.tree.types.Primitive.TheVariants as primitives
-use Rattle.ash_integers.specs.declared.int_type.IntType.{IntType}
 use Rattle.ash_typed.specs.declared.types.VarType.{VarType}
-use Rattle.ash_typed.specs.declared.types.VarType.TheVariants as vars
 use Rattle.ash_typed.specs.declared.types.ObjectType.{ObjectType}
 use Rattle.ash_typed.specs.declared.types.ObjectType.TheVariants as objects
 use Rattle.ash_typed.specs.declared.tree.operations.ObjectMember.{ObjectMember}
 use Rattle.ash_typed.specs.declared.tree.operations.ObjectMember.TheVariants as members
-use Rattle.ash_typed.specs.TypeOf.{value, as_value, type_of_element}
+use Rattle.ash_typed.specs.TypeOf.{as_value}
 use Rattle.ash_typed.specs.Signatures.{ModuleSignatures, ClassTypes, signature_of_class, type_declared}
 use Rattle.ash_typed.specs.Signatures.{type_of_primitive}
 use Rattle.ash_typed.specs.SoundOperations as operations
@@ -26,24 +24,23 @@ use Rattle.ash_typed.specs.SoundOperations.{IsSoundMember}
 use Rattle.ash_typed.specs.SoundExpressions.{TypedEnvironment}
 use Rattle.ash_meaning.specs.declared.exception.Exception.TheVariants.{IndexOutOfBounds}
 use Rattle.ash_meaning.specs.Activity.{Activity}
-use Rattle.ash_meaning.specs.Runs.{Run, Progress, Done, Ended, NoStep, onward, give, ◌>>=◌}
-use Rattle.ash_meaning.specs.Releases.{give_held}
+use Rattle.ash_meaning.specs.Runs.{Done, give, ◌>>=◌}
 use Rattle.ash_meaning.specs.ObjectSteps.{words_in}
 use Rattle.ash_meaning.specs.ArraySteps.{natural_of, index_in}
 use Rattle.ash_meaning.specs.HostSteps.{state_in, get_property}
 use Rattle.ash_meaning.specs.Locations.{Location, Local, Global, Part, Property, location_of_member, read}
 use Rattle.ash_soundness.specs.WellFormed.{Context, declared, Shape, OfKind, IsOf, shape_of, shape_at, IsValue}
-use Rattle.ash_soundness.specs.WellFormed.{AreValues, IsGiven, IsWellFormed}
-use Rattle.ash_soundness.specs.WellFormedLaws.{Goes, Offers, Leaves, done, Evaluates, a_property}
+use Rattle.ash_soundness.specs.WellFormed.{AreValues, IsWellFormed}
+use Rattle.ash_soundness.specs.WellFormedLaws.{Offers, Leaves, done, a_property}
 use Rattle.ash_soundness.proofs.Arrays.{object_with, words_of, after_object}
 use Rattle.ash_soundness.proofs.Parts.{fields_fit}
 use Rattle.ash_soundness.proofs.Calls.{handle_of}
 use Rattle.ash_soundness.proofs.Constructions.{bind_here, lt_from}
-use Rattle.ash_soundness.proofs.Fits.{kept_value, given_value, unkept}
-use Rattle.ash_soundness.proofs.Hosts.{get_property_gives, well_after}
-use Rattle.ash_soundness.proofs.Locations.{IsLocated, in_local, in_global, in_field, in_element, in_property, IsRead}
+use Rattle.ash_soundness.proofs.Fits.{given_value}
+use Rattle.ash_soundness.proofs.Hosts.{get_property_gives}
+use Rattle.ash_soundness.proofs.Locations.{IsLocated, in_local, in_global, in_field, in_element, in_property}
 use Rattle.ash_soundness.proofs.Locations.{read_gives}
-use Rattle.ash_soundness.proofs.Triples.{bind, weaken, after_demand, safe, goes_more, given_held}
+use Rattle.ash_soundness.proofs.Triples.{after_demand, safe}
 use Rattle.ash_run_steps.specs.GuardedSteps.{is_alive}
 use Rattle.ash_run_steps.specs.HostGuards.{is_there}
 use Rattle.ash_code.specs.Steps.{has_part, has_global}

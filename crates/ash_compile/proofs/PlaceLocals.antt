@@ -1,7 +1,7 @@
 -- What reading and writing at a place leaves of the locals of the frame.
-use Rattle.std.proofs.Common.{◌≡◌, ◌≤◌, ◌<◌, ℕ, List, take, length, refl, sym, ap, ◌∙◌, subst, arith, true, false}
+use Rattle.std.proofs.Common.{◌≡◌, ◌<◌, ℕ, List, take, length, refl, sym, ap, ◌∙◌, subst, true, false}
 use Rattle.std.proofs.Common.{Bool, nat_lt}
-use Rattle.std.specs.Prelude.{Option, Some, None, slice_index_or, slice_set, if◌then◌else◌}
+use Rattle.std.specs.Prelude.{Option, Some, None, slice_index_or, if◌then◌else◌}
 use Rattle.std.proofs.Math.Seq.{take-set-lt}
 use Rattle.ash_host.specs.declared.word.Word.{Word}
 use Rattle.ash_host.specs.declared.word.Word.TheVariants as words
@@ -22,10 +22,8 @@ use Rattle.ash_meaning.specs.ArraySteps.{natural_of, index_in}
 use Rattle.ash_meaning.specs.HostSteps.{call_host, next_answer, after_answer, is_of, accept}
 use Rattle.ash_meaning.specs.Locations.{Location, Local, Global, Part, Property, read, write}
 use Rattle.ash_meaning.specs.ExpressionMeaning.{element_at}
-use Rattle.ash_code.specs.Controls.{Window}
 use Rattle.ash_compile.specs.declared.places.Spot.{Spot}
 use Rattle.ash_compile.specs.declared.places.Spot.TheVariants as spots
-use Rattle.ash_compile.specs.Stretches.{Fits}
 use Rattle.ash_compile.specs.Places.{located}
 use Rattle.ash_compile.proofs.PlaceSteps.{slots_after}
 

@@ -1,7 +1,7 @@
 -- The instructions that read and write at a place do what is left of it.
-use Rattle.std.proofs.Common.{◌≡◌, ◌≤◌, ◌<◌, ℕ, ◌+◌, List, [], ◌∷◌, length, take, refl, sym, ap, ◌∙◌, subst, arith}
+use Rattle.std.proofs.Common.{◌≡◌, ◌<◌, ℕ, ◌+◌, List, length, refl, sym, ap, ◌∙◌, subst, arith}
 use Rattle.std.proofs.Common.{true, false, Bool, cond, nat_lt}
-use Rattle.std.specs.Prelude.{Option, Some, None, slice_index_or, slice_set, if◌then◌else◌}
+use Rattle.std.specs.Prelude.{Some, None, slice_index_or, slice_set, if◌then◌else◌}
 use Rattle.std.proofs.lemmas.Bool.{and_from}
 use Rattle.std.proofs.lemmas.List.{length-take-le}
 use Rattle.ash_host.specs.declared.event.Target.TheVariants as targets
@@ -15,25 +15,24 @@ use Rattle.ash_typed.specs.Signatures.{ModuleSignatures}
 use Rattle.ash_typed.specs.SoundOperations.{IsSoundMember}
 use Rattle.ash_meaning.specs.declared.exception.Exception.TheVariants.{IndexOutOfBounds}
 use Rattle.ash_meaning.specs.Activity.{Activity}
-use Rattle.ash_meaning.specs.Runs.{Run, Progress, Done, Ended, NoStep, onward, give, demand, ◌>>=◌}
+use Rattle.ash_meaning.specs.Runs.{Progress, Done, Ended, NoStep, onward, give, demand, ◌>>=◌}
 use Rattle.ash_meaning.specs.Releases.{give_held}
 use Rattle.ash_meaning.specs.ObjectSteps.{object_of, words_in}
 use Rattle.ash_meaning.specs.ArraySteps.{natural_of, index_in}
 use Rattle.ash_meaning.specs.HostSteps.{get_property, set_property}
-use Rattle.ash_meaning.specs.Locations.{Location, Local, Global, Part, Property, read, write}
+use Rattle.ash_meaning.specs.Locations.{Local, Global, Part, Property, read, write}
 use Rattle.ash_meaning.specs.ExpressionMeaning.{element_at}
 use Rattle.ash_soundness.specs.WellFormed.{Shape, shape_at, IsReference, to_nothing, to_object, declared}
 use Rattle.ash_soundness.proofs.Calls.{handle_of}
 use Rattle.ash_soundness.proofs.Constructions.{lt_from}
 use Rattle.ash_soundness.proofs.Locations.{in_element}
-use Rattle.ash_run_steps.specs.Guarded.{Guarded, plain, onward as guarded_onward, give as guarded_give}
+use Rattle.ash_run_steps.specs.Guarded.{Guarded, onward as guarded_onward, give as guarded_give}
 use Rattle.ash_run_steps.specs.GuardedSteps.{is_alive, has_local, write_local}
 use Rattle.ash_run_steps.specs.HostGuards as guards
 use Rattle.ash_run_steps.specs.HostGuards.{is_there}
-use Rattle.ash_code.specs.declared.instruction.Instruction.TheVariants as i
-use Rattle.ash_code.specs.Controls.{Control, Window, control, with_word}
+use Rattle.ash_code.specs.Controls.{Window, control, with_word}
 use Rattle.ash_code.specs.Steps.{has_global, has_part, read_part, write_part, give_held as guarded_give_held}
-use Rattle.ash_code.specs.Performing.{Setting, Next, GoesOn, perform, put, go}
+use Rattle.ash_code.specs.Performing.{Next, GoesOn, perform, put, go}
 use Rattle.ash_compile.specs.declared.places.Spot.{Spot}
 use Rattle.ash_compile.specs.declared.places.Spot.TheVariants as spots
 use Rattle.ash_compile.specs.Stretches.{with_slots, Fits}

@@ -1,5 +1,5 @@
 -- The code of compound assignments, of `++` and of `--`.
-use Rattle.std.proofs.Common.{◌≡◌, ◌≤◌, ◌<◌, ℕ, ◌+◌, List, take, length, refl, sym, ap, ◌∙◌, subst, arith, true, Bool}
+use Rattle.std.proofs.Common.{◌≡◌, ◌≤◌, ◌<◌, ℕ, ◌+◌, List, take, length, sym, ap, ◌∙◌, subst, arith, true}
 use Rattle.std.specs.Prelude.{Option, Some, None, Result, Ok, Err, slice_index_or, slice_set}
 use Rattle.std.proofs.lemmas.List.{length-set, get_or-set_same, get_or-set_other}
 use Rattle.ash_host.specs.declared.word.Word.{Word}
@@ -15,10 +15,10 @@ use Rattle.ash_typed.specs.TypeOf.{ValueType}
 use Rattle.ash_typed.specs.TypedTree.{Expr, Update, Count, Place}
 use Rattle.ash_typed.specs.SoundExpressions.{IsWellTyped}
 use Rattle.ash_meaning.specs.Activity.{Activity}
-use Rattle.ash_meaning.specs.Runs.{Run, Progress, Done, onward, give, ◌>>=◌, ◌>>◌}
+use Rattle.ash_meaning.specs.Runs.{Progress, Done, onward, give, ◌>>=◌}
 use Rattle.ash_meaning.specs.Releases.{give_held}
 use Rattle.ash_meaning.specs.OperatorMeaning.{calculate, calculated_by, give_or_raise, converted_to, counted}
-use Rattle.ash_meaning.specs.OperatorMeaning.{given_by, word_at}
+use Rattle.ash_meaning.specs.OperatorMeaning.{given_by}
 use Rattle.ash_meaning.specs.Locations.{Location, read, write}
 use Rattle.ash_meaning.specs.ExpressionMeaning.{expression, location, store, update, count_at}
 use Rattle.ash_meaning.specs.Ends.{Outcome}
@@ -36,13 +36,13 @@ use Rattle.ash_compile.specs.declared.places.Spot.{Spot}
 use Rattle.ash_compile.specs.declared.places.Spot.TheVariants as spots
 use Rattle.ash_compile.specs.Stretches.{continued, Arrives, with_slots, Fits, Holds}
 use Rattle.ash_compile.specs.Emission.{Scene, IsScene, Good, DoesExpression, calls_of}
-use Rattle.ash_compile.specs.Places.{located, reading, writing, slot_of_old, slot_of_new, LiesIn, Bears, HoldsBelow}
+use Rattle.ash_compile.specs.Places.{located, reading, writing, slot_of_old, slot_of_new, LiesIn, Bears}
 use Rattle.ash_compile.specs.Places.{DoesPlace}
 use Rattle.ash_compile.proofs.Simulation.{continued_then, then_is, step_is, puts, refits}
 use Rattle.ash_compile.proofs.Phrases.{grouped}
 use Rattle.ash_compile.proofs.Emission.{HasAt}
-use Rattle.ash_compile.proofs.Typed.{evaluates, stays_good, alive_of, no_handle_in_integer}
-use Rattle.ash_compile.proofs.PlaceGuards.{Well, well_of}
+use Rattle.ash_compile.proofs.Typed.{stays_good, alive_of, no_handle_in_integer}
+use Rattle.ash_compile.proofs.PlaceGuards.{Well}
 use Rattle.ash_compile.proofs.PlaceSteps.{slots_after}
 use Rattle.ash_compile.proofs.PlaceCode.{refits_below, after_long, after_kept, stored_is, local_below, reads_on}
 use Rattle.ash_compile.proofs.PlaceCode.{writes_on}

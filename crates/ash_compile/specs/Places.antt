@@ -1,5 +1,5 @@
 -- What code that is emitted for a place does: the place is tested as it is read or written.
-use Rattle.std.specs.Prelude.{◌≡◌, ◌≤◌, ◌<◌, ℕ, ◌+◌, List, take, length, slice_get, slice_index_or, slice_set, Option}
+use Rattle.std.specs.Prelude.{◌≡◌, ◌≤◌, ◌<◌, ℕ, List, take, length, slice_get, slice_index_or, Option}
 use Rattle.std.specs.Prelude.{Some}
 use Rattle.ash_host.specs.declared.word.Word.{Word}
 use Rattle.ash_host.specs.declared.word.Word.TheVariants.{Null}

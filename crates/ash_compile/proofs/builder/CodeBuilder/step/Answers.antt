@@ -1,8 +1,6 @@
-use Rattle.std.proofs.Common.{rules, ◌≡◌, IfOk, ℕ, ◌+◌, refl, sym, ap, ◌∙◌, subst}
-use Rattle.ash_code.specs.declared.instruction.Instruction.{Instruction}
+use Rattle.std.proofs.Common.{ℕ, ◌+◌, ap, ◌∙◌}
 use Rattle.ash_code.specs.declared.instruction.Instruction.TheVariants as i
-use Rattle.ash_compile.specs.Emission.{Puts}
-use Rattle.ash_compile.specs.Places.{reading, writing, slot_of_old, slot_of_new, EmitsPlace}
+use Rattle.ash_compile.specs.Places.{reading, writing, slot_of_old, slot_of_new}
 use Rattle.ash_compile.proofs.Emitted.{if_ok}
 use Rattle.ash_compile.proofs.EmittedUpdates as emitted
 use Rattle.ash_compile.proofs.builder.CodeBuilder.step.Goals as goal
