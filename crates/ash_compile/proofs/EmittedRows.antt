@@ -2,9 +2,9 @@
 use Rattle.std.proofs.Common.{◌≡◌, ◌<◌, ◌≤◌, ℕ, ◌+◌, List, [], ◌∷◌, ◌++◌, length, map, get_or, drop, refl, sym, ap, ◌∙◌}
 use Rattle.std.proofs.Common.{append_assoc, append-nil}
 use Rattle.std.proofs.lemmas.List.{drop_more, drop_all}
-use Rattle.ash_typed.specs.declared.tree.expressions.Link as link_code
 use Rattle.ash_typed.specs.declared.tree.expressions.Expr as expr_code
 use Rattle.ash_typed.specs.declared.tree.expressions.Operand as operand_code
+use Rattle.ash_typed.specs.declared.tree.expressions.Link as link_code
 use Rattle.ash_typed.specs.declared.tree.operations.Lazy.{Lazy}
 use Rattle.ash_typed.specs.TypedTree.{Expr, Lazily}
 use Rattle.ash_typed.specs.TypedTreeViews.{expr_of, linked, all_linked, chained, all_chained, all_lazies}
@@ -14,7 +14,8 @@ pub chain_step : (e : Expr) (os : List operand_code.Operand) (k : ℕ) (o : oper
 chain_step e os k o low is =
     sym (ap (all_chained e) (drop_more os k o low ∙ ap (λ (x : operand_code.Operand). x ∷ drop (k + 1) os) (sym is)))
 
-pub chain_end : (e f : Expr) (os : List operand_code.Operand) (k : ℕ) → length os ≤ k → all_chained e (drop k os) ≡ f → e ≡ f
+pub chain_end : (e f : Expr) (os : List operand_code.Operand) (k : ℕ) → length os ≤ k → all_chained e (drop k os) ≡ f
+    → e ≡ f
 chain_end e f os k over is = sym (ap (all_chained e) (drop_all k os over)) ∙ is
 
 pub lazy_step : (op : Lazy) (e : Expr) (xs : List expr_code.Expr) (k : ℕ) (x : expr_code.Expr) → k < length xs

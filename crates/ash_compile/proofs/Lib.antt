@@ -21,6 +21,14 @@ pub mod FunctionCode
 pub mod Constructing
 pub mod EmittedBranches
 pub mod EmittedRows
+pub mod PlaceGuards
+pub mod PlaceSteps
+pub mod PlaceLocals
+pub mod PlaceCode
+pub mod EmittedPlaces
+pub mod Moves
+pub mod UpdateCode
+pub mod EmittedUpdates
 pub mod Arguments
 pub mod Callees
 pub mod CallCode
@@ -34,3 +42,5 @@ pub mod ArrayCode
 pub mod HostMethodCode
 pub mod Tables
 pub mod InterfaceCode
+pub mod ClassTables
+pub mod CastCode

@@ -3,4 +3,5 @@ pub mod Performances
 pub mod Layout
 pub mod Callees
 pub mod Emission
+pub mod Places
 pub mod Arguments

@@ -3,10 +3,11 @@
 //! `specs/Stretches.antt` says when a stretch of code does what a phrase does, and `specs/Emission.antt` what emitted
 //! code does, wherever it stands.
 //!
-//! In reading order: `layout`, `builder`, `expressions`, `calls`.
+//! In reading order: `layout`, `builder`, `expressions`, `places`, `calls`.
 #![tactic(auto)]
 
 pub mod builder;
 mod calls;
 pub mod expressions;
 pub mod layout;
+pub mod places;

@@ -3,6 +3,7 @@ use denote.Param.Weighed.{most}
 use Rattle.ash_typed.specs.declared.tree.expressions.Expr.{size-Expr}
 use Rattle.ash_typed.specs.declared.tree.expressions.Operand.{size-Operand}
 use Rattle.ash_typed.specs.declared.tree.expressions.Link.{size-Link}
+use Rattle.ash_typed.specs.declared.tree.expressions.Place.{size-Place}
 use Rattle.ash_typed.specs.TypedTree.{Expr}
 use Rattle.ash_typed.specs.TypedTreeViews.{expr_of, all_linked, all_chained, all_lazies}
 use Rattle.ash_compile.specs.Emission.{Emits}
@@ -31,7 +32,7 @@ abbrev pub decreases-lazily : goal.decreases-lazily
 decreases-lazily l = 4 * size-Expr l.right.now + 1
 
 abbrev pub decreases-path : goal.decreases-path
-decreases-path l = 4 * max (size-Expr l.base.now) (most size-Link l.links.now) + 1
+decreases-path l = 4 * max (size-Expr l.base.now) (most size-Link l.links.now) + 2
 
 abbrev pub decreases-link : goal.decreases-link
 decreases-link l = 4 * size-Link l.link.now
@@ -41,6 +42,9 @@ decreases-invoke l = 4 * most size-Expr l.arguments.now + 2
 
 abbrev pub decreases-arguments : goal.decreases-arguments
 decreases-arguments l = 4 * most size-Expr l.arguments.now + 1
+
+abbrev pub decreases-place : goal.decreases-place
+decreases-place l = 4 * size-Place l.place.now
 
 -- What is emitted is some expression; with what is left of the row it is the whole.
 
