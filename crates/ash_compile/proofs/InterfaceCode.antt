@@ -98,7 +98,6 @@ module _ (s : Scene) (scene : IsScene s) (interface method : ℕ) (all : List Si
       (λ a b v good ran. stays_good s e (value (vars.Handle (objects.Interface interface))) a b v scene typed good ran)
       (λ w a b d handle ws rest low long fits good ran run held are goes.
       let c = control s.function at w in
-      let m = ((s.context).program).tree in
       let got = ready s (objects.Interface interface) e es g.parameters a b d handle ws scene typed sound good ran run in
       let next : ℕ → Guarded Next
           = λ number x. guarded_onward (found_guarded (method_of (own_name s.setting) (classes_of s.setting) interface method number) x)
@@ -112,11 +111,9 @@ module _ (s : Scene) (scene : IsScene s) (interface method : ℕ) (all : List Si
           ∙ call_is s scene (Method lists.class own.own) (entry_of_method own.source own.function) (words.Object number) ws d
           (entry_there scene.sound (a_method own.there own.here)) in
       let enters = stepped
-          ∙ ap (λ (name : List ℕ). guarded_onward (found_guarded (method_of name (classes_of s.setting) interface method number) d)
-          (λ function. call s.setting function (words.Object number) (slot + 1) c)) scene.owner
           ∙ ap (λ (o : Option ℕ). guarded_onward (option_map_or (λ function. Some (Done function d)) o None)
           (λ function. call s.setting function (words.Object number) (slot + 1) c))
-          (finds_method s.setting m scene.classes ((s.context).program).name interface method number lists.class own.own
+          (finds_method s.setting (s.context).program scene.owner scene.classes interface method number lists.class own.own
           own.source d seen own.there own.found) in
       let types : g.parameters ≡ (own.function).parameters = ap (λ (x : Signature). x.parameters) (sym own.as_declared) in
       let count : length es ≡ length (own.function).parameters
