@@ -6,4 +6,5 @@ pub mod Emission
 pub mod EmittedFrames
 pub mod EmittedParts
 pub mod EmittedStatements
+pub mod Places
 pub mod Arguments

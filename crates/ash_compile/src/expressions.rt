@@ -7,17 +7,21 @@ ghost use Rattle.std.specs.Prelude.{◌≡◌, ◌+◌, List, map, IfOk, pos};
 ghost use Rattle.ash_typed.specs.declared.types.VarType.{VarType as VarTypeData};
 ghost use Rattle.ash_typed.specs.TypedTree.{Expr as ExprData, Read, Stored, Alter, Operate, Lazily, Conditional, converted};
 ghost use Rattle.ash_typed.specs.TypedTree.{Invoke, exprs};
-ghost use Rattle.ash_typed.specs.TypedTreeViews.{expr_of, linked, all_linked, chained, all_chained, all_lazies};
+ghost use Rattle.ash_typed.specs.TypedTreeViews.{expr_of, place_of, linked, all_linked, chained, all_chained, all_lazies};
 ghost use Rattle.ash_meaning.specs.OperatorMeaning.{word_at};
 ghost use Rattle.ash_compile.specs.Emission.{Emits, lazy_jump, read_local};
+ghost use Rattle.ash_compile.specs.Places.{EmitsPlace};
 ghost use Rattle.ash_compile.specs.Arguments.{EmitsArguments};
 ghost use Rattle.ash_compile.specs.declared.builder.CodeBuilder.{CodeBuilder as Written};
 
 use crate::builder::CodeBuilder;
+use crate::places::{Spot, spot_of_member, spot_of_variable};
 use ash_code::instruction::Instruction;
 use ash_host::Word;
 use ash_integers::{IntType, word_from};
-use ash_typed::{Conversion, Expr, ExprKind, Lazy, Link, Method, Operand, Operation, VarType, Variable};
+use ash_typed::{
+    Conversion, Expr, ExprKind, Lazy, Link, Method, Operand, Operation, Place, VarType, Variable,
+};
 use std::alloc::AllocError;
 
 /// The slot after one.
@@ -112,6 +116,41 @@ impl CodeBuilder {
                 otherwise,
             } => self.conditional(condition, then, otherwise, slot),
             ExprKind::Path { base, links } => self.path(base, links, slot),
+            ExprKind::Cast { to, value } => {
+                self.expression(value, slot)?;
+                self.put(
+                    slot,
+                    Instruction::Cast {
+                        object_type: *to,
+                        from: slot,
+                        to: slot,
+                    },
+                )
+            }
+            ExprKind::Assign { place, value } => {
+                self.expression(value, slot)?;
+                let next = after(slot)?;
+                let spot = self.place(place, next)?;
+                self.assignment(spot, slot)
+            }
+            ExprKind::Update {
+                place,
+                of,
+                calculation,
+                value,
+            } => {
+                self.expression(value, slot)?;
+                let left = after(slot)?;
+                let next = after(left)?;
+                let spot = self.place(place, next)?;
+                self.update(spot, *of, *calculation, slot, left)
+            }
+            ExprKind::Step { place, of, step } => {
+                let other = after(slot)?;
+                let next = after(other)?;
+                let spot = self.place(place, next)?;
+                self.step(spot, *of, *step, slot, other)
+            }
             ExprKind::Call {
                 target,
                 arguments,
@@ -120,7 +159,6 @@ impl CodeBuilder {
                 self.arguments(arguments, slot)?;
                 self.call(*target, slot, arguments.len())
             }
-            _ => Err(AllocError),
         }
     }
 
@@ -315,12 +353,40 @@ impl CodeBuilder {
             → Emits start self.new (linked e link.now) slot) }
     {
         match link {
+            Link::Member(member) => self.read_member(*member, slot),
+            Link::Index { index, .. } => {
+                let next = after(slot)?;
+                self.expression(index, next)?;
+                self.read_element(slot, next)
+            }
             Link::Invoke {
                 method,
                 arguments,
                 ..
             } => self.invoke(*method, arguments, slot),
-            Link::Member(_) | Link::Index { .. } => Err(AllocError),
+        }
+    }
+
+    /// Appends the code of what a place names, which comes into slots from one on.
+    #[cycle(expressions)]
+    fn place(&mut self, place: &Place, slot: usize) -> Result<Spot, AllocError>
+        ensures emits { IfOk result (λ spot. EmitsPlace self.old self.new (place_of place.now) spot slot) }
+    {
+        match place {
+            Place::Variable(variable) => Ok(spot_of_variable(*variable)),
+            Place::Member { object, member } => {
+                self.expression(object, slot)?;
+                Ok(spot_of_member(*member, slot))
+            }
+            Place::Element { array, index, .. } => {
+                self.expression(array, slot)?;
+                let next = after(slot)?;
+                self.expression(index, next)?;
+                Ok(Spot::Element {
+                    array: slot,
+                    index: next,
+                })
+            }
         }
     }
 
