@@ -166,7 +166,7 @@ pub zero_variable : (old mid new : CodeBuilder) (v : Initialization) (locals : �
     → word ≡ zero_of v.of
     → Puts old mid locals (i.Load word locals) → Puts mid new locals i.Declare
     → EmitsVariable old new v locals
-zero_variable old mid new v locals word none zero loads declares =
+zero_variable old mid new v locals word none same loads declares =
     more_variables old new v locals (keeps_on old mid new (put_keeps old mid locals (i.Load word locals) loads) last)
     (λ s scene is begins stands suits.
     subst (λ (o : Option Expr). DoesActs s (beginning s v.of o) (end_of old) (end_of new) (length (s.env).locals + 1))
@@ -177,7 +177,7 @@ zero_variable old mid new v locals word none zero loads declares =
     (does_zero s scene (ranked_of s scene) v.of (end_of old)
     (omega (arith, is, put_within s mid new locals i.Declare scene declares suits))
     (subst (λ (n : ℕ). HasAt s (end_of old) (i.Load (zero_of v.of) n)) is
-    (subst (λ (w : Word). HasAt s (end_of old) (i.Load w locals)) zero
+    (subst (λ (w : Word). HasAt s (end_of old) (i.Load w locals)) same
     (has_put s old mid (end_of old) locals (i.Load word locals) (omega arith) loads
     (stands_before s mid new (end_of old) last stands))))
     (subst (λ (n : ℕ). HasAt s n i.Declare) (put_one old mid locals (i.Load word locals) loads)

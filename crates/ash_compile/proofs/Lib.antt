@@ -24,3 +24,8 @@ pub mod EmittedRows
 pub mod Drafts
 pub mod EmittedParts
 pub mod Remaining
+pub mod EmittedSingly
+pub mod EmittedBlocks
+pub mod EmittedLoops
+pub mod EmittedLandings
+pub mod EmittedRepeats

@@ -27,6 +27,13 @@ fn zero_word(of: VarType) -> Word
     }
 }
 
+/// One local more.
+fn one_more(locals: usize) -> Result<usize, AllocError>
+    ensures more { IfOk result (λ more. more ≡ locals + 1) }
+{
+    locals.checked_add(1).ok_or(AllocError)
+}
+
 impl CodeBuilder {
     /// A tick at a line.
     pub(crate) fn tick(&mut self, line: usize, slot: usize) -> Result<(), AllocError>
@@ -98,7 +105,7 @@ impl CodeBuilder {
         let mut locals = locals;
         for value in values {
             self.variable_begins(value, locals)?;
-            locals = locals.checked_add(1).ok_or(AllocError)?;
+            locals = one_more(locals)?;
         }
         Ok(locals)
     }

@@ -3,7 +3,7 @@
 //! `specs/Stretches.antt` says when a stretch of code does what a phrase does, and `specs/Emission.antt` what emitted
 //! code does, wherever it stands.
 //!
-//! In reading order: `layout`, `builder`, `expressions`, `blocks`, `bodies`, `looping`, `switching`.
+//! In reading order: `layout`, `builder`, `expressions`, `blocks`, `bodies`, `looping`.
 #![tactic(auto)]
 
 mod blocks;
@@ -12,4 +12,3 @@ pub mod builder;
 pub mod expressions;
 pub mod layout;
 mod looping;
-mod switching;

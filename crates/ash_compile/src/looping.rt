@@ -32,6 +32,7 @@ fn entry_of(test: Test, line: u32, body: usize) -> Instruction
 impl CodeBuilder {
     /// `while` and `do`
     #[cycle(statements)]
+    #[tactic(none)]
     pub(crate) fn repeat(
         &mut self,
         line: usize,
@@ -53,6 +54,7 @@ impl CodeBuilder {
 
     /// `for`: the head and the loop inside it are a block. Its end is where a `break` leads.
     #[cycle(statements)]
+    #[tactic(none)]
     pub(crate) fn for_loop(
         &mut self,
         line: usize,
@@ -88,6 +90,7 @@ impl CodeBuilder {
 
     /// What is repeated, from its first tick or its jump to the body on.
     #[cycle(statements)]
+    #[tactic(none)]
     fn turns(
         &mut self,
         line: usize,
@@ -115,6 +118,7 @@ impl CodeBuilder {
     }
 
     /// The condition of a loop, if it has one. The place of its branch is returned.
+    #[tactic(none)]
     fn turn_condition(
         &mut self,
         condition: &Option<Expr>,
@@ -132,6 +136,7 @@ impl CodeBuilder {
     }
 
     /// The branch of a condition, if there is one, leads to a place.
+    #[tactic(none)]
     fn lead_out(&mut self, branch: Option<usize>, slot: usize, to: usize)
         requires there { IfSome branch (λ at. at < end_of self.old) }
         ensures leads { MayLead self.old self.new branch slot to }
@@ -143,6 +148,7 @@ impl CodeBuilder {
 
     /// The body of a loop, with the release point where its `continue` leads.
     #[cycle(statements)]
+    #[tactic(none)]
     fn loop_body(&mut self, body: &Stmt, scope: Scope, jumps: &mut Jumps) -> Result<(), AllocError>
         ensures emits { IfOk result (λ u. EmitsLoopBody (draft self.old jumps.old)
             (draft self.new jumps.new) (stmt_of body.now) scope) }
@@ -156,6 +162,7 @@ impl CodeBuilder {
     }
 
     /// A release point where jumps lead. Code that comes here goes on behind it.
+    #[tactic(none)]
     pub(crate) fn landing(&mut self, places: &[usize], slot: usize) -> Result<(), AllocError>
         requires there { AreBelow (end_of self.old) places.now }
         ensures lands { IfOk result (λ u. Landing self.old self.new places.now) }
