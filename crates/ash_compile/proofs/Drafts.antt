@@ -61,9 +61,9 @@ not_both false is isnt = cc
 pub on_either_side : {X : Type 0} (k from : ℕ) → (k < from → X) → (from ≤ k → X) → X
 on_either_side {X} k from before after = pick (nat_lt k from) refl
   where
-  pick : (t : Bool) → nat_lt k from ≡ t → X
-  pick true is = before (grind (arith, nat_tests))
-  pick false is = after (grind (arith, nat_tests))
+    pick : (t : Bool) → nat_lt k from ≡ t → X
+    pick true is = before (grind (arith, nat_tests))
+    pick false is = after (grind (arith, nat_tests))
 
 -- Jumps that wait before a place, and jumps that joined them from there on.
 pub apart_breaks : (breaks more continues : List ℕ) (from to : ℕ) → Joins breaks more from to → AreBelow from continues

@@ -40,9 +40,9 @@ below_there end ps k d below low =
 same_or_not : {X : Type 0} (p k : ℕ) → (p ≡ k → X) → ((p ≡ k → ⊥) → X) → X
 same_or_not {X} p k equal other = pick (nat_eq p k) refl
   where
-  pick : (t : Bool) → nat_eq p k ≡ t → X
-  pick true is = equal (grind (arith, nat_tests))
-  pick false is = other (λ same. not_both (nat_eq p k) (subst (λ (n : ℕ). nat_eq p n ≡ true) same (is_itself p)) is)
+    pick : (t : Bool) → nat_eq p k ≡ t → X
+    pick true is = equal (grind (arith, nat_tests))
+    pick false is = other (λ same. not_both (nat_eq p k) (subst (λ (n : ℕ). nat_eq p n ≡ true) same (is_itself p)) is)
 
 -- jumps, one after another
 
@@ -60,18 +60,18 @@ leads_more old mid new ps p to first leads low = record {
   layout = leads.layout ∙ first.layout;
 }
   where
-  there : (k : ℕ) → p ≡ k
-      → slice_get (code_of new) k ≡ (if waits (ps ++ p ∷ []) k then Some (i.Jump to) else slice_get (code_of old) k)
-  there k same =
-      subst (λ (n : ℕ). slice_get (code_of new) n
-      ≡ (if waits (ps ++ p ∷ []) n then Some (i.Jump to) else slice_get (code_of old) n)) same
-      (leads_there mid new p (i.Jump to) leads low
-      ∙ sym (ap (λ (t : Bool). if t then Some (i.Jump to) else slice_get (code_of old) p) (pushed_there ps p)))
+    there : (k : ℕ) → p ≡ k
+        → slice_get (code_of new) k ≡ (if waits (ps ++ p ∷ []) k then Some (i.Jump to) else slice_get (code_of old) k)
+    there k same =
+        subst (λ (n : ℕ). slice_get (code_of new) n
+        ≡ (if waits (ps ++ p ∷ []) n then Some (i.Jump to) else slice_get (code_of old) n)) same
+        (leads_there mid new p (i.Jump to) leads low
+        ∙ sym (ap (λ (t : Bool). if t then Some (i.Jump to) else slice_get (code_of old) p) (pushed_there ps p)))
 
-pub take_next : (ps : List ℕ) (k p : ℕ) → k < length ps → p ≡ get_or ps k p → take k ps ++ p ∷ [] ≡ take (k + 1) ps
-take_next ps k p low is =
+pub take_next : (ps : List ℕ) (k d : ℕ) → k < length ps → take k ps ++ get_or ps k d ∷ [] ≡ take (k + 1) ps
+take_next ps k d low =
     let same : suc k ≡ k + 1 = omega arith in
-    ap (λ (x : ℕ). take k ps ++ x ∷ []) is ∙ sym (take-suc ps k p low) ∙ ap (λ (n : ℕ). take n ps) same
+    sym (take-suc ps k d low) ∙ ap (λ (n : ℕ). take n ps) same
 
 -- landings
 
@@ -94,19 +94,24 @@ landing_is c0 c1 c2 c3 c4 places slot jump release end puts frees all leads jump
       (below (end_of c0 + 1) (omega arith))
       ∙ subst (λ (n : ℕ). slice_get (code_of c2) n ≡ Some i.Release) one (put_there c1 c2 slot i.Release frees);
   long = last ∙ all.long ∙ two;
-  slots = omega (arith, leads.slots, all.slots, (put_keeps c1 c2 slot i.Release frees).slots,
-      (put_keeps c0 c1 slot (i.Jump 0) puts).slots);
+  slots = omega (
+    arith,
+    leads.slots,
+    all.slots,
+    (put_keeps c1 c2 slot i.Release frees).slots,
+    (put_keeps c0 c1 slot (i.Jump 0) puts).slots,
+  );
   layout = leads.layout ∙ all.layout ∙ frees.layout ∙ puts.layout;
 }
   where
-  one : end_of c1 ≡ end_of c0 + 1
-  one = put_one c0 c1 slot (i.Jump 0) puts
+    one : end_of c1 ≡ end_of c0 + 1
+    one = put_one c0 c1 slot (i.Jump 0) puts
 
-  two : end_of c2 ≡ end_of c0 + 1 + 1
-  two = put_one c1 c2 slot i.Release frees ∙ ap (λ (n : ℕ). n + 1) one
+    two : end_of c2 ≡ end_of c0 + 1 + 1
+    two = put_one c1 c2 slot i.Release frees ∙ ap (λ (n : ℕ). n + 1) one
 
-  last : end_of c4 ≡ end_of c3
-  last = leads_end c3 c4 jump (i.Jump end) leads
+    last : end_of c4 ≡ end_of c3
+    last = leads_end c3 c4 jump (i.Jump end) leads
 
 -- bodies of functions: no jump leads out
 
@@ -136,26 +141,29 @@ body c0 c1 c2 c3 breaks continues xs locals to constructs emits first second = r
       let exit : Exit = record { at = to; outer = locals } in
       let exits : Exits = record { broken = exit; continued = exit; gives = gives } in
       let does = emits.does s exits result false false scene
-          (record {
-            locals = is;
-            broken = refl;
-            continued = refl;
-            keeps_broken = omega arith;
-            keeps_continued = omega arith;
-            returns = returns;
-          })
-          sound (λ k low. refl) (λ k low. refl) (λ k waiting. refl)
-          (λ k low high. stands k low (omega (arith, high, end)) ∙ second.code k
-          ∙ ap (λ (o : Option Instruction). if waits continues k then Some (i.Jump to) else o) (first.code k)
-          ∙ swapped (waits continues k) (waits breaks k) (Some (i.Jump to)) (slice_get (code_of c1) k))
-          (record {
-            slots = omega (arith, suits.slots, second.slots, first.slots);
-            layout = subst (λ (l : Layout). IsLayout ((s.setting).code).module ((s.context).program).tree l)
-                (second.layout ∙ first.layout) suits.layout;
-          }) in
-      (exits, does.0, refl,
-      subst (λ (n : ℕ). DoesFlow s exits (statements (calls_of s) s.depth xs) (end_of c0) n does.0) (sym end) does.2);
+      (record {
+        locals = is;
+        broken = refl;
+        continued = refl;
+        keeps_broken = omega arith;
+        keeps_continued = omega arith;
+        returns = returns;
+      })
+      sound (λ k low. refl) (λ k low. refl) (λ k waiting. refl)
+      (λ k low high. stands k low (omega (arith, high, end)) ∙ second.code k
+      ∙ ap (λ (o : Option Instruction). if waits continues k then Some (i.Jump to) else o) (first.code k)
+      ∙ swapped (waits continues k) (waits breaks k) (Some (i.Jump to)) (slice_get (code_of c1) k))
+      (record {
+        slots = omega (arith, suits.slots, second.slots, first.slots);
+        layout = subst (λ (l : Layout). IsLayout ((s.setting).code).module ((s.context).program).tree l)
+            (second.layout ∙ first.layout) suits.layout;
+      }) in (
+        exits,
+        does.0,
+        refl,
+        subst (λ (n : ℕ). DoesFlow s exits (statements (calls_of s) s.depth xs) (end_of c0) n does.0) (sym end) does.2,
+      );
 }
   where
-  end : end_of c3 ≡ end_of c1
-  end = second.long ∙ first.long
+    end : end_of c3 ≡ end_of c1
+    end = second.long ∙ first.long

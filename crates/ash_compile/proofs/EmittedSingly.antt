@@ -73,8 +73,8 @@ evaluate old mid new line e scope puts emits =
     (stands_after s (code_of new) (end_of old) (end_of mid) (end_of new)
     (omega (arith, put_one old mid scope.locals (i.Tick line) puts)) stands) suits)))
   where
-  later : Keeps mid new
-  later = evaluation_keeps mid new e scope.locals emits
+    later : Keeps mid new
+    later = evaluation_keeps mid new e scope.locals emits
 
 -- `return`
 
@@ -100,11 +100,11 @@ return_nothing old mid new line scope j is ticks ends =
     (has_put s mid new (end_of old) scope.locals j (omega (arith, one)) ends stands)))
     (inside.returns).nothing))
   where
-  one : end_of mid ≡ end_of old + 1
-  one = put_one old mid scope.locals (i.Tick line) ticks
+    one : end_of mid ≡ end_of old + 1
+    one = put_one old mid scope.locals (i.Tick line) ticks
 
-  later : Keeps mid new
-  later = put_keeps mid new scope.locals j ends
+    later : Keeps mid new
+    later = put_keeps mid new scope.locals j ends
 
 pub return_value : (old mid last new : CodeBuilder) (line : ℕ) (e : Expr) (scope : Scope)
     → Puts old mid scope.locals (i.Tick line) → Emits mid last e scope.locals → Puts last new scope.locals (i.Return scope.locals)
@@ -115,31 +115,31 @@ return_value old mid last new line e scope ticks emits returns =
     (keeps_on old mid new (put_keeps old mid scope.locals (i.Tick line) ticks) (keeps_on mid last new emits.keeps end))
     (λ s exits result b c scene inside sound stands suits. by_sound s exits result b c scene inside sound stands suits)
   where
-  one : end_of mid ≡ end_of old + 1
-  one = put_one old mid scope.locals (i.Tick line) ticks
+    one : end_of mid ≡ end_of old + 1
+    one = put_one old mid scope.locals (i.Tick line) ticks
 
-  end : Keeps last new
-  end = put_keeps last new scope.locals (i.Return scope.locals) returns
+    end : Keeps last new
+    end = put_keeps last new scope.locals (i.Return scope.locals) returns
 
-  by_sound : (s : Scene) (exits : Exits) (result : Option VarType) (b c : Bool) → IsScene s → IsIn scope s exits result
-      → IsSoundStmt (typed_scope s result b c) (Return line (Some e))
-      → Stands s (code_of new) (end_of old) (end_of new) → Suits s new
-      → DoesFlow s exits (statement (calls_of s) s.depth (Return line (Some e))) (end_of old) (end_of new)
-      (length (s.env).locals)
-  by_sound s exits result b c scene inside (typing.return_value {of = of} is (fits typed subtype)) stands suits =
-      let later = stands_before s last new (end_of old) end stands in
-      does_return_value s scene (ranked_of s scene) exits line e (end_of old) (end_of last) (end_of new)
-      (has_put s old mid (end_of old) scope.locals (i.Tick line) (omega arith) ticks
-      (stands_before s mid last (end_of old) emits.keeps later))
-      (subst (λ (n : ℕ). DoesExpression s e n (end_of last) (length (s.env).locals)) one
-      (subst (λ (n : ℕ). DoesExpression s e (end_of mid) (end_of last) n) inside.locals
-      (emits.does s _ scene typed
-      (stands_after s (code_of last) (end_of old) (end_of mid) (end_of last) (omega (arith, one)) later)
-      (suits_before s last new end suits))))
-      (subst (λ (n : ℕ). HasAt s (end_of last) (i.Return n)) inside.locals
-      (has_put s last new (end_of old) scope.locals (i.Return scope.locals) (omega (arith, one, (emits.keeps).longer)) returns
-      stands))
-      ((inside.returns).value of is)
+    by_sound : (s : Scene) (exits : Exits) (result : Option VarType) (b c : Bool) → IsScene s → IsIn scope s exits result
+        → IsSoundStmt (typed_scope s result b c) (Return line (Some e))
+        → Stands s (code_of new) (end_of old) (end_of new) → Suits s new
+        → DoesFlow s exits (statement (calls_of s) s.depth (Return line (Some e))) (end_of old) (end_of new)
+        (length (s.env).locals)
+    by_sound s exits result b c scene inside (typing.return_value {of = of} is (fits typed subtype)) stands suits =
+        let later = stands_before s last new (end_of old) end stands in
+        does_return_value s scene (ranked_of s scene) exits line e (end_of old) (end_of last) (end_of new)
+        (has_put s old mid (end_of old) scope.locals (i.Tick line) (omega arith) ticks
+        (stands_before s mid last (end_of old) emits.keeps later))
+        (subst (λ (n : ℕ). DoesExpression s e n (end_of last) (length (s.env).locals)) one
+        (subst (λ (n : ℕ). DoesExpression s e (end_of mid) (end_of last) n) inside.locals
+        (emits.does s _ scene typed
+        (stands_after s (code_of last) (end_of old) (end_of mid) (end_of last) (omega (arith, one)) later)
+        (suits_before s last new end suits))))
+        (subst (λ (n : ℕ). HasAt s (end_of last) (i.Return n)) inside.locals
+        (has_put s last new (end_of old) scope.locals (i.Return scope.locals) (omega (arith, one, (emits.keeps).longer)) returns
+        stands))
+        ((inside.returns).value of is)
 
 -- `break` and `continue`
 
@@ -190,8 +190,8 @@ module _ (old new : CodeBuilder) (line count slot jump : ℕ) (leaves : LeavesBl
         let d = with_jumps new (breaks ++ jump ∷ []) continues in
         let outer : count ≡ (exits.broken).outer = is ∙ inside.broken in
         let plainly_there : (k : ℕ) → end_of old ≤ k → (jump ≡ k → ⊥) → shown exits d k ≡ slice_get (code_of new) k
-            = λ k low other.
-            shown_code exits d k (pushed_other breaks jump k other ∙ no_breaks k low) (no_continues k low) in
+        = λ k low other.
+        shown_code exits d k (pushed_other breaks jump k other ∙ no_breaks k low) (no_continues k low) in
         does_break s scene (ranked_of s scene) exits line (end_of old) (end_of new)
         (omega (arith, inside.keeps_broken, inside.broken, inside.locals))
         (stands (end_of old) (omega arith) (omega (arith, end_is))
@@ -220,8 +220,8 @@ module _ (old new : CodeBuilder) (line count slot jump : ℕ) (leaves : LeavesBl
         let d = with_jumps new breaks (continues ++ jump ∷ []) in
         let outer : count ≡ (exits.continued).outer = is ∙ inside.continued in
         let plainly_there : (k : ℕ) → end_of old ≤ k → (jump ≡ k → ⊥) → shown exits d k ≡ slice_get (code_of new) k
-            = λ k low other.
-            shown_code exits d k (no_breaks k low) (pushed_other continues jump k other ∙ no_continues k low) in
+        = λ k low other.
+        shown_code exits d k (no_breaks k low) (pushed_other continues jump k other ∙ no_continues k low) in
         does_continue s scene (ranked_of s scene) exits line (end_of old) (end_of new)
         (omega (arith, inside.keeps_continued, inside.continued, inside.locals))
         (stands (end_of old) (omega arith) (omega (arith, end_is))

@@ -100,7 +100,6 @@ impl CodeBuilder {
     ///
     /// If there is no memory, or there are no more slots.
     #[cycle(statements)]
-    #[tactic(none)]
     pub(crate) fn statement(
         &mut self,
         stmt: &Stmt,
@@ -175,7 +174,6 @@ impl CodeBuilder {
 
     /// A statement of a list. How many locals there are after it is returned.
     #[cycle(statements)]
-    #[tactic(none)]
     fn listed(&mut self, stmt: &Stmt, scope: Scope, jumps: &mut Jumps) -> Result<usize, AllocError>
         ensures emits { IfOk result (λ locals. EmitsListed (draft self.old jumps.old)
             (draft self.new jumps.new) (stmt_of stmt.now) scope locals) }
@@ -191,7 +189,6 @@ impl CodeBuilder {
 
     /// A list of statements, each of which sees the variables that those before it declare.
     #[cycle(statements)]
-    #[tactic(none)]
     pub(crate) fn statements(
         &mut self,
         stmts: &[Stmt],
@@ -210,7 +207,6 @@ impl CodeBuilder {
 
     /// A block. Its end is a release point.
     #[cycle(statements)]
-    #[tactic(none)]
     fn block(
         &mut self,
         line: usize,
@@ -232,7 +228,6 @@ impl CodeBuilder {
 
     /// `if` without `else`
     #[cycle(statements)]
-    #[tactic(none)]
     fn if_only(
         &mut self,
         line: usize,
@@ -254,7 +249,6 @@ impl CodeBuilder {
 
     /// `if` and `else`
     #[cycle(statements)]
-    #[tactic(none)]
     fn if_else(
         &mut self,
         line: usize,
@@ -281,7 +275,6 @@ impl CodeBuilder {
     }
 
     /// Writes jumps again, once their target is known.
-    #[tactic(none)]
     pub(crate) fn lead_all(&mut self, places: &[usize], to: usize)
         requires there { AreBelow (end_of self.old) places.now }
         ensures leads { LeadsAll self.old self.new places.now to }

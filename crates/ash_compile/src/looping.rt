@@ -12,6 +12,7 @@ ghost use Rattle.ash_compile.specs.Emission.{end_of};
 ghost use Rattle.ash_compile.specs.EmittedStatements.{AreBelow, draft, EmitsStatement, EmitsLoop, EmitsLoopBody};
 ghost use Rattle.ash_compile.specs.EmittedStatements.{MayTest, MayLead, Landing, loop_entry};
 
+use crate::blocks::line_of;
 use crate::bodies::{Jumps, Scope, branch_to};
 use crate::builder::CodeBuilder;
 use ash_code::instruction::Instruction;
@@ -32,7 +33,6 @@ fn entry_of(test: Test, line: u32, body: usize) -> Instruction
 impl CodeBuilder {
     /// `while` and `do`
     #[cycle(statements)]
-    #[tactic(none)]
     pub(crate) fn repeat(
         &mut self,
         line: usize,
@@ -54,7 +54,6 @@ impl CodeBuilder {
 
     /// `for`: the head and the loop inside it are a block. Its end is where a `break` leads.
     #[cycle(statements)]
-    #[tactic(none)]
     pub(crate) fn for_loop(
         &mut self,
         line: usize,
@@ -90,7 +89,6 @@ impl CodeBuilder {
 
     /// What is repeated, from its first tick or its jump to the body on.
     #[cycle(statements)]
-    #[tactic(none)]
     fn turns(
         &mut self,
         line: usize,
@@ -102,7 +100,7 @@ impl CodeBuilder {
             (draft self.new jumps.new) line (loop_of inside.now) scope) }
     {
         let slot = scope.locals;
-        let line = u32::try_from(line).map_err(|_| AllocError)?;
+        let line = line_of(line)?;
         let entry = self.here();
         self.put(slot, entry_of(inside.test, line, 0))?;
         let head = self.here();
@@ -118,7 +116,6 @@ impl CodeBuilder {
     }
 
     /// The condition of a loop, if it has one. The place of its branch is returned.
-    #[tactic(none)]
     fn turn_condition(
         &mut self,
         condition: &Option<Expr>,
@@ -136,7 +133,6 @@ impl CodeBuilder {
     }
 
     /// The branch of a condition, if there is one, leads to a place.
-    #[tactic(none)]
     fn lead_out(&mut self, branch: Option<usize>, slot: usize, to: usize)
         requires there { IfSome branch (λ at. at < end_of self.old) }
         ensures leads { MayLead self.old self.new branch slot to }
@@ -148,7 +144,6 @@ impl CodeBuilder {
 
     /// The body of a loop, with the release point where its `continue` leads.
     #[cycle(statements)]
-    #[tactic(none)]
     fn loop_body(&mut self, body: &Stmt, scope: Scope, jumps: &mut Jumps) -> Result<(), AllocError>
         ensures emits { IfOk result (λ u. EmitsLoopBody (draft self.old jumps.old)
             (draft self.new jumps.new) (stmt_of body.now) scope) }
@@ -162,7 +157,6 @@ impl CodeBuilder {
     }
 
     /// A release point where jumps lead. Code that comes here goes on behind it.
-    #[tactic(none)]
     pub(crate) fn landing(&mut self, places: &[usize], slot: usize) -> Result<(), AllocError>
         requires there { AreBelow (end_of self.old) places.now }
         ensures lands { IfOk result (λ u. Landing self.old self.new places.now) }
