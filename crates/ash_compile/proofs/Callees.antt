@@ -125,19 +125,19 @@ module _ (s : Scene) (scene : IsScene s) where
   gives_left {env = env} {result} {e} (a_function at) envs a d same well =
       weaken (λ v b r.
       ((r.passes).callers ∙ same, given_alive (value_or_null v) b r.value,
-      scene.ranks b.world ((r.passes).well).world))
+      scene.ranks _ _ b (r.passes).well))
       ((keeps_bodies scene.sound s.depth).keeps env result e (entry_is scene.sound (a_function at)) envs d well)
   gives_left {env = env} {result} {e} (a_method at here) envs a d same well =
       weaken (λ v b r.
       ((r.passes).callers ∙ same, given_alive (value_or_null v) b r.value,
-      scene.ranks b.world ((r.passes).well).world))
+      scene.ranks _ _ b (r.passes).well))
       ((keeps_bodies scene.sound s.depth).keeps env result e (entry_is scene.sound (a_method at here)) envs d well)
   gives_left {env = env} {result} {e} (a_construction at) envs a d same well =
       bind ((keeps_bodies scene.sound s.depth).keeps env result e (entry_is scene.sound (a_construction at)) envs d well)
       (λ v b r. done
       ((r.passes).callers ∙ same,
       object_alive s.context env.this (b.frame).this b (((r.passes).well).frame).this,
-      scene.ranks b.world ((r.passes).well).world))
+      scene.ranks _ _ b (r.passes).well))
 
   pub returns_from : {callee : ModuleCallee} {env : TypedEnvironment} {result : Option VarType} {e : Entry}
       (is : IsCallee s.context callee env result e) (envs : List TypedEnvironment) (caller place : ℕ) (a : Activity)

@@ -1,6 +1,6 @@
 -- Code of statements while it is written: jumps that wait, and code that grows.
 use Rattle.std.proofs.Common.{◌≡◌, ◌≤◌, ◌<◌, ℕ, zero, suc, ◌+◌, List, [], ◌∷◌, ◌++◌, length, refl, sym, ap, ◌∙◌, subst, arith}
-use Rattle.std.proofs.Common.{true, false, Bool}
+use Rattle.std.proofs.Common.{true, false, Bool, nat_lt}
 use Rattle.std.specs.Prelude.{Option, Some, None, ◌||◌, nat_eq, slice_get, if◌then◌else◌}
 use Rattle.std.proofs.lemmas.Bool.Decides.{nat_tests}
 use Rattle.ash_code.specs.declared.instruction.Instruction.{Instruction}
@@ -8,7 +8,7 @@ use Rattle.ash_code.specs.declared.instruction.Instruction.TheVariants as i
 use Rattle.ash_compile.specs.declared.builder.CodeBuilder.{CodeBuilder}
 use Rattle.ash_compile.specs.Performances.{Exit, Exits}
 use Rattle.ash_compile.specs.Emission.{code_of, end_of, Keeps, Leads, Scene, Stands}
-use Rattle.ash_compile.specs.EmittedStatements.{waits, AreBelow, Draft, with_jumps, end_in, Joins, Grows, shown, StandsWith}
+use Rattle.ash_compile.specs.EmittedStatements.{waits, AreBelow, AreApart, Draft, with_jumps, end_in, Joins, Grows, shown, StandsWith}
 use Rattle.ash_compile.proofs.Emission.{keeps_on}
 use Rattle.ash_compile.proofs.EmittedBranches.{leads_other}
 
@@ -17,7 +17,10 @@ use Rattle.ash_compile.proofs.EmittedBranches.{leads_other}
 differs : (p k : ℕ) → (p ≡ k → ⊥) → nat_eq p k ≡ false
 differs p k apart = grind (arith, nat_tests)
 
-or_true : (t : Bool) → (t || true) ≡ true
+pub is_itself : (p : ℕ) → nat_eq p p ≡ true
+is_itself p = grind (arith, nat_tests)
+
+pub or_true : (t : Bool) → (t || true) ≡ true
 or_true true = refl
 or_true false = refl
 
@@ -26,7 +29,7 @@ pushed_other [] p k apart = ap (λ (t : Bool). t || false) (differs p k apart)
 pushed_other (q ∷ ps) p k apart = ap (λ (t : Bool). nat_eq q k || t) (pushed_other ps p k apart)
 
 pub pushed_there : (ps : List ℕ) (p : ℕ) → waits (ps ++ p ∷ []) p ≡ true
-pushed_there [] p = ap (λ (t : Bool). t || false) (grind (arith, nat_tests))
+pushed_there [] p = ap (λ (t : Bool). t || false) (is_itself p)
 pushed_there (q ∷ ps) p = ap (λ (t : Bool). nat_eq q p || t) (pushed_there ps p) ∙ or_true (nat_eq q p)
 
 pub joins_none : (ps : List ℕ) (from to : ℕ) → from ≤ to → Joins ps ps from to
@@ -44,6 +47,36 @@ joins_on a b c from mid to later first second = record {
   below = λ below. second.below (first.below below);
 }
 
+pub joins_wider : (a b : List ℕ) (from later to end : ℕ) → from ≤ later → to ≤ end → Joins a b later to → Joins a b from end
+joins_wider a b from later to end low high joins = record {
+  same = λ k before. joins.same k (omega (arith, before, low));
+  below = λ below k after. joins.below (λ n more. below n (omega (arith, more, low))) k (omega (arith, after, high));
+}
+
+pub not_both : (t : Bool) → t ≡ true → t ≡ false → ⊥
+not_both true is isnt = cc
+not_both false is isnt = cc
+
+-- a place is before another one, or not
+pub on_either_side : {X : Type 0} (k from : ℕ) → (k < from → X) → (from ≤ k → X) → X
+on_either_side {X} k from before after = pick (nat_lt k from) refl
+  where
+    pick : (t : Bool) → nat_lt k from ≡ t → X
+    pick true is = before (grind (arith, nat_tests))
+    pick false is = after (grind (arith, nat_tests))
+
+-- Jumps that wait before a place, and jumps that joined them from there on.
+pub apart_breaks : (breaks more continues : List ℕ) (from to : ℕ) → Joins breaks more from to → AreBelow from continues
+    → AreApart breaks continues → AreApart more continues
+apart_breaks breaks more continues from to joins below apart k waiting =
+    on_either_side k from (λ low. apart k (sym (joins.same k low) ∙ waiting)) (λ high. below k high)
+
+pub apart_continues : (breaks continues more : List ℕ) (from to : ℕ) → Joins continues more from to → AreBelow from breaks
+    → AreApart breaks continues → AreApart breaks more
+apart_continues breaks continues more from to joins below apart k waiting =
+    on_either_side k from (λ low. joins.same k low ∙ apart k waiting)
+    (λ high. absurd (not_both (waits breaks k) waiting (below k high)))
+
 -- code that grows
 
 pub grows_code : (old new : CodeBuilder) (breaks continues : List ℕ) → Keeps old new
@@ -52,6 +85,7 @@ grows_code old new breaks continues keeps = record {
   code = keeps;
   breaks = joins_none breaks (end_of old) (end_of new) keeps.longer;
   continues = joins_none continues (end_of old) (end_of new) keeps.longer;
+  apart = λ below_breaks below_continues apart. apart;
 }
 
 pub grows_on : (old mid new : Draft) → Grows old mid → Grows mid new → Grows old new
@@ -61,6 +95,8 @@ grows_on old mid new first second = record {
       second.breaks;
   continues = joins_on old.continues mid.continues new.continues (end_in old) (end_in mid) (end_in new) (first.code).longer
       first.continues second.continues;
+  apart = λ breaks continues apart.
+      second.apart ((first.breaks).below breaks) ((first.continues).below continues) (first.apart breaks continues apart);
 }
 
 -- what code has at a place

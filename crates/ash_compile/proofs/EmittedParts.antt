@@ -125,14 +125,15 @@ no_variables c locals = record {
   does = λ s types scene is sound stands suits. none s types scene is sound;
 }
   where
-  none : (s : Scene) (types : List VarType) → IsScene s → locals ≡ length (s.env).locals
-      → AreSoundDeclarations s.env [] types
-      → (locals ≡ length ((s.env).locals ++ types))
-      × DoesActs s (declare_all (calls_of s) []) (end_of c) (end_of c) locals
-  none s types scene is none_declared =
-      (is ∙ sym (ap length (append-nil (s.env).locals)),
+    none : (s : Scene) (types : List VarType) → IsScene s → locals ≡ length (s.env).locals
+        → AreSoundDeclarations s.env [] types
+        → (locals ≡ length ((s.env).locals ++ types))
+        × DoesActs s (declare_all (calls_of s) []) (end_of c) (end_of c) locals
+    none s types scene is none_declared = (
+      is ∙ sym (ap length (append-nil (s.env).locals)),
       subst (λ (n : ℕ). DoesActs s (declare_all (calls_of s) []) (end_of c) (end_of c) n) (sym is)
-      (does_no_declarations s scene (ranked_of s scene) (end_of c) (length (s.env).locals)))
+          (does_no_declarations s scene (ranked_of s scene) (end_of c) (length (s.env).locals)),
+    )
 
 -- What a variable begins with, and then the variables after it.
 pub more_variables : (old new : CodeBuilder) (v : Initialization) (locals : ℕ) → Keeps old new
@@ -145,28 +146,29 @@ more_variables old new v locals keeps first end vs more rest = record {
   does = λ s types scene is sound stands suits. next s types scene is sound stands suits;
 }
   where
-  next : (s : Scene) (types : List VarType) → IsScene s → locals ≡ length (s.env).locals
-      → AreSoundDeclarations s.env (v ∷ vs) types
-      → Stands s (code_of end) (end_of old) (end_of end) → Suits s end
-      → (more ≡ length ((s.env).locals ++ types))
-      × DoesActs s (declare_all (calls_of s) (v ∷ vs)) (end_of old) (end_of end) more
-  next s types scene is (and_declared {types = ts} begins sound) stands suits =
-      let later = rest.does (with_types s (v.of ∷ [])) ts (still_scene s (v.of ∷ []) scene)
-          (ap (λ (n : ℕ). n + 1) is ∙ sym (one_longer s v.of)) sound
-          (stands_after s (code_of end) (end_of old) (end_of new) (end_of end) keeps.longer stands)
-          (suits_still s (v.of ∷ []) end suits) in
-      (later.0 ∙ ap length (append_assoc (s.env).locals (v.of ∷ []) ts),
-      does_declarations s scene (ranked_of s scene) v vs (end_of old) (end_of new) (end_of end) more begins.value
-      (first s scene is begins.value (stands_before s new end (end_of old) rest.keeps stands)
-      (suits_before s new end rest.keeps suits))
-      (subst (λ (n : ℕ). Acts s.setting (Good (with_types s (v.of ∷ []))) s.function s.room (declare_all (calls_of s) vs)
-      (end_of new) (end_of end) n more) (one_longer s v.of) later.1))
+    next : (s : Scene) (types : List VarType) → IsScene s → locals ≡ length (s.env).locals
+        → AreSoundDeclarations s.env (v ∷ vs) types
+        → Stands s (code_of end) (end_of old) (end_of end) → Suits s end
+        → (more ≡ length ((s.env).locals ++ types))
+        × DoesActs s (declare_all (calls_of s) (v ∷ vs)) (end_of old) (end_of end) more
+    next s types scene is (and_declared {types = ts} begins sound) stands suits =
+        let later = rest.does (with_types s (v.of ∷ [])) ts (still_scene s (v.of ∷ []) scene)
+        (ap (λ (n : ℕ). n + 1) is ∙ sym (one_longer s v.of)) sound
+        (stands_after s (code_of end) (end_of old) (end_of new) (end_of end) keeps.longer stands)
+        (suits_still s (v.of ∷ []) end suits) in (
+          later.0 ∙ ap length (append_assoc (s.env).locals (v.of ∷ []) ts),
+          does_declarations s scene (ranked_of s scene) v vs (end_of old) (end_of new) (end_of end) more begins.value
+              (first s scene is begins.value (stands_before s new end (end_of old) rest.keeps stands)
+              (suits_before s new end rest.keeps suits))
+              (subst (λ (n : ℕ). Acts s.setting (Good (with_types s (v.of ∷ []))) s.function s.room (declare_all (calls_of s) vs)
+              (end_of new) (end_of end) n more) (one_longer s v.of) later.1),
+        )
 
 pub zero_variable : (old mid new : CodeBuilder) (v : Initialization) (locals : ℕ) (word : Word) → v.value ≡ None
     → word ≡ zero_of v.of
     → Puts old mid locals (i.Load word locals) → Puts mid new locals i.Declare
     → EmitsVariable old new v locals
-zero_variable old mid new v locals word none zero loads declares =
+zero_variable old mid new v locals word none same loads declares =
     more_variables old new v locals (keeps_on old mid new (put_keeps old mid locals (i.Load word locals) loads) last)
     (λ s scene is begins stands suits.
     subst (λ (o : Option Expr). DoesActs s (beginning s v.of o) (end_of old) (end_of new) (length (s.env).locals + 1))
@@ -177,15 +179,15 @@ zero_variable old mid new v locals word none zero loads declares =
     (does_zero s scene (ranked_of s scene) v.of (end_of old)
     (omega (arith, is, put_within s mid new locals i.Declare scene declares suits))
     (subst (λ (n : ℕ). HasAt s (end_of old) (i.Load (zero_of v.of) n)) is
-    (subst (λ (w : Word). HasAt s (end_of old) (i.Load w locals)) zero
+    (subst (λ (w : Word). HasAt s (end_of old) (i.Load w locals)) same
     (has_put s old mid (end_of old) locals (i.Load word locals) (omega arith) loads
     (stands_before s mid new (end_of old) last stands))))
     (subst (λ (n : ℕ). HasAt s n i.Declare) (put_one old mid locals (i.Load word locals) loads)
     (has_put s mid new (end_of old) locals i.Declare
     (omega (arith, put_one old mid locals (i.Load word locals) loads)) declares stands)))))
   where
-  last : Keeps mid new
-  last = put_keeps mid new locals i.Declare declares
+    last : Keeps mid new
+    last = put_keeps mid new locals i.Declare declares
 
 pub value_variable : (old mid new : CodeBuilder) (v : Initialization) (locals : ℕ) (e : Expr) → v.value ≡ Some e
     → Emits old mid e locals → Puts mid new locals i.DeclareAndEnd
@@ -198,19 +200,19 @@ value_variable old mid new v locals e some emits declares =
     (by_fitting s scene is
     (begins_fitting s scene (subst (λ (o : Option Expr). IsSoundBeginning s.env v.of o) some begins)) stands suits))
   where
-  last : Keeps mid new
-  last = put_keeps mid new locals i.DeclareAndEnd declares
+    last : Keeps mid new
+    last = put_keeps mid new locals i.DeclareAndEnd declares
 
-  by_fitting : (s : Scene) → IsScene s → locals ≡ length (s.env).locals → Fits s.env v.of e
-      → Stands s (code_of new) (end_of old) (end_of new) → Suits s new
-      → DoesActs s (beginning s v.of (Some e)) (end_of old) (end_of new) (length (s.env).locals + 1)
-  by_fitting s scene is (fits typed subtype) stands suits =
-      subst (λ (n : ℕ). DoesActs s (beginning s v.of (Some e)) (end_of old) n (length (s.env).locals + 1))
-      (sym (put_one mid new locals i.DeclareAndEnd declares))
-      (does_value s scene (ranked_of s scene) v.of e _ (end_of old) (end_of mid) typed
-      (subst (λ (n : ℕ). DoesExpression s e (end_of old) (end_of mid) n) is
-      (emits.does s _ scene typed (stands_before s mid new (end_of old) last stands) (suits_before s mid new last suits)))
-      (has_put s mid new (end_of old) locals i.DeclareAndEnd (emits.keeps).longer declares stands))
+    by_fitting : (s : Scene) → IsScene s → locals ≡ length (s.env).locals → Fits s.env v.of e
+        → Stands s (code_of new) (end_of old) (end_of new) → Suits s new
+        → DoesActs s (beginning s v.of (Some e)) (end_of old) (end_of new) (length (s.env).locals + 1)
+    by_fitting s scene is (fits typed subtype) stands suits =
+        subst (λ (n : ℕ). DoesActs s (beginning s v.of (Some e)) (end_of old) n (length (s.env).locals + 1))
+        (sym (put_one mid new locals i.DeclareAndEnd declares))
+        (does_value s scene (ranked_of s scene) v.of e _ (end_of old) (end_of mid) typed
+        (subst (λ (n : ℕ). DoesExpression s e (end_of old) (end_of mid) n) is
+        (emits.does s _ scene typed (stands_before s mid new (end_of old) last stands) (suits_before s mid new last suits)))
+        (has_put s mid new (end_of old) locals i.DeclareAndEnd (emits.keeps).longer declares stands))
 
 -- heads of `for`
 
@@ -220,14 +222,15 @@ no_parts c locals = record {
   does = λ s types scene is sound stands suits. none s types scene is sound;
 }
   where
-  none : (s : Scene) (types : List VarType) → IsScene s → locals ≡ length (s.env).locals
-      → IsSoundHead s.env no_head types
-      → (locals ≡ length ((s.env).locals ++ types))
-      × DoesActs s (begin (calls_of s) no_head) (end_of c) (end_of c) locals
-  none s types scene is head_is_empty =
-      (is ∙ sym (ap length (append-nil (s.env).locals)),
+    none : (s : Scene) (types : List VarType) → IsScene s → locals ≡ length (s.env).locals
+        → IsSoundHead s.env no_head types
+        → (locals ≡ length ((s.env).locals ++ types))
+        × DoesActs s (begin (calls_of s) no_head) (end_of c) (end_of c) locals
+    none s types scene is head_is_empty = (
+      is ∙ sym (ap length (append-nil (s.env).locals)),
       subst (λ (n : ℕ). DoesActs s (begin (calls_of s) no_head) (end_of c) (end_of c) n) (sym is)
-      (does_no_declarations s scene (ranked_of s scene) (end_of c) (length (s.env).locals)))
+          (does_no_declarations s scene (ranked_of s scene) (end_of c) (length (s.env).locals)),
+    )
 
 pub head_of_variables : (old new : CodeBuilder) (vs : List Initialization) (locals more : ℕ)
     → EmitsVariables old new vs locals more → EmitsHead old new (declared_head vs) locals more
@@ -236,9 +239,9 @@ head_of_variables old new vs locals more emits = record {
   does = λ s types scene is sound stands suits. emits.does s types scene is (declared s types sound) stands suits;
 }
   where
-  declared : (s : Scene) (types : List VarType) → IsSoundHead s.env (declared_head vs) types
-      → AreSoundDeclarations s.env vs types
-  declared s types (head_declares sound) = sound
+    declared : (s : Scene) (types : List VarType) → IsSoundHead s.env (declared_head vs) types
+        → AreSoundDeclarations s.env vs types
+    declared s types (head_declares sound) = sound
 
 pub head_of_evaluation : (old new : CodeBuilder) (e : Expr) (locals : ℕ)
     → EmitsEvaluation old new e locals → EmitsHead old new (evaluated_head e) locals locals
@@ -247,12 +250,13 @@ head_of_evaluation old new e locals emits = record {
   does = λ s types scene is sound stands suits. evaluated s types scene is sound stands suits;
 }
   where
-  evaluated : (s : Scene) (types : List VarType) → IsScene s → locals ≡ length (s.env).locals
-      → IsSoundHead s.env (evaluated_head e) types
-      → Stands s (code_of new) (end_of old) (end_of new) → Suits s new
-      → (locals ≡ length ((s.env).locals ++ types))
-      × DoesActs s (begin (calls_of s) (evaluated_head e)) (end_of old) (end_of new) locals
-  evaluated s types scene is (head_evaluates typed) stands suits =
-      (is ∙ sym (ap length (append-nil (s.env).locals)),
+    evaluated : (s : Scene) (types : List VarType) → IsScene s → locals ≡ length (s.env).locals
+        → IsSoundHead s.env (evaluated_head e) types
+        → Stands s (code_of new) (end_of old) (end_of new) → Suits s new
+        → (locals ≡ length ((s.env).locals ++ types))
+        × DoesActs s (begin (calls_of s) (evaluated_head e)) (end_of old) (end_of new) locals
+    evaluated s types scene is (head_evaluates typed) stands suits = (
+      is ∙ sym (ap length (append-nil (s.env).locals)),
       subst (λ (n : ℕ). DoesActs s (begin (calls_of s) (evaluated_head e)) (end_of old) (end_of new) n) (sym is)
-      (evaluation_does old new e locals emits s scene is typed stands suits))
+          (evaluation_does old new e locals emits s scene is typed stands suits),
+    )

@@ -58,3 +58,8 @@ pub mod Tables
 pub mod InterfaceCode
 pub mod ClassTables
 pub mod CastCode
+pub mod EmittedSingly
+pub mod EmittedBlocks
+pub mod EmittedLoops
+pub mod EmittedLandings
+pub mod EmittedRepeats

@@ -7,4 +7,4 @@ pub next_of : {A : Type 0} (xs : List A) (k : ℕ) (x : A) → k < length xs →
 next_of xs k x low is = sym (drop_more xs k x low ∙ ap (λ y. y ∷ drop (k + 1) xs) (sym is))
 
 pub none_of : {A : Type 0} (xs : List A) (k : ℕ) → length xs ≤ k → [] ≡ drop k xs
-none_of xs k over = sym (drop_all xs k over)
+none_of xs k over = sym (drop_all k xs over)

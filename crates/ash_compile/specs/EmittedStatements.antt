@@ -65,11 +65,17 @@ pub record Joins (old new : List ℕ) (from to : ℕ) : Type 0 where
   pub same : (k : ℕ) → k < from → waits new k ≡ waits old k
   pub below : AreBelow from old → AreBelow to new
 
+-- No jump that waits is both.
+abbrev pub AreApart : List ℕ → List ℕ → Type 0
+AreApart breaks continues = (k : ℕ) → waits breaks k ≡ true → waits continues k ≡ false
+
 -- The code grew, and what was there stays.
 pub record Grows (old new : Draft) : Type 0 where
   pub code : Keeps old.code new.code
   pub breaks : Joins old.breaks new.breaks (end_in old) (end_in new)
   pub continues : Joins old.continues new.continues (end_in old) (end_in new)
+  pub apart : AreBelow (end_in old) old.breaks → AreBelow (end_in old) old.continues
+      → AreApart old.breaks old.continues → AreApart new.breaks new.continues
 
 -- the instruction at a place, if jumps lead to these exits
 abbrev pub shown : Exits → Draft → ℕ → Option Instruction
@@ -126,6 +132,7 @@ Wherever old new scope IsSound Does =
     → IsSound s exits result breaks continues
     → AreBelow (end_in old) old.breaks
     → AreBelow (end_in old) old.continues
+    → AreApart old.breaks old.continues
     → StandsWith s exits new (end_in old) (end_in new)
     → Suits s new.code
     → Does s exits
@@ -272,6 +279,7 @@ pub record Landing (old new : CodeBuilder) (places : List ℕ) : Type 0 where
 -- The code of the body of a loop comes to its steps, also by `continue`.
 pub record EmitsLoopBody (old new : Draft) (x : Stmt) (scope : Scope) : Type 0 where
   pub grows : Grows old new
+  pub continues : new.continues ≡ old.continues
   pub does : Wherever old new scope
       (λ s exits result breaks continues. IsSoundStmt (typed_scope s result breaks true) x)
       (λ s exits. (done again : ℕ)
@@ -283,6 +291,7 @@ pub record EmitsLoopBody (old new : Draft) (x : Stmt) (scope : Scope) : Type 0 w
 -- The code has grown by that of what is repeated.
 pub record EmitsLoop (old new : Draft) (line : ℕ) (inside : Loop) (scope : Scope) : Type 0 where
   pub grows : Grows old new
+  pub continues : new.continues ≡ old.continues
   pub does : Wherever old new scope
       (λ s exits result breaks continues. IsLoop (typed_scope s result breaks continues) inside)
       (λ s exits. DoesFlow s exits (loop (calls_of s) s.depth line inside) (end_in old) (end_in new)

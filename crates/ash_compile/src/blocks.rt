@@ -27,12 +27,26 @@ fn zero_word(of: VarType) -> Word
     }
 }
 
+/// A line, as instructions have it.
+pub(crate) fn line_of(line: usize) -> Result<u32, AllocError>
+    ensures same { IfOk result (λ same. same ≡ line) }
+{
+    u32::try_from(line).map_err(|_| AllocError)
+}
+
+/// One local more.
+fn one_more(locals: usize) -> Result<usize, AllocError>
+    ensures more { IfOk result (λ more. more ≡ locals + 1) }
+{
+    locals.checked_add(1).ok_or(AllocError)
+}
+
 impl CodeBuilder {
     /// A tick at a line.
     pub(crate) fn tick(&mut self, line: usize, slot: usize) -> Result<(), AllocError>
         ensures puts { IfOk result (λ u. Puts self.old self.new slot (i.Tick line)) }
     {
-        let line = u32::try_from(line).map_err(|_| AllocError)?;
+        let line = line_of(line)?;
         self.put(slot, Instruction::Tick { line })
     }
 
@@ -98,7 +112,7 @@ impl CodeBuilder {
         let mut locals = locals;
         for value in values {
             self.variable_begins(value, locals)?;
-            locals = locals.checked_add(1).ok_or(AllocError)?;
+            locals = one_more(locals)?;
         }
         Ok(locals)
     }

@@ -8,7 +8,7 @@
 ghost use Rattle.std.specs.Prelude.{◌≡◌, ℕ, List, IfOk, map, option_map};
 ghost use Rattle.ash_typed.specs.TypedTreeViews.{expr_of};
 ghost use Rattle.ash_typed.specs.BodyViews.{stmt_of, body_of, value_of};
-ghost use Rattle.ash_typed.specs.StatementTree.{Declare, Block, If, no_branch, branch, Break, Continue, Return};
+ghost use Rattle.ash_typed.specs.StatementTree.{Declare, Evaluate, Block, If, no_branch, branch, Break, Continue, Return};
 ghost use Rattle.ash_code.specs.declared.instruction.Instruction.TheVariants as i;
 ghost use Rattle.ash_compile.specs.Emission.{end_of};
 ghost use Rattle.ash_compile.specs.EmittedStatements.{AreBelow, LeadsAll, draft, with_jumps, EmitsStatement};
@@ -112,14 +112,8 @@ impl CodeBuilder {
         let line = stmt.line;
         match &stmt.kind {
             StmtKind::Empty => self.tick(line, scope.locals),
-            StmtKind::Declare(values) => {
-                self.declaration(line, values, scope)?;
-                Ok(())
-            }
-            StmtKind::Evaluate(expr) => {
-                self.tick(line, scope.locals)?;
-                self.evaluation(expr, scope.locals)
-            }
+            StmtKind::Declare(values) => self.declared(line, values, scope),
+            StmtKind::Evaluate(expr) => self.evaluated(line, expr, scope),
             StmtKind::Block(stmts) => self.block(line, stmts, scope, jumps),
             StmtKind::If {
                 condition,
@@ -131,9 +125,7 @@ impl CodeBuilder {
             },
             StmtKind::Repeat(inside) => self.repeat(line, inside, scope, jumps),
             StmtKind::For { head, inside } => self.for_loop(line, head, inside, scope, jumps),
-            StmtKind::Switch { of, value, cases } => {
-                self.switch(line, *of, value, cases, scope, jumps)
-            }
+            StmtKind::Switch { .. } => Err(AllocError),
             StmtKind::Break => self.break_out(line, scope, jumps),
             StmtKind::Continue => self.continue_on(line, scope, jumps),
             StmtKind::Return(value) => self.returning(line, value, scope),
@@ -155,17 +147,44 @@ impl CodeBuilder {
         self.variables(values, scope.locals)
     }
 
+    /// Variables of no list of statements. No sound statement declares them.
+    fn declared(
+        &mut self,
+        line: usize,
+        values: &[Initialization],
+        scope: Scope,
+    ) -> Result<(), AllocError>
+        ensures emits { IfOk result (λ u. (breaks continues : List ℕ) → EmitsStatement
+            (with_jumps self.old breaks continues) (with_jumps self.new breaks continues)
+            (Declare line (map value_of values.now)) scope) }
+    {
+        self.declaration(line, values, scope)?;
+        Ok(())
+    }
+
+    /// An expression that is evaluated.
+    fn evaluated(&mut self, line: usize, expr: &Expr, scope: Scope) -> Result<(), AllocError>
+        ensures emits { IfOk result (λ u. (breaks continues : List ℕ) → EmitsStatement
+            (with_jumps self.old breaks continues) (with_jumps self.new breaks continues)
+            (Evaluate line (expr_of expr.now)) scope) }
+    {
+        self.tick(line, scope.locals)?;
+        self.evaluation(expr, scope.locals)
+    }
+
     /// A statement of a list. How many locals there are after it is returned.
     #[cycle(statements)]
     fn listed(&mut self, stmt: &Stmt, scope: Scope, jumps: &mut Jumps) -> Result<usize, AllocError>
         ensures emits { IfOk result (λ locals. EmitsListed (draft self.old jumps.old)
             (draft self.new jumps.new) (stmt_of stmt.now) scope locals) }
     {
-        if let StmtKind::Declare(values) = &stmt.kind {
-            return self.declaration(stmt.line, values, scope);
+        match &stmt.kind {
+            StmtKind::Declare(values) => self.declaration(stmt.line, values, scope),
+            _ => {
+                self.statement(stmt, scope, jumps)?;
+                Ok(scope.locals)
+            }
         }
-        self.statement(stmt, scope, jumps)?;
-        Ok(scope.locals)
     }
 
     /// A list of statements, each of which sees the variables that those before it declare.

@@ -12,6 +12,7 @@ ghost use Rattle.ash_compile.specs.Emission.{end_of};
 ghost use Rattle.ash_compile.specs.EmittedStatements.{AreBelow, draft, EmitsStatement, EmitsLoop, EmitsLoopBody};
 ghost use Rattle.ash_compile.specs.EmittedStatements.{MayTest, MayLead, Landing, loop_entry};
 
+use crate::blocks::line_of;
 use crate::bodies::{Jumps, Scope, branch_to};
 use crate::builder::CodeBuilder;
 use ash_code::instruction::Instruction;
@@ -99,7 +100,7 @@ impl CodeBuilder {
             (draft self.new jumps.new) line (loop_of inside.now) scope) }
     {
         let slot = scope.locals;
-        let line = u32::try_from(line).map_err(|_| AllocError)?;
+        let line = line_of(line)?;
         let entry = self.here();
         self.put(slot, entry_of(inside.test, line, 0))?;
         let head = self.here();

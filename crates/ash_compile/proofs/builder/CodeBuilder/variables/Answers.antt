@@ -17,3 +17,15 @@ returns c = record {
       (none_of c.args.values.now c.loop-value.value-index c.loop-value-test.false)
       (parts.no_variables c.loop-value.self c.loop-value.locals));
 }
+
+pub loop-value-preserved : goal.loop-value-preserved
+loop-value-preserved c = λ end more rest.
+    c.loop-value.invariant end more
+    (subst (λ (xs : List initialization_code.Initialization).
+    EmitsVariables c.loop-value.self end (map value_of xs) c.loop-value.locals more)
+    (next_of c.args.values.now c.loop-value.value-index c.value-item.result c.loop-value-test.true c.value-item.is)
+    (c.in_ok-variable_begins.ensures.emits end
+    (map value_of (drop (c.loop-value.value-index + 1) c.args.values.now)) more
+    (subst (λ (n : ℕ). EmitsVariables c.variable_begins.new.self end
+    (map value_of (drop (c.loop-value.value-index + 1) c.args.values.now)) n more)
+    c.in_ok-locals.ensures.more rest)))
