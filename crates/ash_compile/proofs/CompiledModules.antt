@@ -20,7 +20,8 @@ use Rattle.ash_code.specs.Controls.{control}
 use Rattle.ash_code.specs.Performing.{Setting, own_name}
 use Rattle.ash_code.specs.Running as running
 use Rattle.ash_code.specs.Arrivals.{Arrives, end_of}
-use Rattle.ash_code.specs.CompiledCode.{entries_of, most_slots, room_of, env_of, run_of_call, run_of_load, first_of_function, first_of_load}
+use Rattle.ash_code.specs.Sizes.{most_slots, slots_of_frames}
+use Rattle.ash_code.specs.CompiledCode.{entries_of, env_of, run_of_call, run_of_load, first_of_function, first_of_load}
 use Rattle.ash_code.specs.CompiledCode.{IsSetFor, IsCodeOfFunction, IsCodeOfInit, IsCodeOf}
 use Rattle.ash_compile.specs.declared.layout.Layout.{Layout}
 use Rattle.ash_compile.specs.Stretches.{Has}
@@ -47,16 +48,16 @@ module _ (layout : Layout) (parts : CodeParts) (c : Context) (context : IsContex
   owner_in : (s : Setting) → IsSetFor parts c s → own_name s ≡ (c.program).name
   owner_in s set = ap (λ (p : CodeParts). (s.names).modules p.module) set.code ∙ set.owner
 
-  room_in : (s : Setting) (slots : List Word) → IsSetFor parts c s → room_of parts ≤ length slots
-      → room_of s.code ≤ length slots
-  room_in s slots set long = subst (λ (p : CodeParts). room_of p ≤ length slots) (sym set.code) long
+  room_in : (s : Setting) (slots : List Word) → IsSetFor parts c s → slots_of_frames parts ≤ length slots
+      → slots_of_frames s.code ≤ length slots
+  room_in s slots set long = subst (λ (p : CodeParts). slots_of_frames p ≤ length slots) (sym set.code) long
 
   -- functions
 
   calls : (place : ℕ) (f : Function) → slice_get ((c.program).tree).functions place ≡ Some f
       → (s : Setting) (args : List Word) (budget : ℕ) (world : World) (slots : List Word)
       → IsSetFor parts c s
-      → room_of parts ≤ length slots
+      → slots_of_frames parts ≤ length slots
       → length args ≤ length slots
       → args ≡ take (length args) slots
       → IsWellFormed c (env_of c f.parameters) [] (first_of_function f args budget world)
@@ -99,7 +100,7 @@ module _ (layout : Layout) (parts : CodeParts) (c : Context) (context : IsContex
 
   loads : (s : Setting) (budget : ℕ) (world : World) (slots : List Word)
       → IsSetFor parts c s
-      → room_of parts ≤ length slots
+      → slots_of_frames parts ≤ length slots
       → IsWellFormed c (env_of c []) [] (first_of_load (c.program).tree budget world)
       → Arrives s (control (length (parts.functions).items) 0 (record { slots = slots; count = 0; callers = [] }))
       (first_of_load (c.program).tree budget world)

@@ -18,7 +18,8 @@ use Rattle.ash_code.specs.declared.instruction.Instruction.{Instruction}
 use Rattle.ash_code.specs.declared.instruction.Instruction.TheVariants as i
 use Rattle.ash_code.specs.Performing.{Setting, own_name}
 use Rattle.ash_code.specs.Running as running
-use Rattle.ash_code.specs.CompiledCode.{entries_of, most_slots_of, most_slots}
+use Rattle.ash_code.specs.Sizes.{most, most_slots}
+use Rattle.ash_code.specs.CompiledCode.{entries_of}
 use Rattle.ash_compile.specs.declared.layout.Layout.{Layout}
 use Rattle.ash_compile.specs.Stretches.{Has}
 use Rattle.ash_compile.specs.Performances.{Enters}
@@ -45,7 +46,7 @@ enters_without_ticks s Good function room line parameters run has none = record 
 -- the slots of functions
 
 pub slots_within : (fs : List FunctionCode) (k : ℕ) (f : FunctionCode) → slice_get fs k ≡ Some f
-    → f.slots ≤ most_slots_of fs
+    → f.slots ≤ most (λ (g : FunctionCode). g.slots) fs
 slots_within [] k f at = absurd (cc)
 slots_within (g ∷ fs) zero f at =
     let same = ap (λ (h : FunctionCode). h.slots) (same_Some g f at) in omega (arith, same)
