@@ -1,16 +1,13 @@
 -- Parts that are compiled are the code of their module.
-use Rattle.std.proofs.Common.{◌≡◌, ◌≤◌, ℕ, zero, List, [], take, length, refl, sym, ap, ◌∙◌, subst, arith}
-use Rattle.std.specs.Prelude.{Option, Some, None, Result, Ok, Err, IfSome, IfOk, slice_get, unwrap_or}
+use Rattle.std.proofs.Common.{◌≡◌, ◌≤◌, ℕ, List, [], take, length, refl, sym, ap, ◌∙◌, subst, arith}
+use Rattle.std.specs.Prelude.{Option, Some, None, Result, IfSome, IfOk, slice_get, unwrap_or}
 use Rattle.std.specs.Option.{ok_or}
-use Rattle.std.specs.List.{AllZip}
 use Rattle.std.proofs.lemmas.Option.{slice_get_past}
 use Rattle.std.proofs.lemmas.Slice.Zip.{AllZip-long}
 use Rattle.ash_host.specs.declared.word.Word.{Word}
-use Rattle.ash_host.specs.declared.word.Word.TheVariants.{Null}
-use Rattle.ash_typed.specs.Modules.{Function, Module}
-use Rattle.ash_meaning.specs.Activity.{World, Activity}
-use Rattle.ash_meaning.specs.Ends.{Outcome}
-use Rattle.ash_meaning.specs.Classes.{Entry, FreeFunction, entry_of_function}
+use Rattle.ash_typed.specs.Modules.{Function}
+use Rattle.ash_meaning.specs.Activity.{World}
+use Rattle.ash_meaning.specs.Classes.{FreeFunction, entry_of_function}
 use Rattle.ash_soundness.specs.WellFormed.{Context, IsContext, IsWellFormed}
 use Rattle.ash_soundness.proofs.Lists.{values_length}
 use Rattle.ash_code.specs.declared.code.FunctionCode.{FunctionCode}
@@ -20,9 +17,9 @@ use Rattle.ash_code.specs.Controls.{control}
 use Rattle.ash_code.specs.Performing.{Setting, own_name}
 use Rattle.ash_code.specs.Running as running
 use Rattle.ash_code.specs.Arrivals.{Arrives, end_of}
-use Rattle.ash_code.specs.Sizes.{most_slots, slots_of_frames}
-use Rattle.ash_code.specs.CompiledCode.{entries_of, env_of, run_of_call, run_of_load, first_of_function, first_of_load}
-use Rattle.ash_code.specs.CompiledCode.{IsSetFor, IsCodeOfFunction, IsCodeOfInit, IsCodeOf}
+use Rattle.ash_code.specs.Sizes.{slots_of_frames}
+use Rattle.ash_code.specs.CompiledCode.{env_of, run_of_call, run_of_load, first_of_function, first_of_load}
+use Rattle.ash_code.specs.CompiledCode.{IsSetFor, IsCodeOfFunction, IsCodeOf}
 use Rattle.ash_compile.specs.declared.layout.Layout.{Layout}
 use Rattle.ash_compile.specs.Stretches.{Has}
 use Rattle.ash_compile.specs.Performances.{here}

@@ -1,9 +1,8 @@
 -- Emitted code of fields, put together.
-use Rattle.std.proofs.Common.{◌≡◌, ◌≤◌, ◌<◌, ℕ, zero, suc, ◌+◌, List, [], ◌∷◌, drop, map, length, refl, sym, ap, ◌∙◌, subst, arith, option_map}
+use Rattle.std.proofs.Common.{◌≡◌, ℕ, ◌+◌, List, [], ◌∷◌, map, length, refl, sym, ap, ◌∙◌, subst, arith, option_map}
 use Rattle.std.specs.Prelude.{Option, Some, None, slice_get}
 use Rattle.std.specs.Option.{option_map_or}
 use Rattle.std.proofs.lemmas.Option.{slice_get-map}
-use Rattle.ash_host.specs.declared.word.Word.{Word}
 use Rattle.ash_typed.specs.TypedTree.{Expr}
 use Rattle.ash_typed.specs.StatementTree.{Initialization}
 use Rattle.ash_typed.specs.Modules.{Class}
@@ -12,7 +11,7 @@ use Rattle.ash_typed.specs.TypeOf.{ValueType}
 use Rattle.ash_typed.specs.SoundExpressions.{IsWellTyped, Fits, fits}
 use Rattle.ash_typed.specs.SoundStatements.{IsInitialized, IsSoundBeginning}
 use Rattle.ash_typed.specs.SoundModules.{inside}
-use Rattle.ash_meaning.specs.Runs.{Run, skip, ◌>>=◌}
+use Rattle.ash_meaning.specs.Runs.{skip, ◌>>=◌}
 use Rattle.ash_meaning.specs.Releases.{full}
 use Rattle.ash_meaning.specs.ExpressionMeaning.{expression}
 use Rattle.ash_meaning.specs.Functions.{write_field, initialize_field, initialize_fields}
@@ -24,7 +23,7 @@ use Rattle.ash_code.specs.declared.instruction.Instruction.{Instruction}
 use Rattle.ash_code.specs.declared.instruction.Instruction.TheVariants as i
 use Rattle.ash_compile.specs.declared.builder.CodeBuilder.{CodeBuilder}
 use Rattle.ash_compile.specs.Performances.{Acts}
-use Rattle.ash_compile.specs.Emission.{code_of, end_of, Keeps, Puts, Scene, IsScene, Suits, calls_of, Good, Stands, Emits, DoesExpression}
+use Rattle.ash_compile.specs.Emission.{code_of, end_of, Keeps, Puts, Scene, IsScene, calls_of, Good, Emits, DoesExpression}
 use Rattle.ash_compile.specs.EmittedParts.{IsWritten, ActsFrom, Constructs, EmitsField, EmitsFields}
 use Rattle.ash_compile.proofs.Listings.{first_of_rest, others_of_rest}
 use Rattle.ash_compile.proofs.Statements as code

@@ -1,6 +1,6 @@
 -- Emitted code of a function, put together: the tick of its entry, its fields, its statements, and its end.
-use Rattle.std.proofs.Common.{◌≡◌, ◌≤◌, ◌<◌, ℕ, zero, suc, ◌+◌, Bool, true, false, List, [], ◌∷◌, length, refl, sym, ap, ◌∙◌, subst, arith, cond}
-use Rattle.std.specs.Prelude.{Option, Some, None, slice_get, if◌then◌else◌}
+use Rattle.std.proofs.Common.{◌≡◌, ℕ, suc, ◌+◌, Bool, true, false, List, [], length, refl, sym, ap, ◌∙◌, subst, arith}
+use Rattle.std.specs.Prelude.{Option, Some, None, slice_get}
 use Rattle.ash_host.specs.declared.word.Word.{Word}
 use Rattle.ash_typed.specs.declared.types.VarType.{VarType}
 use Rattle.ash_typed.specs.StatementTree.{Initialization, Stmts}
@@ -10,22 +10,19 @@ use Rattle.ash_meaning.specs.Frames.{tick}
 use Rattle.ash_meaning.specs.Classes.{Entry}
 use Rattle.ash_meaning.specs.StatementMeaning.{Flow}
 use Rattle.ash_meaning.specs.Functions.{value_of, body, initialize_fields}
-use Rattle.ash_meaning.specs.Ends.{Outcome}
 use Rattle.ash_code.specs.declared.code.FunctionCode.{FunctionCode}
 use Rattle.ash_code.specs.declared.instruction.Instruction.{Instruction}
 use Rattle.ash_code.specs.declared.instruction.Instruction.TheVariants as i
-use Rattle.ash_code.specs.Controls.{Caller}
 use Rattle.ash_code.specs.Performing.{Setting}
-use Rattle.ash_code.specs.Running as running
 use Rattle.ash_compile.specs.declared.builder.CodeBuilder.{CodeBuilder}
 use Rattle.ash_compile.specs.declared.layout.Layout.{Layout}
-use Rattle.ash_compile.specs.Stretches.{continued, Arrives, Leaves, with_locals}
-use Rattle.ash_compile.specs.Performances.{here, HasLocals, Exits, Acts, Enters}
+use Rattle.ash_compile.specs.Stretches.{continued, Arrives}
+use Rattle.ash_compile.specs.Performances.{here, Exits, Acts, Enters}
 use Rattle.ash_compile.specs.Layout.{IsLayout}
 use Rattle.ash_compile.specs.Callees.{Entering}
 use Rattle.ash_compile.specs.Emission.{code_of, end_of, Keeps, Puts, Scene, IsScene, Suits, calls_of, Good, Stands}
 use Rattle.ash_compile.specs.EmittedStatements.{Returns, EmitsBody, frame_end}
-use Rattle.ash_compile.specs.EmittedParts.{IsWritten, ActsFrom, Constructs, EmitsFields}
+use Rattle.ash_compile.specs.EmittedParts.{IsWritten, ActsFrom, EmitsFields}
 use Rattle.ash_compile.specs.EmittedFrames.{FrameSource, given_if, AreFieldsOf, no_field, all_fields, IsSoundEntry, IsFrameCode}
 use Rattle.ash_compile.proofs.Statements as code
 use Rattle.ash_compile.proofs.Statements.{LeadsTo}

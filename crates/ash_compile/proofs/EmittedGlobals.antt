@@ -1,8 +1,7 @@
 -- Emitted code of the initializers of a module, put together.
-use Rattle.std.proofs.Common.{◌≡◌, ◌≤◌, ◌<◌, ℕ, zero, suc, ◌+◌, List, [], ◌∷◌, ◌++◌, map, length, refl, sym, ap, ◌∙◌, subst, arith}
+use Rattle.std.proofs.Common.{◌≡◌, ℕ, ◌+◌, List, [], ◌∷◌, ◌++◌, map, length, sym, subst, arith}
 use Rattle.std.specs.Prelude.{Option, Some, None, slice_get}
 use Rattle.std.specs.Option.{option_map_or}
-use Rattle.ash_typed.specs.declared.types.VarType.{VarType}
 use Rattle.ash_typed.specs.TypedTree.{Expr}
 use Rattle.ash_typed.specs.StatementTree.{Initialization}
 use Rattle.ash_typed.specs.Modules.{Variables}
@@ -19,7 +18,7 @@ use Rattle.ash_code.specs.declared.instruction.Instruction.TheVariants as i
 use Rattle.ash_compile.specs.declared.builder.CodeBuilder.{CodeBuilder}
 use Rattle.ash_compile.specs.Performances.{Acts}
 use Rattle.ash_compile.specs.Emission.{end_of, Puts, Scene, IsScene, calls_of, Good}
-use Rattle.ash_compile.specs.EmittedParts.{IsWritten, ActsFrom, Initializes, AreTypesFrom, EmitsGlobal, EmitsGlobals, EmitsDeclarations}
+use Rattle.ash_compile.specs.EmittedParts.{IsWritten, ActsFrom, Initializes, EmitsGlobal, EmitsGlobals, EmitsDeclarations}
 use Rattle.ash_compile.proofs.Statements as code
 use Rattle.ash_compile.proofs.Emission.{keeps_on, put_one, put_keeps, has_put}
 use Rattle.ash_compile.proofs.TypedStatements.{ranked_of}

@@ -1,9 +1,9 @@
 -- Emitted code of the initializers of a module, as a function of its own.
-use Rattle.std.proofs.Common.{◌≡◌, ◌≤◌, ℕ, ◌+◌, List, [], length, refl, sym, ap, ◌∙◌, subst, arith}
+use Rattle.std.proofs.Common.{◌≡◌, ◌≤◌, ℕ, ◌+◌, List, [], length, sym, ap, ◌∙◌, subst, arith}
 use Rattle.std.specs.Prelude.{Some, None, slice_get}
 use Rattle.std.specs.List.{AllByRecursion}
 use Rattle.ash_typed.specs.declared.types.VarType.{VarType}
-use Rattle.ash_typed.specs.Modules.{Variables, Module}
+use Rattle.ash_typed.specs.Modules.{Module}
 use Rattle.ash_typed.specs.Signatures.{types_of_globals}
 use Rattle.ash_typed.specs.SoundExpressions.{TypedEnvironment}
 use Rattle.ash_typed.specs.SoundModules.{AreSoundVariables}
@@ -18,7 +18,7 @@ use Rattle.ash_compile.specs.declared.layout.Layout.{Layout}
 use Rattle.ash_compile.specs.Performances.{Acts}
 use Rattle.ash_compile.specs.Layout.{IsLayout}
 use Rattle.ash_compile.specs.Emission.{code_of, end_of, Keeps, Puts, Scene, IsScene, Suits, calls_of, Good, Stands}
-use Rattle.ash_compile.specs.EmittedParts.{IsWritten, ActsFrom, Initializes, AreTypesFrom, EmitsDeclarations}
+use Rattle.ash_compile.specs.EmittedParts.{AreTypesFrom, EmitsDeclarations}
 use Rattle.ash_compile.specs.EmittedFrames.{IsInitCode, IsFinished}
 use Rattle.ash_compile.proofs.Emission.{keeps_on, put_keeps, put_there}
 use Rattle.ash_compile.proofs.EmittedFields.{written_first}

@@ -1,20 +1,18 @@
 -- The code of a module has each of its callees, however deep calls go: what a frame calls goes one less deep.
-use Rattle.std.proofs.Common.{◌≡◌, ◌≤◌, ◌<◌, ℕ, zero, suc, ◌+◌, Bool, true, false, List, [], ◌∷◌, length, max, refl, sym, ap, ◌∙◌, subst, arith}
+use Rattle.std.proofs.Common.{◌≡◌, ◌≤◌, ℕ, zero, suc, Bool, true, List, [], ◌∷◌, length, refl, sym, ap, ◌∙◌, subst, arith}
 use Rattle.std.specs.Prelude.{Option, Some, None, slice_get, unwrap_or}
-use Rattle.std.specs.List.{AllZip}
 use Rattle.std.proofs.lemmas.Option.{same_Some}
 use Rattle.ash_host.specs.declared.word.Word.{Word}
 use Rattle.ash_typed.specs.declared.types.VarType.{VarType}
 use Rattle.ash_typed.specs.SoundExpressions.{TypedEnvironment}
 use Rattle.ash_meaning.specs.Activity.{Activity}
-use Rattle.ash_meaning.specs.Runs.{Run, Done, ◌>>◌}
+use Rattle.ash_meaning.specs.Runs.{Run, ◌>>◌}
 use Rattle.ash_meaning.specs.Frames.{tick}
 use Rattle.ash_meaning.specs.Classes.{ModuleCallee, FreeFunction, Method, Construction, Entry}
 use Rattle.ash_meaning.specs.Functions.{body}
 use Rattle.ash_soundness.specs.WellFormed.{Context, IsContext, declared, IsWellFormed}
 use Rattle.ash_code.specs.declared.code.FunctionCode.{FunctionCode}
 use Rattle.ash_code.specs.declared.code.CodeParts.{CodeParts}
-use Rattle.ash_code.specs.declared.instruction.Instruction.{Instruction}
 use Rattle.ash_code.specs.declared.instruction.Instruction.TheVariants as i
 use Rattle.ash_code.specs.Performing.{Setting, own_name}
 use Rattle.ash_code.specs.Running as running
@@ -24,7 +22,7 @@ use Rattle.ash_compile.specs.declared.layout.Layout.{Layout}
 use Rattle.ash_compile.specs.Stretches.{Has}
 use Rattle.ash_compile.specs.Performances.{Enters}
 use Rattle.ash_compile.specs.Layout.{index_of}
-use Rattle.ash_compile.specs.Callees.{room_for, IsCallee, given_by, Entering, HasCallee, HasCallees, HasClasses}
+use Rattle.ash_compile.specs.Callees.{room_for, given_by, Entering, HasCallee, HasCallees, HasClasses}
 use Rattle.ash_compile.specs.Emission.{Scene, IsScene}
 use Rattle.ash_compile.specs.EmittedFrames.{FrameSource, frames_of, given_if, IsSoundEntry, IsFrameCode, IsCompiled}
 use Rattle.ash_compile.proofs.Statements.{ticks_first, spent}

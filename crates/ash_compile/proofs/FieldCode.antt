@@ -1,6 +1,5 @@
 -- The code of the fields of a construction does what initializes them.
-use Rattle.std.proofs.Common.{◌≡◌, ◌≤◌, ◌<◌, ℕ, zero, suc, ◌+◌, List, [], ◌∷◌, drop, map, length, option_map, refl, sym, ap, ◌∙◌, subst, arith, true, Bool}
-use Rattle.std.proofs.Common.{nat_lt}
+use Rattle.std.proofs.Common.{◌≡◌, ℕ, ◌+◌, List, [], ◌∷◌, drop, map, length, option_map, refl, sym, ap, ◌∙◌, subst, arith, true, Bool}
 use Rattle.std.specs.Prelude.{Option, Some, None, slice_get, ◌&&◌}
 use Rattle.std.specs.List.{AllByRecursion}
 use Rattle.std.specs.Option.{option_map_or}
@@ -8,7 +7,6 @@ use Rattle.std.proofs.lemmas.Option.{same_Some, slice_get-map, slice_get_within}
 use Rattle.std.proofs.lemmas.Bool.Decides.{nat_tests}
 use Rattle.ash_host.specs.declared.word.Word.{Word}
 use Rattle.ash_host.specs.declared.word.Word.TheVariants as words
-use Rattle.ash_host.specs.Objects.{LiveObjects}
 use Rattle.ash_typed.specs.declared.types.VarType.{VarType}
 use Rattle.ash_typed.specs.TypedTree.{Expr}
 use Rattle.ash_typed.specs.StatementTree.{Initialization}
@@ -18,7 +16,7 @@ use Rattle.ash_typed.specs.SoundExpressions.{TypedEnvironment, Fits, fits}
 use Rattle.ash_typed.specs.SoundStatements.{IsSoundBeginning, IsInitialized}
 use Rattle.ash_typed.specs.SoundModules.{inside}
 use Rattle.ash_meaning.specs.Activity.{Activity}
-use Rattle.ash_meaning.specs.Runs.{Run, Done, skip, ◌>>=◌, ◌>>◌}
+use Rattle.ash_meaning.specs.Runs.{Done, skip, ◌>>=◌}
 use Rattle.ash_meaning.specs.Releases.{full}
 use Rattle.ash_meaning.specs.Locations.{Part}
 use Rattle.ash_meaning.specs.ObjectSteps.{words_in}
@@ -27,13 +25,12 @@ use Rattle.ash_meaning.specs.Functions.{write_field, initialize_field, initializ
 use Rattle.ash_meaning.proofs.Walks.{Walk, bound, looked}
 use Rattle.ash_meaning.proofs.StepWalks.{to_object_of, to_write}
 use Rattle.ash_soundness.specs.WellFormed.{Context, IsContext, IsOfClass, IsReference, to_object, IsThis, no_this, is_this, AreValues, shape_at, Shape, declared}
-use Rattle.ash_soundness.specs.WellFormedLaws.{Leaves, Passes}
 use Rattle.ash_soundness.proofs.Triples.{weaken, safe}
 use Rattle.ash_soundness.proofs.Arrays.{after_object, object_with, words_of}
 use Rattle.ash_soundness.proofs.Parts.{fields_fit}
 use Rattle.ash_soundness.proofs.Lists.{values_length}
 use Rattle.ash_soundness.proofs.Locations.{in_field, write_goes}
-use Rattle.ash_soundness.proofs.Entries.{AreFields, no_fields, and_field, HasFields, none_initialized, all_initialized, in_class, class_is}
+use Rattle.ash_soundness.proofs.Entries.{AreFields, no_fields, and_field, in_class, class_is}
 use Rattle.ash_soundness.proofs.Bodies.{begins_fitting}
 use Rattle.ash_soundness.proofs.Widening.{widened_fit}
 use Rattle.ash_run_steps.specs.GuardedSteps.{is_alive}

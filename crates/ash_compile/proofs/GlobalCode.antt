@@ -1,6 +1,5 @@
 -- The code of the initializers of a module does what they do.
-use Rattle.std.proofs.Common.{◌≡◌, ◌≤◌, ◌<◌, ℕ, zero, suc, ◌+◌, List, [], ◌∷◌, ◌++◌, map, length, refl, sym, ap, ◌∙◌, subst, arith, true, Bool}
-use Rattle.std.proofs.Common.{nat_lt}
+use Rattle.std.proofs.Common.{◌≡◌, ℕ, suc, ◌+◌, List, [], ◌∷◌, ◌++◌, map, length, refl, ap, ◌∙◌, subst, arith, true, Bool}
 use Rattle.std.specs.Prelude.{Option, Some, None, slice_get, ◌&&◌}
 use Rattle.std.specs.List.{AllByRecursion}
 use Rattle.std.specs.Option.{option_map_or}
@@ -12,19 +11,16 @@ use Rattle.ash_typed.specs.TypedTree.{Expr}
 use Rattle.ash_typed.specs.StatementTree.{Initialization}
 use Rattle.ash_typed.specs.Modules.{Variables}
 use Rattle.ash_typed.specs.Signatures.{type_declared, types_of_globals}
-use Rattle.ash_typed.specs.SoundExpressions.{TypedEnvironment, Fits, fits}
+use Rattle.ash_typed.specs.SoundExpressions.{Fits, fits}
 use Rattle.ash_typed.specs.SoundStatements.{IsSoundBeginning, IsInitialized}
-use Rattle.ash_typed.specs.SoundModules.{outside, AreSoundVariables}
 use Rattle.ash_meaning.specs.Activity.{Activity}
-use Rattle.ash_meaning.specs.Runs.{Run, Done, skip, ◌>>=◌, ◌>>◌}
+use Rattle.ash_meaning.specs.Runs.{Done, skip, ◌>>=◌, ◌>>◌}
 use Rattle.ash_meaning.specs.Frames.{tick}
 use Rattle.ash_meaning.specs.Releases.{full}
 use Rattle.ash_meaning.specs.Locations.{Global, write}
 use Rattle.ash_meaning.specs.ExpressionMeaning.{expression}
 use Rattle.ash_meaning.specs.Functions.{initialize_global, initialize_globals, initialize_module}
-use Rattle.ash_meaning.proofs.Walks.{Walk}
 use Rattle.ash_meaning.proofs.StepWalks.{to_write}
-use Rattle.ash_soundness.specs.WellFormed.{declared}
 use Rattle.ash_soundness.proofs.Triples.{weaken}
 use Rattle.ash_soundness.proofs.Lists.{values_length}
 use Rattle.ash_soundness.proofs.Locations.{in_global, write_goes}

@@ -1,8 +1,8 @@
 -- Where the frames of a module stand among the functions of its code.
-use Rattle.std.proofs.Common.{◌≡◌, ◌<◌, ℕ, zero, suc, ◌+◌, Bool, true, false, List, [], ◌∷◌, ◌++◌, take, length, map, flat_map, fold, sum, refl, sym, ap, ◌∙◌, subst, arith, option_map, length-append}
+use Rattle.std.proofs.Common.{◌≡◌, ℕ, suc, ◌+◌, Bool, true, false, List, [], ◌∷◌, ◌++◌, take, length, map, flat_map, fold, sum, refl, sym, ap, ◌∙◌, subst, arith, option_map, length-append}
 use Rattle.std.specs.Prelude.{Option, Some, None, slice_get, IfSome}
 use Rattle.std.specs.Option.{option_map_or}
-use Rattle.std.proofs.lemmas.Option.{same_Some, slice_get-map, slice_get_within}
+use Rattle.std.proofs.lemmas.Option.{slice_get-map}
 use Rattle.ash_typed.specs.declared.types.VarType.{VarType}
 use Rattle.ash_typed.specs.StatementTree.{no_stmt}
 use Rattle.ash_typed.specs.Modules.{Function, Class, Module}
@@ -10,14 +10,14 @@ use Rattle.ash_typed.specs.Signatures.{parameters_of}
 use Rattle.ash_typed.specs.SoundExpressions.{TypedEnvironment}
 use Rattle.ash_typed.specs.SoundStatements.{AreSoundStmts, no_stmts}
 use Rattle.ash_typed.specs.SoundModules.{IsSoundFunction, IsSoundConstructor, inside, outside}
-use Rattle.ash_meaning.specs.Classes.{ModuleCallee, FreeFunction, Method, Construction, Entry, entry_of_function, entry_of_method, entry_of_construction}
+use Rattle.ash_meaning.specs.Classes.{ModuleCallee, Method, Construction, Entry, entry_of_function, entry_of_method, entry_of_construction}
 use Rattle.ash_soundness.specs.WellFormed.{Context, IsContext, declared}
 use Rattle.ash_soundness.proofs.Entries.{class_is}
 use Rattle.ash_soundness.proofs.Hosts.{rec_at}
 use Rattle.ash_code.specs.CompiledCode.{entries_of}
 use Rattle.ash_compile.specs.Layout.{count_of_methods, methods_before, index_of}
-use Rattle.ash_compile.specs.Callees.{IsCallee, a_function, a_method, a_construction, given_by}
-use Rattle.ash_compile.specs.EmittedFrames.{FrameSource, frame_of_function, frame_of_method, frame_of_construction, methods_of, frames_of, given_if, AreFieldsOf, no_field, all_fields, IsSoundEntry}
+use Rattle.ash_compile.specs.Callees.{IsCallee, a_function, a_method, a_construction}
+use Rattle.ash_compile.specs.EmittedFrames.{FrameSource, frame_of_function, frame_of_method, frame_of_construction, methods_of, frames_of, no_field, all_fields, IsSoundEntry}
 use Rattle.ash_compile.proofs.Listings.{get_first, get_second, get_part, map_both}
 
 -- maps

@@ -1,13 +1,13 @@
 -- Full expressions of a sound module whose values are stored outside the frame: what they leave.
-use Rattle.std.proofs.Common.{◌≡◌, ◌≤◌, ℕ, subst, arith, true}
+use Rattle.std.proofs.Common.{◌≡◌, ◌≤◌, ℕ, subst, arith}
 use Rattle.ash_host.specs.declared.word.Word.{Word}
 use Rattle.ash_typed.specs.declared.types.VarType.{VarType}
-use Rattle.ash_typed.specs.TypeOf.{ValueType, value, as_value}
+use Rattle.ash_typed.specs.TypeOf.{value, as_value}
 use Rattle.ash_typed.specs.TypedTree.{Expr}
 use Rattle.ash_typed.specs.Signatures.{ModuleSignatures, IsSubtype}
 use Rattle.ash_typed.specs.SoundExpressions.{Fits, fits}
 use Rattle.ash_meaning.specs.Activity.{Activity}
-use Rattle.ash_meaning.specs.Runs.{Run, Progress, Done, Ended, NoStep, ◌>>=◌}
+use Rattle.ash_meaning.specs.Runs.{Run, Progress, Done, ◌>>=◌}
 use Rattle.ash_meaning.specs.Releases.{full}
 use Rattle.ash_meaning.specs.ExpressionMeaning.{expression}
 use Rattle.ash_meaning.specs.Functions.{body}

@@ -4,15 +4,14 @@ use Rattle.std.specs.List.{AllZip}
 use Rattle.ash_host.specs.declared.word.Word.{Word}
 use Rattle.ash_typed.specs.declared.types.VarType.{VarType}
 use Rattle.ash_typed.specs.StatementTree.{Initialization, Body}
-use Rattle.ash_typed.specs.Modules.{Variables, Function, Class, Module}
+use Rattle.ash_typed.specs.Modules.{Function, Class, Module}
 use Rattle.ash_typed.specs.Signatures.{parameters_of}
 use Rattle.ash_typed.specs.SoundExpressions.{TypedEnvironment}
 use Rattle.ash_typed.specs.SoundStatements.{AreSoundStmts}
-use Rattle.ash_meaning.specs.Activity.{Activity}
 use Rattle.ash_meaning.specs.Runs.{Run, look, ◌>>◌}
 use Rattle.ash_meaning.specs.Frames.{tick}
 use Rattle.ash_meaning.specs.Classes.{Entry, entry_of_function, entry_of_method, entry_of_construction}
-use Rattle.ash_meaning.specs.Functions.{body, initialize_fields, initialize_module}
+use Rattle.ash_meaning.specs.Functions.{body, initialize_module}
 use Rattle.ash_soundness.specs.WellFormed.{Context, declared}
 use Rattle.ash_code.specs.declared.code.ClassCode.{ClassCode}
 use Rattle.ash_code.specs.declared.code.CodeParts.{CodeParts}
@@ -21,7 +20,6 @@ use Rattle.ash_code.specs.declared.instruction.Instruction.TheVariants as i
 use Rattle.ash_code.specs.Running as running
 use Rattle.ash_compile.specs.declared.builder.CodeBuilder.{CodeBuilder}
 use Rattle.ash_compile.specs.declared.layout.Layout.{Layout}
-use Rattle.ash_compile.specs.Stretches.{Has}
 use Rattle.ash_compile.specs.Performances.{Acts, Enters}
 use Rattle.ash_compile.specs.Layout.{IsLayout}
 use Rattle.ash_compile.specs.Callees.{Entering, IsClassCode}

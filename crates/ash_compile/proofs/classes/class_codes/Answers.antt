@@ -1,10 +1,9 @@
-use Rattle.std.proofs.Common.{◌≡◌, ◌<◌, ◌∙◌, ◌++◌, ◌+◌, ◌∷◌, [], ℕ, List, length, map, slice_get, refl, sym, ap, subst, arith, length-append}
+use Rattle.std.proofs.Common.{◌≡◌, ◌∙◌, ◌+◌, ◌∷◌, [], ℕ, List, length, slice_get, sym, ap, subst, arith, length-append}
 use Rattle.std.specs.Prelude.{Some}
 use Rattle.std.proofs.lemmas.List.{length-map}
 use Rattle.std.proofs.lemmas.Option.{same_Some, slice_get_within}
-use Rattle.ash_typed.specs.Modules.{Class, Module, class_of}
+use Rattle.ash_typed.specs.Modules.{Class, class_of}
 use Rattle.ash_code.specs.declared.code.ClassCode.{ClassCode}
-use Rattle.ash_compile.specs.Layout.{IsLayout}
 use Rattle.ash_compile.specs.Callees.{IsClassCode}
 use Rattle.ash_compile.proofs.Listings.{get_first, each_below, last_added, item_at}
 use Rattle.ash_compile.proofs.classes.class_codes.Goals as goal

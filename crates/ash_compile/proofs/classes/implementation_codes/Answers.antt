@@ -1,4 +1,4 @@
-use Rattle.std.proofs.Common.{◌≡◌, ◌∙◌, ◌++◌, ◌+◌, ◌∷◌, [], ℕ, List, map, take, refl, sym, ap}
+use Rattle.std.proofs.Common.{◌∙◌, ◌++◌, ◌∷◌, [], ℕ, List, map, take, sym, ap}
 use Rattle.std.proofs.lemmas.List.{take_all}
 use Rattle.ash_typed.specs.declared.tree.items.Implementation as implementation
 use Rattle.ash_typed.specs.Modules.{Implementation, implementation_of as implementation_seen}

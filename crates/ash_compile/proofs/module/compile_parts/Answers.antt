@@ -1,4 +1,4 @@
-use Rattle.std.proofs.Common.{◌≡◌, map, sym, ap, subst}
+use Rattle.std.proofs.Common.{map, sym, ap, subst}
 use Rattle.ash_typed.specs.Modules.{class_of, variables_of, module_of}
 use Rattle.ash_compile.specs.declared.layout.Layout.{Layout}
 use Rattle.ash_compile.specs.EmittedFrames.{IsInitCode}

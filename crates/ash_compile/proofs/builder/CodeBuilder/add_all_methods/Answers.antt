@@ -1,9 +1,9 @@
-use Rattle.std.proofs.Common.{◌≡◌, ◌∙◌, ◌++◌, ◌+◌, ◌∷◌, [], List, drop, map, flat_map, refl, sym, ap, subst, append_assoc}
+use Rattle.std.proofs.Common.{◌∙◌, ◌++◌, ◌+◌, List, drop, map, flat_map, refl, sym, ap, subst, append_assoc}
 use Rattle.std.specs.List.{AllZip}
 use Rattle.ash_typed.specs.declared.tree.items.Function as function
 use Rattle.ash_typed.specs.Modules.{Class, class_of, function_of}
 use Rattle.ash_compile.specs.declared.layout.Layout.{Layout}
-use Rattle.ash_compile.specs.EmittedFrames.{FrameSource, frame_of_method, methods_of, IsFrameCode}
+use Rattle.ash_compile.specs.EmittedFrames.{frame_of_method, methods_of, IsFrameCode}
 use Rattle.ash_compile.proofs.Listings.{rest_here, rest_none, zip_grown}
 use Rattle.ash_compile.proofs.builder.CodeBuilder.add_all_methods.Goals as goal
 

@@ -1,6 +1,5 @@
-use Rattle.std.proofs.Common.{◌≡◌, ◌∙◌, ◌++◌, ◌+◌, ◌∷◌, [], List, drop, map, refl, sym, ap, subst}
-use Rattle.std.specs.List.{AllZip}
-use Rattle.ash_typed.specs.Modules.{Class, function_of}
+use Rattle.std.proofs.Common.{◌∙◌, ◌++◌, ◌+◌, List, drop, map, refl, sym, ap, subst}
+use Rattle.ash_typed.specs.Modules.{function_of}
 use Rattle.ash_compile.specs.declared.layout.Layout.{Layout}
 use Rattle.ash_compile.specs.EmittedFrames.{FrameSource, frame_of_method, IsFrameCode}
 use Rattle.ash_compile.proofs.Listings.{rest_here, rest_none, added, zip_grown}

@@ -1,4 +1,4 @@
-use Rattle.std.proofs.Common.{◌≡◌, sym, refl, ap, ◌∙◌, map, length, option_map, arith, List}
+use Rattle.std.proofs.Common.{sym, refl, ap, ◌∙◌, map, length, option_map, arith}
 use Rattle.std.specs.Prelude.{Option}
 use Rattle.std.specs.Option.{option_map_or}
 use Rattle.ash_typed.specs.declared.tree.items.Function as function

@@ -1,4 +1,4 @@
-use Rattle.std.proofs.Common.{◌≡◌, ◌∙◌, map, subst}
+use Rattle.std.proofs.Common.{◌∙◌, map, subst}
 use Rattle.ash_typed.specs.BodyViews.{value_of, body_of}
 use Rattle.ash_code.specs.declared.instruction.Instruction.{Instruction}
 use Rattle.ash_compile.specs.declared.layout.Layout.{Layout}

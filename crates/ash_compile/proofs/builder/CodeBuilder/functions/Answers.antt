@@ -1,11 +1,11 @@
-use Rattle.std.proofs.Common.{◌≡◌, ◌∙◌, ◌++◌, [], List, map, flat_map, refl, sym, ap, subst}
+use Rattle.std.proofs.Common.{◌∙◌, ◌++◌, [], List, map, flat_map, sym, subst}
 use Rattle.std.specs.List.{AllZip}
 use Rattle.ash_typed.specs.declared.tree.items.Function as function
 use Rattle.ash_typed.specs.declared.tree.items.Class as class
 use Rattle.ash_typed.specs.Modules.{class_of, function_of}
 use Rattle.ash_code.specs.declared.code.FunctionCode.{FunctionCode}
 use Rattle.ash_compile.specs.declared.layout.Layout.{Layout}
-use Rattle.ash_compile.specs.EmittedFrames.{FrameSource, frame_of_function, frame_of_construction, methods_of, IsFrameCode}
+use Rattle.ash_compile.specs.EmittedFrames.{frame_of_function, frame_of_construction, methods_of, IsFrameCode}
 use Rattle.ash_compile.proofs.builder.CodeBuilder.functions.Goals as goal
 
 pub returns : goal.returns

@@ -1,4 +1,4 @@
-use Rattle.std.proofs.Common.{◌≡◌, ◌∷◌, List, ℕ, ◌+◌, drop, map, sym, subst}
+use Rattle.std.proofs.Common.{List, ℕ, ◌+◌, drop, map, sym, subst}
 use Rattle.ash_typed.specs.BodyViews.{value_of}
 use Rattle.ash_typed.specs.StatementTree.{Initialization}
 use Rattle.ash_compile.specs.EmittedParts.{EmitsGlobals}
