@@ -199,10 +199,10 @@ module _ (begun last : CodeBuilder) (line parameters : ℕ) (fields : List Initi
         (tick e.line >> given_if constructs (body (s.context).program (suc s.depth) e)) (length (s.env).locals)
     frame_does =
         let emitted = subst (λ (xs : Stmts). EmitsBody w.initialized w.done xs parameters constructs) (sym body_is)
-            w.body_emitted in
+        w.body_emitted in
         let here = written_first s w.initialized w.done last keeps_end written_body in
         let (exits, more, gives, does) = emitted.does s result (gives_of constructs) scene
-            (returns_by constructs result gives_nothing) (sym many) sound.body here.0 here.1 in
+        (returns_by constructs result gives_nothing) (sym many) sound.body here.0 here.1 in
         frame_gives s scene constructs e
         (subst (λ (g : Option Word → Word → Option Word). Enters s.setting (Entering s.context (suc s.depth) s.env s.envs)
         s.function s.room (tick e.line >> (inside s scene e >>= finish g)) (length (s.env).locals)) gives
@@ -220,26 +220,26 @@ pub frame_code : (begun last : CodeBuilder) (line parameters : ℕ) (fields : Li
     → IsFrameCode begun.layout x f
 frame_code begun last line parameters fields stmts constructs f x w line_f many_f code_f slots_f line_x fields_x body_x
     many_x constructs_x = record {
-  line = line_f ∙ sym line_x;
-  parameters = many_f ∙ sym many_x;
-  begins = ap (λ (is : List Instruction). slice_get is 0) code_f
-      ∙ frame_begins begun last line parameters fields stmts constructs w
-      ∙ ap (λ (n : ℕ). Some (i.Tick n)) (sym line_x);
-  enters = λ s result scene sound nothing many code slots layout.
-      let stands : Stands s (code_of last) 0 (end_of last)
+      line = line_f ∙ sym line_x;
+      parameters = many_f ∙ sym many_x;
+      begins = ap (λ (is : List Instruction). slice_get is 0) code_f
+          ∙ frame_begins begun last line parameters fields stmts constructs w
+          ∙ ap (λ (n : ℕ). Some (i.Tick n)) (sym line_x);
+      enters = λ s result scene sound nothing many code slots layout.
+          let stands : Stands s (code_of last) 0 (end_of last)
           = λ k low high. ap (λ (g : FunctionCode). slice_get (g.instructions).items k) code
           ∙ ap (λ (is : List Instruction). slice_get is k) code_f in
-      let suits : Suits s last
+          let suits : Suits s last
           = record {
             slots = omega (arith, slots_f, slots);
             layout = subst (λ (l : Layout). IsLayout ((s.setting).code).module ((s.context).program).tree l)
                 (sym (frame_layout begun last line parameters fields stmts constructs w)) layout;
           } in
-      subst (λ (n : ℕ). Enters s.setting (Entering s.context (suc s.depth) s.env s.envs) s.function s.room
-      (tick (x.entry).line >> given_if x.constructs (body (s.context).program (suc s.depth) x.entry)) n) many
-      (subst (λ (t : Bool). Enters s.setting (Entering s.context (suc s.depth) s.env s.envs) s.function s.room
-      (tick (x.entry).line >> given_if t (body (s.context).program (suc s.depth) x.entry)) (length (s.env).locals))
-      (sym constructs_x)
-      (frame_does begun last line parameters fields stmts constructs w s scene result x.entry sound line_x fields_x body_x
-      (λ is. nothing (constructs_x ∙ is)) stands suits (many ∙ many_x)));
-}
+          subst (λ (n : ℕ). Enters s.setting (Entering s.context (suc s.depth) s.env s.envs) s.function s.room
+          (tick (x.entry).line >> given_if x.constructs (body (s.context).program (suc s.depth) x.entry)) n) many
+          (subst (λ (t : Bool). Enters s.setting (Entering s.context (suc s.depth) s.env s.envs) s.function s.room
+          (tick (x.entry).line >> given_if t (body (s.context).program (suc s.depth) x.entry)) (length (s.env).locals))
+          (sym constructs_x)
+          (frame_does begun last line parameters fields stmts constructs w s scene result x.entry sound line_x fields_x body_x
+          (λ is. nothing (constructs_x ∙ is)) stands suits (many ∙ many_x)));
+    }

@@ -39,23 +39,23 @@ module _ (begun mid last : CodeBuilder) (m : Module) (f : FunctionCode) (empty :
   acts s scene env tree code slots layout =
       let starts : end_of begun ≡ 0 = ap length empty in
       let stands : Stands s (code_of last) (end_of begun) (end_of last)
-          = λ k low high. ap (λ (g : FunctionCode). slice_get (g.instructions).items k) code
-          ∙ ap (λ (is : List Instruction). slice_get is k) finished.instructions in
+      = λ k low high. ap (λ (g : FunctionCode). slice_get (g.instructions).items k) code
+      ∙ ap (λ (is : List Instruction). slice_get is k) finished.instructions in
       let places : IsLayout ((s.setting).code).module ((s.context).program).tree begun.layout
-          = subst (λ (t : Module). IsLayout ((s.setting).code).module t begun.layout) (sym tree) layout in
+      = subst (λ (t : Module). IsLayout ((s.setting).code).module t begun.layout) (sym tree) layout in
       let suits : Suits s last
-          = record {
-            slots = omega (arith, finished.slots, slots);
-            layout = subst (λ (l : Layout). IsLayout ((s.setting).code).module ((s.context).program).tree l)
-                (sym keeps.layout) places;
-          } in
+      = record {
+        slots = omega (arith, finished.slots, slots);
+        layout = subst (λ (l : Layout). IsLayout ((s.setting).code).module ((s.context).program).tree l)
+            (sym keeps.layout) places;
+      } in
       let types : AreTypesFrom s 0 (types_of_globals m.globals)
-          = λ k of at. nothing_more k of (subst (λ (t : Module). slice_get (types_of_globals t.globals) k ≡ Some of)
-          (sym tree) at) in
+      = λ k of at. nothing_more k of (subst (λ (t : Module). slice_get (types_of_globals t.globals) k ≡ Some of)
+      (sym tree) at) in
       let sound : AllByRecursion (AreSoundVariables s.env) m.globals
-          = subst (λ (t : Module). AllByRecursion (AreSoundVariables s.env) t.globals) tree
-          (subst (λ (e : TypedEnvironment). AllByRecursion (AreSoundVariables e) ((s.context).program).tree.globals) (sym env)
-          ((scene.sound).sound).globals) in
+      = subst (λ (t : Module). AllByRecursion (AreSoundVariables s.env) t.globals) tree
+      (subst (λ (e : TypedEnvironment). AllByRecursion (AreSoundVariables e) ((s.context).program).tree.globals) (sym env)
+      ((scene.sound).sound).globals) in
       subst (λ (n : ℕ). Acts s.setting (Good s) s.function s.room (initialize_module (calls_of s) 0 m.globals) n (end_of mid)
       0 0) starts
       (emits.does s (record { scene = scene; locals = ap (λ (e : TypedEnvironment). length e.locals) env }) types sound

@@ -13,24 +13,29 @@ loop-class-preserved c =
     let l = c.loop-class in
     let item = c.class-item.result in
     let code = c.in_ok-code.code in
-    let pushed = c.in_ok-push.ensures.items in
-    (c.in_ok-place.ensures.place ∙ ap (λ (n : ℕ). n + 1) l.invariant.0,
-    omega (arith, ap length pushed, length-append l.codes.items (code ∷ []), l.invariant.1),
-    λ slot m is classes.
-    let there : slice_get m.classes l.class-index ≡ Some (class_of item)
-        = ap (λ (ks : List Class). slice_get ks l.class-index) classes
-        ∙ item_at class_of c.args.classes.now l.class-index item c.loop-class-test.true c.class-item.is in
-    let own = c.in_ok-code.ensures.code slot m is (ap (λ (n : ℕ). slice_get m.classes n) l.invariant.0 ∙ there) in
-    each_below (λ (k : ℕ). (x : Class) → slice_get m.classes k ≡ Some x
-    → (y : ClassCode) × (slice_get c.push.new.self.items k ≡ Some y) × IsClassCode m k x y) l.class-index
-    (λ k low x at.
-    let before = l.invariant.2 slot m is classes k low x at in
-    (before.0, ap (λ (ys : List ClassCode). slice_get ys k) pushed ∙ get_first l.codes.items (code ∷ []) k before.0 before.1,
-    before.2))
-    (λ x at.
-    (code, last_added l.codes.items c.push.new.self.items l.class-index code pushed l.invariant.1,
-    subst (λ (n : ℕ). IsClassCode m n x code) l.invariant.0
-    (subst (λ (y : Class). IsClassCode m l.place y code) (same_Some (class_of item) x (sym there ∙ at)) own))))
+    let pushed = c.in_ok-push.ensures.items in (
+      c.in_ok-place.ensures.place ∙ ap (λ (n : ℕ). n + 1) l.invariant.0,
+      omega (arith, ap length pushed, length-append l.codes.items (code ∷ []), l.invariant.1),
+      λ slot m is classes.
+          let there : slice_get m.classes l.class-index ≡ Some (class_of item)
+          = ap (λ (ks : List Class). slice_get ks l.class-index) classes
+          ∙ item_at class_of c.args.classes.now l.class-index item c.loop-class-test.true c.class-item.is in
+          let own = c.in_ok-code.ensures.code slot m is (ap (λ (n : ℕ). slice_get m.classes n) l.invariant.0 ∙ there) in
+          each_below (λ (k : ℕ). (x : Class) → slice_get m.classes k ≡ Some x
+          → (y : ClassCode) × (slice_get c.push.new.self.items k ≡ Some y) × IsClassCode m k x y) l.class-index
+          (λ k low x at.
+          let before = l.invariant.2 slot m is classes k low x at in (
+            before.0,
+            ap (λ (ys : List ClassCode). slice_get ys k) pushed ∙ get_first l.codes.items (code ∷ []) k before.0 before.1,
+            before.2,
+          ))
+          (λ x at. (
+            code,
+            last_added l.codes.items c.push.new.self.items l.class-index code pushed l.invariant.1,
+            subst (λ (n : ℕ). IsClassCode m n x code) l.invariant.0
+                (subst (λ (y : Class). IsClassCode m l.place y code) (same_Some (class_of item) x (sym there ∙ at)) own),
+          )),
+    )
 
 pub returns : goal.returns
 returns c =

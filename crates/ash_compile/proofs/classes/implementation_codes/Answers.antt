@@ -16,7 +16,7 @@ loop-implementation-preserved c = λ slot m is low.
     let f = implementation_at m c.args.class in
     let before = map f (map implementation_seen (take l.implementation-index interfaces)) in
     let methods = c.in_ok-methods.ensures.methods slot m is low
-        ∙ ap (map (λ (own : ℕ). index_of m (Method c.args.class own))) c.deref.ensures.value in
+    ∙ ap (map (λ (own : ℕ). index_of m (Method c.args.class own))) c.deref.ensures.value in
     ap (map implementation_of) c.in_ok-push.ensures.items
     ∙ map_both implementation_of l.codes.items _
     ∙ ap (λ (is : List Implementation). is ++ record { interface = item.interface; methods = c.in_ok-methods.methods.items } ∷ [])

@@ -16,18 +16,21 @@ loop-class-preserved c =
     let item = c.class-item.result in
     let classes = c.args.classes.now in
     let rest = map class_of (drop (l.class-index + 1) classes) in
-    let here = rest_here class_of classes l.class-index item c.loop-class-test.true c.class-item.is in
-    (c.in_ok-add_methods.ensures.layout ∙ l.invariant.0, λ xs are.
-    let before = l.invariant.1 xs are in
-    let more = subst (λ (places : Layout). AllZip (IsFrameCode places) before.0 l.codes.items
-        → AllZip (IsFrameCode places) (before.0 ++ map (frame_of_method (class_of item)) (map function_of c.deref.result.now))
-        c.add_methods.new.codes.items) l.invariant.0 (c.in_ok-add_methods.ensures.added (class_of item) before.0) before.1 in
-    (before.0 ++ methods_of (class_of item),
-    subst (λ (fs : List function.Function). AllZip (IsFrameCode c.args.self.now.layout)
-    (before.0 ++ map (frame_of_method (class_of item)) (map function_of fs)) c.add_methods.new.codes.items)
-    c.deref.ensures.value more,
-    append_assoc before.0 (methods_of (class_of item)) (flat_map methods_of rest)
-    ∙ ap (λ (ks : List Class). before.0 ++ flat_map methods_of ks) (sym here) ∙ before.2))
+    let here = rest_here class_of classes l.class-index item c.loop-class-test.true c.class-item.is in (
+      c.in_ok-add_methods.ensures.layout ∙ l.invariant.0,
+      λ xs are.
+          let before = l.invariant.1 xs are in
+          let more = subst (λ (places : Layout). AllZip (IsFrameCode places) before.0 l.codes.items
+          → AllZip (IsFrameCode places) (before.0 ++ map (frame_of_method (class_of item)) (map function_of c.deref.result.now))
+          c.add_methods.new.codes.items) l.invariant.0 (c.in_ok-add_methods.ensures.added (class_of item) before.0) before.1 in (
+            before.0 ++ methods_of (class_of item),
+            subst (λ (fs : List function.Function). AllZip (IsFrameCode c.args.self.now.layout)
+                (before.0 ++ map (frame_of_method (class_of item)) (map function_of fs)) c.add_methods.new.codes.items)
+                c.deref.ensures.value more,
+            append_assoc before.0 (methods_of (class_of item)) (flat_map methods_of rest)
+                ∙ ap (λ (ks : List Class). before.0 ++ flat_map methods_of ks) (sym here) ∙ before.2,
+          ),
+    )
 
 pub returns : goal.returns
 returns c =

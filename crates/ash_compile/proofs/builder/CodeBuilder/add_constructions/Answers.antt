@@ -15,15 +15,17 @@ loop-class-preserved c =
     let classes = c.args.classes.now in
     let rest = map frame_of_construction (map class_of (drop (l.class-index + 1) classes)) in
     let here = ap (map frame_of_construction)
-        (rest_here class_of classes l.class-index item c.loop-class-test.true c.class-item.is) in
-    (c.in_ok-code.ensures.layout ∙ l.invariant.0, λ xs are.
-    let before = l.invariant.1 xs are in
-    added (IsFrameCode c.args.self.now.layout) before.0 rest _ l.codes.items c.push.new.self.items
-    (frame_of_construction (class_of item)) c.in_ok-code.code before.1
-    (subst (λ (places : Layout). IsFrameCode places (frame_of_construction (class_of item)) c.in_ok-code.code) l.invariant.0
-    c.in_ok-code.ensures.construction)
-    c.in_ok-push.ensures.items
-    (ap (λ (zs : List FrameSource). before.0 ++ zs) (sym here) ∙ before.2))
+    (rest_here class_of classes l.class-index item c.loop-class-test.true c.class-item.is) in (
+      c.in_ok-code.ensures.layout ∙ l.invariant.0,
+      λ xs are.
+          let before = l.invariant.1 xs are in
+          added (IsFrameCode c.args.self.now.layout) before.0 rest _ l.codes.items c.push.new.self.items
+          (frame_of_construction (class_of item)) c.in_ok-code.code before.1
+          (subst (λ (places : Layout). IsFrameCode places (frame_of_construction (class_of item)) c.in_ok-code.code) l.invariant.0
+          c.in_ok-code.ensures.construction)
+          c.in_ok-push.ensures.items
+          (ap (λ (zs : List FrameSource). before.0 ++ zs) (sym here) ∙ before.2),
+    )
 
 pub returns : goal.returns
 returns c =

@@ -15,15 +15,17 @@ loop-function-preserved c =
     let functions = c.args.functions.now in
     let rest = map frame_of_function (map function_of (drop (l.function-index + 1) functions)) in
     let here = ap (map frame_of_function)
-        (rest_here function_of functions l.function-index item c.loop-function-test.true c.function-item.is) in
-    (c.in_ok-code.ensures.layout ∙ l.invariant.0, λ xs are.
-    let before = l.invariant.1 xs are in
-    added (IsFrameCode c.args.self.now.layout) before.0 rest _ l.codes.items c.push.new.self.items
-    (frame_of_function (function_of item)) c.in_ok-code.code before.1
-    (subst (λ (places : Layout). IsFrameCode places (frame_of_function (function_of item)) c.in_ok-code.code) l.invariant.0
-    c.in_ok-code.ensures.function)
-    c.in_ok-push.ensures.items
-    (ap (λ (zs : List FrameSource). before.0 ++ zs) (sym here) ∙ before.2))
+    (rest_here function_of functions l.function-index item c.loop-function-test.true c.function-item.is) in (
+      c.in_ok-code.ensures.layout ∙ l.invariant.0,
+      λ xs are.
+          let before = l.invariant.1 xs are in
+          added (IsFrameCode c.args.self.now.layout) before.0 rest _ l.codes.items c.push.new.self.items
+          (frame_of_function (function_of item)) c.in_ok-code.code before.1
+          (subst (λ (places : Layout). IsFrameCode places (frame_of_function (function_of item)) c.in_ok-code.code) l.invariant.0
+          c.in_ok-code.ensures.function)
+          c.in_ok-push.ensures.items
+          (ap (λ (zs : List FrameSource). before.0 ++ zs) (sym here) ∙ before.2),
+    )
 
 pub returns : goal.returns
 returns c =

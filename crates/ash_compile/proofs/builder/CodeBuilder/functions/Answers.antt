@@ -18,12 +18,12 @@ returns c =
     let none = subst (λ (fs : List FunctionCode). AllZip (IsFrameCode layout) [] fs) (sym c.new-codes.ensures.items) tt in
     let one = c.in_ok-add_functions.ensures.added [] none in
     let two = subst (λ (l : Layout). AllZip (IsFrameCode l) first c.add_functions.new.codes.items
-        → AllZip (IsFrameCode l) second c.add_constructions.new.codes.items) c.in_ok-add_functions.ensures.layout
-        (c.in_ok-add_constructions.ensures.added first) one in
+    → AllZip (IsFrameCode l) second c.add_constructions.new.codes.items) c.in_ok-add_functions.ensures.layout
+    (c.in_ok-add_constructions.ensures.added first) one in
     let three = subst (λ (l : Layout). AllZip (IsFrameCode l) second c.add_constructions.new.codes.items
-        → AllZip (IsFrameCode l) (second ++ third) c.add_all_methods.new.codes.items)
-        (c.in_ok-add_constructions.ensures.layout ∙ c.in_ok-add_functions.ensures.layout)
-        (c.in_ok-add_all_methods.ensures.added second) two in
+    → AllZip (IsFrameCode l) (second ++ third) c.add_all_methods.new.codes.items)
+    (c.in_ok-add_constructions.ensures.layout ∙ c.in_ok-add_functions.ensures.layout)
+    (c.in_ok-add_all_methods.ensures.added second) two in
     record {
       functions = subst (λ (fs : List function.Function). AllZip (IsFrameCode layout)
           (map frame_of_function (map function_of fs) ++ map frame_of_construction (map class_of tree.classes.items)

@@ -16,7 +16,7 @@ loop-declared-preserved c = λ new emits.
     let declared = c.declared-item.result in
     let rest = map variables_of (drop (l.declared-index + 1) c.args.variables.now) in
     let many : c.len.result ≡ length (map value_of declared.initializations.items)
-        = omega (arith, length-map declared.initializations.items value_of, c.len.ensures, declared.initializations.ok.0) in
+    = omega (arith, length-map declared.initializations.items value_of, c.len.ensures, declared.initializations.ok.0) in
     l.invariant new (subst (λ (ds : List Variables). EmitsDeclarations l.self new l.place ds)
     (sym (rest_here variables_of c.args.variables.now l.declared-index declared c.loop-declared-test.true c.declared-item.is))
     (more_variables l.self c.tick.new.self c.globals.new.self new l.place (variables_of declared) rest
