@@ -3,7 +3,7 @@
 //! `specs/Stretches.antt` says when a stretch of code does what a phrase does, and `specs/Emission.antt` what emitted
 //! code does, wherever it stands.
 //!
-//! In reading order: `layout`, `builder`, `expressions`, `blocks`, `bodies`, `looping`.
+//! In reading order: `layout`, `builder`, `expressions`, `blocks`, `bodies`, `looping`, `switching`.
 #![tactic(auto)]
 
 mod blocks;
@@ -12,3 +12,4 @@ pub mod builder;
 pub mod expressions;
 pub mod layout;
 mod looping;
+mod switching;
