@@ -1,11 +1,11 @@
 -- The code of arguments does what they do, one after another.
-use Rattle.std.proofs.Common.{◌≡◌, ◌≤◌, ◌<◌, ℕ, zero, suc, ◌+◌, List, [], ◌∷◌, ◌++◌, take, drop, length, map, refl, sym, ap, ◌∙◌, subst, arith}
-use Rattle.std.proofs.Common.{add-one, length-append}
-use Rattle.std.specs.Prelude.{Option, Some, None, slice_index_or}
+use Rattle.std.proofs.Common.{◌≡◌, ◌≤◌, ◌<◌, ℕ, zero, suc, ◌+◌, List, [], ◌∷◌, ◌++◌, take, drop, length, refl, sym, ap, ◌∙◌, subst, arith}
+use Rattle.std.proofs.Common.{length-append}
+use Rattle.std.specs.Prelude.{Option, slice_index_or}
 use Rattle.ash_host.specs.declared.word.Word.{Word}
 use Rattle.ash_host.specs.declared.word.Word.TheVariants.{Null}
 use Rattle.ash_typed.specs.declared.types.VarType.{VarType}
-use Rattle.ash_typed.specs.TypedTree.{Expr, Exprs, no_expr, expr, exprs}
+use Rattle.ash_typed.specs.TypedTree.{Expr, exprs}
 use Rattle.ash_typed.specs.SoundExpressions.{TypedEnvironment, IsWellTyped, Fits as FitsType, AreSoundArguments, no_arguments, argument, fits}
 use Rattle.ash_meaning.specs.Activity.{Activity}
 use Rattle.ash_meaning.specs.Runs.{Run, Progress, Done, Ended, NoStep, onward, give, ◌>>=◌}
@@ -20,8 +20,8 @@ use Rattle.ash_code.specs.Controls.{Window, control}
 use Rattle.ash_code.specs.Performing.{Setting}
 use Rattle.ash_compile.specs.declared.builder.CodeBuilder.{CodeBuilder}
 use Rattle.ash_compile.specs.Stretches.{continued, Arrives, Fits, Holds, with_slots, Computes}
-use Rattle.ash_compile.specs.Emission.{code_of, end_of, Keeps, Scene, IsScene, Suits, Good, Stands, DoesExpression, Emits, calls_of}
-use Rattle.ash_compile.specs.Arguments.{HoldsAll, ComputesAll, DoesArguments, EmitsArguments}
+use Rattle.ash_compile.specs.Emission.{code_of, end_of, Scene, IsScene, Good, DoesExpression, Emits, calls_of}
+use Rattle.ash_compile.specs.Arguments.{HoldsAll, ComputesAll, EmitsArguments}
 use Rattle.ash_compile.proofs.Simulation.{continued_then, then_is}
 use Rattle.ash_compile.proofs.Emission.{keeps_on, suits_before, stands_before, stands_after}
 use Rattle.ash_compile.proofs.Typed.{left_done, most_left}

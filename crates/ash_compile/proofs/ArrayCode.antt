@@ -1,33 +1,30 @@
 -- The code of methods of arrays does what they do, and that of arrays which are constructed with a length.
-use Rattle.std.proofs.Common.{◌≡◌, ◌≤◌, ◌<◌, ℕ, zero, suc, ◌+◌, List, [], ◌∷◌, take, drop, length, refl, sym, ap, ◌∙◌, subst, arith}
+use Rattle.std.proofs.Common.{◌≡◌, ◌<◌, ℕ, zero, suc, ◌+◌, List, [], ◌∷◌, take, drop, length, refl, sym, ap, ◌∙◌, arith}
 use Rattle.std.proofs.Common.{true, false, Bool, cond}
 use Rattle.std.specs.Prelude.{Option, Some, None, slice_set, slice_index_or, ◌&&◌}
 use Rattle.std.specs.Option.{option_map_or}
 use Rattle.ash_host.specs.declared.word.Word.{Word}
 use Rattle.ash_host.specs.declared.word.Word.TheVariants as words
 use Rattle.ash_host.specs.declared.element.ElementTag.{ElementTag}
-use Rattle.ash_host.specs.Objects.{Plain, Script, Array, Host, Elements, object_at}
+use Rattle.ash_host.specs.Objects.{Plain, Script, Array, Host, Elements}
 use Rattle.ash_integers.specs.declared.int_type.IntType.TheVariants as ints
 use Rattle.ash_typed.specs.declared.types.Element as typed_element
-use Rattle.ash_typed.specs.declared.types.ObjectType.{ObjectType}
 use Rattle.ash_typed.specs.declared.types.ObjectType.TheVariants as objects
-use Rattle.ash_typed.specs.declared.types.VarType.{VarType}
 use Rattle.ash_typed.specs.declared.types.VarType.TheVariants as vars
 use Rattle.ash_typed.specs.declared.tree.operations.ArrayMethod.{ArrayMethod}
 use Rattle.ash_typed.specs.declared.tree.operations.ArrayMethod.TheVariants as methods
-use Rattle.ash_typed.specs.TypeOf.{ValueType, value, type_of_element}
+use Rattle.ash_typed.specs.TypeOf.{value, type_of_element}
 use Rattle.ash_typed.specs.TypedTree.{Expr, exprs}
 use Rattle.ash_typed.specs.SoundExpressions.{IsWellTyped, AreSoundArguments}
 use Rattle.ash_typed.specs.SoundOperations.{parameters_of_array_method}
 use Rattle.ash_meaning.specs.Activity.{Activity}
-use Rattle.ash_meaning.specs.Runs.{Run, Progress, Done, onward, ◌>>=◌}
+use Rattle.ash_meaning.specs.Runs.{onward, ◌>>=◌}
 use Rattle.ash_meaning.specs.ObjectSteps.{object_of}
 use Rattle.ash_meaning.specs.ArraySteps as arrays
 use Rattle.ash_meaning.specs.ArraySteps.{natural_of, construct_array, invoke_array}
 use Rattle.ash_meaning.specs.ExpressionMeaning.{expression, arguments}
 use Rattle.ash_meaning.specs.Classes.{Program, element_of}
-use Rattle.ash_meaning.specs.Ends.{Outcome}
-use Rattle.ash_soundness.specs.WellFormed.{Shape, OfElements, shape_of, shape_at, IsArrayOf, IsValue, AreValues, and_value, no_values}
+use Rattle.ash_soundness.specs.WellFormed.{Shape, OfElements, shape_of, shape_at, IsArrayOf, AreValues, and_value, no_values}
 use Rattle.ash_soundness.proofs.Arrays.{object_with}
 use Rattle.ash_object_ranks.specs.ShownTables.{elements_shown}
 use Rattle.ash_run_steps.specs.Guarded.{Guarded, onward as guarded_onward}
@@ -37,7 +34,7 @@ use Rattle.ash_code.specs.declared.instruction.Instruction.{Instruction}
 use Rattle.ash_code.specs.declared.instruction.Instruction.TheVariants as i
 use Rattle.ash_code.specs.Controls.{Control, Window, control, word_at}
 use Rattle.ash_code.specs.Performing.{Setting, Next, perform, put}
-use Rattle.ash_compile.specs.Stretches.{continued, Arrives, with_slots, Computes}
+use Rattle.ash_compile.specs.Stretches.{Computes}
 use Rattle.ash_compile.specs.Arguments.{DoesArguments}
 use Rattle.ash_compile.specs.Emission.{Scene, IsScene, Good, DoesExpression, calls_of}
 use Rattle.ash_compile.proofs.Simulation.{step_is, puts, stored}

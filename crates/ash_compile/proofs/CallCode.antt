@@ -1,40 +1,38 @@
 -- The code of calls does what they do, once their arguments are in slots.
-use Rattle.std.proofs.Common.{◌≡◌, ◌≤◌, ◌<◌, ℕ, zero, suc, ◌+◌, ◌-◌, List, [], ◌∷◌, take, drop, length, refl, sym, ap, ◌∙◌, subst, arith}
+use Rattle.std.proofs.Common.{◌≡◌, ◌≤◌, ◌<◌, ℕ, zero, suc, ◌+◌, List, ◌∷◌, take, drop, length, refl, sym, ap, ◌∙◌, subst, arith}
 use Rattle.std.proofs.Common.{true, Bool, nat_lt, length-drop}
-use Rattle.std.specs.Prelude.{Option, Some, None, slice_get, slice_index_or, slice_set, ◌&&◌}
+use Rattle.std.specs.Prelude.{Option, Some, slice_get, slice_index_or, slice_set, ◌&&◌}
 use Rattle.std.proofs.lemmas.Bool.Decides.{nat_tests}
 use Rattle.std.proofs.lemmas.List.{length-set, get_or-set_same, get_or-set_other, take-set-le}
 use Rattle.ash_host.specs.declared.word.Word.{Word}
 use Rattle.ash_host.specs.declared.word.Word.TheVariants as words
 use Rattle.ash_typed.specs.declared.types.VarType.{VarType}
-use Rattle.ash_typed.specs.Modules.{Function, Class}
+use Rattle.ash_typed.specs.Modules.{Function}
 use Rattle.ash_typed.specs.TypedTree.{Expr, exprs}
 use Rattle.ash_typed.specs.SoundExpressions.{TypedEnvironment, AreSoundArguments}
-use Rattle.ash_meaning.specs.Activity.{Frame, Activity}
-use Rattle.ash_meaning.specs.Runs.{Run, Progress, Done, Ended, NoStep, onward, give, found, ◌>>=◌, ◌>>◌}
+use Rattle.ash_meaning.specs.Activity.{Activity}
+use Rattle.ash_meaning.specs.Runs.{Run, Progress, Done, Ended, NoStep, onward, found, ◌>>=◌, ◌>>◌}
 use Rattle.ash_meaning.specs.Frames.{tick, demand_frame, max_frames}
 use Rattle.ash_meaning.specs.CallMeaning.{call as call_meaning}
-use Rattle.ash_meaning.specs.Classes.{ModuleCallee, FreeFunction, Method, Entry, entry_of, entry_of_function, entry_of_method}
-use Rattle.ash_meaning.specs.ExpressionMeaning.{expression, arguments}
+use Rattle.ash_meaning.specs.Classes.{ModuleCallee, FreeFunction, Entry, entry_of, entry_of_function}
+use Rattle.ash_meaning.specs.ExpressionMeaning.{arguments}
 use Rattle.ash_meaning.specs.Functions.{body}
 use Rattle.ash_meaning.specs.Ends.{Outcome}
-use Rattle.ash_soundness.specs.WellFormed.{declared, AreValues, IsThis, no_this, is_this, IsWellFormed}
+use Rattle.ash_soundness.specs.WellFormed.{AreValues, IsThis, no_this, IsWellFormed}
 use Rattle.ash_soundness.proofs.Constructions.{lt_from}
-use Rattle.ash_run_steps.specs.Guarded.{Guarded, onward as guarded_onward}
 use Rattle.ash_run_steps.specs.GuardedSteps.{are_alive}
 use Rattle.ash_code.specs.declared.code.FunctionCode.{FunctionCode}
-use Rattle.ash_code.specs.declared.instruction.Instruction.{Instruction}
 use Rattle.ash_code.specs.declared.instruction.Instruction.TheVariants as i
-use Rattle.ash_code.specs.Controls.{Control, Window, control, word_at}
-use Rattle.ash_code.specs.Performing.{Setting, Next, call, enter_at, perform, put}
+use Rattle.ash_code.specs.Controls.{Window, control}
+use Rattle.ash_code.specs.Performing.{Setting, call, enter_at, put}
 use Rattle.ash_code.specs.Running.{step}
 use Rattle.ash_compile.specs.Stretches.{continued, Arrives, with_slots, Fits, Holds, Has, Computes}
 use Rattle.ash_compile.specs.Performances.{Enters}
 use Rattle.ash_compile.specs.Arguments.{HoldsAll, ComputesAll, DoesArguments}
 use Rattle.ash_compile.specs.Layout.{index_of}
-use Rattle.ash_compile.specs.Callees.{room_for, IsCallee, a_function, a_method, HasCallee, given_by, Entering}
+use Rattle.ash_compile.specs.Callees.{room_for, IsCallee, a_function, HasCallee, given_by, Entering}
 use Rattle.ash_compile.specs.Emission.{Scene, IsScene, Good, calls_of}
-use Rattle.ash_compile.proofs.Simulation.{continued_then, then_is, step_is, puts, stored, refits}
+use Rattle.ash_compile.proofs.Simulation.{continued_then, then_is, step_is, puts, refits}
 use Rattle.ash_compile.proofs.Emission.{HasAt, greatest_within}
 use Rattle.ash_compile.proofs.Arguments.{all_refit, argued, argued_good, arguments_long}
 use Rattle.ash_compile.proofs.Calling.{Returns, entered_at, framed, calls_there, enters_there}

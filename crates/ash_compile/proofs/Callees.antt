@@ -1,38 +1,34 @@
 -- What a sound module calls is there, in its code too.
-use Rattle.std.proofs.Common.{◌≡◌, ◌≤◌, ◌<◌, ℕ, zero, suc, ◌+◌, ◌-◌, ◌*◌, List, [], ◌∷◌, drop, length, map, refl, sym, ap, ◌∙◌, subst, arith}
-use Rattle.std.proofs.Common.{true, Bool, nat_lt, option_map, slice_get, length-drop}
-use Rattle.std.specs.Prelude.{Option, Some, None, ◌&&◌}
-use Rattle.std.specs.List.{list_all}
+use Rattle.std.proofs.Common.{◌≡◌, ◌≤◌, ◌<◌, ℕ, suc, ◌+◌, ◌-◌, ◌*◌, List, ◌∷◌, length, refl, ap, ◌∙◌, arith}
+use Rattle.std.proofs.Common.{true, Bool, option_map, slice_get}
+use Rattle.std.specs.Prelude.{Option, Some, ◌&&◌}
 use Rattle.std.specs.Option.{option_and_then}
-use Rattle.std.proofs.lemmas.Bool.Decides.{nat_tests}
 use Rattle.std.proofs.lemmas.Option.{slice_get-map}
 use Rattle.ash_host.specs.declared.word.Word.{Word}
-use Rattle.ash_host.specs.declared.word.Word.TheVariants as words
 use Rattle.ash_host.specs.Objects.{LiveObjects, handle}
 use Rattle.ash_typed.specs.declared.types.VarType.{VarType}
-use Rattle.ash_typed.specs.Modules.{Class, Function}
-use Rattle.ash_typed.specs.Signatures.{signature_of, parameters_of}
+use Rattle.ash_typed.specs.Modules.{Class}
+use Rattle.ash_typed.specs.Signatures.{signature_of}
 use Rattle.ash_typed.specs.SoundExpressions.{TypedEnvironment}
 use Rattle.ash_meaning.specs.Activity.{Frame, Activity}
-use Rattle.ash_meaning.specs.Runs.{Run, Progress, Done, onward, look, ◌>>=◌, ◌>>◌}
-use Rattle.ash_meaning.specs.Frames.{tick, max_frames, frame_of}
+use Rattle.ash_meaning.specs.Runs.{◌>>◌}
+use Rattle.ash_meaning.specs.Frames.{tick, max_frames}
 use Rattle.ash_meaning.specs.CallMeaning.{value_or_null}
 use Rattle.ash_typed.specs.TypeOf.{ValueType}
-use Rattle.ash_meaning.specs.Classes.{Program, ModuleCallee, FreeFunction, Method, Construction, Entry, entry_of}
+use Rattle.ash_meaning.specs.Classes.{Program, ModuleCallee, Entry, entry_of}
 use Rattle.ash_meaning.specs.Classes.{entry_of_function, entry_of_method, entry_of_construction}
 use Rattle.ash_meaning.specs.Functions.{body}
-use Rattle.ash_soundness.specs.WellFormed.{Context, IsContext, declared, IsValue, AreValues, no_values, and_value, IsThis, no_this, is_this}
+use Rattle.ash_soundness.specs.WellFormed.{Context, IsContext, AreValues, no_values, and_value, IsThis}
 use Rattle.ash_soundness.specs.WellFormed.{IsGiven, gives_nothing, gives_null, gives, AreFrames, no_frames, and_frame, IsWellFormed}
 use Rattle.ash_soundness.specs.WellFormedLaws.{Leaves, done}
 use Rattle.ash_soundness.proofs.Values.{none_in}
 use Rattle.ash_soundness.proofs.Triples.{bind, weaken}
 use Rattle.ash_soundness.proofs.Frames.{tick_goes}
-use Rattle.ash_soundness.proofs.Calls.{KeepsBodies}
 use Rattle.ash_soundness.proofs.Bodies.{keeps_bodies}
 use Rattle.ash_soundness.proofs.Entries.{IsEntry, function_entry, own_method, construction_entry}
 use Rattle.ash_run_steps.specs.GuardedSteps.{is_alive, are_alive}
 use Rattle.ash_compile.specs.Callees.{room_for, IsCallee, a_function, a_method, a_construction, given_by}
-use Rattle.ash_compile.specs.Emission.{Scene, IsScene, Good}
+use Rattle.ash_compile.specs.Emission.{Scene, IsScene}
 use Rattle.ash_compile.proofs.Typed.{left_done, alive_of, value_alive, this_lives}
 use Rattle.ash_compile.proofs.Calling.{Returns, entered_at}
 

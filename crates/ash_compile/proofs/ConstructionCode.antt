@@ -1,9 +1,8 @@
 -- The code of constructions of a module's classes does what they do, once their arguments are in slots.
-use Rattle.std.proofs.Common.{◌≡◌, ◌≤◌, ◌<◌, ℕ, zero, suc, ◌+◌, List, [], ◌∷◌, take, drop, length, map, refl, sym, ap, ◌∙◌, subst, arith}
+use Rattle.std.proofs.Common.{◌≡◌, ◌≤◌, ◌<◌, ℕ, ◌+◌, List, [], ◌∷◌, take, drop, length, map, refl, sym, ap, ◌∙◌, subst, arith}
 use Rattle.std.proofs.Common.{true, false, Bool, cond, nat_lt, nat_le}
 use Rattle.std.specs.Prelude.{Option, Some, None, slice_get, ◌&&◌}
 use Rattle.std.specs.Option.{option_map_or}
-use Rattle.std.specs.List.{list_all}
 use Rattle.std.proofs.lemmas.Bool.Decides.{nat_tests}
 use Rattle.std.proofs.lemmas.List.{length-map}
 use Rattle.ash_host.specs.Limits.{max_objects, max_elements}
@@ -14,7 +13,7 @@ use Rattle.ash_integers.specs.declared.int_type.IntType.TheVariants as ints
 use Rattle.ash_typed.specs.declared.types.VarType.{VarType}
 use Rattle.ash_typed.specs.declared.types.VarType.TheVariants as vars
 use Rattle.ash_typed.specs.StatementTree.{Initialization}
-use Rattle.ash_typed.specs.Modules.{Class, Module}
+use Rattle.ash_typed.specs.Modules.{Class}
 use Rattle.ash_typed.specs.Signatures.{parameters_of, type_declared}
 use Rattle.ash_typed.specs.TypedTree.{Expr, exprs}
 use Rattle.ash_typed.specs.SoundExpressions.{TypedEnvironment, AreSoundArguments}
@@ -25,16 +24,14 @@ use Rattle.ash_meaning.specs.Frames.{tick, demand_frame, in_frame_of, leave, max
 use Rattle.ash_meaning.specs.ObjectSteps.{demand_number, make, with_new, max_number}
 use Rattle.ash_meaning.specs.OperatorMeaning.{zero_of}
 use Rattle.ash_meaning.specs.CallMeaning.{value_or_null, blank, construct}
-use Rattle.ash_meaning.specs.Classes.{Program, Construction, Entry, entry_of, entry_of_construction, place_of_class}
+use Rattle.ash_meaning.specs.Classes.{Program, Construction, Entry, entry_of_construction, place_of_class}
 use Rattle.ash_meaning.specs.ExpressionMeaning.{arguments}
 use Rattle.ash_meaning.specs.Functions.{body}
-use Rattle.ash_meaning.specs.Ends.{Outcome}
-use Rattle.ash_soundness.specs.WellFormed.{declared, Shape, OfClass, OfKind, shape_of, shape_at, AreValues, no_values, and_value, is_script, is_this, IsWellFormed}
-use Rattle.ash_soundness.specs.WellFormedLaws.{Goes, AreCarried, Leaves, done}
+use Rattle.ash_soundness.specs.WellFormed.{declared, shape_of, shape_at, AreValues, no_values, and_value, is_script, is_this, IsWellFormed}
+use Rattle.ash_soundness.specs.WellFormedLaws.{Goes, Leaves, done}
 use Rattle.ash_soundness.proofs.Triples.{bind, weaken, after_demand, safe, carry_all}
 use Rattle.ash_soundness.proofs.Constructions.{bind_here, lt_from, HasRoom, number_demanded, made_goes, made_shape}
 use Rattle.ash_soundness.proofs.Integers.{zero_value}
-use Rattle.ash_soundness.proofs.Hosts.{well_after}
 use Rattle.ash_soundness.proofs.Frames.{tick_goes}
 use Rattle.ash_soundness.proofs.Bodies.{keeps_bodies}
 use Rattle.ash_soundness.proofs.Entries.{class_is}
@@ -43,21 +40,20 @@ use Rattle.ash_run_steps.specs.GuardedSteps.{is_alive, are_alive}
 use Rattle.ash_run_steps.specs.MakingSteps.{may_have, make_script}
 use Rattle.ash_code.specs.declared.code.ClassCode.{ClassCode}
 use Rattle.ash_code.specs.declared.instruction.Instruction.TheVariants as i
-use Rattle.ash_code.specs.Controls.{Control, Window, control}
-use Rattle.ash_code.specs.Performing.{Setting, Next, own_name, classes_of, enter_at, construct as construct_code}
+use Rattle.ash_code.specs.Controls.{Window, control}
+use Rattle.ash_code.specs.Performing.{Next, classes_of, enter_at, construct as construct_code}
 use Rattle.ash_code.specs.Running.{step}
-use Rattle.ash_compile.specs.Stretches.{continued, Arrives, with_slots, Fits, Holds, Has, Computes}
-use Rattle.ash_compile.specs.Performances.{Enters}
+use Rattle.ash_compile.specs.Stretches.{continued, Arrives, Computes}
 use Rattle.ash_compile.specs.Layout.{index_of}
-use Rattle.ash_compile.specs.Callees.{room_for, a_construction, HasCallee, IsClassCode, Entering}
+use Rattle.ash_compile.specs.Callees.{a_construction, IsClassCode}
 use Rattle.ash_compile.specs.Arguments.{DoesArguments}
 use Rattle.ash_compile.specs.Emission.{Scene, IsScene, Good, calls_of}
-use Rattle.ash_compile.proofs.Simulation.{step_is, frame_in}
+use Rattle.ash_compile.proofs.Simulation.{step_is}
 use Rattle.ash_compile.proofs.Emission.{HasAt, greatest_within}
 use Rattle.ash_compile.proofs.Typed.{left_done}
 use Rattle.ash_compile.proofs.Arguments.{argued, argued_good, arguments_long}
-use Rattle.ash_compile.proofs.Callees.{object_alive, values_alive, entry_there, entry_is, entered_well}
-use Rattle.ash_compile.proofs.Calling.{Returns, entered_at, framed, grouped, enters_there}
+use Rattle.ash_compile.proofs.Callees.{entry_there, entry_is, entered_well}
+use Rattle.ash_compile.proofs.Calling.{entered_at, framed, grouped}
 use Rattle.ash_compile.proofs.Constructing.{after_first, making}
 use Rattle.ash_compile.proofs.CallCode.{by_arguments, row_within, does_enter}
 

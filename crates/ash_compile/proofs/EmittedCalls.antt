@@ -1,6 +1,6 @@
 -- Emitted code of calls, target by target.
-use Rattle.std.proofs.Common.{◌≡◌, ◌≤◌, ◌<◌, ℕ, ◌+◌, List, [], ◌∷◌, length, map, refl, sym, ap, ◌∙◌, subst, arith, option_map}
-use Rattle.std.specs.Prelude.{Option, Some, None, slice_get}
+use Rattle.std.proofs.Common.{◌≡◌, ◌<◌, ℕ, ◌+◌, List, [], ◌∷◌, length, map, refl, sym, ap, ◌∙◌, subst, arith}
+use Rattle.std.specs.Prelude.{Option, Some, slice_get}
 use Rattle.std.proofs.lemmas.Option.{slice_get-map, slice_get_within}
 use Rattle.std.proofs.lemmas.List.{length-map}
 use Rattle.ash_host.specs.declared.element.ElementTag.{ElementTag}
@@ -16,7 +16,7 @@ use Rattle.ash_typed.specs.declared.tree.operations.Method.{Method}
 use Rattle.ash_typed.specs.declared.tree.operations.Method.TheVariants as methods
 use Rattle.ash_typed.specs.declared.tree.operations.CallTarget.{CallTarget}
 use Rattle.ash_typed.specs.declared.tree.operations.CallTarget.TheVariants as targets
-use Rattle.ash_typed.specs.TypeOf.{ValueType, value, value_of_result}
+use Rattle.ash_typed.specs.TypeOf.{ValueType, value}
 use Rattle.ash_typed.specs.TypedTree.{Expr, Exprs, exprs, Invoke, Call}
 use Rattle.ash_typed.specs.Modules.{Signature, Function, Class, Module}
 use Rattle.ash_typed.specs.Signatures as signatures
@@ -25,7 +25,7 @@ use Rattle.ash_typed.specs.SoundOperations as operations
 use Rattle.ash_typed.specs.SoundOperations.{IsMethod, IsTarget, parameters_of_array_method}
 use Rattle.ash_typed.specs.SoundExpressions as typing
 use Rattle.ash_typed.specs.SoundExpressions.{TypedEnvironment, IsWellTyped, AreSoundArguments}
-use Rattle.ash_meaning.specs.Classes.{Program, FreeFunction, Method as ClassMethod, Construction, element_of}
+use Rattle.ash_meaning.specs.Classes.{Program, Method as ClassMethod, element_of}
 use Rattle.ash_soundness.specs.WellFormed.{declared, IsNamed}
 use Rattle.ash_soundness.proofs.Entries.{mapped}
 use Rattle.ash_code.specs.declared.instruction.Instruction.{Instruction}
@@ -34,7 +34,7 @@ use Rattle.ash_compile.specs.declared.builder.CodeBuilder.{CodeBuilder}
 use Rattle.ash_compile.specs.declared.layout.Layout.{Layout}
 use Rattle.ash_compile.specs.Layout.{index_of, IsLayout}
 use Rattle.ash_compile.specs.Arguments.{DoesArguments, EmitsArguments}
-use Rattle.ash_compile.specs.Emission.{code_of, end_of, Keeps, Puts, Scene, IsScene, Suits, Good, Stands, DoesExpression, Emits}
+use Rattle.ash_compile.specs.Emission.{code_of, end_of, Puts, Scene, IsScene, Suits, DoesExpression, Emits}
 use Rattle.ash_compile.proofs.Emission.{HasAt, keeps_on, put_keeps, put_one, put_greatest, suits_before, stands_before, stands_after, has_put}
 use Rattle.ash_compile.proofs.CallCode.{does_function}
 use Rattle.ash_compile.proofs.MethodCode.{does_method}

@@ -1,28 +1,25 @@
 -- The code of methods of host objects does what they do.
-use Rattle.std.proofs.Common.{◌≡◌, ◌≤◌, ◌<◌, ℕ, ◌+◌, List, [], ◌∷◌, take, drop, length, refl, sym, ap, ◌∙◌, subst, arith}
-use Rattle.std.proofs.Common.{true, false, Bool, cond}
+use Rattle.std.proofs.Common.{◌<◌, ℕ, ◌+◌, List, take, drop, length, ap, ◌∙◌, arith}
+use Rattle.std.proofs.Common.{cond}
 use Rattle.std.specs.Prelude.{Option, Some, None, slice_set}
 use Rattle.ash_host.specs.declared.word.Word.{Word}
 use Rattle.ash_host.specs.declared.event.Target.TheVariants as hosts
 use Rattle.ash_typed.specs.declared.types.ObjectType.{ObjectType}
 use Rattle.ash_typed.specs.declared.types.VarType.{VarType}
 use Rattle.ash_typed.specs.declared.types.VarType.TheVariants as vars
-use Rattle.ash_typed.specs.TypeOf.{ValueType, value}
+use Rattle.ash_typed.specs.TypeOf.{value}
 use Rattle.ash_typed.specs.TypedTree.{Expr, exprs}
 use Rattle.ash_typed.specs.SoundExpressions.{IsWellTyped, AreSoundArguments}
-use Rattle.ash_meaning.specs.Activity.{Activity}
-use Rattle.ash_meaning.specs.Runs.{Run, Progress, Done, onward, ◌>>=◌}
+use Rattle.ash_meaning.specs.Runs.{onward, ◌>>=◌}
 use Rattle.ash_meaning.specs.ObjectSteps.{object_of}
 use Rattle.ash_meaning.specs.HostSteps.{invoke_host}
 use Rattle.ash_meaning.specs.ExpressionMeaning.{expression, arguments}
-use Rattle.ash_meaning.specs.Ends.{Outcome}
-use Rattle.ash_soundness.specs.WellFormed.{Shape}
 use Rattle.ash_run_steps.specs.Guarded.{Guarded, onward as guarded_onward}
 use Rattle.ash_run_steps.specs.HostGuards.{is_there, invoke_host as invoke_guarded}
 use Rattle.ash_code.specs.declared.instruction.Instruction.TheVariants as i
-use Rattle.ash_code.specs.Controls.{Control, Window, control, word_at}
-use Rattle.ash_code.specs.Performing.{Setting, Next, perform, put}
-use Rattle.ash_compile.specs.Stretches.{continued, Arrives, with_slots, Computes}
+use Rattle.ash_code.specs.Controls.{control, word_at}
+use Rattle.ash_code.specs.Performing.{Next, put}
+use Rattle.ash_compile.specs.Stretches.{Computes}
 use Rattle.ash_compile.specs.Arguments.{DoesArguments}
 use Rattle.ash_compile.specs.Emission.{Scene, IsScene, Good, DoesExpression, calls_of}
 use Rattle.ash_compile.proofs.Simulation.{step_is, stored}

@@ -1,40 +1,35 @@
 -- The code of a method that an interface declares runs the method of the object's own class.
-use Rattle.std.proofs.Common.{◌≡◌, ◌≤◌, ◌<◌, ℕ, ◌+◌, List, [], ◌∷◌, take, drop, length, refl, sym, ap, ◌∙◌, subst, arith}
-use Rattle.std.specs.Prelude.{Option, Some, None, IsSome, slice_get, slice_index_or}
+use Rattle.std.proofs.Common.{◌≡◌, ◌≤◌, ◌<◌, ℕ, ◌+◌, List, take, drop, length, sym, ap, ◌∙◌, subst, arith}
+use Rattle.std.specs.Prelude.{Option, Some, None, slice_get}
 use Rattle.std.specs.Option.{option_and_then, option_map_or}
 use Rattle.std.proofs.lemmas.Option.{same_Some}
 use Rattle.ash_host.specs.declared.word.Word.{Word}
 use Rattle.ash_host.specs.declared.word.Word.TheVariants as words
 use Rattle.ash_host.specs.Objects.{object_at}
-use Rattle.ash_typed.specs.declared.types.ObjectType.{ObjectType}
 use Rattle.ash_typed.specs.declared.types.ObjectType.TheVariants as objects
 use Rattle.ash_typed.specs.declared.types.VarType.{VarType}
 use Rattle.ash_typed.specs.declared.types.VarType.TheVariants as vars
-use Rattle.ash_typed.specs.TypeOf.{ValueType, value}
+use Rattle.ash_typed.specs.TypeOf.{value}
 use Rattle.ash_typed.specs.Modules.{Signature, Function, Implementation, Class}
 use Rattle.ash_typed.specs.Signatures.{signature_of}
 use Rattle.ash_typed.specs.SoundModules as sound
 use Rattle.ash_typed.specs.TypedTree.{Expr, exprs}
 use Rattle.ash_typed.specs.SoundExpressions.{IsWellTyped, AreSoundArguments}
 use Rattle.ash_meaning.specs.Activity.{Activity}
-use Rattle.ash_meaning.specs.Runs.{Run, Progress, Done, onward, found, ◌>>=◌, ◌>>◌}
-use Rattle.ash_meaning.specs.Frames.{demand_frame}
+use Rattle.ash_meaning.specs.Runs.{Run, Progress, Done, onward, found, ◌>>=◌}
 use Rattle.ash_meaning.specs.ObjectSteps.{object_of}
 use Rattle.ash_meaning.specs.CallMeaning.{call as call_meaning, call_through}
 use Rattle.ash_meaning.specs.Classes.{Method, entry_of_method, class_of, implementation_in, implemented}
 use Rattle.ash_meaning.specs.ExpressionMeaning.{expression, arguments}
-use Rattle.ash_meaning.specs.Ends.{Outcome}
-use Rattle.ash_soundness.specs.WellFormed.{declared, Shape, shape_at, IsOfClass, ListsInterface, AreValues, is_this}
+use Rattle.ash_soundness.specs.WellFormed.{declared, Shape, ListsInterface, AreValues, is_this}
 use Rattle.ash_soundness.proofs.Entries.{chained, implementation_found, zip_at}
 use Rattle.ash_soundness.proofs.Found.{some_from, class_at_seen, implemented_there}
 use Rattle.ash_run_steps.specs.Guarded.{Guarded, onward as guarded_onward}
 use Rattle.ash_code.specs.declared.instruction.Instruction.TheVariants as i
-use Rattle.ash_code.specs.Controls.{Window, control, word_at}
-use Rattle.ash_code.specs.Performing.{Setting, Next, own_name, classes_of, call, perform}
-use Rattle.ash_code.specs.Running.{step}
+use Rattle.ash_code.specs.Controls.{control}
+use Rattle.ash_code.specs.Performing.{Next, own_name, classes_of, call}
 use Rattle.ash_code.specs.Steps.{method_of, found as found_guarded}
-use Rattle.ash_compile.specs.Stretches.{continued, Arrives, with_slots, Fits, Holds, Computes}
-use Rattle.ash_compile.specs.Layout.{index_of}
+use Rattle.ash_compile.specs.Stretches.{continued, Arrives, Computes}
 use Rattle.ash_compile.specs.Callees.{a_method}
 use Rattle.ash_compile.specs.Arguments.{DoesArguments}
 use Rattle.ash_compile.specs.Emission.{Scene, IsScene, Good, DoesExpression, calls_of}
@@ -44,7 +39,7 @@ use Rattle.ash_compile.proofs.Typed.{stays_good}
 use Rattle.ash_compile.proofs.Arguments.{arguments_long}
 use Rattle.ash_compile.proofs.Callees.{entry_there}
 use Rattle.ash_compile.proofs.CallCode.{by_object, row_within, moves_back, does_call, call_is}
-use Rattle.ash_compile.proofs.MethodCode.{AreReady, ready, on_object}
+use Rattle.ash_compile.proofs.MethodCode.{ready, on_object}
 use Rattle.ash_compile.proofs.Tables.{finds_method}
 
 module _ (s : Scene) (scene : IsScene s) (interface method : ℕ) (all : List Signature) (g : Signature)

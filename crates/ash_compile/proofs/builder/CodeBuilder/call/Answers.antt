@@ -1,4 +1,3 @@
-use Rattle.std.proofs.Common.{IfOk, refl, sym, ap, ◌∙◌, subst}
 use Rattle.ash_compile.proofs.Emitted.{if_ok}
 use Rattle.ash_compile.proofs.EmittedCalls as emitted
 use Rattle.ash_compile.proofs.builder.CodeBuilder.call.Goals as goal

@@ -1,4 +1,4 @@
-use Rattle.std.proofs.Common.{◌≡◌, ◌<◌, ℕ, IfOk, refl, sym, ap, ◌∙◌, subst, arith}
+use Rattle.std.proofs.Common.{◌≡◌, ◌<◌, ℕ, ◌∙◌, arith}
 use Rattle.ash_compile.proofs.Emitted.{if_ok}
 use Rattle.ash_compile.proofs.EmittedCalls as emitted
 use Rattle.ash_compile.proofs.builder.CodeBuilder.construct_array.Goals as goal

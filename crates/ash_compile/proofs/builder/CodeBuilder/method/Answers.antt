@@ -1,5 +1,4 @@
-use Rattle.std.proofs.Common.{◌≡◌, ℕ, ◌+◌, ◌<◌, length, IfOk, refl, sym, ap, ◌∙◌, subst}
-use Rattle.ash_code.specs.declared.instruction.Instruction.{Instruction}
+use Rattle.std.proofs.Common.{ℕ, subst}
 use Rattle.ash_code.specs.declared.instruction.Instruction.TheVariants as i
 use Rattle.ash_compile.specs.Emission.{Puts}
 use Rattle.ash_compile.proofs.Emitted.{if_ok}
