@@ -1,12 +1,14 @@
 -- The code of arguments does what they do, one after another.
-use Rattle.std.proofs.Common.{◌≡◌, ◌≤◌, ◌<◌, ℕ, zero, suc, ◌+◌, List, [], ◌∷◌, ◌++◌, take, drop, length, refl, sym, ap, ◌∙◌, subst, arith}
+use Rattle.std.proofs.Common.{◌≡◌, ◌≤◌, ◌<◌, ℕ, zero, suc, ◌+◌, List, [], ◌∷◌, ◌++◌, take, drop, length, refl, sym}
+use Rattle.std.proofs.Common.{ap, ◌∙◌, subst, arith}
 use Rattle.std.proofs.Common.{length-append}
 use Rattle.std.specs.Prelude.{Option, slice_index_or}
 use Rattle.ash_host.specs.declared.word.Word.{Word}
 use Rattle.ash_host.specs.declared.word.Word.TheVariants.{Null}
 use Rattle.ash_typed.specs.declared.types.VarType.{VarType}
 use Rattle.ash_typed.specs.TypedTree.{Expr, exprs}
-use Rattle.ash_typed.specs.SoundExpressions.{TypedEnvironment, IsWellTyped, Fits as FitsType, AreSoundArguments, no_arguments, argument, fits}
+use Rattle.ash_typed.specs.SoundExpressions.{TypedEnvironment, IsWellTyped, Fits as FitsType, AreSoundArguments}
+use Rattle.ash_typed.specs.SoundExpressions.{no_arguments, argument, fits}
 use Rattle.ash_meaning.specs.Activity.{Activity}
 use Rattle.ash_meaning.specs.Runs.{Run, Progress, Done, Ended, NoStep, onward, give, ◌>>=◌}
 use Rattle.ash_meaning.specs.Ends.{Outcome}
@@ -126,7 +128,8 @@ pub argued : (s : Scene) (es : List Expr) (types : List VarType) (a b : Activity
     → AreArgued s.context s.env s.envs types a ws b
 argued s es types a b ws scene sound good ran =
     left_done ws b
-    (arguments_give scene.sound (body (s.context).program s.depth) (keeps_bodies scene.sound s.depth) scene.declares sound
+    (arguments_give scene.sound (body (s.context).program s.depth)
+    (keeps_bodies scene.sound s.depth) scene.declares sound
     good.0) ran
 
 pub argued_good : (s : Scene) (es : List Expr) (types : List VarType) (a b : Activity) (ws : List Word) → IsScene s
@@ -143,7 +146,8 @@ module _ (s : Setting) (Good : Activity → Type 0) (function room : ℕ) where
   computes_none at slot = record {
     within = λ some. absurd (omega (arith, some));
     comes = λ w a rest low long fits good goes.
-        goes [] a w.slots refl (record { long = refl; kept = λ k lower below. refl; values = refl; locals = fits.locals });
+        goes [] a w.slots refl (record
+        { long = refl; kept = λ k lower below. refl; values = refl; locals = fits.locals });
   }
 
   pub all_refit : (w : Window) (slot count : ℕ) (ws slots : List Word) (b : Activity) → w.count ≤ length w.slots
@@ -233,7 +237,8 @@ one_argument start old new es e slot next is first second = record {
       (one_more (arguments (calls_of s) (exprs es)) (expression (calls_of s) e))
       (arguments (calls_of s) (exprs (es ++ e ∷ []))) (end_of start) (end_of new) slot (length es + 1)
       (λ a. sym (arguments_more (calls_of s) es e a))
-      (computes_more s.setting (Good s) s.function s.room (arguments (calls_of s) (exprs es)) (expression (calls_of s) e)
+      (computes_more s.setting (Good s) s.function s.room (arguments (calls_of s) (exprs es))
+      (expression (calls_of s) e)
       (end_of start) (end_of old) (end_of new) slot (length es) before last
       (λ a b ws good ran. argued_good s es parts.before a b ws scene parts.first good ran)));
 }

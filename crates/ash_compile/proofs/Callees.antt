@@ -19,7 +19,8 @@ use Rattle.ash_meaning.specs.Classes.{Program, ModuleCallee, Entry, entry_of}
 use Rattle.ash_meaning.specs.Classes.{entry_of_function, entry_of_method, entry_of_construction}
 use Rattle.ash_meaning.specs.Functions.{body}
 use Rattle.ash_soundness.specs.WellFormed.{Context, IsContext, AreValues, no_values, and_value, IsThis}
-use Rattle.ash_soundness.specs.WellFormed.{IsGiven, gives_nothing, gives_null, gives, AreFrames, no_frames, and_frame, IsWellFormed}
+use Rattle.ash_soundness.specs.WellFormed.{IsGiven, gives_nothing, gives_null, gives, AreFrames, no_frames, and_frame}
+use Rattle.ash_soundness.specs.WellFormed.{IsWellFormed}
 use Rattle.ash_soundness.specs.WellFormedLaws.{Leaves, done}
 use Rattle.ash_soundness.proofs.Values.{none_in}
 use Rattle.ash_soundness.proofs.Triples.{bind, weaken}
@@ -133,7 +134,8 @@ module _ (s : Scene) (scene : IsScene s) where
       ))
       ((keeps_bodies scene.sound s.depth).keeps env result e (entry_is scene.sound (a_method at here)) envs d well)
   gives_left {env = env} {result} {e} (a_construction at) envs a d same well =
-      bind ((keeps_bodies scene.sound s.depth).keeps env result e (entry_is scene.sound (a_construction at)) envs d well)
+      bind ((keeps_bodies scene.sound s.depth).keeps env result e
+      (entry_is scene.sound (a_construction at)) envs d well)
       (λ v b r. done (
         (r.passes).callers ∙ same,
         object_alive s.context env.this (b.frame).this b (((r.passes).well).frame).this,

@@ -1,5 +1,6 @@
 -- The code of constructions of a module's classes does what they do, once their arguments are in slots.
-use Rattle.std.proofs.Common.{◌≡◌, ◌≤◌, ◌<◌, ℕ, ◌+◌, List, [], ◌∷◌, take, drop, length, map, refl, sym, ap, ◌∙◌, subst, arith}
+use Rattle.std.proofs.Common.{◌≡◌, ◌≤◌, ◌<◌, ℕ, ◌+◌, List, [], ◌∷◌, take, drop, length, map, refl, sym, ap, ◌∙◌}
+use Rattle.std.proofs.Common.{subst, arith}
 use Rattle.std.proofs.Common.{true, false, Bool, cond, nat_lt, nat_le}
 use Rattle.std.specs.Prelude.{Option, Some, None, slice_get, ◌&&◌}
 use Rattle.std.specs.Option.{option_map_or}
@@ -27,7 +28,8 @@ use Rattle.ash_meaning.specs.CallMeaning.{value_or_null, blank, construct}
 use Rattle.ash_meaning.specs.Classes.{Program, Construction, Entry, entry_of_construction, place_of_class}
 use Rattle.ash_meaning.specs.ExpressionMeaning.{arguments}
 use Rattle.ash_meaning.specs.Functions.{body}
-use Rattle.ash_soundness.specs.WellFormed.{declared, shape_of, shape_at, AreValues, no_values, and_value, is_script, is_this, IsWellFormed}
+use Rattle.ash_soundness.specs.WellFormed.{declared, shape_of, shape_at, AreValues, no_values, and_value, is_script}
+use Rattle.ash_soundness.specs.WellFormed.{is_this, IsWellFormed}
 use Rattle.ash_soundness.specs.WellFormedLaws.{Goes, Leaves, done}
 use Rattle.ash_soundness.proofs.Triples.{bind, weaken, after_demand, safe, carry_all}
 use Rattle.ash_soundness.proofs.Constructions.{bind_here, lt_from, HasRoom, number_demanded, made_goes, made_shape}
@@ -86,7 +88,8 @@ zeros_few vs a few =
     (le_test (length (map zero_field vs)) max_elements (omega (arith, long, few)))
     ∙ zeros_alive vs a
 
-zero_values : (p : Program) (all : _) (vs : List Initialization) → AreValues p all (map type_declared vs) (map zero_field vs)
+zero_values : (p : Program) (all : _) (vs : List Initialization) → AreValues p all (map type_declared vs)
+    (map zero_field vs)
 zero_values p all [] = no_values
 zero_values p all (v ∷ vs) = and_value (zero_value v.of) (zero_values p all vs)
 
@@ -132,7 +135,8 @@ made_is object a b number is =
 
 -- a construction gives its object
 
-same_this : (q : Progress (Option Word)) (w : Word) → ((v : Option Word) (b : Activity) → q ≡ Done v b → (b.frame).this ≡ w)
+same_this : (q : Progress (Option Word)) (w : Word) →
+    ((v : Option Word) (b : Activity) → q ≡ Done v b → (b.frame).this ≡ w)
     → onward q (λ _. give w)
     ≡ onward (onward q (λ _. look (λ activity. Some (activity.frame).this))) (λ v. give (value_or_null v))
 same_this (Done v b) w this = ap (λ (x : Word). Done x b) (sym (this v b refl))
@@ -140,7 +144,8 @@ same_this (Ended e b) w this = refl
 same_this NoStep w this = refl
 
 pub object_given : (name : List ℕ) (line : ℕ) (w : Word) (args : List Word) (run : Run (Option Word)) (a : Activity)
-    → ((v : Option Word) (b : Activity) → (tick line >> run) (entered_at name line w args a) ≡ Done v b → (b.frame).this ≡ w)
+    → ((v : Option Word) (b : Activity) → (tick line >> run) (entered_at name line w args a) ≡ Done v b →
+    (b.frame).this ≡ w)
     → in_frame_of name line w args (run >> give w) a
     ≡ framed name line w args (run >> look (λ activity. Some (activity.frame).this)) a
 object_given name line w args run a this =
@@ -179,7 +184,8 @@ module _ (s : Scene) (scene : IsScene s) (class : ℕ) (k : Class)
   steps : (w : Window) (slot at : ℕ) (a : Activity) → HasAt s at (i.Construct class slot)
       → step s.setting (control s.function at w) a
       ≡ guarded_onward (Some (making object a))
-      (λ number. enter_at s.setting (index_of ((s.context).program).tree (Construction class)) (words.Object number) slot
+      (λ number. enter_at s.setting (index_of ((s.context).program).tree (Construction class))
+      (words.Object number) slot
       (control s.function at w))
   steps w slot at a has =
       let c = control s.function at w in
@@ -247,7 +253,8 @@ module _ (s : Scene) (scene : IsScene s) (class : ℕ) (k : Class)
   -- what is left by the frame of the construction has the object as `this`
   this_stays : (name : List ℕ) (number : ℕ) (args : List Word) (d : Activity) (v : Option Word) (b : Activity)
       → IsWellFormed s.context env (s.env ∷ s.envs) (entered_at name entry.line (words.Object number) args d)
-      → (tick entry.line >> body (s.context).program s.depth entry) (entered_at name entry.line (words.Object number) args d)
+      → (tick entry.line >> body (s.context).program s.depth entry)
+      (entered_at name entry.line (words.Object number) args d)
       ≡ Done v b
       → (b.frame).this ≡ words.Object number
   this_stays name number args d v b well ran = left_done v b leaves ran
@@ -260,7 +267,8 @@ module _ (s : Scene) (scene : IsScene s) (class : ℕ) (k : Class)
       leaves =
           bind (tick_goes entry.line well) (λ none x g.
           weaken (λ u y r. (r.passes).this ∙ (g.passes).this)
-          ((keeps_bodies scene.sound s.depth).keeps env None entry (entry_is scene.sound (a_construction there)) (s.env ∷ s.envs)
+          ((keeps_bodies scene.sound s.depth).keeps env None entry (entry_is scene.sound (a_construction there))
+          (s.env ∷ s.envs)
           x (g.passes).well))
 
   pub does_construction : (es : List Expr) (from at slot : ℕ)
@@ -268,10 +276,12 @@ module _ (s : Scene) (scene : IsScene s) (class : ℕ) (k : Class)
       → slot < s.greatest
       → DoesArguments s es from at slot
       → HasAt s at (i.Construct class slot)
-      → Computes s.setting (Good s) s.function s.room (arguments (calls_of s) (exprs es) >>= construct (calls_of s) class) from
+      → Computes s.setting (Good s) s.function s.room
+      (arguments (calls_of s) (exprs es) >>= construct (calls_of s) class) from
       (at + 1) slot
   does_construction es from at slot sound under does has =
-      by_arguments s.setting (Good s) s.function s.room (arguments (calls_of s) (exprs es)) (construct (calls_of s) class) from
+      by_arguments s.setting (Good s) s.function s.room (arguments (calls_of s) (exprs es))
+      (construct (calls_of s) class) from
       at (at + 1) slot (length es) (omega (arith, under, greatest_within s scene)) does
       (λ w a b ws rest low long fits good ran are goes.
       let c = control s.function at w in
@@ -291,19 +301,24 @@ module _ (s : Scene) (scene : IsScene s) (class : ℕ) (k : Class)
       let ready : Good s d = (((new.goes).passes).well, omega (arith, begun.1, ap (λ (x : Activity). x.ticks) is)) in
       let given = object_given entry.name entry.line (words.Object number) ws (body (s.context).program s.depth entry) d
       (λ v x done_at. this_stays entry.name number ws d v x
-      (entered_well scene.sound env entry.name entry.line (words.Object number) ws ready.0 new.room this_is values) done_at) in
+      (entered_well scene.sound env entry.name entry.line (words.Object number) ws ready.0 new.room this_is values)
+      done_at) in
       subst (λ (p : Progress Word). Arrives s.setting c b (continued p rest)) (sym given)
-      (does_enter s scene (Construction class) env None entry (a_construction there) w slot at b d (words.Object number) ws rest
+      (does_enter s scene (Construction class) env None entry (a_construction there) w slot at b d
+      (words.Object number) ws rest
       low under (omega (arith, fit es slot sound under does, long)) long
-      (record { locals = ap (λ (x : Activity). (x.frame).locals) is ∙ fits.locals; within = fits.within }) ready new.room
+      (record { locals = ap (λ (x : Activity). (x.frame).locals) is ∙ fits.locals; within = fits.within }) ready
+      new.room
       (ap (λ (n : ℕ). take n (drop slot w.slots)) (sym (arguments_long es sound)) ∙ are) this_is values stepped
       (λ x word after called held.
       goes word x after
       (means ws b ∙ ap (λ (p : Progress ℕ). onward p (λ n. in_frame_of entry.name entry.line (words.Object n) ws
       (body (s.context).program s.depth entry >> give (words.Object n)))) made_at ∙ given ∙ called) held)))))
     where
-      fit : (es : List Expr) (slot : ℕ) → AreSoundArguments s.env (parameters_of k.constructor) (exprs es) → slot < s.greatest
+      fit : (es : List Expr) (slot : ℕ) → AreSoundArguments s.env (parameters_of k.constructor) (exprs es)
+          → slot < s.greatest
           → DoesArguments s es from at slot → slot + length (parameters_of k.constructor) ≤ s.room
       fit es slot sound under does =
           let within : slot < s.room = omega (arith, under, greatest_within s scene) in
-          subst (λ (n : ℕ). slot + n ≤ s.room) (arguments_long es sound) (row_within slot (length es) s.room within does.within)
+          subst (λ (n : ℕ). slot + n ≤ s.room) (arguments_long es sound)
+          (row_within slot (length es) s.room within does.within)

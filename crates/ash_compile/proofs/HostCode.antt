@@ -1,5 +1,6 @@
 -- The code of calls that enter no frame does what they do: of hosts, and of arrays.
-use Rattle.std.proofs.Common.{◌≡◌, ◌≤◌, ◌<◌, ℕ, zero, suc, ◌+◌, List, [], ◌∷◌, take, drop, length, refl, sym, ap, ◌∙◌, subst, arith}
+use Rattle.std.proofs.Common.{◌≡◌, ◌≤◌, ◌<◌, ℕ, zero, suc, ◌+◌, List, [], ◌∷◌, take, drop, length, refl, sym, ap, ◌∙◌}
+use Rattle.std.proofs.Common.{subst, arith}
 use Rattle.std.proofs.Common.{true, false, Bool, cond}
 use Rattle.std.specs.Prelude.{Option, Some, None, is_some, slice_set}
 use Rattle.std.specs.Option.{option_and_then}
@@ -35,7 +36,8 @@ use Rattle.ash_compile.specs.Arguments.{ComputesAll, DoesArguments}
 use Rattle.ash_compile.specs.Emission.{Scene, IsScene, Good, calls_of}
 use Rattle.ash_compile.proofs.Simulation.{step_is, puts, stored}
 use Rattle.ash_compile.proofs.Emission.{HasAt, greatest_within}
-use Rattle.ash_compile.proofs.KeptLocals.{KeepsLocals, done_keeps, keeps_construct_array, keeps_invoke_host, keeps_construct_host}
+use Rattle.ash_compile.proofs.KeptLocals.{KeepsLocals, done_keeps, keeps_construct_array, keeps_invoke_host}
+use Rattle.ash_compile.proofs.KeptLocals.{keeps_construct_host}
 use Rattle.ash_compile.proofs.CallCode.{by_arguments}
 
 -- runs under guards
@@ -97,7 +99,8 @@ module _ (s : Setting) (Good : Activity → Type 0) (function room : ℕ) where
       puts_guarded w at slot b (test b) (f ws b) rest
       (step_is s Good function room w b at j has ∙ does w a b ws good ran are) (fails ws b) low
       (λ v d run. goes v d (slice_set w.slots slot v) run
-      (stored s Good function room w slot v b d low (omega (arith, within, long)) fits (done_keeps (f ws) b d v (kept ws) run))))
+      (stored s Good function room w slot v b d low (omega (arith, within, long)) fits
+      (done_keeps (f ws) b d v (kept ws) run))))
 
 -- hosts
 
@@ -108,7 +111,8 @@ nowhere target id result args b None is none =
     ap (λ (o : Option (HostRecord × List HostRecord)). onward (onward (found o b)
     (λ taken. change (in_world (after_answer target taken.0 taken.1)) >> give (taken.0).answer))
     (λ answer. note (Called target id) >> accept result answer))
-    (ap (λ (o : Option (List ℕ)). option_and_then (λ before. next_record target (Invoke id args) before (b.world).answers) o) is)
+    (ap (λ (o : Option (List ℕ)). option_and_then
+    (λ before. next_record target (Invoke id args) before (b.world).answers) o) is)
 
 pub not_there : (target : Target) (id : ℕ) (result : Option VarType) (args : List Word) (b : Activity)
     → is_there target b ≡ false → invoke_host target id result args b ≡ NoStep
@@ -124,7 +128,8 @@ module _ (s : Scene) (scene : IsScene s) where
       by_put s.setting (Good s) s.function s.room (arguments (calls_of s) (exprs es))
       (invoke_host (hosts.Service service) id result) (is_there (hosts.Service service))
       (i.CallService service id result slot (length es)) from at slot (length es)
-      (omega (arith, under, greatest_within s scene)) does has (λ ws. keeps_invoke_host (hosts.Service service) id result ws)
+      (omega (arith, under, greatest_within s scene)) does has
+      (λ ws. keeps_invoke_host (hosts.Service service) id result ws)
       (λ ws b none. not_there (hosts.Service service) id result ws b none)
       (λ w a b ws good ran are.
       ap (λ (us : List Word). guarded_onward (cond (is_there (hosts.Service service) b)
@@ -141,7 +146,8 @@ module _ (s : Scene) (scene : IsScene s) where
       (omega (arith, under, greatest_within s scene)) does has (λ ws. keeps_construct_host kind ws)
       (λ ws b never. absurd (cc))
       (λ w a b ws good ran are.
-      ap (λ (us : List Word). guarded_onward (Some (construct_host kind us b)) (put slot (control s.function at w))) are)
+      ap (λ (us : List Word). guarded_onward (Some (construct_host kind us b)) (put slot (control s.function at w)))
+      are)
 
   -- arrays that are constructed: without an argument they are empty
 
@@ -157,7 +163,8 @@ module _ (s : Scene) (scene : IsScene s) where
       (omega (arith, under, greatest_within s scene)) does has
       (λ ws. keeps_construct_array (element_of (s.context).program of) ws) (λ ws b never. absurd (cc))
       (λ w a b ws good ran are.
-      ap (λ (shown : Elements (List ℕ)). guarded_onward (Some (construct_array shown [] b)) (put slot (control s.function at w))) same
+      ap (λ (shown : Elements (List ℕ)). guarded_onward (Some (construct_array shown [] b))
+      (put slot (control s.function at w))) same
       ∙ ap (λ (us : List Word). guarded_onward (Some (construct_array (element_of (s.context).program of) us b))
       (put slot (control s.function at w))) (none_taken (drop slot w.slots) ∙ are))
     where

@@ -1,5 +1,6 @@
 -- Where the functions of a module stand, counted class by class.
-use Rattle.std.proofs.Common.{◌≡◌, ◌≤◌, ◌<◌, ℕ, zero, suc, ◌+◌, List, [], ◌∷◌, ◌++◌, take, drop, length, map, get_or, refl, sym, ap, ◌∙◌, subst, arith, Bool, true, false, cond, length-append}
+use Rattle.std.proofs.Common.{◌≡◌, ◌≤◌, ◌<◌, ℕ, zero, suc, ◌+◌, List, [], ◌∷◌, ◌++◌, take, drop, length, map, get_or}
+use Rattle.std.proofs.Common.{refl, sym, ap, ◌∙◌, subst, arith, Bool, true, false, cond, length-append}
 use Rattle.std.specs.Prelude.{Option, Some, None, slice_get, fold, sum, count_by, nat_le}
 use Rattle.std.proofs.lemmas.List.{take-map, map-append, take_more, take_all}
 use Rattle.std.proofs.lemmas.List.Sums.{fold_push}
@@ -18,7 +19,8 @@ methods_next cs k c low is =
     (take-map class_of (k + 1) cs ∙ ap (map class_of) (take_more cs k c low)
     ∙ map-append class_of (take k cs) (get_or cs k c ∷ []))
     ∙ ap sum (map-append count_of_methods (map class_of (take k cs)) (class_of (get_or cs k c) ∷ []))
-    ∙ fold_push (λ a x. a + x) 0 (map count_of_methods (map class_of (take k cs))) (count_of_methods (class_of (get_or cs k c)))
+    ∙ fold_push (λ a x. a + x) 0 (map count_of_methods (map class_of (take k cs)))
+    (count_of_methods (class_of (get_or cs k c)))
     ∙ ap (λ (n : ℕ). n + count_of_methods (class_of (get_or cs k c)))
     (ap (λ (xs : List Class). sum (map count_of_methods xs)) (sym (take-map class_of k cs)))
     ∙ ap (λ (x : class_code.Class). methods_before k (map class_of cs) + count_of_methods (class_of x)) (sym is)
@@ -109,5 +111,6 @@ pub grown : (f : ℕ → ℕ) (xs new : List ℕ) (x i : ℕ) → new ≡ xs ++ 
     → (length new ≡ i + 1) × ((k : ℕ) → k < i + 1 → slice_get new k ≡ Some (f k))
 grown f xs new x i items long is each = (
   ap length items ∙ length-append xs (x ∷ []) ∙ omega (arith, long),
-  subst (λ (ys : List ℕ). (k : ℕ) → k < i + 1 → slice_get ys k ≡ Some (f k)) (sym items) (each_pushed f xs x i long is each),
+  subst (λ (ys : List ℕ). (k : ℕ) → k < i + 1 → slice_get ys k ≡ Some (f k)) (sym items)
+      (each_pushed f xs x i long is each),
 )

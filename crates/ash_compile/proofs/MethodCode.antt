@@ -19,7 +19,8 @@ use Rattle.ash_meaning.specs.CallMeaning.{call as call_meaning}
 use Rattle.ash_meaning.specs.Classes.{Method, entry_of_method}
 use Rattle.ash_meaning.specs.ExpressionMeaning.{expression, arguments}
 use Rattle.ash_meaning.specs.Ends.{Outcome}
-use Rattle.ash_soundness.specs.WellFormed.{Shape, shape_at, IsOf, IsReference, to_nothing, to_object, AreValues, is_this}
+use Rattle.ash_soundness.specs.WellFormed.{Shape, shape_at, IsOf, IsReference, to_nothing, to_object, AreValues}
+use Rattle.ash_soundness.specs.WellFormed.{is_this}
 use Rattle.ash_soundness.proofs.Calls.{handle_of}
 use Rattle.ash_soundness.proofs.Hosts.{well_after}
 use Rattle.ash_soundness.proofs.Triples.{carry}
@@ -111,7 +112,8 @@ module _ (s : Scene) (scene : IsScene s) where
       subst (λ (p : Progress Word). Arrives s.setting c d (continued p rest)) (sym same)
       (does_call s scene (Method class place) _ f.result (entry_of_method k f) (a_method there here) w (slot + 1) at d d
       (words.Object number) ws rest (omega (arith, low)) under (omega (arith, fit, long)) long fits got.good
-      (ap (λ (n : ℕ). take n (drop (slot + 1) w.slots)) (sym count) ∙ are) (is_this at_shape of_class) got.values stepped
+      (ap (λ (n : ℕ). take n (drop (slot + 1) w.slots)) (sym count) ∙ are)
+      (is_this at_shape of_class) got.values stepped
       (λ x word after called keeps.
       moves_back s.setting (Good s) s.function s.room w slot (at + 1) word after x rest moves low
       (omega (arith, object.within, long)) keeps
