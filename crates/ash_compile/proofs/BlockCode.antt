@@ -74,7 +74,7 @@ abbrev pub beginning : Scene → VarType → Option Expr → Run (Unit {0})
 beginning s of value = option_map_or (λ e. full (expression (calls_of s) e >>= declare)) value (declare (zero_of of))
 
 module _ (s : Scene) (scene : IsScene s) where
-  begins_fitting : {of : VarType} {e : Expr} → IsSoundBeginning s.env of (Some e) → Fits s.env of e
+  pub begins_fitting : {of : VarType} {e : Expr} → IsSoundBeginning s.env of (Some e) → Fits s.env of e
   begins_fitting (stored nothing e) = e
   begins_fitting (constructed k e) = fits e sig.same
 

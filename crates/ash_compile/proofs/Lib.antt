@@ -44,3 +44,11 @@ pub mod Tables
 pub mod InterfaceCode
 pub mod ClassTables
 pub mod CastCode
+pub mod Drafts
+pub mod EmittedParts
+pub mod Remaining
+pub mod EmittedSingly
+pub mod EmittedBlocks
+pub mod EmittedLoops
+pub mod EmittedLandings
+pub mod EmittedRepeats

@@ -5,3 +5,4 @@ pub mod Callees
 pub mod Emission
 pub mod Places
 pub mod Arguments
+pub mod EmittedStatements
