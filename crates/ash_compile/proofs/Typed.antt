@@ -126,7 +126,7 @@ pub local_value : (s : Scene) (a : Activity) (n : ℕ) (of : VarType) → Good s
     → IsValue (s.context).program (a.world).objects of (slice_index_or (a.frame).locals n words.Null)
 local_value s a n of good is = value_at n of ((good.0).frame).locals is
 
-this_lives : {p : Program} {all : LiveObjects (List ℕ)} {class : Option ℕ} {w : Word} (n : ℕ) → IsThis p all class w
+pub this_lives : {p : Program} {all : LiveObjects (List ℕ)} {class : Option ℕ} {w : Word} (n : ℕ) → IsThis p all class w
     → handle w ≡ Some n → Lives all n
 this_lives n no_this is = absurd (cc)
 this_lives {all = all} n (is_this {number = number} {shape = shape} at of) is =

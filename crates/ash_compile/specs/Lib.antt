@@ -3,4 +3,6 @@ pub mod Performances
 pub mod Layout
 pub mod Callees
 pub mod Emission
+pub mod Places
+pub mod Arguments
 pub mod EmittedStatements

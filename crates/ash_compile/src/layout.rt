@@ -28,6 +28,20 @@ pub struct Layout {
     pub interfaces: Vec<u16>,
 }
 
+/// The sum of two numbers.
+fn sum(a: usize, b: usize) -> Result<usize, AllocError>
+    ensures sum { IfOk result (λ n. n ≡ a + b) }
+{
+    a.checked_add(b).ok_or(AllocError)
+}
+
+/// The place of a class or an interface in the source, among these places.
+fn place_in(places: &[u16], index: usize) -> Option<u16>
+    ensures place { result ≡ slice_get places.now index }
+{
+    places.get(index).copied()
+}
+
 /// The first method of each class, if methods begin here.
 fn first_methods(alloc: Global, first: usize, classes: &[Class]) -> Result<Vec<usize>, AllocError>
     ensures methods { IfOk result (λ methods. (class : ℕ) → class < length classes.now
@@ -37,7 +51,7 @@ fn first_methods(alloc: Global, first: usize, classes: &[Class]) -> Result<Vec<u
     let mut next = first;
     for class in classes {
         methods.push(next)?;
-        next = next.checked_add(class.methods.len()).ok_or(AllocError)?;
+        next = sum(next, class.methods.len())?;
     }
     Ok(methods)
 }
@@ -60,8 +74,7 @@ fn count_before(interfaces: &[Interface], class: usize) -> usize
 fn place_at(before: usize, others: usize) -> Result<u16, AllocError>
     ensures place { IfOk result (λ place. place ≡ before + others) }
 {
-    let place = before.checked_add(others).ok_or(AllocError)?;
-    match u16::try_from(place) {
+    match u16::try_from(sum(before, others)?) {
         Ok(place) => Ok(place),
         Err(_) => Err(AllocError),
     }
@@ -102,18 +115,18 @@ impl Layout {
     /// # Errors
     ///
     /// If there is no memory, or a place is too great.
-    pub fn new(alloc: Global, slot: u8, module: &Module) -> Result<Layout, AllocError>
-        ensures layout { IfOk result (λ layout. IsLayout slot (module_of module.now) layout) }
+    pub fn new(alloc: Global, slot: u8, tree: &Module) -> Result<Layout, AllocError>
+        ensures layout { IfOk result (λ layout. IsLayout slot (module_of tree.now) layout) }
     {
-        let functions = module.functions.len();
-        let count = module.classes.len();
-        let first = functions.checked_add(count).ok_or(AllocError)?;
+        let functions = tree.functions.len();
+        let count = tree.classes.len();
+        let first = sum(functions, count)?;
         Ok(Layout {
             slot,
             functions,
-            methods: first_methods(alloc, first, &module.classes)?,
-            classes: places_of_classes(alloc, count, &module.interfaces)?,
-            interfaces: places_of_interfaces(alloc, &module.interfaces)?,
+            methods: first_methods(alloc, first, &tree.classes)?,
+            classes: places_of_classes(alloc, count, &tree.interfaces)?,
+            interfaces: places_of_interfaces(alloc, &tree.interfaces)?,
         })
     }
 
@@ -126,7 +139,7 @@ impl Layout {
         ensures place { IfOk result (λ place. (slot : ℕ) (m : ModuleData) → IsLayout slot m self.now
             → place ≡ index_of m (Construction class)) }
     {
-        self.functions.checked_add(class).ok_or(AllocError)
+        sum(self.functions, class)
     }
 
     /// Where a method of a class stands.
@@ -141,7 +154,7 @@ impl Layout {
         let Some(first) = self.methods.get(class).copied() else {
             return Err(AllocError);
         };
-        first.checked_add(method).ok_or(AllocError)
+        sum(first, method)
     }
 
     /// What the elements of an array are, as the table of objects has it.
@@ -160,15 +173,15 @@ impl Layout {
             Element::Integer(IntType::Uint) => Ok(ElementTag::Uint),
             Element::Integer(IntType::Int64) => Ok(ElementTag::Int64),
             Element::Integer(IntType::Uint64) => Ok(ElementTag::Uint64),
-            Element::Class(class) => self.handles(self.classes.get(class).copied()),
-            Element::Interface(interface) => self.handles(self.interfaces.get(interface).copied()),
+            Element::Class(class) => self.handles(place_in(&self.classes, class)),
+            Element::Interface(interface) => self.handles(place_in(&self.interfaces, interface)),
             Element::Host(kind) => Ok(ElementTag::Kind(kind)),
         }
     }
 
     /// Handles to objects of a class or an interface, by its place in the source.
     fn handles(&self, place: Option<u16>) -> Result<ElementTag, AllocError>
-        ensures handles { IfOk result (λ tag. (place' : ℕ) → place ≡ Some place' → tag ≡ ElementTag.Class self.now.slot place') }
+        ensures handles { IfOk result (λ tag. (k : ℕ) → place ≡ Some k → tag ≡ ElementTag.Class self.now.slot k) }
     {
         match place {
             Some(place) => Ok(ElementTag::Class(self.slot, place)),

@@ -3,13 +3,15 @@
 //! `specs/Stretches.antt` says when a stretch of code does what a phrase does, and `specs/Emission.antt` what emitted
 //! code does, wherever it stands.
 //!
-//! In reading order: `layout`, `builder`, `expressions`, `blocks`, `bodies`, `looping`, `switching`.
+//! In reading order: `layout`, `builder`, `expressions`, `places`, `calls`, `blocks`, `bodies`, `looping`, `switching`.
 #![tactic(auto)]
 
 mod blocks;
 pub mod bodies;
 pub mod builder;
+mod calls;
 pub mod expressions;
 pub mod layout;
 mod looping;
+pub mod places;
 mod switching;
