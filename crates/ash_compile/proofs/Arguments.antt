@@ -1,12 +1,14 @@
 -- The code of arguments does what they do, one after another.
-use Rattle.std.proofs.Common.{◌≡◌, ◌≤◌, ◌<◌, ℕ, zero, suc, ◌+◌, List, [], ◌∷◌, ◌++◌, take, drop, length, map, refl, sym, ap, ◌∙◌, subst, arith}
-use Rattle.std.proofs.Common.{add-one, length-append}
-use Rattle.std.specs.Prelude.{Option, Some, None, slice_index_or}
+use Rattle.std.proofs.Common.{◌≡◌, ◌≤◌, ◌<◌, ℕ, zero, suc, ◌+◌, List, [], ◌∷◌, ◌++◌, take, drop, length, refl, sym}
+use Rattle.std.proofs.Common.{ap, ◌∙◌, subst, arith}
+use Rattle.std.proofs.Common.{length-append}
+use Rattle.std.specs.Prelude.{Option, slice_index_or}
 use Rattle.ash_host.specs.declared.word.Word.{Word}
 use Rattle.ash_host.specs.declared.word.Word.TheVariants.{Null}
 use Rattle.ash_typed.specs.declared.types.VarType.{VarType}
-use Rattle.ash_typed.specs.TypedTree.{Expr, Exprs, no_expr, expr, exprs}
-use Rattle.ash_typed.specs.SoundExpressions.{TypedEnvironment, IsWellTyped, Fits as FitsType, AreSoundArguments, no_arguments, argument, fits}
+use Rattle.ash_typed.specs.TypedTree.{Expr, exprs}
+use Rattle.ash_typed.specs.SoundExpressions.{TypedEnvironment, IsWellTyped, Fits as FitsType, AreSoundArguments}
+use Rattle.ash_typed.specs.SoundExpressions.{no_arguments, argument, fits}
 use Rattle.ash_meaning.specs.Activity.{Activity}
 use Rattle.ash_meaning.specs.Runs.{Run, Progress, Done, Ended, NoStep, onward, give, ◌>>=◌}
 use Rattle.ash_meaning.specs.Ends.{Outcome}
@@ -20,8 +22,8 @@ use Rattle.ash_code.specs.Controls.{Window, control}
 use Rattle.ash_code.specs.Performing.{Setting}
 use Rattle.ash_compile.specs.declared.builder.CodeBuilder.{CodeBuilder}
 use Rattle.ash_compile.specs.Stretches.{continued, Arrives, Fits, Holds, with_slots, Computes}
-use Rattle.ash_compile.specs.Emission.{code_of, end_of, Keeps, Scene, IsScene, Suits, Good, Stands, DoesExpression, Emits, calls_of}
-use Rattle.ash_compile.specs.Arguments.{HoldsAll, ComputesAll, DoesArguments, EmitsArguments}
+use Rattle.ash_compile.specs.Emission.{code_of, end_of, Scene, IsScene, Good, DoesExpression, Emits, calls_of}
+use Rattle.ash_compile.specs.Arguments.{HoldsAll, ComputesAll, EmitsArguments}
 use Rattle.ash_compile.proofs.Simulation.{continued_then, then_is}
 use Rattle.ash_compile.proofs.Emission.{keeps_on, suits_before, stands_before, stands_after}
 use Rattle.ash_compile.proofs.Typed.{left_done, most_left}
@@ -67,12 +69,12 @@ more_after : (word : Word) (p : Progress (List Word)) (last : Run Word)
     ≡ onward (onward p (λ rest. give (word ∷ rest))) (λ ws. last >>= (λ v. give (ws ++ v ∷ [])))
 more_after word (Done ws d) last = given_after (last d)
   where
-  given_after : (q : Progress Word)
-      → onward (onward q (λ v. give (ws ++ v ∷ []))) (λ rest. give (word ∷ rest))
-      ≡ onward q (λ v. give ((word ∷ ws) ++ v ∷ []))
-  given_after (Done v e) = refl
-  given_after (Ended i e) = refl
-  given_after NoStep = refl
+    given_after : (q : Progress Word)
+        → onward (onward q (λ v. give (ws ++ v ∷ []))) (λ rest. give (word ∷ rest))
+        ≡ onward q (λ v. give ((word ∷ ws) ++ v ∷ []))
+    given_after (Done v e) = refl
+    given_after (Ended i e) = refl
+    given_after NoStep = refl
 more_after word (Ended i d) last = refl
 more_after word NoStep last = refl
 
@@ -81,17 +83,17 @@ pub arguments_more : (calls : Calls) (es : List Expr) (e : Expr) (a : Activity)
 arguments_more calls [] e a = refl
 arguments_more calls (x ∷ es) e a = after_first (expression calls x a) (arguments_more calls es e)
   where
-  after_first : (p : Progress Word)
-      → ((b : Activity) → arguments calls (exprs (es ++ e ∷ [])) b
-      ≡ one_more (arguments calls (exprs es)) (expression calls e) b)
-      → onward p (λ word. arguments calls (exprs (es ++ e ∷ [])) >>= (λ rest. give (word ∷ rest)))
-      ≡ onward (onward p (λ word. arguments calls (exprs es) >>= (λ rest. give (word ∷ rest))))
-      (λ ws. expression calls e >>= (λ v. give (ws ++ v ∷ [])))
-  after_first (Done word b) later =
-      ap (λ (p : Progress (List Word)). onward p (λ rest. give (word ∷ rest))) (later b)
-      ∙ more_after word (arguments calls (exprs es) b) (expression calls e)
-  after_first (Ended i b) later = refl
-  after_first NoStep later = refl
+    after_first : (p : Progress Word)
+        → ((b : Activity) → arguments calls (exprs (es ++ e ∷ [])) b
+        ≡ one_more (arguments calls (exprs es)) (expression calls e) b)
+        → onward p (λ word. arguments calls (exprs (es ++ e ∷ [])) >>= (λ rest. give (word ∷ rest)))
+        ≡ onward (onward p (λ word. arguments calls (exprs es) >>= (λ rest. give (word ∷ rest))))
+        (λ ws. expression calls e >>= (λ v. give (ws ++ v ∷ [])))
+    after_first (Done word b) later =
+        ap (λ (p : Progress (List Word)). onward p (λ rest. give (word ∷ rest))) (later b)
+        ∙ more_after word (arguments calls (exprs es) b) (expression calls e)
+    after_first (Ended i b) later = refl
+    after_first NoStep later = refl
 
 -- what arguments are of
 
@@ -126,14 +128,15 @@ pub argued : (s : Scene) (es : List Expr) (types : List VarType) (a b : Activity
     → AreArgued s.context s.env s.envs types a ws b
 argued s es types a b ws scene sound good ran =
     left_done ws b
-    (arguments_give scene.sound (body (s.context).program s.depth) (keeps_bodies scene.sound s.depth) scene.declares sound
+    (arguments_give scene.sound (body (s.context).program s.depth)
+    (keeps_bodies scene.sound s.depth) scene.declares sound
     good.0) ran
 
 pub argued_good : (s : Scene) (es : List Expr) (types : List VarType) (a b : Activity) (ws : List Word) → IsScene s
     → AreSoundArguments s.env types (exprs es) → Good s a → arguments (calls_of s) (exprs es) a ≡ Done ws b → Good s b
 argued_good s es types a b ws scene sound good ran =
     let fewer = most_left (arguments (calls_of s) (exprs es) a) a.ticks ws b
-        (((ticks_fall (s.context).program s.depth).phrases).argument_lists (exprs es) a good.1) ran in
+    (((ticks_fall (s.context).program s.depth).phrases).argument_lists (exprs es) a good.1) ran in
     ((((argued s es types a b ws scene sound good ran).goes).passes).well, omega (arith, fewer, good.1))
 
 -- code
@@ -143,7 +146,8 @@ module _ (s : Setting) (Good : Activity → Type 0) (function room : ℕ) where
   computes_none at slot = record {
     within = λ some. absurd (omega (arith, some));
     comes = λ w a rest low long fits good goes.
-        goes [] a w.slots refl (record { long = refl; kept = λ k lower below. refl; values = refl; locals = fits.locals });
+        goes [] a w.slots refl (record
+        { long = refl; kept = λ k lower below. refl; values = refl; locals = fits.locals });
   }
 
   pub all_refit : (w : Window) (slot count : ℕ) (ws slots : List Word) (b : Activity) → w.count ≤ length w.slots
@@ -221,11 +225,11 @@ one_argument start old new es e slot next is first second = record {
       let parts = split es e sound in
       let typed = typed_last parts.last in
       let last : DoesExpression s e (end_of old) (end_of new) (slot + length es)
-          = subst (λ (k : ℕ). DoesExpression s e (end_of old) (end_of new) k) is
-          (second.does s typed.0 scene typed.1
-          (stands_after s (code_of new) (end_of start) (end_of old) (end_of new) (first.keeps).longer stands) suits) in
+      = subst (λ (k : ℕ). DoesExpression s e (end_of old) (end_of new) k) is
+      (second.does s typed.0 scene typed.1
+      (stands_after s (code_of new) (end_of start) (end_of old) (end_of new) (first.keeps).longer stands) suits) in
       let before = first.does s parts.before scene parts.first
-          (stands_before s old new (end_of start) second.keeps stands) (suits_before s old new second.keeps suits) in
+      (stands_before s old new (end_of start) second.keeps stands) (suits_before s old new second.keeps suits) in
       let longer : length es + 1 ≡ length (es ++ e ∷ []) = sym (length-append es (e ∷ [])) in
       subst (λ (n : ℕ). ComputesAll s.setting (Good s) s.function s.room (arguments (calls_of s) (exprs (es ++ e ∷ [])))
       (end_of start) (end_of new) slot n) longer
@@ -233,7 +237,8 @@ one_argument start old new es e slot next is first second = record {
       (one_more (arguments (calls_of s) (exprs es)) (expression (calls_of s) e))
       (arguments (calls_of s) (exprs (es ++ e ∷ []))) (end_of start) (end_of new) slot (length es + 1)
       (λ a. sym (arguments_more (calls_of s) es e a))
-      (computes_more s.setting (Good s) s.function s.room (arguments (calls_of s) (exprs es)) (expression (calls_of s) e)
+      (computes_more s.setting (Good s) s.function s.room (arguments (calls_of s) (exprs es))
+      (expression (calls_of s) e)
       (end_of start) (end_of old) (end_of new) slot (length es) before last
       (λ a b ws good ran. argued_good s es parts.before a b ws scene parts.first good ran)));
 }

@@ -1,43 +1,42 @@
 -- The code of methods of arrays does what they do, and that of arrays which are constructed with a length.
-use Rattle.std.proofs.Common.{◌≡◌, ◌≤◌, ◌<◌, ℕ, zero, suc, ◌+◌, List, [], ◌∷◌, take, drop, length, refl, sym, ap, ◌∙◌, subst, arith}
+use Rattle.std.proofs.Common.{◌≡◌, ◌<◌, ℕ, zero, suc, ◌+◌, List, [], ◌∷◌, take, drop, length, refl, sym, ap, ◌∙◌, arith}
 use Rattle.std.proofs.Common.{true, false, Bool, cond}
 use Rattle.std.specs.Prelude.{Option, Some, None, slice_set, slice_index_or, ◌&&◌}
 use Rattle.std.specs.Option.{option_map_or}
 use Rattle.ash_host.specs.declared.word.Word.{Word}
 use Rattle.ash_host.specs.declared.word.Word.TheVariants as words
 use Rattle.ash_host.specs.declared.element.ElementTag.{ElementTag}
-use Rattle.ash_host.specs.Objects.{Plain, Script, Array, Host, Elements, object_at}
+use Rattle.ash_host.specs.Objects.{Plain, Script, Array, Host, Elements}
 use Rattle.ash_integers.specs.declared.int_type.IntType.TheVariants as ints
 use Rattle.ash_typed.specs.declared.types.Element as typed_element
-use Rattle.ash_typed.specs.declared.types.ObjectType.{ObjectType}
 use Rattle.ash_typed.specs.declared.types.ObjectType.TheVariants as objects
-use Rattle.ash_typed.specs.declared.types.VarType.{VarType}
 use Rattle.ash_typed.specs.declared.types.VarType.TheVariants as vars
 use Rattle.ash_typed.specs.declared.tree.operations.ArrayMethod.{ArrayMethod}
 use Rattle.ash_typed.specs.declared.tree.operations.ArrayMethod.TheVariants as methods
-use Rattle.ash_typed.specs.TypeOf.{ValueType, value, type_of_element}
+use Rattle.ash_typed.specs.TypeOf.{value, type_of_element}
 use Rattle.ash_typed.specs.TypedTree.{Expr, exprs}
 use Rattle.ash_typed.specs.SoundExpressions.{IsWellTyped, AreSoundArguments}
 use Rattle.ash_typed.specs.SoundOperations.{parameters_of_array_method}
 use Rattle.ash_meaning.specs.Activity.{Activity}
-use Rattle.ash_meaning.specs.Runs.{Run, Progress, Done, onward, ◌>>=◌}
+use Rattle.ash_meaning.specs.Runs.{onward, ◌>>=◌}
 use Rattle.ash_meaning.specs.ObjectSteps.{object_of}
 use Rattle.ash_meaning.specs.ArraySteps as arrays
 use Rattle.ash_meaning.specs.ArraySteps.{natural_of, construct_array, invoke_array}
 use Rattle.ash_meaning.specs.ExpressionMeaning.{expression, arguments}
 use Rattle.ash_meaning.specs.Classes.{Program, element_of}
-use Rattle.ash_meaning.specs.Ends.{Outcome}
-use Rattle.ash_soundness.specs.WellFormed.{Shape, OfElements, shape_of, shape_at, IsArrayOf, IsValue, AreValues, and_value, no_values}
+use Rattle.ash_soundness.specs.WellFormed.{Shape, OfElements, shape_of, shape_at, IsArrayOf, AreValues, and_value}
+use Rattle.ash_soundness.specs.WellFormed.{no_values}
 use Rattle.ash_soundness.proofs.Arrays.{object_with}
 use Rattle.ash_object_ranks.specs.ShownTables.{elements_shown}
 use Rattle.ash_run_steps.specs.Guarded.{Guarded, onward as guarded_onward}
 use Rattle.ash_run_steps.specs.GuardedSteps.{is_alive}
-use Rattle.ash_run_steps.specs.ArrayGuards.{is_array, is_array_object, array_length, array_is_empty, resize_array, insert_last, remove_last}
+use Rattle.ash_run_steps.specs.ArrayGuards.{is_array, is_array_object, array_length, array_is_empty, resize_array}
+use Rattle.ash_run_steps.specs.ArrayGuards.{insert_last, remove_last}
 use Rattle.ash_code.specs.declared.instruction.Instruction.{Instruction}
 use Rattle.ash_code.specs.declared.instruction.Instruction.TheVariants as i
 use Rattle.ash_code.specs.Controls.{Control, Window, control, word_at}
 use Rattle.ash_code.specs.Performing.{Setting, Next, perform, put}
-use Rattle.ash_compile.specs.Stretches.{continued, Arrives, with_slots, Computes}
+use Rattle.ash_compile.specs.Stretches.{Computes}
 use Rattle.ash_compile.specs.Arguments.{DoesArguments}
 use Rattle.ash_compile.specs.Emission.{Scene, IsScene, Good, DoesExpression, calls_of}
 use Rattle.ash_compile.proofs.Simulation.{step_is, puts, stored}
@@ -50,13 +49,14 @@ use Rattle.ash_compile.proofs.MethodCode.{ready, on_object}
 use Rattle.ash_compile.proofs.HostCode.{grouped_guards, null_given, by_put}
 
 -- the first of the arguments
-first_word : (xs : List Word) (k : ℕ) (word : Word) → take 1 (drop k xs) ≡ word ∷ [] → slice_index_or xs k words.Null ≡ word
+first_word : (xs : List Word) (k : ℕ) (word : Word) → take 1 (drop k xs) ≡ word ∷ [] → slice_index_or xs k words.Null
+    ≡ word
 first_word [] zero word is = absurd (cc)
 first_word [] (suc k) word is = absurd (cc)
 first_word (x ∷ xs) zero word is = head_is is
   where
-  head_is : {x y : Word} → x ∷ [] ≡ y ∷ [] → x ≡ y
-  head_is same = cc
+    head_is : {x y : Word} → x ∷ [] ≡ y ∷ [] → x ≡ y
+    head_is same = cc
 first_word (x ∷ xs) (suc k) word is = first_word xs k word is
 
 -- what an instruction of a method does, of the object in a slot and the argument in the next one
@@ -82,9 +82,11 @@ performs_array : (s : Setting) (method : ArrayMethod) (slot : ℕ) (c : Control)
     ≡ guarded_onward (Some (object_of (word_at slot c) d)) (on_array method slot c)
 performs_array s methods.Length slot c d = grouped_guards (object_of (word_at slot c) d) array_length (put slot c)
 performs_array s methods.Resize slot c d =
-    grouped_guards (object_of (word_at slot c) d) (λ number. resize_array number (word_at (slot + 1) c)) (λ _. put slot c words.Null)
+    grouped_guards (object_of (word_at slot c) d) (λ number. resize_array number (word_at (slot + 1) c))
+    (λ _. put slot c words.Null)
 performs_array s methods.InsertLast slot c d =
-    grouped_guards (object_of (word_at slot c) d) (λ number. insert_last number (word_at (slot + 1) c)) (λ _. put slot c words.Null)
+    grouped_guards (object_of (word_at slot c) d) (λ number. insert_last number (word_at (slot + 1) c))
+    (λ _. put slot c words.Null)
 performs_array s methods.RemoveLast slot c d =
     grouped_guards (object_of (word_at slot c) d) remove_last (λ _. put slot c words.Null)
 performs_array s methods.IsEmpty slot c d = grouped_guards (object_of (word_at slot c) d) array_is_empty (put slot c)
@@ -102,7 +104,8 @@ array_there p of number shape d at fits =
     ap (λ (o : Option (Plain (List ℕ))). option_map_or is_array_object o false) there ∙ array_object x (is ∙ fits.is)
 
 -- what it does is what the method does
-array_done : (p : Program) (of : typed_element.Element) (method : ArrayMethod) (w : Window) (function at slot number : ℕ)
+array_done : (p : Program) (of : typed_element.Element) (method : ArrayMethod) (w : Window)
+    (function at slot number : ℕ)
     (shape : Shape) (ws : List Word) (d : Activity)
     → shape_at number (d.world).objects ≡ Some shape → IsArrayOf p of shape
     → AreValues p (d.world).objects (parameters_of_array_method of method) ws
@@ -111,15 +114,19 @@ array_done : (p : Program) (of : typed_element.Element) (method : ArrayMethod) (
     ≡ guarded_onward (Some (invoke_array method number ws d)) (put slot (control function at w))
 array_done p of methods.Length w function at slot number shape ws d there fits vs are = refl
 array_done p of methods.IsEmpty w function at slot number shape ws d there fits vs are = refl
-array_done p of methods.Resize w function at slot number shape _ d there fits (and_value {word = count} v no_values) are =
+array_done p of methods.Resize w function at slot number shape _ d there fits
+    (and_value {word = count} v no_values) are =
     let c = control function at w in
-    ap (λ (x : Word). guarded_onward (resize_array number x d) (λ _. put slot c words.Null)) (first_word w.slots (slot + 1) count are)
+    ap (λ (x : Word). guarded_onward (resize_array number x d) (λ _. put slot c words.Null))
+    (first_word w.slots (slot + 1) count are)
     ∙ ap (λ (t : Bool). guarded_onward (cond t (Some (arrays.resize number (natural_of count) d)) None)
     (λ _. put slot c words.Null)) (array_there p of number shape d there fits)
     ∙ null_given (arrays.resize number (natural_of count) d) (put slot c)
-array_done p of methods.InsertLast w function at slot number shape _ d there fits (and_value {word = word} v no_values) are =
+array_done p of methods.InsertLast w function at slot number shape _ d there fits
+    (and_value {word = word} v no_values) are =
     let c = control function at w in
-    ap (λ (x : Word). guarded_onward (insert_last number x d) (λ _. put slot c words.Null)) (first_word w.slots (slot + 1) word are)
+    ap (λ (x : Word). guarded_onward (insert_last number x d) (λ _. put slot c words.Null))
+    (first_word w.slots (slot + 1) word are)
     ∙ ap (λ (t : Bool). guarded_onward (cond (t && is_alive word d) (Some (arrays.insert_last number word d)) None)
     (λ _. put slot c words.Null)) (array_there p of number shape d there fits)
     ∙ ap (λ (t : Bool). guarded_onward (cond t (Some (arrays.insert_last number word d)) None)
@@ -144,7 +151,8 @@ module _ (s : Scene) (scene : IsScene s) where
       >>= (λ number. invoke_array method number ws)))) from (at + 1) slot
   does_array_method of method e es from mid at slot typed sound object does has =
       by_object s.setting (Good s) s.function s.room (expression (calls_of s) e) (arguments (calls_of s) (exprs es))
-      (λ handle ws. object_of handle >>= (λ number. invoke_array method number ws)) from mid at (at + 1) slot (length es)
+      (λ handle ws. object_of handle >>= (λ number. invoke_array method number ws)) from mid at (at + 1) slot
+      (length es)
       object does
       (λ a b v good ran. stays_good s e (value (vars.Handle (objects.Array of))) a b v scene typed good ran)
       (λ w a b d handle ws rest low long fits good ran run held are goes.
@@ -157,7 +165,8 @@ module _ (s : Scene) (scene : IsScene s) where
       ∙ performs_array s.setting method slot c d)
       (λ number shape at_shape of_array is stepped.
       puts s.setting (Good s) s.function s.room w at slot d (invoke_array method number ws d) rest
-      (stepped ∙ array_done (s.context).program of method w s.function at slot number shape ws d at_shape of_array got.values
+      (stepped ∙ array_done (s.context).program of method w s.function at slot number shape ws d at_shape of_array
+      got.values
       (ap (λ (n : ℕ). take n (drop (slot + 1) w.slots)) (sym (arguments_long es sound)) ∙ are)) low
       (λ v x called.
       goes v x (slice_set w.slots slot v)
@@ -182,11 +191,13 @@ module _ (s : Scene) (scene : IsScene s) where
       (λ w a b ws good ran are.
       let c = control s.function at w in
       let values = ((argued s es (vars.Integer ints.Uint ∷ []) a b ws scene sound good ran).carried).values in
-      ap (λ (shown : Elements (List ℕ)). guarded_onward (Some (construct_array shown (word_at slot c ∷ []) b)) (put slot c)) same
-      ∙ ap (λ (us : List Word). guarded_onward (Some (construct_array (element_of (s.context).program of) us b)) (put slot c))
+      ap (λ (shown : Elements (List ℕ)). guarded_onward (Some (construct_array shown (word_at slot c ∷ []) b))
+      (put slot c)) same
+      ∙ ap (λ (us : List Word). guarded_onward (Some (construct_array (element_of (s.context).program of) us b))
+      (put slot c))
       (one_word ws w.slots values (ap (λ (n : ℕ). take n (drop slot w.slots)) (sym (arguments_long es sound)) ∙ are)))
     where
-    one_word : {all : _} (ws slots : List Word) → AreValues (s.context).program all (vars.Integer ints.Uint ∷ []) ws
-        → take 1 (drop slot slots) ≡ ws → slice_index_or slots slot words.Null ∷ [] ≡ ws
-    one_word _ slots (and_value {word = word} v no_values) are =
-        ap (λ (x : Word). x ∷ []) (first_word slots slot word are)
+      one_word : {all : _} (ws slots : List Word) → AreValues (s.context).program all (vars.Integer ints.Uint ∷ []) ws
+          → take 1 (drop slot slots) ≡ ws → slice_index_or slots slot words.Null ∷ [] ≡ ws
+      one_word _ slots (and_value {word = word} v no_values) are =
+          ap (λ (x : Word). x ∷ []) (first_word slots slot word are)

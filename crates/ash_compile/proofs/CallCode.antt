@@ -1,44 +1,44 @@
 -- The code of calls does what they do, once their arguments are in slots.
-use Rattle.std.proofs.Common.{◌≡◌, ◌≤◌, ◌<◌, ℕ, zero, suc, ◌+◌, ◌-◌, List, [], ◌∷◌, take, drop, length, refl, sym, ap, ◌∙◌, subst, arith}
+use Rattle.std.proofs.Common.{◌≡◌, ◌≤◌, ◌<◌, ℕ, zero, suc, ◌+◌, List, ◌∷◌, take, drop, length, refl, sym, ap, ◌∙◌}
+use Rattle.std.proofs.Common.{subst, arith}
 use Rattle.std.proofs.Common.{true, Bool, nat_lt, length-drop}
-use Rattle.std.specs.Prelude.{Option, Some, None, slice_get, slice_index_or, slice_set, ◌&&◌}
+use Rattle.std.specs.Prelude.{Option, Some, slice_get, slice_index_or, slice_set, ◌&&◌}
 use Rattle.std.proofs.lemmas.Bool.Decides.{nat_tests}
 use Rattle.std.proofs.lemmas.List.{length-set, get_or-set_same, get_or-set_other, take-set-le}
 use Rattle.ash_host.specs.declared.word.Word.{Word}
 use Rattle.ash_host.specs.declared.word.Word.TheVariants as words
 use Rattle.ash_typed.specs.declared.types.VarType.{VarType}
-use Rattle.ash_typed.specs.Modules.{Function, Class}
+use Rattle.ash_typed.specs.Modules.{Function}
 use Rattle.ash_typed.specs.TypedTree.{Expr, exprs}
 use Rattle.ash_typed.specs.SoundExpressions.{TypedEnvironment, AreSoundArguments}
-use Rattle.ash_meaning.specs.Activity.{Frame, Activity}
-use Rattle.ash_meaning.specs.Runs.{Run, Progress, Done, Ended, NoStep, onward, give, found, ◌>>=◌, ◌>>◌}
+use Rattle.ash_meaning.specs.Activity.{Activity}
+use Rattle.ash_meaning.specs.Runs.{Run, Progress, Done, Ended, NoStep, onward, found, ◌>>=◌, ◌>>◌}
 use Rattle.ash_meaning.specs.Frames.{tick, demand_frame, max_frames}
 use Rattle.ash_meaning.specs.CallMeaning.{call as call_meaning}
-use Rattle.ash_meaning.specs.Classes.{ModuleCallee, FreeFunction, Method, Entry, entry_of, entry_of_function, entry_of_method}
-use Rattle.ash_meaning.specs.ExpressionMeaning.{expression, arguments}
+use Rattle.ash_meaning.specs.Classes.{ModuleCallee, FreeFunction, Entry, entry_of, entry_of_function}
+use Rattle.ash_meaning.specs.ExpressionMeaning.{arguments}
 use Rattle.ash_meaning.specs.Functions.{body}
 use Rattle.ash_meaning.specs.Ends.{Outcome}
-use Rattle.ash_soundness.specs.WellFormed.{declared, AreValues, IsThis, no_this, is_this, IsWellFormed}
+use Rattle.ash_soundness.specs.WellFormed.{AreValues, IsThis, no_this, IsWellFormed}
 use Rattle.ash_soundness.proofs.Constructions.{lt_from}
-use Rattle.ash_run_steps.specs.Guarded.{Guarded, onward as guarded_onward}
 use Rattle.ash_run_steps.specs.GuardedSteps.{are_alive}
 use Rattle.ash_code.specs.declared.code.FunctionCode.{FunctionCode}
-use Rattle.ash_code.specs.declared.instruction.Instruction.{Instruction}
 use Rattle.ash_code.specs.declared.instruction.Instruction.TheVariants as i
-use Rattle.ash_code.specs.Controls.{Control, Window, control, word_at}
-use Rattle.ash_code.specs.Performing.{Setting, Next, call, enter_at, perform, put}
+use Rattle.ash_code.specs.Controls.{Window, control}
+use Rattle.ash_code.specs.Performing.{Setting, call, enter_at, put}
 use Rattle.ash_code.specs.Running.{step}
 use Rattle.ash_compile.specs.Stretches.{continued, Arrives, with_slots, Fits, Holds, Has, Computes}
 use Rattle.ash_compile.specs.Performances.{Enters}
 use Rattle.ash_compile.specs.Arguments.{HoldsAll, ComputesAll, DoesArguments}
 use Rattle.ash_compile.specs.Layout.{index_of}
-use Rattle.ash_compile.specs.Callees.{room_for, IsCallee, a_function, a_method, HasCallee, given_by, Entering}
+use Rattle.ash_compile.specs.Callees.{room_for, IsCallee, a_function, HasCallee, given_by, Entering}
 use Rattle.ash_compile.specs.Emission.{Scene, IsScene, Good, calls_of}
-use Rattle.ash_compile.proofs.Simulation.{continued_then, then_is, step_is, puts, stored, refits}
+use Rattle.ash_compile.proofs.Simulation.{continued_then, then_is, step_is, puts, refits}
 use Rattle.ash_compile.proofs.Emission.{HasAt, greatest_within}
 use Rattle.ash_compile.proofs.Arguments.{all_refit, argued, argued_good, arguments_long}
 use Rattle.ash_compile.proofs.Calling.{Returns, entered_at, framed, calls_there, enters_there}
-use Rattle.ash_compile.proofs.Callees.{room_left, frames_long, object_alive, values_alive, entry_there, entered_well, returns_from}
+use Rattle.ash_compile.proofs.Callees.{room_left, frames_long, object_alive, values_alive, entry_there, entered_well}
+use Rattle.ash_compile.proofs.Callees.{returns_from}
 
 -- What an expression leaves after what was left before it.
 pub held_then : (w : Window) (slot count : ℕ) (ws slots more : List Word) (v : Word) (b d : Activity)
@@ -68,7 +68,8 @@ module _ (s : Setting) (Good : Activity → Type 0) (function room : ℕ) where
   pub by_arguments : (p : Run (List Word)) (f : List Word → Run Word) (from at to slot count : ℕ) → slot < room
       → ComputesAll s Good function room p from at slot count
       → ((w : Window) (a b : Activity) (ws : List Word) (rest : Word → Activity → Option Outcome)
-      → w.count ≤ slot → room ≤ length w.slots → Fits w b → Good a → p a ≡ Done ws b → take count (drop slot w.slots) ≡ ws
+      → w.count ≤ slot → room ≤ length w.slots → Fits w b → Good a → p a ≡ Done ws b → take count (drop slot w.slots)
+      ≡ ws
       → ((v : Word) (d : Activity) (slots : List Word) → f ws b ≡ Done v d → Holds w slot v slots d
       → Arrives s (control function to (with_slots slots w)) d (rest v d))
       → Arrives s (control function at w) b (continued (f ws b) rest))
@@ -80,7 +81,8 @@ module _ (s : Setting) (Good : Activity → Type 0) (function room : ℕ) where
         (first.comes w a (λ ws b. continued (f ws b) rest) low long fits good (λ ws b slots ran held.
         does (with_slots slots w) a b ws rest low (omega (arith, long, held.long))
         (all_refit s Good function room w slot count ws slots b fits.within held) good ran held.values
-        (λ v d more run also. goes v d more (then_is (p a) ws b f _ ran run) (held_then w slot count ws slots more v b d held also))));
+        (λ v d more run also. goes v d more (then_is (p a) ws b f _ ran run)
+        (held_then w slot count ws slots more v b d held also))));
   }
 
   -- An object, then arguments, then what is done with their values.
@@ -100,14 +102,16 @@ module _ (s : Setting) (Good : Activity → Type 0) (function room : ℕ) where
     comes = λ w a rest low long fits good goes.
         subst (λ (o : Option Outcome). Arrives s (control function from w) a o)
         (sym (continued_then (p a) (λ handle. q >>= f handle) rest))
-        (first.comes w a (λ handle b. continued ((q >>= f handle) b) rest) low long fits good (λ handle b slots ran held.
+        (first.comes w a (λ handle b. continued ((q >>= f handle) b) rest) low long fits good
+        (λ handle b slots ran held.
         subst (λ (o : Option Outcome). Arrives s (control function mid (with_slots slots w)) b o)
         (sym (continued_then (q b) (f handle) rest))
         (second.comes (with_slots slots w) b (λ ws d. continued (f handle ws d) rest) (omega (arith, low))
         (omega (arith, long, held.long)) (refits w slot handle slots a b fits held)
         (keeps a b handle good ran) (λ ws d more run also.
         does (with_slots more w) a b d handle ws rest low (omega (arith, long, held.long, also.long))
-        (all_refit s Good function room (with_slots slots w) (slot + 1) count ws more d (omega (arith, fits.within, held.long)) also)
+        (all_refit s Good function room (with_slots slots w) (slot + 1) count ws more d
+        (omega (arith, fits.within, held.long)) also)
         good ran run (also.kept slot low (omega arith) ∙ held.value) also.values (λ v e last computed stays.
         goes v e last (then_is (p a) handle b (λ x. q >>= f x) _ ran (then_is (q b) ws d (f handle) _ run computed))
         (record {
@@ -129,8 +133,8 @@ module _ (s : Scene) (scene : IsScene s) where
   enough a w slot good low long room =
       let callers = frames_long (good.0).callers in
       let left = room_left s.greatest (length s.envs) slot (length w.slots)
-          (let more = lt_from (length a.callers + 1) max_frames room in omega (arith, more, callers)) low
-          (omega (arith, scene.roomy, long)) in
+      (let more = lt_from (length a.callers + 1) max_frames room in omega (arith, more, callers)) low
+      (omega (arith, scene.roomy, long)) in
       omega (arith, left, length-drop slot w.slots)
 
   module _ (callee : ModuleCallee) (env : TypedEnvironment) (result : Option VarType) (e : Entry)
@@ -184,32 +188,35 @@ module _ (s : Scene) (scene : IsScene s) where
         ∙ ap (λ (ws : List Word). framed e.name e.line this ws inside) own_is)
         (calls_there s.setting s.function index (Entering s.context s.depth env (s.env ∷ s.envs))
         (room_for s.greatest (length (s.env ∷ s.envs))) f this w slot there.there low
-        (omega (arith, under, scene.roomy, long)) (omega (arith, fit, there.parameters)) at start a inside rest does fits
+        (omega (arith, under, scene.roomy, long))
+        (omega (arith, fit, there.parameters)) at start a inside rest does fits
         alive (enough a w slot good under long) enters_line
         (λ room. (entered room, good.1)) (λ room. returns_line _ (entered room)))
       where
-      f : FunctionCode
-      f = there.code
+        f : FunctionCode
+        f = there.code
 
-      own : List Word
-      own = take f.parameters (drop slot w.slots)
+        own : List Word
+        own = take f.parameters (drop slot w.slots)
 
-      own_is : own ≡ args
-      own_is = ap (λ (n : ℕ). take n (drop slot w.slots)) there.parameters ∙ are
+        own_is : own ≡ args
+        own_is = ap (λ (n : ℕ). take n (drop slot w.slots)) there.parameters ∙ are
 
-      own_values : AreValues (s.context).program (a.world).objects env.locals own
-      own_values = subst (λ (ws : List Word). AreValues (s.context).program (a.world).objects env.locals ws) (sym own_is) values
+        own_values : AreValues (s.context).program (a.world).objects env.locals own
+        own_values = subst (λ (ws : List Word). AreValues (s.context).program (a.world).objects env.locals ws)
+            (sym own_is) values
 
-      alive : are_alive (this ∷ own) a ≡ true
-      alive =
-          ap (λ (b : Bool). b && are_alive own a) (object_alive s.context env.this this a this_is)
-          ∙ values_alive (s.context).program a own_values
+        alive : are_alive (this ∷ own) a ≡ true
+        alive =
+            ap (λ (b : Bool). b && are_alive own a) (object_alive s.context env.this this a this_is)
+            ∙ values_alive (s.context).program a own_values
 
-      entered : nat_lt (length a.callers + 1) max_frames ≡ true
-          → IsWellFormed s.context env (s.env ∷ s.envs) (entered_at ((s.setting.names).functions index) f.line this own a)
-      entered room =
-          entered_well scene.sound env ((s.setting.names).functions index) f.line this own good.0
-          (lt_from (length a.callers + 1) max_frames room) this_is own_values
+        entered : nat_lt (length a.callers + 1) max_frames ≡ true
+            → IsWellFormed s.context env (s.env ∷ s.envs)
+            (entered_at ((s.setting.names).functions index) f.line this own a)
+        entered room =
+            entered_well scene.sound env ((s.setting.names).functions index) f.line this own good.0
+            (lt_from (length a.callers + 1) max_frames room) this_is own_values
 
     -- An instruction that enters the callee, in slots that have its arguments.
     pub does_enter : (w : Window) (slot at : ℕ) (start a : Activity) (this : Word) (args : List Word)
@@ -235,32 +242,36 @@ module _ (s : Scene) (scene : IsScene s) where
         ∙ ap (λ (ws : List Word). framed e.name e.line this ws inside) own_is)
         (enters_there s.setting s.function index (Entering s.context s.depth env (s.env ∷ s.envs))
         (room_for s.greatest (length (s.env ∷ s.envs))) f this w slot there.there low
-        (omega (arith, under, scene.roomy, long)) (omega (arith, fit, there.parameters)) at start a inside rest does fits
+        (omega (arith, under, scene.roomy, long))
+        (omega (arith, fit, there.parameters)) at start a inside rest does fits
         alive (enough a w slot good under long more) enters_line (entered, good.1) (returns_line _ entered))
       where
-      more : nat_lt (length a.callers + 1) max_frames ≡ true
-      more = grind (arith, nat_tests)
+        more : nat_lt (length a.callers + 1) max_frames ≡ true
+        more = grind (arith, nat_tests)
 
-      f : FunctionCode
-      f = there.code
+        f : FunctionCode
+        f = there.code
 
-      own : List Word
-      own = take f.parameters (drop slot w.slots)
+        own : List Word
+        own = take f.parameters (drop slot w.slots)
 
-      own_is : own ≡ args
-      own_is = ap (λ (n : ℕ). take n (drop slot w.slots)) there.parameters ∙ are
+        own_is : own ≡ args
+        own_is = ap (λ (n : ℕ). take n (drop slot w.slots)) there.parameters ∙ are
 
-      own_values : AreValues (s.context).program (a.world).objects env.locals own
-      own_values = subst (λ (ws : List Word). AreValues (s.context).program (a.world).objects env.locals ws) (sym own_is) values
+        own_values : AreValues (s.context).program (a.world).objects env.locals own
+        own_values = subst (λ (ws : List Word). AreValues (s.context).program (a.world).objects env.locals ws)
+            (sym own_is) values
 
-      alive : are_alive (this ∷ own) a ≡ true
-      alive =
-          ap (λ (b : Bool). b && are_alive own a) (object_alive s.context env.this this a this_is)
-          ∙ values_alive (s.context).program a own_values
+        alive : are_alive (this ∷ own) a ≡ true
+        alive =
+            ap (λ (b : Bool). b && are_alive own a) (object_alive s.context env.this this a this_is)
+            ∙ values_alive (s.context).program a own_values
 
-      entered : IsWellFormed s.context env (s.env ∷ s.envs) (entered_at ((s.setting.names).functions index) f.line this own a)
-      entered =
-          entered_well scene.sound env ((s.setting.names).functions index) f.line this own good.0 room this_is own_values
+        entered : IsWellFormed s.context env (s.env ∷ s.envs)
+            (entered_at ((s.setting.names).functions index) f.line this own a)
+        entered =
+            entered_well scene.sound env
+            ((s.setting.names).functions index) f.line this own good.0 room this_is own_values
 
 -- what was done, of a value and an activity
 
@@ -269,7 +280,8 @@ DoneAt P (Done v b) = P v b
 DoneAt P (Ended e b) = Unit {0}
 DoneAt P NoStep = Unit {0}
 
-done_at : {A : Type 0} (P : A → Activity → Type 0) (p : Progress A) (v w : A) (b d : Activity) → p ≡ Done v b → p ≡ Done w d
+done_at : {A : Type 0} (P : A → Activity → Type 0) (p : Progress A) (v w : A) (b d : Activity) → p ≡ Done v b → p
+    ≡ Done w d
     → P v b → P w d
 done_at P p v w b d first second here = subst (λ q. DoneAt P q) (sym first ∙ second) here
 
@@ -279,14 +291,16 @@ module _ (s : Setting) (Good : Activity → Type 0) (function room : ℕ) where
       (rest : Word → Activity → Option Outcome)
       → Has s Good function room at (i.Move (slot + 1) slot)
       → w.count ≤ slot → slot < length w.slots → Holds w (slot + 1) v after e
-      → ((slots : List Word) → Holds w slot v slots e → Arrives s (control function (at + 1) (with_slots slots w)) e (rest v e))
+      → ((slots : List Word) → Holds w slot v slots e → Arrives s (control function (at + 1) (with_slots slots w)) e
+      (rest v e))
       → Arrives s (control function at (with_slots after w)) e (rest v e)
   moves_back w slot at v after e rest has low within held go =
       puts s Good function room (with_slots after w) at slot e (Done v e) rest
       (step_is s Good function room (with_slots after w) e at (i.Move (slot + 1) slot) has
       ∙ ap (λ (x : Word). put slot (control function at (with_slots after w)) x e) held.value) low
       (λ u d is.
-      done_at (λ x y. Arrives s (control function (at + 1) (with_slots (slice_set after slot x) w)) y (rest x y)) (Done v e) v u
+      done_at (λ x y. Arrives s (control function (at + 1) (with_slots (slice_set after slot x) w)) y (rest x y))
+      (Done v e) v u
       e d refl is (go (slice_set after slot v) (held_moved w slot v after e low within held)))
 
 -- a row of slots is there
@@ -313,13 +327,15 @@ module _ (s : Scene) (scene : IsScene s) where
       → DoesArguments s es from at slot
       → HasAt s at (i.Call place slot)
       → Computes s.setting (Good s) s.function s.room
-      (arguments (calls_of s) (exprs es) >>= call_meaning (calls_of s) (FreeFunction place) words.Null) from (at + 1) slot
+      (arguments (calls_of s) (exprs es) >>= call_meaning (calls_of s) (FreeFunction place) words.Null) from
+      (at + 1) slot
   does_function place f es from at slot there sound under does has =
       by_arguments s.setting (Good s) s.function s.room (arguments (calls_of s) (exprs es))
       (call_meaning (calls_of s) (FreeFunction place) words.Null) from at (at + 1) slot (length es) within does
       (λ w a b ws rest low long fits good ran are goes.
       let arg = argued s es f.parameters a b ws scene sound good ran in
-      let is = call_is (FreeFunction place) (entry_of_function f) words.Null ws b (entry_there scene.sound (a_function there)) in
+      let is = call_is (FreeFunction place) (entry_of_function f) words.Null ws b
+      (entry_there scene.sound (a_function there)) in
       subst (λ (p : Progress Word). Arrives s.setting (control s.function at w) b (continued p rest)) (sym is)
       (does_call s scene (FreeFunction place) _ f.result (entry_of_function f) (a_function there) w slot at b b
       words.Null ws rest low under (omega (arith, fit, long)) long fits
@@ -328,11 +344,11 @@ module _ (s : Scene) (scene : IsScene s) where
       (step_is s.setting (Good s) s.function s.room w b at (i.Call place slot) has)
       (λ d word after run held. goes word d after (is ∙ run) held)))
     where
-    within : slot < s.room
-    within = omega (arith, under, greatest_within s scene)
+      within : slot < s.room
+      within = omega (arith, under, greatest_within s scene)
 
-    count : length es ≡ length f.parameters
-    count = arguments_long es sound
+      count : length es ≡ length f.parameters
+      count = arguments_long es sound
 
-    fit : slot + length f.parameters ≤ s.room
-    fit = subst (λ (n : ℕ). slot + n ≤ s.room) count (row_within slot (length es) s.room within does.within)
+      fit : slot + length f.parameters ≤ s.room
+      fit = subst (λ (n : ℕ). slot + n ≤ s.room) count (row_within slot (length es) s.room within does.within)

@@ -1,38 +1,35 @@
 -- What a sound module calls is there, in its code too.
-use Rattle.std.proofs.Common.{◌≡◌, ◌≤◌, ◌<◌, ℕ, zero, suc, ◌+◌, ◌-◌, ◌*◌, List, [], ◌∷◌, drop, length, map, refl, sym, ap, ◌∙◌, subst, arith}
-use Rattle.std.proofs.Common.{true, Bool, nat_lt, option_map, slice_get, length-drop}
-use Rattle.std.specs.Prelude.{Option, Some, None, ◌&&◌}
-use Rattle.std.specs.List.{list_all}
+use Rattle.std.proofs.Common.{◌≡◌, ◌≤◌, ◌<◌, ℕ, suc, ◌+◌, ◌-◌, ◌*◌, List, ◌∷◌, length, refl, ap, ◌∙◌, arith}
+use Rattle.std.proofs.Common.{true, Bool, option_map, slice_get}
+use Rattle.std.specs.Prelude.{Option, Some, ◌&&◌}
 use Rattle.std.specs.Option.{option_and_then}
-use Rattle.std.proofs.lemmas.Bool.Decides.{nat_tests}
 use Rattle.std.proofs.lemmas.Option.{slice_get-map}
 use Rattle.ash_host.specs.declared.word.Word.{Word}
-use Rattle.ash_host.specs.declared.word.Word.TheVariants as words
 use Rattle.ash_host.specs.Objects.{LiveObjects, handle}
 use Rattle.ash_typed.specs.declared.types.VarType.{VarType}
-use Rattle.ash_typed.specs.Modules.{Class, Function}
-use Rattle.ash_typed.specs.Signatures.{signature_of, parameters_of}
+use Rattle.ash_typed.specs.Modules.{Class}
+use Rattle.ash_typed.specs.Signatures.{signature_of}
 use Rattle.ash_typed.specs.SoundExpressions.{TypedEnvironment}
 use Rattle.ash_meaning.specs.Activity.{Frame, Activity}
-use Rattle.ash_meaning.specs.Runs.{Run, Progress, Done, onward, look, ◌>>=◌, ◌>>◌}
-use Rattle.ash_meaning.specs.Frames.{tick, max_frames, frame_of}
+use Rattle.ash_meaning.specs.Runs.{◌>>◌}
+use Rattle.ash_meaning.specs.Frames.{tick, max_frames}
 use Rattle.ash_meaning.specs.CallMeaning.{value_or_null}
 use Rattle.ash_typed.specs.TypeOf.{ValueType}
-use Rattle.ash_meaning.specs.Classes.{Program, ModuleCallee, FreeFunction, Method, Construction, Entry, entry_of}
+use Rattle.ash_meaning.specs.Classes.{Program, ModuleCallee, Entry, entry_of}
 use Rattle.ash_meaning.specs.Classes.{entry_of_function, entry_of_method, entry_of_construction}
 use Rattle.ash_meaning.specs.Functions.{body}
-use Rattle.ash_soundness.specs.WellFormed.{Context, IsContext, declared, IsValue, AreValues, no_values, and_value, IsThis, no_this, is_this}
-use Rattle.ash_soundness.specs.WellFormed.{IsGiven, gives_nothing, gives_null, gives, AreFrames, no_frames, and_frame, IsWellFormed}
+use Rattle.ash_soundness.specs.WellFormed.{Context, IsContext, AreValues, no_values, and_value, IsThis}
+use Rattle.ash_soundness.specs.WellFormed.{IsGiven, gives_nothing, gives_null, gives, AreFrames, no_frames, and_frame}
+use Rattle.ash_soundness.specs.WellFormed.{IsWellFormed}
 use Rattle.ash_soundness.specs.WellFormedLaws.{Leaves, done}
 use Rattle.ash_soundness.proofs.Values.{none_in}
 use Rattle.ash_soundness.proofs.Triples.{bind, weaken}
 use Rattle.ash_soundness.proofs.Frames.{tick_goes}
-use Rattle.ash_soundness.proofs.Calls.{KeepsBodies}
 use Rattle.ash_soundness.proofs.Bodies.{keeps_bodies}
 use Rattle.ash_soundness.proofs.Entries.{IsEntry, function_entry, own_method, construction_entry}
 use Rattle.ash_run_steps.specs.GuardedSteps.{is_alive, are_alive}
 use Rattle.ash_compile.specs.Callees.{room_for, IsCallee, a_function, a_method, a_construction, given_by}
-use Rattle.ash_compile.specs.Emission.{Scene, IsScene, Good}
+use Rattle.ash_compile.specs.Emission.{Scene, IsScene}
 use Rattle.ash_compile.proofs.Typed.{left_done, alive_of, value_alive, this_lives}
 use Rattle.ash_compile.proofs.Calling.{Returns, entered_at}
 
@@ -47,7 +44,7 @@ pub room_left : (greatest callers slot long : ℕ) → callers + 1 < max_frames 
 room_left greatest callers slot long more low room =
     let fewer : max_frames - (callers + 1) ≡ suc (max_frames - (suc callers + 1)) = omega (arith, more) in
     let next : (max_frames - (callers + 1)) * greatest ≡ greatest + (max_frames - (suc callers + 1)) * greatest
-        = ap (λ (n : ℕ). n * greatest) fewer ∙ one_more_time (max_frames - (suc callers + 1)) greatest in
+    = ap (λ (n : ℕ). n * greatest) fewer ∙ one_more_time (max_frames - (suc callers + 1)) greatest in
     omega (arith, next, room, low)
 
 pub frames_long : {c : Context} {all : LiveObjects (List ℕ)} {envs : List TypedEnvironment} {fs : List Frame}
@@ -123,21 +120,27 @@ module _ (s : Scene) (scene : IsScene s) where
       → d.callers ≡ a.callers → IsWellFormed s.context env envs d
       → Leaves s.context (Left a.callers) (given_by callee (body (s.context).program s.depth e) d)
   gives_left {env = env} {result} {e} (a_function at) envs a d same well =
-      weaken (λ v b r.
-      ((r.passes).callers ∙ same, given_alive (value_or_null v) b r.value,
-      scene.ranks _ _ b (r.passes).well))
+      weaken (λ v b r. (
+        (r.passes).callers ∙ same,
+        given_alive (value_or_null v) b r.value,
+        scene.ranks _ _ b (r.passes).well,
+      ))
       ((keeps_bodies scene.sound s.depth).keeps env result e (entry_is scene.sound (a_function at)) envs d well)
   gives_left {env = env} {result} {e} (a_method at here) envs a d same well =
-      weaken (λ v b r.
-      ((r.passes).callers ∙ same, given_alive (value_or_null v) b r.value,
-      scene.ranks _ _ b (r.passes).well))
+      weaken (λ v b r. (
+        (r.passes).callers ∙ same,
+        given_alive (value_or_null v) b r.value,
+        scene.ranks _ _ b (r.passes).well,
+      ))
       ((keeps_bodies scene.sound s.depth).keeps env result e (entry_is scene.sound (a_method at here)) envs d well)
   gives_left {env = env} {result} {e} (a_construction at) envs a d same well =
-      bind ((keeps_bodies scene.sound s.depth).keeps env result e (entry_is scene.sound (a_construction at)) envs d well)
-      (λ v b r. done
-      ((r.passes).callers ∙ same,
-      object_alive s.context env.this (b.frame).this b (((r.passes).well).frame).this,
-      scene.ranks _ _ b (r.passes).well))
+      bind ((keeps_bodies scene.sound s.depth).keeps env result e
+      (entry_is scene.sound (a_construction at)) envs d well)
+      (λ v b r. done (
+        (r.passes).callers ∙ same,
+        object_alive s.context env.this (b.frame).this b (((r.passes).well).frame).this,
+        scene.ranks _ _ b (r.passes).well,
+      ))
 
   pub returns_from : {callee : ModuleCallee} {env : TypedEnvironment} {result : Option VarType} {e : Entry}
       (is : IsCallee s.context callee env result e) (envs : List TypedEnvironment) (caller place : ℕ) (a : Activity)

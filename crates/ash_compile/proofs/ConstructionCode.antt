@@ -1,9 +1,9 @@
 -- The code of constructions of a module's classes does what they do, once their arguments are in slots.
-use Rattle.std.proofs.Common.{◌≡◌, ◌≤◌, ◌<◌, ℕ, zero, suc, ◌+◌, List, [], ◌∷◌, take, drop, length, map, refl, sym, ap, ◌∙◌, subst, arith}
+use Rattle.std.proofs.Common.{◌≡◌, ◌≤◌, ◌<◌, ℕ, ◌+◌, List, [], ◌∷◌, take, drop, length, map, refl, sym, ap, ◌∙◌}
+use Rattle.std.proofs.Common.{subst, arith}
 use Rattle.std.proofs.Common.{true, false, Bool, cond, nat_lt, nat_le}
 use Rattle.std.specs.Prelude.{Option, Some, None, slice_get, ◌&&◌}
 use Rattle.std.specs.Option.{option_map_or}
-use Rattle.std.specs.List.{list_all}
 use Rattle.std.proofs.lemmas.Bool.Decides.{nat_tests}
 use Rattle.std.proofs.lemmas.List.{length-map}
 use Rattle.ash_host.specs.Limits.{max_objects, max_elements}
@@ -14,7 +14,7 @@ use Rattle.ash_integers.specs.declared.int_type.IntType.TheVariants as ints
 use Rattle.ash_typed.specs.declared.types.VarType.{VarType}
 use Rattle.ash_typed.specs.declared.types.VarType.TheVariants as vars
 use Rattle.ash_typed.specs.StatementTree.{Initialization}
-use Rattle.ash_typed.specs.Modules.{Class, Module}
+use Rattle.ash_typed.specs.Modules.{Class}
 use Rattle.ash_typed.specs.Signatures.{parameters_of, type_declared}
 use Rattle.ash_typed.specs.TypedTree.{Expr, exprs}
 use Rattle.ash_typed.specs.SoundExpressions.{TypedEnvironment, AreSoundArguments}
@@ -25,16 +25,15 @@ use Rattle.ash_meaning.specs.Frames.{tick, demand_frame, in_frame_of, leave, max
 use Rattle.ash_meaning.specs.ObjectSteps.{demand_number, make, with_new, max_number}
 use Rattle.ash_meaning.specs.OperatorMeaning.{zero_of}
 use Rattle.ash_meaning.specs.CallMeaning.{value_or_null, blank, construct}
-use Rattle.ash_meaning.specs.Classes.{Program, Construction, Entry, entry_of, entry_of_construction, place_of_class}
+use Rattle.ash_meaning.specs.Classes.{Program, Construction, Entry, entry_of_construction, place_of_class}
 use Rattle.ash_meaning.specs.ExpressionMeaning.{arguments}
 use Rattle.ash_meaning.specs.Functions.{body}
-use Rattle.ash_meaning.specs.Ends.{Outcome}
-use Rattle.ash_soundness.specs.WellFormed.{declared, Shape, OfClass, OfKind, shape_of, shape_at, AreValues, no_values, and_value, is_script, is_this, IsWellFormed}
-use Rattle.ash_soundness.specs.WellFormedLaws.{Goes, AreCarried, Leaves, done}
+use Rattle.ash_soundness.specs.WellFormed.{declared, shape_of, shape_at, AreValues, no_values, and_value, is_script}
+use Rattle.ash_soundness.specs.WellFormed.{is_this, IsWellFormed}
+use Rattle.ash_soundness.specs.WellFormedLaws.{Goes, Leaves, done}
 use Rattle.ash_soundness.proofs.Triples.{bind, weaken, after_demand, safe, carry_all}
 use Rattle.ash_soundness.proofs.Constructions.{bind_here, lt_from, HasRoom, number_demanded, made_goes, made_shape}
 use Rattle.ash_soundness.proofs.Integers.{zero_value}
-use Rattle.ash_soundness.proofs.Hosts.{well_after}
 use Rattle.ash_soundness.proofs.Frames.{tick_goes}
 use Rattle.ash_soundness.proofs.Bodies.{keeps_bodies}
 use Rattle.ash_soundness.proofs.Entries.{class_is}
@@ -43,21 +42,20 @@ use Rattle.ash_run_steps.specs.GuardedSteps.{is_alive, are_alive}
 use Rattle.ash_run_steps.specs.MakingSteps.{may_have, make_script}
 use Rattle.ash_code.specs.declared.code.ClassCode.{ClassCode}
 use Rattle.ash_code.specs.declared.instruction.Instruction.TheVariants as i
-use Rattle.ash_code.specs.Controls.{Control, Window, control}
-use Rattle.ash_code.specs.Performing.{Setting, Next, own_name, classes_of, enter_at, construct as construct_code}
+use Rattle.ash_code.specs.Controls.{Window, control}
+use Rattle.ash_code.specs.Performing.{Next, classes_of, enter_at, construct as construct_code}
 use Rattle.ash_code.specs.Running.{step}
-use Rattle.ash_compile.specs.Stretches.{continued, Arrives, with_slots, Fits, Holds, Has, Computes}
-use Rattle.ash_compile.specs.Performances.{Enters}
+use Rattle.ash_compile.specs.Stretches.{continued, Arrives, Computes}
 use Rattle.ash_compile.specs.Layout.{index_of}
-use Rattle.ash_compile.specs.Callees.{room_for, a_construction, HasCallee, IsClassCode, Entering}
+use Rattle.ash_compile.specs.Callees.{a_construction, IsClassCode}
 use Rattle.ash_compile.specs.Arguments.{DoesArguments}
 use Rattle.ash_compile.specs.Emission.{Scene, IsScene, Good, calls_of}
-use Rattle.ash_compile.proofs.Simulation.{step_is, frame_in}
+use Rattle.ash_compile.proofs.Simulation.{step_is}
 use Rattle.ash_compile.proofs.Emission.{HasAt, greatest_within}
 use Rattle.ash_compile.proofs.Typed.{left_done}
 use Rattle.ash_compile.proofs.Arguments.{argued, argued_good, arguments_long}
-use Rattle.ash_compile.proofs.Callees.{object_alive, values_alive, entry_there, entry_is, entered_well}
-use Rattle.ash_compile.proofs.Calling.{Returns, entered_at, framed, grouped, enters_there}
+use Rattle.ash_compile.proofs.Callees.{entry_there, entry_is, entered_well}
+use Rattle.ash_compile.proofs.Calling.{entered_at, framed, grouped}
 use Rattle.ash_compile.proofs.Constructing.{after_first, making}
 use Rattle.ash_compile.proofs.CallCode.{by_arguments, row_within, does_enter}
 
@@ -90,7 +88,8 @@ zeros_few vs a few =
     (le_test (length (map zero_field vs)) max_elements (omega (arith, long, few)))
     ∙ zeros_alive vs a
 
-zero_values : (p : Program) (all : _) (vs : List Initialization) → AreValues p all (map type_declared vs) (map zero_field vs)
+zero_values : (p : Program) (all : _) (vs : List Initialization) → AreValues p all (map type_declared vs)
+    (map zero_field vs)
 zero_values p all [] = no_values
 zero_values p all (v ∷ vs) = and_value (zero_value v.of) (zero_values p all vs)
 
@@ -136,7 +135,8 @@ made_is object a b number is =
 
 -- a construction gives its object
 
-same_this : (q : Progress (Option Word)) (w : Word) → ((v : Option Word) (b : Activity) → q ≡ Done v b → (b.frame).this ≡ w)
+same_this : (q : Progress (Option Word)) (w : Word) →
+    ((v : Option Word) (b : Activity) → q ≡ Done v b → (b.frame).this ≡ w)
     → onward q (λ _. give w)
     ≡ onward (onward q (λ _. look (λ activity. Some (activity.frame).this))) (λ v. give (value_or_null v))
 same_this (Done v b) w this = ap (λ (x : Word). Done x b) (sym (this v b refl))
@@ -144,7 +144,8 @@ same_this (Ended e b) w this = refl
 same_this NoStep w this = refl
 
 pub object_given : (name : List ℕ) (line : ℕ) (w : Word) (args : List Word) (run : Run (Option Word)) (a : Activity)
-    → ((v : Option Word) (b : Activity) → (tick line >> run) (entered_at name line w args a) ≡ Done v b → (b.frame).this ≡ w)
+    → ((v : Option Word) (b : Activity) → (tick line >> run) (entered_at name line w args a) ≡ Done v b →
+    (b.frame).this ≡ w)
     → in_frame_of name line w args (run >> give w) a
     ≡ framed name line w args (run >> look (λ activity. Some (activity.frame).this)) a
 object_given name line w args run a this =
@@ -183,7 +184,8 @@ module _ (s : Scene) (scene : IsScene s) (class : ℕ) (k : Class)
   steps : (w : Window) (slot at : ℕ) (a : Activity) → HasAt s at (i.Construct class slot)
       → step s.setting (control s.function at w) a
       ≡ guarded_onward (Some (making object a))
-      (λ number. enter_at s.setting (index_of ((s.context).program).tree (Construction class)) (words.Object number) slot
+      (λ number. enter_at s.setting (index_of ((s.context).program).tree (Construction class))
+      (words.Object number) slot
       (control s.function at w))
   steps w slot at a has =
       let c = control s.function at w in
@@ -228,10 +230,10 @@ module _ (s : Scene) (scene : IsScene s) (class : ℕ) (k : Class)
     room = q.0;
   }))
     where
-    asked : Leaves s.context (λ (none : Unit {0}) b. (b ≡ a) × ((length a.callers + 1 < max_frames) × HasRoom a))
-        (onward (demand (nat_lt (length a.callers + 1) max_frames) StackOverflow a) (λ none. demand_number))
-    asked = after_demand _ (nat_lt (length a.callers + 1) max_frames) StackOverflow a (safe good.0)
-        (λ room. weaken (λ none b q. (q.0, (lt_from _ _ room, q.1))) (number_demanded good.0))
+      asked : Leaves s.context (λ (none : Unit {0}) b. (b ≡ a) × ((length a.callers + 1 < max_frames) × HasRoom a))
+          (onward (demand (nat_lt (length a.callers + 1) max_frames) StackOverflow a) (λ none. demand_number))
+      asked = after_demand _ (nat_lt (length a.callers + 1) max_frames) StackOverflow a (safe good.0)
+          (λ room. weaken (λ none b q. (q.0, (lt_from _ _ room, q.1))) (number_demanded good.0))
 
   -- the meaning makes the same, once the entry and the class are found
   means : (args : List Word) (a : Activity)
@@ -251,31 +253,35 @@ module _ (s : Scene) (scene : IsScene s) (class : ℕ) (k : Class)
   -- what is left by the frame of the construction has the object as `this`
   this_stays : (name : List ℕ) (number : ℕ) (args : List Word) (d : Activity) (v : Option Word) (b : Activity)
       → IsWellFormed s.context env (s.env ∷ s.envs) (entered_at name entry.line (words.Object number) args d)
-      → (tick entry.line >> body (s.context).program s.depth entry) (entered_at name entry.line (words.Object number) args d)
+      → (tick entry.line >> body (s.context).program s.depth entry)
+      (entered_at name entry.line (words.Object number) args d)
       ≡ Done v b
       → (b.frame).this ≡ words.Object number
   this_stays name number args d v b well ran = left_done v b leaves ran
     where
-    first : Activity
-    first = entered_at name entry.line (words.Object number) args d
+      first : Activity
+      first = entered_at name entry.line (words.Object number) args d
 
-    leaves : Leaves s.context (λ (x : Option Word) y. (y.frame).this ≡ words.Object number)
-        ((tick entry.line >> body (s.context).program s.depth entry) first)
-    leaves =
-        bind (tick_goes entry.line well) (λ none x g.
-        weaken (λ u y r. (r.passes).this ∙ (g.passes).this)
-        ((keeps_bodies scene.sound s.depth).keeps env None entry (entry_is scene.sound (a_construction there)) (s.env ∷ s.envs)
-        x (g.passes).well))
+      leaves : Leaves s.context (λ (x : Option Word) y. (y.frame).this ≡ words.Object number)
+          ((tick entry.line >> body (s.context).program s.depth entry) first)
+      leaves =
+          bind (tick_goes entry.line well) (λ none x g.
+          weaken (λ u y r. (r.passes).this ∙ (g.passes).this)
+          ((keeps_bodies scene.sound s.depth).keeps env None entry (entry_is scene.sound (a_construction there))
+          (s.env ∷ s.envs)
+          x (g.passes).well))
 
   pub does_construction : (es : List Expr) (from at slot : ℕ)
       → AreSoundArguments s.env (parameters_of k.constructor) (exprs es)
       → slot < s.greatest
       → DoesArguments s es from at slot
       → HasAt s at (i.Construct class slot)
-      → Computes s.setting (Good s) s.function s.room (arguments (calls_of s) (exprs es) >>= construct (calls_of s) class) from
+      → Computes s.setting (Good s) s.function s.room
+      (arguments (calls_of s) (exprs es) >>= construct (calls_of s) class) from
       (at + 1) slot
   does_construction es from at slot sound under does has =
-      by_arguments s.setting (Good s) s.function s.room (arguments (calls_of s) (exprs es)) (construct (calls_of s) class) from
+      by_arguments s.setting (Good s) s.function s.room (arguments (calls_of s) (exprs es))
+      (construct (calls_of s) class) from
       at (at + 1) slot (length es) (omega (arith, under, greatest_within s scene)) does
       (λ w a b ws rest low long fits good ran are goes.
       let c = control s.function at w in
@@ -290,24 +296,29 @@ module _ (s : Scene) (scene : IsScene s) (class : ℕ) (k : Class)
       let new = left_done number d (made b begun) made_at in
       let is = made_is object b d number made_at in
       let values : AreValues (s.context).program (d.world).objects (parameters_of k.constructor) ws
-          = (carry_all begun.0 new.goes arg.carried).values in
+      = (carry_all begun.0 new.goes arg.carried).values in
       let this_is = is_this new.shape (record { source = k; at = there; is = refl }) in
       let ready : Good s d = (((new.goes).passes).well, omega (arith, begun.1, ap (λ (x : Activity). x.ticks) is)) in
       let given = object_given entry.name entry.line (words.Object number) ws (body (s.context).program s.depth entry) d
-          (λ v x done_at. this_stays entry.name number ws d v x
-          (entered_well scene.sound env entry.name entry.line (words.Object number) ws ready.0 new.room this_is values) done_at) in
+      (λ v x done_at. this_stays entry.name number ws d v x
+      (entered_well scene.sound env entry.name entry.line (words.Object number) ws ready.0 new.room this_is values)
+      done_at) in
       subst (λ (p : Progress Word). Arrives s.setting c b (continued p rest)) (sym given)
-      (does_enter s scene (Construction class) env None entry (a_construction there) w slot at b d (words.Object number) ws rest
+      (does_enter s scene (Construction class) env None entry (a_construction there) w slot at b d
+      (words.Object number) ws rest
       low under (omega (arith, fit es slot sound under does, long)) long
-      (record { locals = ap (λ (x : Activity). (x.frame).locals) is ∙ fits.locals; within = fits.within }) ready new.room
+      (record { locals = ap (λ (x : Activity). (x.frame).locals) is ∙ fits.locals; within = fits.within }) ready
+      new.room
       (ap (λ (n : ℕ). take n (drop slot w.slots)) (sym (arguments_long es sound)) ∙ are) this_is values stepped
       (λ x word after called held.
       goes word x after
       (means ws b ∙ ap (λ (p : Progress ℕ). onward p (λ n. in_frame_of entry.name entry.line (words.Object n) ws
       (body (s.context).program s.depth entry >> give (words.Object n)))) made_at ∙ given ∙ called) held)))))
     where
-    fit : (es : List Expr) (slot : ℕ) → AreSoundArguments s.env (parameters_of k.constructor) (exprs es) → slot < s.greatest
-        → DoesArguments s es from at slot → slot + length (parameters_of k.constructor) ≤ s.room
-    fit es slot sound under does =
-        let within : slot < s.room = omega (arith, under, greatest_within s scene) in
-        subst (λ (n : ℕ). slot + n ≤ s.room) (arguments_long es sound) (row_within slot (length es) s.room within does.within)
+      fit : (es : List Expr) (slot : ℕ) → AreSoundArguments s.env (parameters_of k.constructor) (exprs es)
+          → slot < s.greatest
+          → DoesArguments s es from at slot → slot + length (parameters_of k.constructor) ≤ s.room
+      fit es slot sound under does =
+          let within : slot < s.room = omega (arith, under, greatest_within s scene) in
+          subst (λ (n : ℕ). slot + n ≤ s.room) (arguments_long es sound)
+          (row_within slot (length es) s.room within does.within)

@@ -1,6 +1,6 @@
 -- Emitted code of calls, target by target.
-use Rattle.std.proofs.Common.{◌≡◌, ◌≤◌, ◌<◌, ℕ, ◌+◌, List, [], ◌∷◌, length, map, refl, sym, ap, ◌∙◌, subst, arith, option_map}
-use Rattle.std.specs.Prelude.{Option, Some, None, slice_get}
+use Rattle.std.proofs.Common.{◌≡◌, ◌<◌, ℕ, ◌+◌, List, [], ◌∷◌, length, map, refl, sym, ap, ◌∙◌, subst, arith}
+use Rattle.std.specs.Prelude.{Option, Some, slice_get}
 use Rattle.std.proofs.lemmas.Option.{slice_get-map, slice_get_within}
 use Rattle.std.proofs.lemmas.List.{length-map}
 use Rattle.ash_host.specs.declared.element.ElementTag.{ElementTag}
@@ -16,16 +16,17 @@ use Rattle.ash_typed.specs.declared.tree.operations.Method.{Method}
 use Rattle.ash_typed.specs.declared.tree.operations.Method.TheVariants as methods
 use Rattle.ash_typed.specs.declared.tree.operations.CallTarget.{CallTarget}
 use Rattle.ash_typed.specs.declared.tree.operations.CallTarget.TheVariants as targets
-use Rattle.ash_typed.specs.TypeOf.{ValueType, value, value_of_result}
+use Rattle.ash_typed.specs.TypeOf.{ValueType, value}
 use Rattle.ash_typed.specs.TypedTree.{Expr, Exprs, exprs, Invoke, Call}
 use Rattle.ash_typed.specs.Modules.{Signature, Function, Class, Module}
 use Rattle.ash_typed.specs.Signatures as signatures
-use Rattle.ash_typed.specs.Signatures.{ModuleSignatures, ClassTypes, IsElementType, signature_of, signature_of_class, methods_of_interface, parameters_of}
+use Rattle.ash_typed.specs.Signatures.{ModuleSignatures, ClassTypes, IsElementType, signature_of, signature_of_class}
+use Rattle.ash_typed.specs.Signatures.{methods_of_interface, parameters_of}
 use Rattle.ash_typed.specs.SoundOperations as operations
 use Rattle.ash_typed.specs.SoundOperations.{IsMethod, IsTarget, parameters_of_array_method}
 use Rattle.ash_typed.specs.SoundExpressions as typing
 use Rattle.ash_typed.specs.SoundExpressions.{TypedEnvironment, IsWellTyped, AreSoundArguments}
-use Rattle.ash_meaning.specs.Classes.{Program, FreeFunction, Method as ClassMethod, Construction, element_of}
+use Rattle.ash_meaning.specs.Classes.{Program, Method as ClassMethod, element_of}
 use Rattle.ash_soundness.specs.WellFormed.{declared, IsNamed}
 use Rattle.ash_soundness.proofs.Entries.{mapped}
 use Rattle.ash_code.specs.declared.instruction.Instruction.{Instruction}
@@ -34,8 +35,9 @@ use Rattle.ash_compile.specs.declared.builder.CodeBuilder.{CodeBuilder}
 use Rattle.ash_compile.specs.declared.layout.Layout.{Layout}
 use Rattle.ash_compile.specs.Layout.{index_of, IsLayout}
 use Rattle.ash_compile.specs.Arguments.{DoesArguments, EmitsArguments}
-use Rattle.ash_compile.specs.Emission.{code_of, end_of, Keeps, Puts, Scene, IsScene, Suits, Good, Stands, DoesExpression, Emits}
-use Rattle.ash_compile.proofs.Emission.{HasAt, keeps_on, put_keeps, put_one, put_greatest, suits_before, stands_before, stands_after, has_put}
+use Rattle.ash_compile.specs.Emission.{code_of, end_of, Puts, Scene, IsScene, Suits, DoesExpression, Emits}
+use Rattle.ash_compile.proofs.Emission.{HasAt, keeps_on, put_keeps, put_one, put_greatest, suits_before}
+use Rattle.ash_compile.proofs.Emission.{stands_before, stands_after, has_put}
 use Rattle.ash_compile.proofs.CallCode.{does_function}
 use Rattle.ash_compile.proofs.MethodCode.{does_method}
 use Rattle.ash_compile.proofs.InterfaceCode.{does_through}
@@ -60,12 +62,14 @@ emits_call start old new es f slot j first puts sound does = record {
       let row = sound s of typed in
       subst (λ (to : ℕ). DoesExpression s f (end_of start) to slot) (sym (put_one old new slot j puts))
       (does s of (end_of start) (end_of old) scene typed suits (put_greatest s old new slot j puts suits)
-      (first.does s row.0 scene row.1 (stands_before s old new (end_of start) last stands) (suits_before s old new last suits))
+      (first.does s row.0 scene row.1 (stands_before s old new (end_of start) last stands)
+      (suits_before s old new last suits))
       (has_put s old new (end_of start) slot j (first.keeps).longer puts stands));
 }
 
 -- an object, then arguments, then an instruction that leaves its value behind the object, which is moved there
-pub emits_method : (start mid old put new : CodeBuilder) (e : Expr) (es : List Expr) (f : Expr) (slot : ℕ) (j : Instruction)
+pub emits_method : (start mid old put new : CodeBuilder) (e : Expr) (es : List Expr) (f : Expr) (slot : ℕ)
+    (j : Instruction)
     → Emits start mid e slot → EmitsArguments mid old es (slot + 1) → Puts old put (slot + 1) j
     → Puts put new slot (i.Move (slot + 1) slot)
     → ((s : Scene) (of : ValueType) → IsWellTyped s.env f of → (x : ValueType) × IsWellTyped s.env e x)
@@ -94,11 +98,13 @@ emits_method start mid old put new e es f slot j first second call move object s
       subst (λ (to : ℕ). DoesExpression s f (end_of start) to slot) (sym (at_move ∙ ap (λ (n : ℕ). n + 1) at_call))
       (does s of (end_of start) (end_of mid) (end_of old) scene typed suits
       (put_greatest s old put (slot + 1) j call half_suits)
-      (first.does s inner.0 scene inner.1 (stands_before s mid new (end_of start) all stands) (suits_before s mid new all suits))
+      (first.does s inner.0 scene inner.1 (stands_before s mid new (end_of start) all stands)
+      (suits_before s mid new all suits))
       (second.does s row.0 scene row.1
       (stands_after s (code_of old) (end_of start) (end_of mid) (end_of old) (first.keeps).longer before)
       (suits_before s old new later suits))
-      (has_put s old put (end_of start) (slot + 1) j (omega (arith, (first.keeps).longer, (second.keeps).longer)) call half)
+      (has_put s old put (end_of start) (slot + 1) j
+      (omega (arith, (first.keeps).longer, (second.keeps).longer)) call half)
       (subst (λ (n : ℕ). HasAt s n (i.Move (slot + 1) slot)) at_call
       (has_put s put new (end_of start) slot (i.Move (slot + 1) slot)
       (omega (arith, (first.keeps).longer, (second.keeps).longer, at_call)) move stands)));
@@ -139,12 +145,15 @@ function_is : (s : Scene) (place : ℕ) (result other : Option VarType) (ps : Li
     → IsFunction ((s.context).program).tree place ps
 function_is s place result other ps scene (operations.function {name = name} at) =
     let m = ((s.context).program).tree in
-    let listed : slice_get (declared s.context).functions place ≡ Some (record { name = name; result = result; parameters = ps })
-        = ap (λ (x : ModuleSignatures). slice_get x.functions place) (sym scene.declares) ∙ at in
-    let (f, there, is) = mapped signature_of (slice_get m.functions place) _ (sym (slice_get-map signature_of m.functions place) ∙ listed) in
+    let listed : slice_get (declared s.context).functions place ≡ Some
+        (record { name = name; result = result; parameters = ps })
+    = ap (λ (x : ModuleSignatures). slice_get x.functions place) (sym scene.declares) ∙ at in
+    let (f, there, is) = mapped signature_of (slice_get m.functions place) _
+        (sym (slice_get-map signature_of m.functions place) ∙ listed) in
     record { function = f; there = there; takes = sym (ap (λ (x : Signature). x.parameters) is) }
 
-pub function : (start old new : CodeBuilder) (place : ℕ) (result : Option VarType) (ps : List VarType) (es : List Expr) (slot : ℕ)
+pub function : (start old new : CodeBuilder) (place : ℕ) (result : Option VarType) (ps : List VarType)
+    (es : List Expr) (slot : ℕ)
     → EmitsArguments start old es slot → Puts old new slot (i.Call place slot)
     → Emits start new (Call (targets.Function place result) ps (exprs es)) slot
 function start old new place result ps es slot first puts =
@@ -154,7 +163,8 @@ function start old new place result ps es slot first puts =
     let target = typed_target typed in
     let f = function_is s place result target.0 ps scene target.1 in
     does_function s scene place f.function es from at slot f.there
-    (subst (λ (types : List VarType). AreSoundArguments s.env types (exprs es)) f.takes (typed_arguments typed)) under does has)
+    (subst (λ (types : List VarType). AreSoundArguments s.env types (exprs es)) f.takes (typed_arguments typed)) under
+    does has)
 
 -- methods of classes
 
@@ -166,25 +176,28 @@ record IsMethodOf (m : Module) (class place : ℕ) (ps : List VarType) : Type 0 
   pub here : slice_get source.methods place ≡ Some method
   pub takes : ps ≡ method.parameters
 
-object_is : {s : ModuleSignatures} {o : ObjectType} {class place : ℕ} {result other : Option VarType} {ps : List VarType}
+object_is : {s : ModuleSignatures} {o : ObjectType} {class place : ℕ} {result other : Option VarType}
+    {ps : List VarType}
     → IsMethod s o (methods.Script class place result) ps other → o ≡ objects.Class class
 object_is (operations.of_class at here) = refl
 
-method_is : (s : Scene) (o : ObjectType) (class place : ℕ) (result other : Option VarType) (ps : List VarType) → IsScene s
+method_is : (s : Scene) (o : ObjectType) (class place : ℕ) (result other : Option VarType) (ps : List VarType)
+    → IsScene s
     → IsMethod (s.env).signatures o (methods.Script class place result) ps other
     → IsMethodOf ((s.context).program).tree class place ps
 method_is s o class place result other ps scene (operations.of_class {c = cs} {name = name} at here) =
     let m = ((s.context).program).tree in
     let signature : Signature = record { name = name; result = result; parameters = ps } in
     let listed : slice_get (declared s.context).classes class ≡ Some cs
-        = ap (λ (x : ModuleSignatures). slice_get x.classes class) (sym scene.declares) ∙ at in
+    = ap (λ (x : ModuleSignatures). slice_get x.classes class) (sym scene.declares) ∙ at in
     let (k, there, of_k) = mapped signature_of_class (slice_get m.classes class) cs
-        (sym (slice_get-map signature_of_class m.classes class) ∙ listed) in
+    (sym (slice_get-map signature_of_class m.classes class) ∙ listed) in
     let own : slice_get (map signature_of k.methods) place ≡ Some signature
-        = ap (λ (x : ClassTypes). slice_get x.methods place) of_k ∙ here in
+    = ap (λ (x : ClassTypes). slice_get x.methods place) of_k ∙ here in
     let (f, found, is) = mapped signature_of (slice_get k.methods place) signature
-        (sym (slice_get-map signature_of k.methods place) ∙ own) in
-    record { source = k; method = f; there = there; here = found; takes = sym (ap (λ (x : Signature). x.parameters) is) }
+    (sym (slice_get-map signature_of k.methods place) ∙ own) in
+    record { source = k; method = f; there = there; here = found; takes = sym
+    (ap (λ (x : Signature). x.parameters) is) }
 
 pub method : (start mid old put new : CodeBuilder) (class place index : ℕ) (result : Option VarType) (e : Expr)
     (ps : List VarType) (es : List Expr) (slot : ℕ)
@@ -201,7 +214,7 @@ method start mid old put new class place index result e ps es slot first second 
     let invoked = typed_invoked typed in
     let f = method_is s invoked.object class place result invoked.result ps scene invoked.is in
     let layout = subst (λ (l : Layout). IsLayout ((s.setting).code).module ((s.context).program).tree l)
-        (move.layout ∙ call.layout) suits.layout in
+    (move.layout ∙ call.layout) suits.layout in
     does_method s scene class place f.source f.method e es from between at slot f.there f.here
     (subst (λ (o : ObjectType). IsWellTyped s.env e (value (vars.Handle o))) (object_is invoked.is) invoked.typed)
     (subst (λ (types : List VarType). AreSoundArguments s.env types (exprs es)) f.takes invoked.args) under object does
@@ -211,7 +224,8 @@ method start mid old put new class place index result e ps es slot first second 
 
 -- services and what hosts construct
 
-pub service : (start old new : CodeBuilder) (index id : ℕ) (result : Option VarType) (ps : List VarType) (es : List Expr)
+pub service : (start old new : CodeBuilder) (index id : ℕ) (result : Option VarType) (ps : List VarType)
+    (es : List Expr)
     (slot count : ℕ) → EmitsArguments start old es slot → length es ≡ count
     → Puts old new slot (i.CallService index id result slot count)
     → Emits start new (Call (targets.Service index id result) ps (exprs es)) slot
@@ -226,7 +240,8 @@ pub host : (start old new : CodeBuilder) (kind : ℕ) (ps : List VarType) (es : 
     → EmitsArguments start old es slot → length es ≡ count → Puts old new slot (i.ConstructHost kind slot count)
     → Emits start new (Call (targets.Host kind) ps (exprs es)) slot
 host start old new kind ps es slot count first long puts =
-    emits_call start old new es (Call (targets.Host kind) ps (exprs es)) slot (i.ConstructHost kind slot count) first puts
+    emits_call start old new es (Call (targets.Host kind) ps (exprs es)) slot
+    (i.ConstructHost kind slot count) first puts
     (λ s of typed. (ps, typed_arguments typed))
     (λ s of from at scene typed suits under does has.
     does_host_construction s scene kind es from at slot under does
@@ -246,9 +261,9 @@ class_is : (s : Scene) (class : ℕ) (other : Option VarType) (ps : List VarType
 class_is s class other ps scene (operations.class {c = cs} at) =
     let m = ((s.context).program).tree in
     let listed : slice_get (declared s.context).classes class ≡ Some cs
-        = ap (λ (x : ModuleSignatures). slice_get x.classes class) (sym scene.declares) ∙ at in
+    = ap (λ (x : ModuleSignatures). slice_get x.classes class) (sym scene.declares) ∙ at in
     let (k, there, is) = mapped signature_of_class (slice_get m.classes class) cs
-        (sym (slice_get-map signature_of_class m.classes class) ∙ listed) in
+    (sym (slice_get-map signature_of_class m.classes class) ∙ listed) in
     record { source = k; there = there; takes = sym (ap (λ (x : ClassTypes). x.parameters) is) }
 
 pub construction : (start old new : CodeBuilder) (class : ℕ) (ps : List VarType) (es : List Expr) (slot : ℕ)
@@ -261,7 +276,8 @@ construction start old new class ps es slot first puts =
     let target = typed_target typed in
     let k = class_is s class target.0 ps scene target.1 in
     does_construction s scene class k.source k.there es from at slot
-    (subst (λ (types : List VarType). AreSoundArguments s.env types (exprs es)) k.takes (typed_arguments typed)) under does has)
+    (subst (λ (types : List VarType). AreSoundArguments s.env types (exprs es)) k.takes (typed_arguments typed)) under
+    does has)
 
 -- arrays
 
@@ -277,20 +293,23 @@ shown : (s : Scene) (old new : CodeBuilder) (of : typed_element.Element) (tag : 
     → elements_shown ((s.setting).names).modules tag ≡ element_of (s.context).program of
 shown s old new of tag ps result scene same suits shows is =
     shows ((s.setting).names).modules ((s.setting).code).module (s.context).program
-    (subst (λ (l : Layout). IsLayout ((s.setting).code).module ((s.context).program).tree l) same suits.layout) scene.owner
+    (subst (λ (l : Layout). IsLayout ((s.setting).code).module ((s.context).program).tree l) same suits.layout)
+    scene.owner
     (element_named (subst (λ (x : ModuleSignatures). IsTarget x (targets.Array of) ps result) scene.declares is))
   where
-  named : {e : typed_element.Element} → IsElementType (declared s.context) e → IsNamed ((s.context).program).tree e
-  named signatures.truths = tt
-  named signatures.integers = tt
-  named (signatures.of_class lt) = omega (arith, lt, length-map (((s.context).program).tree).classes signature_of_class)
-  named (signatures.of_interface lt) = omega (arith, lt, length-map (((s.context).program).tree).interfaces methods_of_interface)
-  named (signatures.of_host kind) = tt
+    named : {e : typed_element.Element} → IsElementType (declared s.context) e → IsNamed ((s.context).program).tree e
+    named signatures.truths = tt
+    named signatures.integers = tt
+    named (signatures.of_class lt) =
+        omega (arith, lt, length-map (((s.context).program).tree).classes signature_of_class)
+    named (signatures.of_interface lt) =
+        omega (arith, lt, length-map (((s.context).program).tree).interfaces methods_of_interface)
+    named (signatures.of_host kind) = tt
 
-  element_named : {e : typed_element.Element} {types : List VarType} {r : Option VarType}
-      → IsTarget (declared s.context) (targets.Array e) types r → IsNamed ((s.context).program).tree e
-  element_named (operations.empty_array of) = named of
-  element_named (operations.sized_array of) = named of
+    element_named : {e : typed_element.Element} {types : List VarType} {r : Option VarType}
+        → IsTarget (declared s.context) (targets.Array e) types r → IsNamed ((s.context).program).tree e
+    element_named (operations.empty_array of) = named of
+    element_named (operations.sized_array of) = named of
 
 pub empty_array : (start old new : CodeBuilder) (of : typed_element.Element) (tag : ElementTag) (ps : List VarType)
     (es : List Expr) (slot : ℕ) → EmitsArguments start old es slot → length es ≡ 0 → ShowsElement old of tag
@@ -315,7 +334,8 @@ pub sized_array : (start old new : CodeBuilder) (of : typed_element.Element) (ta
     → Puts old new slot (i.ConstructArrayOf tag slot slot)
     → Emits start new (Call (targets.Array of) ps (exprs es)) slot
 sized_array start old new of tag ps es slot first some shows puts =
-    emits_call start old new es (Call (targets.Array of) ps (exprs es)) slot (i.ConstructArrayOf tag slot slot) first puts
+    emits_call start old new es (Call (targets.Array of) ps (exprs es)) slot
+    (i.ConstructArrayOf tag slot slot) first puts
     (λ s t typed. (ps, typed_arguments typed))
     (λ s t from at scene typed suits under does has.
     let target = typed_target typed in
@@ -325,7 +345,8 @@ sized_array start old new of tag ps es slot first some shows puts =
     (subst (λ (types : List VarType). AreSoundArguments s.env types (exprs es)) one (typed_arguments typed)) does has)
 
 -- an object, then arguments, then an instruction that leaves its value in the slot of the object
-pub emits_at_once : (start mid old new : CodeBuilder) (e : Expr) (es : List Expr) (f : Expr) (slot : ℕ) (j : Instruction)
+pub emits_at_once : (start mid old new : CodeBuilder) (e : Expr) (es : List Expr) (f : Expr) (slot : ℕ)
+    (j : Instruction)
     → Emits start mid e slot → EmitsArguments mid old es (slot + 1) → Puts old new slot j
     → ((s : Scene) (of : ValueType) → IsWellTyped s.env f of → (x : ValueType) × IsWellTyped s.env e x)
     → ((s : Scene) (of : ValueType) → IsWellTyped s.env f of
@@ -344,11 +365,13 @@ emits_at_once start mid old new e es f slot j first second puts object sound doe
       let before = stands_before s old new (end_of start) last stands in
       subst (λ (to : ℕ). DoesExpression s f (end_of start) to slot) (sym (put_one old new slot j puts))
       (does s of (end_of start) (end_of mid) (end_of old) scene typed
-      (first.does s inner.0 scene inner.1 (stands_before s mid new (end_of start) all stands) (suits_before s mid new all suits))
+      (first.does s inner.0 scene inner.1 (stands_before s mid new (end_of start) all stands)
+      (suits_before s mid new all suits))
       (second.does s row.0 scene row.1
       (stands_after s (code_of old) (end_of start) (end_of mid) (end_of old) (first.keeps).longer before)
       (suits_before s old new last suits))
-      (has_put s old new (end_of start) slot j (omega (arith, (first.keeps).longer, (second.keeps).longer)) puts stands));
+      (has_put s old new (end_of start) slot j
+      (omega (arith, (first.keeps).longer, (second.keeps).longer)) puts stands));
 }
 
 -- a method of an array, of these elements
@@ -364,16 +387,19 @@ of_array : {env : TypedEnvironment} {e : Expr} {o : ObjectType} {method : ArrayM
     → IsArrayMethod env e method ps es
 of_array typed (operations.of_array {of = of}) args = record { of = of; typed = typed; args = args }
 
-array_invoked : {env : TypedEnvironment} {e : Expr} {method : ArrayMethod} {ps : List VarType} {es : Exprs} {t : ValueType}
+array_invoked : {env : TypedEnvironment} {e : Expr} {method : ArrayMethod} {ps : List VarType} {es : Exprs}
+    {t : ValueType}
     → IsWellTyped env (Invoke e (methods.Array method) ps es) t → IsArrayMethod env e method ps es
 array_invoked (typing.invoke e is args) = of_array e is args
 
-pub array_method : (start mid old new : CodeBuilder) (method : ArrayMethod) (e : Expr) (ps : List VarType) (es : List Expr)
+pub array_method : (start mid old new : CodeBuilder) (method : ArrayMethod) (e : Expr) (ps : List VarType)
+    (es : List Expr)
     (slot : ℕ) → Emits start mid e slot → EmitsArguments mid old es (slot + 1)
     → Puts old new slot (array_instruction method slot)
     → Emits start new (Invoke e (methods.Array method) ps (exprs es)) slot
 array_method start mid old new method e ps es slot first second puts =
-    emits_at_once start mid old new e es (Invoke e (methods.Array method) ps (exprs es)) slot (array_instruction method slot)
+    emits_at_once start mid old new e es (Invoke e (methods.Array method) ps (exprs es)) slot
+    (array_instruction method slot)
     first second puts
     (λ s of typed. (_, (array_invoked typed).typed)) (λ s of typed. (_, (array_invoked typed).args))
     (λ s of from between at scene typed object does has.
@@ -382,7 +408,8 @@ array_method start mid old new method e ps es slot first second puts =
 
 -- methods of host objects
 
-pub host_method : (start mid old put new : CodeBuilder) (id : ℕ) (result : Option VarType) (e : Expr) (ps : List VarType)
+pub host_method : (start mid old put new : CodeBuilder) (id : ℕ) (result : Option VarType) (e : Expr)
+    (ps : List VarType)
     (es : List Expr) (slot count : ℕ)
     → Emits start mid e slot → EmitsArguments mid old es (slot + 1) → length es ≡ count
     → Puts old put (slot + 1) (i.CallHost slot id result (slot + 1) count) → Puts put new slot (i.Move (slot + 1) slot)
@@ -393,7 +420,8 @@ host_method start mid old put new id result e ps es slot count first second long
     (λ s of typed. (_, (typed_invoked typed).typed)) (λ s of typed. (ps, (typed_invoked typed).args))
     (λ s of from between at scene typed suits under object does has moves.
     let invoked = typed_invoked typed in
-    does_host_method s scene invoked.object id result e es ps from between at slot invoked.typed invoked.args under object does
+    does_host_method s scene invoked.object id result e es ps from between at slot invoked.typed invoked.args under
+    object does
     (subst (λ (n : ℕ). HasAt s at (i.CallHost slot id result (slot + 1) n)) (sym long) has) moves)
 
 -- methods that interfaces declare
@@ -407,7 +435,8 @@ record IsDeclared (signatures : ModuleSignatures) (interface method : ℕ) (ps :
   pub takes : ps ≡ one.parameters
 
 declared_is : {s : ModuleSignatures} {o : ObjectType} {interface method : ℕ} {result other : Option VarType}
-    {ps : List VarType} → IsMethod s o (methods.Interface interface method result) ps other → IsDeclared s interface method ps
+    {ps : List VarType} → IsMethod s o (methods.Interface interface method result) ps other
+    → IsDeclared s interface method ps
 declared_is (operations.of_interface at here) = record { all = _; one = _; there = at; here = here; takes = refl }
 
 interface_is : {s : ModuleSignatures} {o : ObjectType} {interface method : ℕ} {result other : Option VarType}
@@ -429,8 +458,10 @@ through start mid old put new interface method result e ps es slot first second 
     let invoked = typed_invoked typed in
     let d = declared_is invoked.is in
     does_through s scene interface method d.all d.one
-    (ap (λ (x : ModuleSignatures). slice_get x.interfaces interface) (sym scene.declares) ∙ d.there) d.here e es from between
+    (ap (λ (x : ModuleSignatures). slice_get x.interfaces interface) (sym scene.declares) ∙ d.there) d.here e es from
+    between
     at slot
     (subst (λ (o : ObjectType). IsWellTyped s.env e (value (vars.Handle o))) (interface_is invoked.is) invoked.typed)
-    (subst (λ (types : List VarType). AreSoundArguments s.env types (exprs es)) d.takes invoked.args) under object does has
+    (subst (λ (types : List VarType). AreSoundArguments s.env types (exprs es)) d.takes invoked.args) under object
+    does has
     moves)

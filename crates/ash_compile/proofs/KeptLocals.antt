@@ -1,5 +1,6 @@
 -- Steps that leave the locals of the frame as they are.
-use Rattle.std.proofs.Common.{◌≡◌, ℕ, ◌-◌, List, [], ◌∷◌, ◌++◌, take, drop, length, replicate, refl, sym, ap, ◌∙◌, subst}
+use Rattle.std.proofs.Common.{◌≡◌, ℕ, ◌-◌, List, [], ◌∷◌, ◌++◌, take, drop, length, replicate, refl, sym, ap, ◌∙◌}
+use Rattle.std.proofs.Common.{subst}
 use Rattle.std.proofs.Common.{true, false, Bool, nat_lt, nat_le}
 use Rattle.std.specs.Prelude.{Option, Some, None, slice_get, if◌then◌else◌}
 use Rattle.ash_host.specs.declared.word.Word.{Word}
@@ -18,13 +19,17 @@ use Rattle.ash_typed.specs.declared.types.VarType.{VarType}
 use Rattle.ash_typed.specs.declared.tree.operations.ArrayMethod.{ArrayMethod}
 use Rattle.ash_typed.specs.declared.tree.operations.ArrayMethod.TheVariants as methods
 use Rattle.ash_meaning.specs.declared.exception.Exception.{Exception}
-use Rattle.ash_meaning.specs.declared.exception.Exception.TheVariants.{BadHostAnswer, ObjectLimit, NumbersSpent, ArrayLimit, IndexOutOfBounds}
+use Rattle.ash_meaning.specs.declared.exception.Exception.TheVariants.{BadHostAnswer, ObjectLimit, NumbersSpent}
+use Rattle.ash_meaning.specs.declared.exception.Exception.TheVariants.{ArrayLimit, IndexOutOfBounds}
 use Rattle.ash_meaning.specs.Activity.{FreeBox, World, Activity, in_world}
-use Rattle.ash_meaning.specs.Runs.{Run, Progress, Done, Ended, NoStep, onward, give, look, change, raise, found, demand, ◌>>=◌, ◌>>◌}
+use Rattle.ash_meaning.specs.Runs.{Run, Progress, Done, Ended, NoStep, onward, give, look, change, raise, found}
+use Rattle.ash_meaning.specs.Runs.{demand, ◌>>=◌, ◌>>◌}
 use Rattle.ash_meaning.specs.Releases.{hold, hold_all, give_held}
 use Rattle.ash_meaning.specs.ObjectSteps.{demand_number, make, max_number, words_in, words_at, put_words}
-use Rattle.ash_meaning.specs.ArraySteps.{count_in, natural_of, zero_element, zero_at, resized, construct_array, resize, insert_last, remove_last, invoke_array}
-use Rattle.ash_meaning.specs.HostSteps.{note, call_host, next_answer, after_answer, is_of, accept, invoke_host, place_of_kind, without_box, box_in, box_of_kind, draw, construct_host}
+use Rattle.ash_meaning.specs.ArraySteps.{count_in, natural_of, zero_element, zero_at, resized, construct_array}
+use Rattle.ash_meaning.specs.ArraySteps.{resize, insert_last, remove_last, invoke_array}
+use Rattle.ash_meaning.specs.HostSteps.{note, call_host, next_answer, after_answer, is_of, accept, invoke_host}
+use Rattle.ash_meaning.specs.HostSteps.{place_of_kind, without_box, box_in, box_of_kind, draw, construct_host}
 
 -- the locals after a step, or those before where there is none
 abbrev pub locals_after : {A : Type 0} → List Word → Progress A → List Word
@@ -124,7 +129,8 @@ keeps_remove number = record {
       remove_by (nat_lt 0 (length all)) number (drop (length all - 1) all) (take (length all - 1) all) a;
 }
 
-pub keeps_invoke_array : (method : ArrayMethod) (number : ℕ) (args : List Word) → KeepsLocals (invoke_array method number args)
+pub keeps_invoke_array : (method : ArrayMethod) (number : ℕ) (args : List Word) → KeepsLocals
+    (invoke_array method number args)
 keeps_invoke_array methods.Length number args = record { keeps = λ a. refl }
 keeps_invoke_array methods.IsEmpty number args = record { keeps = λ a. refl }
 keeps_invoke_array methods.Resize number [] = record { keeps = λ a. refl }
@@ -178,7 +184,8 @@ box_by : (box : Option FreeBox) (place : ℕ) (a : Activity)
 box_by (Some box) place a = refl
 box_by None place a = refl
 
-place_by : (world : World) (o : Option ℕ) (a : Activity) → locals_after (a.frame).locals (box_in world o a) ≡ (a.frame).locals
+place_by : (world : World) (o : Option ℕ) (a : Activity) → locals_after (a.frame).locals (box_in world o a) ≡
+    (a.frame).locals
 place_by world None a = refl
 place_by world (Some place) a = box_by (slice_get world.pool place) place a
 

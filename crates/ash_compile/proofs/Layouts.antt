@@ -1,5 +1,6 @@
 -- Where the functions of a module stand, counted class by class.
-use Rattle.std.proofs.Common.{◌≡◌, ◌≤◌, ◌<◌, ℕ, zero, suc, ◌+◌, List, [], ◌∷◌, ◌++◌, take, drop, length, map, get_or, refl, sym, ap, ◌∙◌, subst, arith, Bool, true, false, cond, length-append}
+use Rattle.std.proofs.Common.{◌≡◌, ◌≤◌, ◌<◌, ℕ, zero, suc, ◌+◌, List, [], ◌∷◌, ◌++◌, take, drop, length, map, get_or}
+use Rattle.std.proofs.Common.{refl, sym, ap, ◌∙◌, subst, arith, Bool, true, false, cond, length-append}
 use Rattle.std.specs.Prelude.{Option, Some, None, slice_get, fold, sum, count_by, nat_le}
 use Rattle.std.proofs.lemmas.List.{take-map, map-append, take_more, take_all}
 use Rattle.std.proofs.lemmas.List.Sums.{fold_push}
@@ -18,7 +19,8 @@ methods_next cs k c low is =
     (take-map class_of (k + 1) cs ∙ ap (map class_of) (take_more cs k c low)
     ∙ map-append class_of (take k cs) (get_or cs k c ∷ []))
     ∙ ap sum (map-append count_of_methods (map class_of (take k cs)) (class_of (get_or cs k c) ∷ []))
-    ∙ fold_push (λ a x. a + x) 0 (map count_of_methods (map class_of (take k cs))) (count_of_methods (class_of (get_or cs k c)))
+    ∙ fold_push (λ a x. a + x) 0 (map count_of_methods (map class_of (take k cs)))
+    (count_of_methods (class_of (get_or cs k c)))
     ∙ ap (λ (n : ℕ). n + count_of_methods (class_of (get_or cs k c)))
     (ap (λ (xs : List Class). sum (map count_of_methods xs)) (sym (take-map class_of k cs)))
     ∙ ap (λ (x : class_code.Class). methods_before k (map class_of cs) + count_of_methods (class_of x)) (sym is)
@@ -57,8 +59,8 @@ counted_yes class k n xs x low is before same =
     ap (λ (m : ℕ). m + 1) same
     ∙ ap (λ (b : Bool). counted class k xs + cond b 1 0) (sym test) ∙ sym (counted_next class k xs x low is)
   where
-  test : is_before class x ≡ true
-  test = grind (arith, nat_tests)
+    test : is_before class x ≡ true
+    test = grind (arith, nat_tests)
 
 pub counted_no : (class k n : ℕ) (xs : List interface_code.Interface) (x : interface_code.Interface) → k < length xs
     → x ≡ get_or xs k x → class < x.classes_before → n ≡ counted class k xs → n ≡ counted class (k + 1) xs
@@ -66,11 +68,11 @@ counted_no class k n xs x low is after same =
     same ∙ sym (none_more (counted class k xs))
     ∙ ap (λ (b : Bool). counted class k xs + cond b 1 0) (sym test) ∙ sym (counted_next class k xs x low is)
   where
-  none_more : (m : ℕ) → m + 0 ≡ m
-  none_more m = omega arith
+    none_more : (m : ℕ) → m + 0 ≡ m
+    none_more m = omega arith
 
-  test : is_before class x ≡ false
-  test = grind (arith, nat_tests)
+    test : is_before class x ≡ false
+    test = grind (arith, nat_tests)
 
 pub before_there : (k : ℕ) (xs : List interface_code.Interface) (x : interface_code.Interface) → k < length xs
     → x ≡ get_or xs k x → classes_before k (map interface_of xs) ≡ x.classes_before
@@ -95,18 +97,20 @@ pub each_pushed : (f : ℕ → ℕ) (xs : List ℕ) (x i : ℕ) → length xs �
     → ((k : ℕ) → k < i → slice_get xs k ≡ Some (f k)) → (k : ℕ) → k < i + 1 → slice_get (xs ++ x ∷ []) k ≡ Some (f k)
 each_pushed f xs x i long is each k low = by_place (nat_le (suc k) i) refl
   where
-  by_place : (b : Bool) → nat_le (suc k) i ≡ b → slice_get (xs ++ x ∷ []) k ≡ Some (f k)
-  by_place true before =
-      let lower : k < i = grind (arith, nat_tests) in
-      get_kept xs x k (omega (arith, lower, long)) ∙ each k lower
-  by_place false after =
-      let here : k ≡ i = grind (arith, nat_tests) in
-      get_pushed xs x k (here ∙ sym long) ∙ ap Some (sym is ∙ ap f (sym here))
+    by_place : (b : Bool) → nat_le (suc k) i ≡ b → slice_get (xs ++ x ∷ []) k ≡ Some (f k)
+    by_place true before =
+        let lower : k < i = grind (arith, nat_tests) in
+        get_kept xs x k (omega (arith, lower, long)) ∙ each k lower
+    by_place false after =
+        let here : k ≡ i = grind (arith, nat_tests) in
+        get_pushed xs x k (here ∙ sym long) ∙ ap Some (sym is ∙ ap f (sym here))
 
 -- A list that grew by one.
 pub grown : (f : ℕ → ℕ) (xs new : List ℕ) (x i : ℕ) → new ≡ xs ++ x ∷ [] → length xs ≡ i → f i ≡ x
     → ((k : ℕ) → k < i → slice_get xs k ≡ Some (f k))
     → (length new ≡ i + 1) × ((k : ℕ) → k < i + 1 → slice_get new k ≡ Some (f k))
-grown f xs new x i items long is each =
-    (ap length items ∙ length-append xs (x ∷ []) ∙ omega (arith, long),
-    subst (λ (ys : List ℕ). (k : ℕ) → k < i + 1 → slice_get ys k ≡ Some (f k)) (sym items) (each_pushed f xs x i long is each))
+grown f xs new x i items long is each = (
+  ap length items ∙ length-append xs (x ∷ []) ∙ omega (arith, long),
+  subst (λ (ys : List ℕ). (k : ℕ) → k < i + 1 → slice_get ys k ≡ Some (f k)) (sym items)
+      (each_pushed f xs x i long is each),
+)

@@ -63,3 +63,4 @@ pub mod EmittedBlocks
 pub mod EmittedLoops
 pub mod EmittedLandings
 pub mod EmittedRepeats
+pub mod EmittedSwitches

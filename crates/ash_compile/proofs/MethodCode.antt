@@ -1,36 +1,35 @@
 -- The code of methods of classes does what they do, once the object and the arguments are in slots.
-use Rattle.std.proofs.Common.{◌≡◌, ◌≤◌, ◌<◌, ℕ, zero, suc, ◌+◌, List, [], ◌∷◌, take, drop, length, refl, sym, ap, ◌∙◌, subst, arith}
-use Rattle.std.specs.Prelude.{Option, Some, None, slice_get, slice_index_or}
+use Rattle.std.proofs.Common.{◌≡◌, ◌≤◌, ◌<◌, ℕ, ◌+◌, List, take, drop, length, refl, sym, ap, ◌∙◌, subst, arith}
+use Rattle.std.specs.Prelude.{Option, Some, slice_get, slice_index_or}
 use Rattle.ash_host.specs.declared.word.Word.{Word}
 use Rattle.ash_host.specs.declared.word.Word.TheVariants as words
 use Rattle.ash_typed.specs.declared.types.ObjectType.{ObjectType}
 use Rattle.ash_typed.specs.declared.types.ObjectType.TheVariants as objects
 use Rattle.ash_typed.specs.declared.types.VarType.{VarType}
 use Rattle.ash_typed.specs.declared.types.VarType.TheVariants as vars
-use Rattle.ash_typed.specs.TypeOf.{ValueType, value}
+use Rattle.ash_typed.specs.TypeOf.{value}
 use Rattle.ash_typed.specs.Modules.{Function, Class}
 use Rattle.ash_typed.specs.TypedTree.{Expr, exprs}
-use Rattle.ash_typed.specs.SoundExpressions.{TypedEnvironment, IsWellTyped, AreSoundArguments}
+use Rattle.ash_typed.specs.SoundExpressions.{IsWellTyped, AreSoundArguments}
 use Rattle.ash_meaning.specs.Activity.{Activity}
-use Rattle.ash_meaning.specs.Runs.{Run, Progress, Done, Raising, onward, ◌>>=◌, ◌>>◌}
+use Rattle.ash_meaning.specs.Runs.{Run, Progress, Done, Raising, onward, ◌>>=◌}
 use Rattle.ash_meaning.specs.declared.exception.Exception.TheVariants.{NullPointerAccess}
-use Rattle.ash_meaning.specs.Frames.{demand_frame}
 use Rattle.ash_meaning.specs.ObjectSteps.{object_of}
 use Rattle.ash_meaning.specs.CallMeaning.{call as call_meaning}
 use Rattle.ash_meaning.specs.Classes.{Method, entry_of_method}
 use Rattle.ash_meaning.specs.ExpressionMeaning.{expression, arguments}
 use Rattle.ash_meaning.specs.Ends.{Outcome}
-use Rattle.ash_soundness.specs.WellFormed.{declared, Shape, shape_at, IsOfClass, IsOf, IsReference, to_nothing, to_object, AreValues, is_this}
+use Rattle.ash_soundness.specs.WellFormed.{Shape, shape_at, IsOf, IsReference, to_nothing, to_object, AreValues}
+use Rattle.ash_soundness.specs.WellFormed.{is_this}
 use Rattle.ash_soundness.proofs.Calls.{handle_of}
 use Rattle.ash_soundness.proofs.Hosts.{well_after}
 use Rattle.ash_soundness.proofs.Triples.{carry}
 use Rattle.ash_run_steps.specs.Guarded.{Guarded, onward as guarded_onward}
-use Rattle.ash_code.specs.declared.instruction.Instruction.{Instruction}
 use Rattle.ash_code.specs.declared.instruction.Instruction.TheVariants as i
 use Rattle.ash_code.specs.Controls.{Window, control, word_at}
-use Rattle.ash_code.specs.Performing.{Setting, Next, call, perform}
+use Rattle.ash_code.specs.Performing.{Next, call}
 use Rattle.ash_code.specs.Running.{step}
-use Rattle.ash_compile.specs.Stretches.{continued, Arrives, with_slots, Fits, Holds, Has, Computes}
+use Rattle.ash_compile.specs.Stretches.{continued, Arrives, Computes}
 use Rattle.ash_compile.specs.Layout.{index_of}
 use Rattle.ash_compile.specs.Callees.{a_method}
 use Rattle.ash_compile.specs.Arguments.{DoesArguments}
@@ -109,27 +108,28 @@ module _ (s : Scene) (scene : IsScene s) where
       (step_is s.setting (Good s) s.function s.room w d at (i.CallMethod index slot (slot + 1)) has)
       (λ number shape at_shape of_class is stepped.
       let same = call_is s scene (Method class place) (entry_of_method k f) (words.Object number) ws d
-          (entry_there scene.sound (a_method there here)) in
+      (entry_there scene.sound (a_method there here)) in
       subst (λ (p : Progress Word). Arrives s.setting c d (continued p rest)) (sym same)
       (does_call s scene (Method class place) _ f.result (entry_of_method k f) (a_method there here) w (slot + 1) at d d
       (words.Object number) ws rest (omega (arith, low)) under (omega (arith, fit, long)) long fits got.good
-      (ap (λ (n : ℕ). take n (drop (slot + 1) w.slots)) (sym count) ∙ are) (is_this at_shape of_class) got.values stepped
+      (ap (λ (n : ℕ). take n (drop (slot + 1) w.slots)) (sym count) ∙ are)
+      (is_this at_shape of_class) got.values stepped
       (λ x word after called keeps.
       moves_back s.setting (Good s) s.function s.room w slot (at + 1) word after x rest moves low
       (omega (arith, object.within, long)) keeps
       (λ slots last. goes word x slots
       (ap (λ (h : Word). onward (object_of h d) (calls ws)) is ∙ same ∙ called) last)))))
     where
-    index : ℕ
-    index = index_of ((s.context).program).tree (Method class place)
+      index : ℕ
+      index = index_of ((s.context).program).tree (Method class place)
 
-    calls : List Word → ℕ → Run Word
-    calls ws number = call_meaning (calls_of s) (Method class place) (words.Object number) ws
+      calls : List Word → ℕ → Run Word
+      calls ws number = call_meaning (calls_of s) (Method class place) (words.Object number) ws
 
-    count : length es ≡ length f.parameters
-    count = arguments_long es sound
+      count : length es ≡ length f.parameters
+      count = arguments_long es sound
 
-    fit : slot + 1 + length f.parameters ≤ s.room
-    fit =
-        let within : slot + 1 < s.room = omega (arith, under, greatest_within s scene) in
-        subst (λ (n : ℕ). slot + 1 + n ≤ s.room) count (row_within (slot + 1) (length es) s.room within does.within)
+      fit : slot + 1 + length f.parameters ≤ s.room
+      fit =
+          let within : slot + 1 < s.room = omega (arith, under, greatest_within s scene) in
+          subst (λ (n : ℕ). slot + 1 + n ≤ s.room) count (row_within (slot + 1) (length es) s.room within does.within)

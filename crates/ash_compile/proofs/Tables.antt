@@ -46,17 +46,20 @@ module _ (s : Setting) (p : Program) (owner : own_name s ≡ p.name) (has : HasC
       let code = has.each class k at in
       let test : Implementation → Bool = λ i. nat_eq i.interface interface in
       ap (λ (o : Option ClassCode). option_map implementation_of (option_and_then
-      (λ (c : ClassCode). find (λ (i : ImplementationCode). nat_eq i.interface interface) (c.interfaces).items) o)) code.1
+      (λ (c : ClassCode). find (λ (i : ImplementationCode). nat_eq i.interface interface) (c.interfaces).items) o))
+      code.1
       ∙ find_mapped implementation_of test ((code.0).interfaces).items
       ∙ ap (λ (is : List Implementation). find test is) (code.2).interfaces
       ∙ sym (find_mapped (implementation_at p.tree class) test k.interfaces)
-      ∙ ap (λ (o : Option Class). option_map (implementation_at p.tree class) (option_and_then (λ (c : Class). find test c.interfaces) o))
+      ∙ ap (λ (o : Option Class). option_map (implementation_at p.tree class)
+      (option_and_then (λ (c : Class). find test c.interfaces) o))
       (sym at)
 
   method_listed : (method class : ℕ) (o : Option ImplementationCode) (i : Option Implementation)
       → option_map implementation_of o ≡ option_map (implementation_at p.tree class) i
       → option_and_then (λ (x : ImplementationCode). slice_get (x.methods).items method) o
-      ≡ option_map (λ (own : ℕ). index_of p.tree (Method class own)) (option_and_then (λ (x : Implementation). slice_get x.methods method) i)
+      ≡ option_map (λ (own : ℕ). index_of p.tree (Method class own))
+      (option_and_then (λ (x : Implementation). slice_get x.methods method) i)
   method_listed method class None None same = refl
   method_listed method class None (Some i) same = absurd (cc)
   method_listed method class (Some code) None same = absurd (cc)
@@ -71,7 +74,8 @@ module _ (s : Setting) (p : Program) (owner : own_name s ≡ p.name) (has : HasC
       → implemented p.tree interface method class ≡ Some own
       → method_of (own_name s) (classes_of s) interface method number a ≡ Some (index_of p.tree (Method class own))
   finds_method interface method number class own k a is at has_own =
-      ap (λ (o : Option ℕ). option_and_then (λ (x : ℕ). option_and_then (λ (i : ImplementationCode). slice_get (i.methods).items method)
+      ap (λ (o : Option ℕ). option_and_then
+      (λ (x : ℕ). option_and_then (λ (i : ImplementationCode). slice_get (i.methods).items method)
       (implementation_in (classes_of s) interface x)) o) (class_there (object_at number (a.world).objects) ∙ is)
       ∙ method_listed method class (implementation_in (classes_of s) interface class) (listed_in p.tree class interface)
       (listed interface class k at)

@@ -36,7 +36,8 @@ room_for greatest callers = greatest + (max_frames - (callers + 1)) * greatest
 pub data IsCallee (c : Context) : ModuleCallee → TypedEnvironment → Option VarType → Entry → Type 0 where
   a_function : {place : ℕ} {f : Function}
       → slice_get ((c.program).tree).functions place ≡ Some f
-      → IsCallee c (FreeFunction place) (record { signatures = declared c; this = None; locals = f.parameters }) f.result
+      → IsCallee c (FreeFunction place)
+      (record { signatures = declared c; this = None; locals = f.parameters }) f.result
       (entry_of_function f)
   a_method : {class place : ℕ} {k : Class} {f : Function}
       → slice_get ((c.program).tree).classes class ≡ Some k

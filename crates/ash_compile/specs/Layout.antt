@@ -3,7 +3,8 @@
 use Rattle.std.specs.Prelude.{◌≡◌, ◌<◌, ℕ, ◌+◌, List, map, sum, take, length, count_by, nat_le, Some, slice_get}
 use Rattle.std.specs.Option.{option_map_or}
 use Rattle.ash_typed.specs.Modules.{Interface, Class, Module}
-use Rattle.ash_meaning.specs.Classes.{ModuleCallee, FreeFunction, Method, Construction, place_of_class, place_of_interface}
+use Rattle.ash_meaning.specs.Classes.{ModuleCallee, FreeFunction, Method, Construction, place_of_class}
+use Rattle.ash_meaning.specs.Classes.{place_of_interface}
 use Rattle.ash_compile.specs.declared.layout.Layout.{Layout}
 
 abbrev pub count_of_methods : Class → ℕ
@@ -28,8 +29,8 @@ abbrev pub classes_before : ℕ → List Interface → ℕ
 classes_before interface interfaces =
     option_map_or (λ (i : Interface). i.classes_before) (slice_get interfaces interface) 0
 
--- The layout is that of a module, which has this slot in the table of objects: it has the first method of each class, and the
--- places of classes and interfaces in the source.
+-- The layout is that of a module, which has this slot in the table of objects. It has the first method of each class,
+-- and the places of classes and interfaces in the source.
 pub record IsLayout (number : ℕ) (m : Module) (layout : Layout) : Type 0 where
   pub slot : layout.slot ≡ number
   pub functions : layout.functions ≡ length m.functions

@@ -88,8 +88,8 @@ impl CodeBuilder {
     ) -> Result<(), AllocError>
         requires next { first ≡ slot + 1 }
         ensures emits { IfOk result (λ u. (start mid : Written) (e : ExprData) (parameters : List VarTypeData)
-            (es : List ExprData) → Emits start mid e slot → EmitsArguments mid self.old es (slot + 1) → length es ≡ count
-            → Emits start self.new (Invoke e method parameters (exprs es)) slot) }
+            (es : List ExprData) → Emits start mid e slot → EmitsArguments mid self.old es (slot + 1)
+            → length es ≡ count → Emits start self.new (Invoke e method parameters (exprs es)) slot) }
     {
         match method {
             Method::Script { class, method, .. } => {

@@ -3,7 +3,7 @@
 //! `specs/Stretches.antt` says when a stretch of code does what a phrase does, and `specs/Emission.antt` what emitted
 //! code does, wherever it stands.
 //!
-//! In reading order: `layout`, `builder`, `expressions`, `places`, `calls`, `blocks`, `bodies`, `looping`,
+//! In reading order: `layout`, `builder`, `expressions`, `places`, `calls`, `blocks`, `bodies`, `looping`, `switching`,
 //! `initializers`, `frames`, `classes`, `module`.
 #![tactic(auto)]
 
@@ -19,3 +19,4 @@ pub mod layout;
 mod looping;
 pub mod module;
 pub mod places;
+mod switching;

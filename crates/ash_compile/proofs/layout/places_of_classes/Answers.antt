@@ -8,7 +8,8 @@ pub loop-class-preserved : goal.loop-class-preserved
 loop-class-preserved c =
     let here = c.loop-class in
     let is = c.in_ok-place_at.ensures.place in
-    grown (λ (k : ℕ). k + interfaces_before k (map interface_of c.args.interfaces.now)) (here.places).items (c.push.new.self).items
+    grown (λ (k : ℕ). k + interfaces_before k (map interface_of c.args.interfaces.now)) (here.places).items
+    (c.push.new.self).items
     c.in_ok-place_at.field-0 here.class c.in_ok-push.ensures.items here.invariant.0
     (sym (is ∙ ap (λ (n : ℕ). here.class + n) c.count_before.ensures.count)) here.invariant.1
 

@@ -6,4 +6,5 @@ use Rattle.ash_compile.proofs.layout.places_of_classes.Given as goal
 abbrev pub invariant-loop-class : goal.invariant-loop-class
 invariant-loop-class l =
     (length (l.places).items ≡ l.class)
-    × ((k : ℕ) → k < l.class → slice_get (l.places).items k ≡ Some (k + interfaces_before k (map interface_of l.interfaces)))
+    × ((k : ℕ) → k < l.class → slice_get (l.places).items k ≡ Some
+    (k + interfaces_before k (map interface_of l.interfaces)))

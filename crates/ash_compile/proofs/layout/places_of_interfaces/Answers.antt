@@ -9,7 +9,8 @@ loop-index-preserved c =
     let here = c.loop-index in
     let item = c.index-interfaces-index in
     let is = c.in_ok-place_at.ensures.place in
-    grown (λ (k : ℕ). k + classes_before k (map interface_of c.args.interfaces.now)) (here.places).items (c.push.new.self).items
+    grown (λ (k : ℕ). k + classes_before k (map interface_of c.args.interfaces.now)) (here.places).items
+    (c.push.new.self).items
     c.in_ok-place_at.field-0 here.index c.in_ok-push.ensures.items here.invariant.0
     (sym (is ∙ ap (λ (n : ℕ). here.index + n)
     (sym (before_there here.index c.args.interfaces.now item.result c.loop-index-test.true item.is)))) here.invariant.1

@@ -6,4 +6,5 @@ use Rattle.ash_compile.proofs.layout.places_of_interfaces.Given as goal
 abbrev pub invariant-loop-index : goal.invariant-loop-index
 invariant-loop-index l =
     (length (l.places).items ≡ l.index)
-    × ((k : ℕ) → k < l.index → slice_get (l.places).items k ≡ Some (k + classes_before k (map interface_of l.interfaces)))
+    × ((k : ℕ) → k < l.index → slice_get (l.places).items k ≡ Some
+    (k + classes_before k (map interface_of l.interfaces)))

@@ -1,4 +1,4 @@
-use Rattle.std.proofs.Common.{◌≡◌, ℕ, ◌+◌, IfOk, refl, sym, ap, ◌∙◌, subst}
+use Rattle.std.proofs.Common.{ℕ, subst}
 use Rattle.ash_code.specs.declared.instruction.Instruction.TheVariants as i
 use Rattle.ash_typed.specs.declared.tree.operations.ArrayMethod.TheVariants as methods
 use Rattle.ash_compile.specs.Emission.{Puts}
@@ -10,7 +10,8 @@ pub returns-in-Length : goal.returns-in-Length
 returns-in-Length c = record {
   emits = rw c.in-Length.is (if_ok c.put.result
       (λ u puts start mid e ps es first second.
-      emitted.array_method start mid c.args.self.now c.put.new.self methods.Length e ps es c.args.slot first second puts)
+      emitted.array_method start mid c.args.self.now c.put.new.self methods.Length e ps es c.args.slot first second
+      puts)
       c.put.ensures.puts);
 }
 
@@ -18,7 +19,8 @@ pub returns-in-IsEmpty : goal.returns-in-IsEmpty
 returns-in-IsEmpty c = record {
   emits = rw c.in-IsEmpty.is (if_ok c.put-in-IsEmpty.result
       (λ u puts start mid e ps es first second.
-      emitted.array_method start mid c.args.self.now c.put-in-IsEmpty.new.self methods.IsEmpty e ps es c.args.slot first second puts)
+      emitted.array_method start mid c.args.self.now c.put-in-IsEmpty.new.self methods.IsEmpty e ps es c.args.slot
+      first second puts)
       c.put-in-IsEmpty.ensures.puts);
 }
 
@@ -26,8 +28,10 @@ pub returns-in-Resize : goal.returns-in-Resize
 returns-in-Resize c = record {
   emits = rw c.in-Resize.is (if_ok c.put-in-Resize.result
       (λ u puts start mid e ps es first second.
-      emitted.array_method start mid c.args.self.now c.put-in-Resize.new.self methods.Resize e ps es c.args.slot first second
-      (subst (λ (n : ℕ). Puts c.args.self.now c.put-in-Resize.new.self c.args.slot (i.Resize c.args.slot n c.args.slot)) c.requires.next puts))
+      emitted.array_method start mid c.args.self.now c.put-in-Resize.new.self methods.Resize e ps es c.args.slot first
+      second
+      (subst (λ (n : ℕ). Puts c.args.self.now c.put-in-Resize.new.self c.args.slot
+      (i.Resize c.args.slot n c.args.slot)) c.requires.next puts))
       c.put-in-Resize.ensures.puts);
 }
 
@@ -35,8 +39,10 @@ pub returns-in-InsertLast : goal.returns-in-InsertLast
 returns-in-InsertLast c = record {
   emits = rw c.in-InsertLast.is (if_ok c.put-in-InsertLast.result
       (λ u puts start mid e ps es first second.
-      emitted.array_method start mid c.args.self.now c.put-in-InsertLast.new.self methods.InsertLast e ps es c.args.slot first second
-      (subst (λ (n : ℕ). Puts c.args.self.now c.put-in-InsertLast.new.self c.args.slot (i.InsertLast c.args.slot n c.args.slot)) c.requires.next puts))
+      emitted.array_method start mid c.args.self.now c.put-in-InsertLast.new.self methods.InsertLast e ps es
+      c.args.slot first second
+      (subst (λ (n : ℕ). Puts c.args.self.now c.put-in-InsertLast.new.self c.args.slot
+      (i.InsertLast c.args.slot n c.args.slot)) c.requires.next puts))
       c.put-in-InsertLast.ensures.puts);
 }
 
@@ -44,6 +50,7 @@ pub returns-in-RemoveLast : goal.returns-in-RemoveLast
 returns-in-RemoveLast c = record {
   emits = rw c.in-RemoveLast.is (if_ok c.put-in-RemoveLast.result
       (λ u puts start mid e ps es first second.
-      emitted.array_method start mid c.args.self.now c.put-in-RemoveLast.new.self methods.RemoveLast e ps es c.args.slot first second puts)
+      emitted.array_method start mid c.args.self.now c.put-in-RemoveLast.new.self methods.RemoveLast e ps es
+      c.args.slot first second puts)
       c.put-in-RemoveLast.ensures.puts);
 }

@@ -1,4 +1,3 @@
-use Rattle.std.proofs.Common.{IfOk, refl, sym, ap, ◌∙◌, subst}
 use Rattle.ash_compile.proofs.Emitted.{if_ok}
 use Rattle.ash_compile.proofs.EmittedCalls as emitted
 use Rattle.ash_compile.proofs.builder.CodeBuilder.call.Goals as goal
@@ -15,7 +14,8 @@ pub returns-in-Service : goal.returns-in-Service
 returns-in-Service c = record {
   emits = rw c.in-Service.is (if_ok c.put-in-Service.result
       (λ u puts start ps es first long.
-      emitted.service start c.args.self.now c.put-in-Service.new.self c.in-Service.service c.in-Service.id c.in-Service.result ps es
+      emitted.service start c.args.self.now c.put-in-Service.new.self c.in-Service.service c.in-Service.id
+      c.in-Service.result ps es
       c.args.slot c.args.count first long puts)
       c.put-in-Service.ensures.puts);
 }
@@ -32,7 +32,8 @@ pub returns-in-Host : goal.returns-in-Host
 returns-in-Host c = record {
   emits = rw c.in-Host.is (if_ok c.put-in-Host.result
       (λ u puts start ps es first long.
-      emitted.host start c.args.self.now c.put-in-Host.new.self c.in-Host.kind ps es c.args.slot c.args.count first long puts)
+      emitted.host start c.args.self.now c.put-in-Host.new.self c.in-Host.kind ps es c.args.slot c.args.count first
+      long puts)
       c.put-in-Host.ensures.puts);
 }
 

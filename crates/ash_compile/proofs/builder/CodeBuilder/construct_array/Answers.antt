@@ -1,4 +1,4 @@
-use Rattle.std.proofs.Common.{◌≡◌, ◌<◌, ℕ, IfOk, refl, sym, ap, ◌∙◌, subst, arith}
+use Rattle.std.proofs.Common.{◌≡◌, ◌<◌, ℕ, ◌∙◌, arith}
 use Rattle.ash_compile.proofs.Emitted.{if_ok}
 use Rattle.ash_compile.proofs.EmittedCalls as emitted
 use Rattle.ash_compile.proofs.builder.CodeBuilder.construct_array.Goals as goal
@@ -21,5 +21,5 @@ returns-else-count-eq0 c = record {
       c.put-else-count-eq0.ensures.puts;
 }
   where
-  some : {m n : ℕ} → m ≡ n → (n ≡ 0 → ⊥) → 0 < m
-  some {m} {n} is none = omega arith
+    some : {m n : ℕ} → m ≡ n → (n ≡ 0 → ⊥) → 0 < m
+    some {m} {n} is none = omega arith

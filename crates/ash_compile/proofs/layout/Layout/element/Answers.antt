@@ -1,12 +1,9 @@
-use Rattle.std.proofs.Common.{◌≡◌, ◌<◌, ℕ, length, List, refl, sym, ap, ◌∙◌, subst}
-use Rattle.std.specs.Prelude.{Option, Some, slice_get}
-use Rattle.ash_host.specs.declared.element.ElementTag.{ElementTag}
-use Rattle.ash_host.specs.Objects.{Elements, Handles}
-use Rattle.ash_typed.specs.declared.types.Element.{Element}
-use Rattle.ash_meaning.specs.Classes.{Program, place_of_class, place_of_interface, element_of}
+use Rattle.std.proofs.Common.{ℕ, List, sym, ap, ◌∙◌, subst}
+use Rattle.std.specs.Prelude.{slice_get}
+use Rattle.ash_host.specs.Objects.{Handles}
+use Rattle.ash_meaning.specs.Classes.{place_of_class, place_of_interface, element_of}
 use Rattle.ash_soundness.specs.WellFormed.{IsNamed}
-use Rattle.ash_object_ranks.specs.ShownTables.{SlotNames, elements_shown}
-use Rattle.ash_compile.specs.Layout.{IsLayout}
+use Rattle.ash_object_ranks.specs.ShownTables.{elements_shown}
 use Rattle.ash_compile.proofs.Emitted.{if_ok}
 use Rattle.ash_compile.proofs.layout.Layout.element.Goals as goal
 
