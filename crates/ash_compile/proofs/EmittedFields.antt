@@ -23,11 +23,13 @@ use Rattle.ash_code.specs.declared.instruction.Instruction.{Instruction}
 use Rattle.ash_code.specs.declared.instruction.Instruction.TheVariants as i
 use Rattle.ash_compile.specs.declared.builder.CodeBuilder.{CodeBuilder}
 use Rattle.ash_compile.specs.Performances.{Acts}
-use Rattle.ash_compile.specs.Emission.{code_of, end_of, Keeps, Puts, Scene, IsScene, calls_of, Good, Emits, DoesExpression}
+use Rattle.ash_compile.specs.Emission.{code_of, end_of, Keeps, Puts, Scene, IsScene, calls_of, Good, Emits}
+use Rattle.ash_compile.specs.Emission.{DoesExpression}
 use Rattle.ash_compile.specs.EmittedParts.{IsWritten, ActsFrom, Constructs, EmitsField, EmitsFields}
 use Rattle.ash_compile.proofs.Listings.{first_of_rest, others_of_rest}
 use Rattle.ash_compile.proofs.Statements as code
-use Rattle.ash_compile.proofs.Emission.{keeps_on, put_one, put_keeps, HasAt, suits_before, stands_before, stands_after, has_put}
+use Rattle.ash_compile.proofs.Emission.{keeps_on, put_one, put_keeps, HasAt, suits_before, stands_before, stands_after}
+use Rattle.ash_compile.proofs.Emission.{has_put}
 use Rattle.ash_compile.proofs.TypedStatements.{Ready, ranked_of}
 use Rattle.ash_compile.proofs.FieldCode.{fits_wide, does_field, spends_one}
 
@@ -55,7 +57,8 @@ pub record StoresValue (old new : CodeBuilder) (e : Expr) (slot : ℕ) (store : 
   pub stores : Puts mid last slot store
   pub ends : Puts last new slot i.EndExpression
 
-pub stored_keeps : (old new : CodeBuilder) (e : Expr) (slot : ℕ) (store : Instruction) → StoresValue old new e slot store
+pub stored_keeps : (old new : CodeBuilder) (e : Expr) (slot : ℕ) (store : Instruction)
+    → StoresValue old new e slot store
     → Keeps old new
 stored_keeps old new e slot store x =
     keeps_on old x.mid new (x.value).keeps (keeps_on x.mid x.last new (put_keeps x.mid x.last slot store x.stores)
@@ -85,7 +88,8 @@ has_stored s old new e slot store of scene typed x written =
       value = (x.value).does s of scene typed first.0 first.1;
       stores = has_put s x.mid x.last (end_of old) slot store ((x.value).keeps).longer x.stores before.0;
       ends = subst (λ (n : ℕ). HasAt s n i.EndExpression) one
-          (has_put s x.last new (end_of old) slot i.EndExpression (keeps_on old x.mid x.last (x.value).keeps storing).longer
+          (has_put s x.last new (end_of old) slot i.EndExpression
+          (keeps_on old x.mid x.last (x.value).keeps storing).longer
           x.ends written.0);
     }
 
@@ -112,7 +116,8 @@ field_without b place v count none = record {
       (code.acts_none s.setting (Good s) s.function s.room (end_of b) count);
 }
 
-field_here : (s : Scene) (class : ℕ) (source : Class) (old new : CodeBuilder) (place : ℕ) (v : Initialization) (e : Expr)
+field_here : (s : Scene) (class : ℕ) (source : Class) (old new : CodeBuilder) (place : ℕ)
+    (v : Initialization) (e : Expr)
     → IsScene s → (this : (s.env).this ≡ Some class)
     → slice_get (((s.context).program).tree).classes class ≡ Some source
     → slice_get source.fields place ≡ Some v
@@ -146,7 +151,8 @@ field_does s class source old new place count v e some x constructs at written =
     subst (λ (o : Option Expr). ActsFrom s old new count
     (option_map_or (λ d. full (expression (calls_of s) d >>= write_field place)) o skip)) (sym some)
     (subst (λ (n : ℕ). StoresValue old new e n (i.WriteOwnField place n) → ActsFrom s old new n run) constructs.locals
-    (λ y. field_here s class source old new place v e constructs.scene constructs.this constructs.there at narrow wide written
+    (λ y. field_here s class source old new place v e constructs.scene constructs.this constructs.there at narrow
+    wide written
     y) x)
 
 pub field_with : (old new : CodeBuilder) (place : ℕ) (v : Initialization) (e : Expr) (count : ℕ) → v.value ≡ Some e
@@ -154,7 +160,8 @@ pub field_with : (old new : CodeBuilder) (place : ℕ) (v : Initialization) (e :
     → EmitsField old new place v count
 field_with old new place v e count some x = record {
   keeps = stored_keeps old new e count (i.WriteOwnField place count) x;
-  does = λ s class source constructs at written. field_does s class source old new place count v e some x constructs at written;
+  does = λ s class source constructs at written. field_does s class source old new place count v e some x
+      constructs at written;
 }
 
 -- fields, one after another

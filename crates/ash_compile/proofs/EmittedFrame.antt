@@ -23,7 +23,8 @@ use Rattle.ash_compile.specs.Callees.{Entering}
 use Rattle.ash_compile.specs.Emission.{code_of, end_of, Keeps, Puts, Scene, IsScene, Suits, calls_of, Good, Stands}
 use Rattle.ash_compile.specs.EmittedStatements.{Returns, EmitsBody, frame_end}
 use Rattle.ash_compile.specs.EmittedParts.{IsWritten, ActsFrom, EmitsFields}
-use Rattle.ash_compile.specs.EmittedFrames.{FrameSource, given_if, AreFieldsOf, no_field, all_fields, IsSoundEntry, IsFrameCode}
+use Rattle.ash_compile.specs.EmittedFrames.{FrameSource, given_if, AreFieldsOf, no_field, all_fields, IsSoundEntry}
+use Rattle.ash_compile.specs.EmittedFrames.{IsFrameCode}
 use Rattle.ash_compile.proofs.Statements as code
 use Rattle.ash_compile.proofs.Statements.{LeadsTo}
 use Rattle.ash_compile.proofs.Leaving.{Ends, by_nothing, by_this}
@@ -68,7 +69,8 @@ gives_of false = of_function
 
 pub returns_by : (constructs : Bool) (result : Option VarType) → (constructs ≡ true → result ≡ None)
     → Returns constructs result (gives_of constructs)
-returns_by true result none = record { nothing = λ this. refl; value = λ of is v this. absurd (let no = none refl in cc) }
+returns_by true result none = record
+    { nothing = λ this. refl; value = λ of is v this. absurd (let no = none refl in cc) }
 returns_by false result none = record { nothing = λ this. refl; value = λ of is v this. refl }
 
 ends_by : (s : Scene) (Good : Activity → Type 0) (constructs : Bool) (exits : Exits) (at : ℕ)
@@ -158,7 +160,8 @@ module _ (begun last : CodeBuilder) (line parameters : ℕ) (fields : List Initi
       ∙ ap (λ (n : ℕ). slice_get (code_of w.ticked) n) (sym starts)
       ∙ put_there begun w.ticked parameters (i.Tick line) w.ticks
 
-  module _ (s : Scene) (scene : IsScene s) (result : Option VarType) (e : Entry) (sound : IsSoundEntry s.context s.env result e)
+  module _ (s : Scene) (scene : IsScene s) (result : Option VarType) (e : Entry)
+      (sound : IsSoundEntry s.context s.env result e)
       (line_is : e.line ≡ line) (fields_are : e.fields ≡ fields) (body_is : e.body ≡ stmts)
       (gives_nothing : constructs ≡ true → result ≡ None)
       (stands : Stands s (code_of last) 0 (end_of last)) (suits : Suits s last)
@@ -204,7 +207,8 @@ module _ (begun last : CodeBuilder) (line parameters : ℕ) (fields : List Initi
         let (exits, more, gives, does) = emitted.does s result (gives_of constructs) scene
         (returns_by constructs result gives_nothing) (sym many) sound.body here.0 here.1 in
         frame_gives s scene constructs e
-        (subst (λ (g : Option Word → Word → Option Word). Enters s.setting (Entering s.context (suc s.depth) s.env s.envs)
+        (subst (λ (g : Option Word → Word → Option Word). Enters s.setting
+        (Entering s.context (suc s.depth) s.env s.envs)
         s.function s.room (tick e.line >> (inside s scene e >>= finish g)) (length (s.env).locals)) gives
         (does_frame s scene exits result e (end_of w.initialized) (end_of w.done) more sound.body
         (λ a b v good is. (leads_fields s scene e.fields sound.fields a b v good is).0) has_tick does_fields does
@@ -240,6 +244,7 @@ frame_code begun last line parameters fields stmts constructs f x w line_f many_
           (subst (λ (t : Bool). Enters s.setting (Entering s.context (suc s.depth) s.env s.envs) s.function s.room
           (tick (x.entry).line >> given_if t (body (s.context).program (suc s.depth) x.entry)) (length (s.env).locals))
           (sym constructs_x)
-          (frame_does begun last line parameters fields stmts constructs w s scene result x.entry sound line_x fields_x body_x
+          (frame_does begun last line parameters fields stmts constructs w s scene result x.entry sound line_x
+          fields_x body_x
           (λ is. nothing (constructs_x ∙ is)) stands suits (many ∙ many_x)));
     }

@@ -18,12 +18,15 @@ use Rattle.ash_code.specs.declared.instruction.Instruction.TheVariants as i
 use Rattle.ash_compile.specs.declared.builder.CodeBuilder.{CodeBuilder}
 use Rattle.ash_compile.specs.Performances.{Acts}
 use Rattle.ash_compile.specs.Emission.{end_of, Puts, Scene, IsScene, calls_of, Good}
-use Rattle.ash_compile.specs.EmittedParts.{IsWritten, ActsFrom, Initializes, EmitsGlobal, EmitsGlobals, EmitsDeclarations}
+use Rattle.ash_compile.specs.EmittedParts.{IsWritten, ActsFrom, Initializes, EmitsGlobal, EmitsGlobals}
+use Rattle.ash_compile.specs.EmittedParts.{EmitsDeclarations}
 use Rattle.ash_compile.proofs.Statements as code
 use Rattle.ash_compile.proofs.Emission.{keeps_on, put_one, put_keeps, has_put}
 use Rattle.ash_compile.proofs.TypedStatements.{ranked_of}
-use Rattle.ash_compile.proofs.GlobalCode.{type_here, types_next, types_behind, does_global, does_globals, does_variables}
-use Rattle.ash_compile.proofs.EmittedFields.{keeps_itself, written_first, written_second, StoresValue, stored_keeps, has_stored}
+use Rattle.ash_compile.proofs.GlobalCode.{type_here, types_next, types_behind, does_global, does_globals}
+use Rattle.ash_compile.proofs.GlobalCode.{does_variables}
+use Rattle.ash_compile.proofs.EmittedFields.{keeps_itself, written_first, written_second, StoresValue, stored_keeps}
+use Rattle.ash_compile.proofs.EmittedFields.{has_stored}
 
 -- one global
 
@@ -48,7 +51,8 @@ global_here s old new place v e scene at (fits {actual = from} typed subtype) wr
     let run = full (expression (calls_of s) e >>= write (Global place)) in
     let has = has_stored s old new e locals (i.WriteGlobal place locals) from scene typed x written in
     subst (λ (to : ℕ). Acts s.setting (Good s) s.function s.room run (end_of old) to locals locals) (sym has.to)
-    (does_global s scene (ranked_of s scene) place v.of e (end_of old) has.mid at (fits typed subtype) has.value has.stores
+    (does_global s scene (ranked_of s scene) place v.of e (end_of old) has.mid at
+    (fits typed subtype) has.value has.stores
     has.ends)
 
 global_does : (s : Scene) (old new : CodeBuilder) (place : ℕ) (v : Initialization) (e : Expr)
@@ -93,7 +97,8 @@ globals_do s old mid new place v vs initializes at begins first second =
     subst (λ (n : ℕ). ActsFrom s old mid n (initialize_global (calls_of s) place v)
     → ActsFrom s mid new n (initialize_globals (calls_of s) (place + 1) vs)
     → ActsFrom s old new n (initialize_globals (calls_of s) place (v ∷ vs))) initializes.locals
-    (does_globals s initializes.scene (ranked_of s initializes.scene) place v vs (end_of old) (end_of mid) (end_of new) at
+    (does_globals s initializes.scene (ranked_of s initializes.scene) place v vs (end_of old) (end_of mid)
+    (end_of new) at
     begins) first second
 
 pub more_globals : (old mid new : CodeBuilder) (place : ℕ) (v : Initialization) (vs : List Initialization)
@@ -140,7 +145,8 @@ more_variables old ticked mid new place d ds puts first second = record {
       → ActsFrom s mid new n (initialize_module (calls_of s) (place + length d.values) ds)
       → ActsFrom s old new n (initialize_module (calls_of s) place (d ∷ ds))) initializes.locals
       (does_variables s scene (ranked_of s scene) place d ds (end_of old) (end_of mid) (end_of new) types sound.0 has)
-      (subst (λ (from : ℕ). Acts s.setting (Good s) s.function s.room (initialize_globals (calls_of s) place d.values) from
+      (subst (λ (from : ℕ). Acts s.setting (Good s) s.function s.room
+      (initialize_globals (calls_of s) place d.values) from
       (end_of mid) 0 0) (put_one old ticked 0 (i.Tick d.line) puts) one)
       rest;
 }

@@ -54,14 +54,17 @@ module _ (begun mid last : CodeBuilder) (m : Module) (f : FunctionCode) (empty :
       (sym tree) at) in
       let sound : AllByRecursion (AreSoundVariables s.env) m.globals
       = subst (λ (t : Module). AllByRecursion (AreSoundVariables s.env) t.globals) tree
-      (subst (λ (e : TypedEnvironment). AllByRecursion (AreSoundVariables e) ((s.context).program).tree.globals) (sym env)
+      (subst (λ (e : TypedEnvironment). AllByRecursion (AreSoundVariables e)
+      ((s.context).program).tree.globals) (sym env)
       ((scene.sound).sound).globals) in
-      subst (λ (n : ℕ). Acts s.setting (Good s) s.function s.room (initialize_module (calls_of s) 0 m.globals) n (end_of mid)
+      subst (λ (n : ℕ). Acts s.setting (Good s) s.function s.room (initialize_module (calls_of s) 0 m.globals) n
+      (end_of mid)
       0 0) starts
       (emits.does s (record { scene = scene; locals = ap (λ (e : TypedEnvironment). length e.locals) env }) types sound
       (written_first s begun mid last (put_keeps mid last 0 i.ReturnNothing puts) (stands, suits)))
     where
-      nothing_more : (k : ℕ) (of : VarType) → slice_get (types_of_globals (((s.context).program).tree).globals) k ≡ Some of
+      nothing_more : (k : ℕ) (of : VarType)
+          → slice_get (types_of_globals (((s.context).program).tree).globals) k ≡ Some of
           → slice_get (types_of_globals (((s.context).program).tree).globals) (0 + k) ≡ Some of
       nothing_more k of at =
           let level : k ≡ 0 + k = omega arith in

@@ -1,5 +1,6 @@
 -- The code of a module has each of its callees, however deep calls go: what a frame calls goes one less deep.
-use Rattle.std.proofs.Common.{◌≡◌, ◌≤◌, ℕ, zero, suc, Bool, true, List, [], ◌∷◌, length, refl, sym, ap, ◌∙◌, subst, arith}
+use Rattle.std.proofs.Common.{◌≡◌, ◌≤◌, ℕ, zero, suc, Bool, true, List, [], ◌∷◌, length, refl, sym, ap, ◌∙◌, subst}
+use Rattle.std.proofs.Common.{arith}
 use Rattle.std.specs.Prelude.{Option, Some, None, slice_get, unwrap_or}
 use Rattle.std.proofs.lemmas.Option.{same_Some}
 use Rattle.ash_host.specs.declared.word.Word.{Word}
@@ -116,7 +117,8 @@ module _ (s : Setting) (c : Context) (context : IsContext c) (layout : Layout)
 
     frame_enters_not : (envs : List TypedEnvironment) → FrameEnters zero envs
     frame_enters_not envs =
-        enters_without_ticks s (Entering c zero env envs) index (room_for (most_slots s.code) (length envs)) (x.entry).line
+        enters_without_ticks s (Entering c zero env envs) index (room_for (most_slots s.code) (length envs))
+        (x.entry).line
         x.parameters (given_if x.constructs (body c.program zero x.entry))
         (ap (λ (g : FunctionCode). slice_get (g.instructions).items 0) (code_there s.code index f there) ∙ code.begins)
         (λ a good. good.1)
@@ -142,11 +144,13 @@ module _ (s : Setting) (c : Context) (context : IsContext c) (layout : Layout)
         → CalleeEnters (tick (x.entry).line >> given_if x.constructs (body c.program depth x.entry)) x.parameters envs
         → CalleeEnters (tick e.line >> given_by callee (body c.program depth e)) f.parameters envs
     enters_as envs enters =
-        subst (λ (n : ℕ). CalleeEnters (tick e.line >> given_by callee (body c.program depth e)) n envs) (sym code.parameters)
+        subst (λ (n : ℕ). CalleeEnters (tick e.line >> given_by callee (body c.program depth e)) n envs)
+        (sym code.parameters)
         (subst (λ (run : Run (Option Word)). CalleeEnters (tick e.line >> run) x.parameters envs)
         (same_gives callee (body c.program depth e))
         (subst (λ (t : Bool). CalleeEnters (tick e.line >> given_if t (body c.program depth e)) x.parameters envs) gives
-        (subst (λ (d : Entry). CalleeEnters (tick d.line >> given_if x.constructs (body c.program depth d)) x.parameters envs)
+        (subst (λ (d : Entry). CalleeEnters
+        (tick d.line >> given_if x.constructs (body c.program depth d)) x.parameters envs)
         entry enters)))
 
   callee_there : (depth : ℕ) (callee : ModuleCallee) (env : TypedEnvironment) (result : Option VarType) (e : Entry)
@@ -178,7 +182,8 @@ module _ (s : Setting) (c : Context) (context : IsContext c) (layout : Layout)
   has_callees zero callee env result e is =
       let x = callee_stands context callee env result e is in
       let index = index_of (c.program).tree callee in
-      let (f, at, code) = zip_at (IsFrameCode layout) (frames_of (c.program).tree) ((s.code).functions).items index x.frame
+      let (f, at, code) = zip_at (IsFrameCode layout) (frames_of (c.program).tree)
+      ((s.code).functions).items index x.frame
       compiled.functions x.at in
       callee_there zero callee env result e x f at code (λ envs.
       frame_enters_not x.frame f index code at env x.declares result
@@ -186,7 +191,8 @@ module _ (s : Setting) (c : Context) (context : IsContext c) (layout : Layout)
   has_callees (suc depth) callee env result e is =
       let x = callee_stands context callee env result e is in
       let index = index_of (c.program).tree callee in
-      let (f, at, code) = zip_at (IsFrameCode layout) (frames_of (c.program).tree) ((s.code).functions).items index x.frame
+      let (f, at, code) = zip_at (IsFrameCode layout) (frames_of (c.program).tree)
+      ((s.code).functions).items index x.frame
       compiled.functions x.at in
       callee_there (suc depth) callee env result e x f at code (λ envs.
       frame_enters x.frame f index code at env x.declares result

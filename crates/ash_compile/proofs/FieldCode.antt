@@ -1,5 +1,6 @@
 -- The code of the fields of a construction does what initializes them.
-use Rattle.std.proofs.Common.{◌≡◌, ℕ, ◌+◌, List, [], ◌∷◌, drop, map, length, option_map, refl, sym, ap, ◌∙◌, subst, arith, true, Bool}
+use Rattle.std.proofs.Common.{◌≡◌, ℕ, ◌+◌, List, [], ◌∷◌, drop, map, length, option_map, refl, sym, ap, ◌∙◌, subst}
+use Rattle.std.proofs.Common.{arith, true, Bool}
 use Rattle.std.specs.Prelude.{Option, Some, None, slice_get, ◌&&◌}
 use Rattle.std.specs.List.{AllByRecursion}
 use Rattle.std.specs.Option.{option_map_or}
@@ -24,7 +25,8 @@ use Rattle.ash_meaning.specs.ExpressionMeaning.{expression}
 use Rattle.ash_meaning.specs.Functions.{write_field, initialize_field, initialize_fields}
 use Rattle.ash_meaning.proofs.Walks.{Walk, bound, looked}
 use Rattle.ash_meaning.proofs.StepWalks.{to_object_of, to_write}
-use Rattle.ash_soundness.specs.WellFormed.{Context, IsContext, IsOfClass, IsReference, to_object, IsThis, no_this, is_this, AreValues, shape_at, Shape, declared}
+use Rattle.ash_soundness.specs.WellFormed.{Context, IsContext, IsOfClass, IsReference, to_object, IsThis, no_this}
+use Rattle.ash_soundness.specs.WellFormed.{is_this, AreValues, shape_at, Shape, declared}
 use Rattle.ash_soundness.proofs.Triples.{weaken, safe}
 use Rattle.ash_soundness.proofs.Arrays.{after_object, object_with, words_of}
 use Rattle.ash_soundness.proofs.Parts.{fields_fit}
@@ -56,7 +58,8 @@ class_env c env class same this =
     ∙ ap (λ (t : Option ℕ). record { signatures = declared c; this = t; locals = env.locals }) this
 
 -- What begins a field fits it where the frame has locals too.
-pub fits_wide : (c : Context) (env : TypedEnvironment) (class : ℕ) (of : VarType) (e : Expr) → env.signatures ≡ declared c
+pub fits_wide : (c : Context) (env : TypedEnvironment) (class : ℕ) (of : VarType) (e : Expr)
+    → env.signatures ≡ declared c
     → env.this ≡ Some class → Fits (inside (declared c) class) of e → Fits env of e
 fits_wide c env class of e same this fit =
     subst (λ (x : TypedEnvironment). Fits x of e) (sym (class_env c env class same this))
@@ -125,7 +128,8 @@ module _ (s : Scene) (scene : IsScene s) (class : ℕ) (source : Class) (this : 
       let o = own s class b this good in
       let one : source ≡ (o.of).source = same_Some source (o.of).source (sym there ∙ (o.of).at) in
       let reference : IsReference (b.world).objects (IsOfClass (s.context).program class) (b.frame).this
-      = subst (IsReference (b.world).objects (IsOfClass (s.context).program class)) (sym o.this) (to_object o.at o.of) in
+      = subst (IsReference (b.world).objects (IsOfClass (s.context).program class)) (sym o.this)
+      (to_object o.at o.of) in
       after_object _ b (safe good) reference (λ number shape is at i.
       let same : source ≡ i.source = same_Some source i.source (sym there ∙ i.at) in
       weaken (λ u d g. g.passes) (write_goes scene.sound (Part number place) w good (in_field i at
@@ -133,14 +137,16 @@ module _ (s : Scene) (scene : IsScene s) (class : ℕ) (source : Class) (this : 
 
   walks_field : (place : ℕ) (w : Word) → Walk s.depth (write_field place w) (write_field place w)
   walks_field place w =
-      bound (bound (looked (λ a. a.frame.this) (λ more a. refl)) to_object_of) (λ number. to_write (Part number place) w)
+      bound (bound (looked (λ a. a.frame.this) (λ more a. refl)) to_object_of)
+      (λ number. to_write (Part number place) w)
 
   field_fits : (of : VarType) (e : Expr) → Fits (inside (declared s.context) class) of e → Fits s.env of e
   field_fits of e fit = fits_wide s.context s.env class of e scene.declares this fit
 
   -- fields keep activities good
 
-  spends_value : (place : ℕ) (of : VarType) (o : Option Expr) → slice_get (map type_declared source.fields) place ≡ Some of
+  spends_value : (place : ℕ) (of : VarType) (o : Option Expr)
+      → slice_get (map type_declared source.fields) place ≡ Some of
       → IsSoundBeginning (inside (declared s.context) class) of o
       → Spends (Ready s) (option_map_or (λ e. full (expression (calls_of s) e >>= write_field place)) o skip)
   spends_value place of None field begins = spends_give (Ready s) tt
@@ -197,7 +203,8 @@ module _ (s : Scene) (scene : IsScene s) (ranked : IsRanked s) (class : ℕ) (so
       let wide = field_fits s scene class source this there of e fit in
       frames.initializes_field s.setting (Ready s) s.function s.room (expression (calls_of s) e) place from mid locals
       computes has ends (field_alive place of e field wide)
-      (stored_ranks s scene ranked of e (write_field place) wide (stores_field s scene class source this there place of field))
+      (stored_ranks s scene ranked of e (write_field place) wide
+      (stores_field s scene class source this there place of field))
 
   -- fields, one after another
   pub does_fields : (place : ℕ) (v : Initialization) (vs : List Initialization) (from mid to : ℕ)

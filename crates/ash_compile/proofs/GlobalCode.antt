@@ -1,5 +1,6 @@
 -- The code of the initializers of a module does what they do.
-use Rattle.std.proofs.Common.{◌≡◌, ℕ, suc, ◌+◌, List, [], ◌∷◌, ◌++◌, map, length, refl, ap, ◌∙◌, subst, arith, true, Bool}
+use Rattle.std.proofs.Common.{◌≡◌, ℕ, suc, ◌+◌, List, [], ◌∷◌, ◌++◌, map, length, refl, ap, ◌∙◌, subst, arith, true}
+use Rattle.std.proofs.Common.{Bool}
 use Rattle.std.specs.Prelude.{Option, Some, None, slice_get, ◌&&◌}
 use Rattle.std.specs.List.{AllByRecursion}
 use Rattle.std.specs.Option.{option_map_or}
@@ -44,7 +45,8 @@ pub type_here : (s : Scene) (place : ℕ) (of : VarType) (types : List VarType) 
     → slice_get (types_of_globals (((s.context).program).tree).globals) place ≡ Some of
 type_here s place of types are =
     let here : place + 0 ≡ place = omega arith in
-    subst (λ (n : ℕ). slice_get (types_of_globals (((s.context).program).tree).globals) n ≡ Some of) here (are 0 of refl)
+    subst (λ (n : ℕ). slice_get (types_of_globals (((s.context).program).tree).globals) n ≡ Some of) here
+    (are 0 of refl)
 
 pub types_next : (s : Scene) (place : ℕ) (of : VarType) (types : List VarType) → AreTypesFrom s place (of ∷ types)
     → AreTypesFrom s (place + 1) types
@@ -133,7 +135,8 @@ module _ (s : Scene) (scene : IsScene s) (ranked : IsRanked s) where
       → IsSoundBeginning s.env v.of v.value
       → Acts s.setting (Ready s) s.function s.room (initialize_global (calls_of s) place v) from mid locals locals
       → Acts s.setting (Ready s) s.function s.room (initialize_globals (calls_of s) (place + 1) vs) mid to locals locals
-      → Acts s.setting (Ready s) s.function s.room (initialize_globals (calls_of s) place (v ∷ vs)) from to locals locals
+      → Acts s.setting (Ready s) s.function s.room
+      (initialize_globals (calls_of s) place (v ∷ vs)) from to locals locals
   does_globals place v vs from mid to at begins first second =
       code.acts_then s.setting (Ready s) s.function s.room (Ready s) (initialize_global (calls_of s) place v)
       (initialize_globals (calls_of s) (place + 1) vs) from mid to locals locals locals first
@@ -144,7 +147,8 @@ module _ (s : Scene) (scene : IsScene s) (ranked : IsRanked s) where
       → AreTypesFrom s place (types_of_globals (d ∷ ds))
       → AllByRecursion (IsInitialized s.env) d.values
       → Has s.setting (Ready s) s.function s.room from (i.Tick d.line)
-      → Acts s.setting (Ready s) s.function s.room (initialize_globals (calls_of s) place d.values) (from + 1) mid locals
+      → Acts s.setting (Ready s) s.function s.room (initialize_globals (calls_of s) place d.values)
+      (from + 1) mid locals
       locals
       → Acts s.setting (Ready s) s.function s.room (initialize_module (calls_of s) (place + length d.values) ds) mid to
       locals locals
@@ -155,7 +159,8 @@ module _ (s : Scene) (scene : IsScene s) (ranked : IsRanked s) where
       (λ _. spends_globals s scene place d.values (types_of_globals ds) are begins) in
       code.acts_then s.setting (Ready s) s.function s.room (Ready s) (tick d.line >> globals)
       (initialize_module (calls_of s) (place + length d.values) ds) from mid to locals locals locals
-      (code.acts_then s.setting (Ready s) s.function s.room (Ready s) (tick d.line) globals from (from + 1) mid locals locals
+      (code.acts_then s.setting (Ready s) s.function s.room (Ready s) (tick d.line) globals from
+      (from + 1) mid locals locals
       locals (frames.ticks_alone s.setting (Ready s) s.function s.room d.line from locals has)
       (λ a b u good is. (spends_tick s scene d.line a b u good is).0) first)
       (λ a b u good is. (one a b u good is).0) second

@@ -1,5 +1,7 @@
 -- Lists that stand for each other, place by place, and where what is in one is in a longer one.
-use Rattle.std.proofs.Common.{◌≡◌, ◌<◌, ◌≤◌, ℕ, Bool, true, false, nat_lt, zero, suc, ◌+◌, List, [], ◌∷◌, ◌++◌, take, drop, get_or, length, map, flat_map, option_map, refl, sym, ap, ◌∙◌, subst, arith, length-append, append_assoc, append-nil}
+use Rattle.std.proofs.Common.{◌≡◌, ◌<◌, ◌≤◌, ℕ, Bool, true, false, nat_lt, zero, suc, ◌+◌, List, [], ◌∷◌, ◌++◌, take}
+use Rattle.std.proofs.Common.{drop, get_or, length, map, flat_map, option_map, refl, sym, ap, ◌∙◌, subst, arith}
+use Rattle.std.proofs.Common.{length-append, append_assoc, append-nil}
 use Rattle.std.specs.Prelude.{Some, slice_get}
 use Rattle.std.specs.List.{AllZip}
 use Rattle.std.proofs.lemmas.Option.{same_Some, slice_get-map, slice_get-get_or}
@@ -7,7 +9,8 @@ use Rattle.std.proofs.lemmas.Bool.Decides.{nat_tests}
 use Rattle.std.proofs.lemmas.List.{drop_more, drop_all, map_more}
 
 -- what is in a list stays where it is if the list grows
-pub get_first : {A : Type 0} (xs ys : List A) (k : ℕ) (x : A) → slice_get xs k ≡ Some x → slice_get (xs ++ ys) k ≡ Some x
+pub get_first : {A : Type 0} (xs ys : List A) (k : ℕ) (x : A) → slice_get xs k ≡ Some x
+    → slice_get (xs ++ ys) k ≡ Some x
 get_first [] ys k x is = absurd (cc)
 get_first (y ∷ xs) ys zero x is = is
 get_first (y ∷ xs) ys (suc k) x is = get_first xs ys k x is
@@ -74,7 +77,8 @@ rest_none f xs k over = ap (map f) (drop_all k xs over)
 
 -- what is behind the first places of a list
 
-pub first_of_rest : {A : Type 0} (xs : List A) (k : ℕ) (x : A) (rest : List A) → drop k xs ≡ x ∷ rest → slice_get xs k ≡ Some x
+pub first_of_rest : {A : Type 0} (xs : List A) (k : ℕ) (x : A) (rest : List A) → drop k xs ≡ x ∷ rest
+    → slice_get xs k ≡ Some x
 first_of_rest [] zero x rest is = absurd (cc)
 first_of_rest [] (suc k) x rest is = absurd (cc)
 first_of_rest (y ∷ xs) zero x rest is = ap (λ (zs : List _). slice_get zs 0) is
@@ -92,13 +96,15 @@ others_of_rest (y ∷ xs) (suc k) x rest is =
     one_more n = omega arith
 
 -- A list that stands for another one may grow: with what is left it is the whole.
-pub zip_grows : {A B : Type 0} (R : A → B → Type 0) (zs rest whole : List A) (ys : List B) (x : A) (y : B) → AllZip R zs ys
+pub zip_grows : {A B : Type 0} (R : A → B → Type 0) (zs rest whole : List A) (ys : List B) (x : A) (y : B)
+    → AllZip R zs ys
     → R x y → zs ++ x ∷ rest ≡ whole
     → (ws : List A) × AllZip R ws (ys ++ y ∷ []) × (ws ++ rest ≡ whole)
 zip_grows R zs rest whole ys x y are one is =
     (zs ++ x ∷ [], zip_more R zs ys x y are one, append_assoc zs (x ∷ []) rest ∙ is)
 
-pub zip_grown : {A B : Type 0} (R : A → B → Type 0) (zs whole : List A) (ys : List B) → AllZip R zs ys → zs ++ [] ≡ whole
+pub zip_grown : {A B : Type 0} (R : A → B → Type 0) (zs whole : List A) (ys : List B) → AllZip R zs ys
+    → zs ++ [] ≡ whole
     → AllZip R whole ys
 zip_grown R zs whole ys are is = subst (λ (ws : List _). AllZip R ws ys) (sym (append-nil zs) ∙ is) are
 
@@ -113,16 +119,19 @@ each_below P n before here k low = by_test (nat_lt k n) refl
         subst P level here
 
 -- the last of a list that has grown
-pub last_added : {A : Type 0} (xs ys : List A) (n : ℕ) (x : A) → ys ≡ xs ++ x ∷ [] → length xs ≡ n → slice_get ys n ≡ Some x
+pub last_added : {A : Type 0} (xs ys : List A) (n : ℕ) (x : A) → ys ≡ xs ++ x ∷ [] → length xs ≡ n
+    → slice_get ys n ≡ Some x
 last_added xs ys n x is long =
-    ap (λ (zs : List _). slice_get zs n) is ∙ ap (λ (k : ℕ). slice_get (xs ++ x ∷ []) k) (sym long ∙ nothing (length xs))
+    ap (λ (zs : List _). slice_get zs n) is
+    ∙ ap (λ (k : ℕ). slice_get (xs ++ x ∷ []) k) (sym long ∙ nothing (length xs))
     ∙ get_second xs (x ∷ []) 0
   where
     nothing : (k : ℕ) → k ≡ k + 0
     nothing k = omega arith
 
 -- One more of what stands for a list, with what is left of it.
-pub added : {A B : Type 0} (R : A → B → Type 0) (zs rest whole : List A) (ys new : List B) (x : A) (y : B) → AllZip R zs ys
+pub added : {A B : Type 0} (R : A → B → Type 0) (zs rest whole : List A) (ys new : List B) (x : A) (y : B)
+    → AllZip R zs ys
     → R x y → new ≡ ys ++ y ∷ [] → zs ++ x ∷ rest ≡ whole
     → (ws : List A) × AllZip R ws new × (ws ++ rest ≡ whole)
 added R zs rest whole ys new x y are one more is =

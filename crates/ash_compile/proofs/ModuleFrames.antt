@@ -1,5 +1,6 @@
 -- Where the frames of a module stand among the functions of its code.
-use Rattle.std.proofs.Common.{◌≡◌, ℕ, suc, ◌+◌, Bool, true, false, List, [], ◌∷◌, ◌++◌, take, length, map, flat_map, fold, sum, refl, sym, ap, ◌∙◌, subst, arith, option_map, length-append}
+use Rattle.std.proofs.Common.{◌≡◌, ℕ, suc, ◌+◌, Bool, true, false, List, [], ◌∷◌, ◌++◌, take, length, map, flat_map}
+use Rattle.std.proofs.Common.{fold, sum, refl, sym, ap, ◌∙◌, subst, arith, option_map, length-append}
 use Rattle.std.specs.Prelude.{Option, Some, None, slice_get, IfSome}
 use Rattle.std.specs.Option.{option_map_or}
 use Rattle.std.proofs.lemmas.Option.{slice_get-map}
@@ -10,14 +11,16 @@ use Rattle.ash_typed.specs.Signatures.{parameters_of}
 use Rattle.ash_typed.specs.SoundExpressions.{TypedEnvironment}
 use Rattle.ash_typed.specs.SoundStatements.{AreSoundStmts, no_stmts}
 use Rattle.ash_typed.specs.SoundModules.{IsSoundFunction, IsSoundConstructor, inside, outside}
-use Rattle.ash_meaning.specs.Classes.{ModuleCallee, Method, Construction, Entry, entry_of_function, entry_of_method, entry_of_construction}
+use Rattle.ash_meaning.specs.Classes.{ModuleCallee, Method, Construction, Entry, entry_of_function, entry_of_method}
+use Rattle.ash_meaning.specs.Classes.{entry_of_construction}
 use Rattle.ash_soundness.specs.WellFormed.{Context, IsContext, declared}
 use Rattle.ash_soundness.proofs.Entries.{class_is}
 use Rattle.ash_soundness.proofs.Hosts.{rec_at}
 use Rattle.ash_code.specs.CompiledCode.{entries_of}
 use Rattle.ash_compile.specs.Layout.{count_of_methods, methods_before, index_of}
 use Rattle.ash_compile.specs.Callees.{IsCallee, a_function, a_method, a_construction}
-use Rattle.ash_compile.specs.EmittedFrames.{FrameSource, frame_of_function, frame_of_method, frame_of_construction, methods_of, frames_of, no_field, all_fields, IsSoundEntry}
+use Rattle.ash_compile.specs.EmittedFrames.{FrameSource, frame_of_function, frame_of_method, frame_of_construction}
+use Rattle.ash_compile.specs.EmittedFrames.{methods_of, frames_of, no_field, all_fields, IsSoundEntry}
 use Rattle.ash_compile.proofs.Listings.{get_first, get_second, get_part, map_both}
 
 -- maps
@@ -64,7 +67,8 @@ entries_seen m =
     map_both entry_in (functions ++ constructions) methods
     ∙ ap (λ (zs : List Entry). zs ++ map entry_in methods) (map_both entry_in functions constructions)
     ∙ ap (λ (zs : List Entry). zs ++ map entry_in constructions ++ map entry_in methods) (functions_seen m.functions)
-    ∙ ap (λ (zs : List Entry). map entry_of_function m.functions ++ zs ++ map entry_in methods) (constructions_seen m.classes)
+    ∙ ap (λ (zs : List Entry). map entry_of_function m.functions ++ zs ++ map entry_in methods)
+    (constructions_seen m.classes)
     ∙ ap (λ (zs : List Entry). map entry_of_function m.functions ++ map entry_of_construction m.classes ++ zs)
     (methods_seen m.classes)
 
@@ -126,10 +130,12 @@ method_at m class place k f at here =
     let first = length-append functions constructions in
     let many = long_map frame_of_function m.functions in
     let more = long_map frame_of_construction m.classes in
-    let level : index_of m (Method class place) ≡ length (functions ++ constructions) + (before + place) = omega arith in
+    let level : index_of m (Method class place) ≡ length (functions ++ constructions) +
+    (before + place) = omega arith in
     ap (λ (n : ℕ). slice_get (frames_of m) n) level
     ∙ get_second (functions ++ constructions) methods (before + place)
-    ∙ get_part methods_of m.classes class place k (frame_of_method k f) at (mapped_at (frame_of_method k) k.methods place f here)
+    ∙ get_part methods_of m.classes class place k (frame_of_method k f) at
+    (mapped_at (frame_of_method k) k.methods place f here)
 
 -- callees
 
@@ -179,7 +185,8 @@ module _ {c : Context} (context : IsContext c) where
     nothing = λ is. absurd (cc);
     sound = record {
       fields = no_field;
-      body = (rec_at (IsSoundFunction (outside (declared c))) ((c.program).tree).functions place f (context.sound).functions at).body;
+      body = (rec_at (IsSoundFunction (outside (declared c))) ((c.program).tree).functions place f
+          (context.sound).functions at).body;
     };
   }
   callee_stands _ _ _ _ (a_method {class = class} {place = place} {k = k} {f = f} at here) = record {
@@ -192,7 +199,8 @@ module _ {c : Context} (context : IsContext c) where
     nothing = λ is. absurd (cc);
     sound = record {
       fields = no_field;
-      body = (rec_at (IsSoundFunction (inside (declared c) class)) k.methods place f (class_is context class k at).methods here).body;
+      body = (rec_at (IsSoundFunction (inside (declared c) class)) k.methods place f
+          (class_is context class k at).methods here).body;
     };
   }
   callee_stands _ _ _ _ (a_construction {class = class} {k = k} at) = record {

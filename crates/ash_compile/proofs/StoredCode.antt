@@ -29,7 +29,8 @@ use Rattle.ash_compile.proofs.Loops.{Spends}
 use Rattle.ash_compile.proofs.Conditions.{RanksAfter}
 use Rattle.ash_compile.proofs.TypedStatements.{Ready, IsRanked}
 
-left_at_most : {A : Type 0} (p : Progress A) (n : ℕ) (v : A) (b : Activity) → LeavesAtMost n p → p ≡ Done v b → b.ticks ≤ n
+left_at_most : {A : Type 0} (p : Progress A) (n : ℕ) (v : A) (b : Activity) → LeavesAtMost n p → p ≡ Done v b
+    → b.ticks ≤ n
 left_at_most p n v b left is = subst (λ q. LeavesAtMost n q) is left
 
 -- A phrase that has a walk gains no ticks.
@@ -75,6 +76,7 @@ module _ (s : Scene) (scene : IsScene s) where
   spends_stored of e store fit stores walks a b v good is =
       let passes = left_done v b (full_passes (storing e store) (storing_passes of e store a fit stores good.0)) is in
       let p = (s.context).program in
-      let walk = to_full (bound (walk_expression p (body p s.depth) (body p s.depth) (walk_called p s.depth) e) walks) in
+      let walk = to_full (bound
+      (walk_expression p (body p s.depth) (body p s.depth) (walk_called p s.depth) e) walks) in
       let fewer = fewer_ticks s.depth (full (storing e store)) a b v walk good.1 is in
       ((passes.well, omega (arith, fewer, good.1)), fewer)

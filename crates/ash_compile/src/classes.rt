@@ -2,7 +2,8 @@
 
 ghost use Rattle.std.specs.Prelude.{◌≡◌, ◌<◌, ℕ, IfOk, map, length, slice_get, Some};
 ghost use Rattle.ash_typed.specs.BodyViews.{value_of};
-ghost use Rattle.ash_typed.specs.Modules.{Module as ModuleData, class_of, implementation_of as implementation_seen, module_of};
+ghost use Rattle.ash_typed.specs.Modules.{Module as ModuleData, class_of, implementation_of as implementation_seen};
+ghost use Rattle.ash_typed.specs.Modules.{module_of};
 ghost use Rattle.ash_meaning.specs.Classes.{Method};
 ghost use Rattle.ash_meaning.specs.OperatorMeaning.{zero_of};
 ghost use Rattle.ash_compile.specs.Layout.{IsLayout, index_of};

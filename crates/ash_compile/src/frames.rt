@@ -6,7 +6,8 @@
 
 ghost use Rattle.std.specs.Prelude.{◌≡◌, [], IfOk, List, map};
 ghost use Rattle.ash_typed.specs.BodyViews.{value_of, body_of};
-ghost use Rattle.ash_typed.specs.Modules.{Module as ModuleData, Class as ClassData, class_of, function_of, variables_of};
+ghost use Rattle.ash_typed.specs.Modules.{Module as ModuleData, Class as ClassData, class_of, function_of};
+ghost use Rattle.ash_typed.specs.Modules.{variables_of};
 ghost use Rattle.ash_compile.specs.Emission.{code_of};
 ghost use Rattle.ash_compile.specs.EmittedFrames.{frame_of_function, frame_of_method, frame_of_construction};
 ghost use Rattle.ash_compile.specs.EmittedFrames.{IsFrameCode, IsInitCode, IsCodeOfAny, IsFinished};

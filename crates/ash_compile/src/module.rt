@@ -7,7 +7,8 @@ ghost use Rattle.ash_soundness.specs.WellFormed.{Context, IsContext};
 ghost use Rattle.ash_code.specs.CompiledCode.{IsCodeOf};
 ghost use Rattle.ash_compile.specs.declared.layout.Layout.{Layout as LayoutData};
 ghost use Rattle.ash_compile.specs.EmittedFrames.{FrameSource, frame_of_function, frame_of_method};
-ghost use Rattle.ash_compile.specs.EmittedFrames.{frame_of_construction, frames_of, methods_of, IsFrameCode, IsCompiled};
+ghost use Rattle.ash_compile.specs.EmittedFrames.{frame_of_construction, frames_of, methods_of, IsFrameCode};
+ghost use Rattle.ash_compile.specs.EmittedFrames.{IsCompiled};
 
 use crate::builder::CodeBuilder;
 use crate::classes::class_codes;

@@ -26,14 +26,16 @@ loop-class-preserved c =
           (λ k low x at.
           let before = l.invariant.2 slot m is classes k low x at in (
             before.0,
-            ap (λ (ys : List ClassCode). slice_get ys k) pushed ∙ get_first l.codes.items (code ∷ []) k before.0 before.1,
+            ap (λ (ys : List ClassCode). slice_get ys k) pushed
+                ∙ get_first l.codes.items (code ∷ []) k before.0 before.1,
             before.2,
           ))
           (λ x at. (
             code,
             last_added l.codes.items c.push.new.self.items l.class-index code pushed l.invariant.1,
             subst (λ (n : ℕ). IsClassCode m n x code) l.invariant.0
-                (subst (λ (y : Class). IsClassCode m l.place y code) (same_Some (class_of item) x (sym there ∙ at)) own),
+                (subst (λ (y : Class). IsClassCode m l.place y code)
+                (same_Some (class_of item) x (sym there ∙ at)) own),
           )),
     )
 

@@ -19,7 +19,8 @@ loop-implementation-preserved c = λ slot m is low.
     ∙ ap (map (λ (own : ℕ). index_of m (Method c.args.class own))) c.deref.ensures.value in
     ap (map implementation_of) c.in_ok-push.ensures.items
     ∙ map_both implementation_of l.codes.items _
-    ∙ ap (λ (is : List Implementation). is ++ record { interface = item.interface; methods = c.in_ok-methods.methods.items } ∷ [])
+    ∙ ap (λ (is : List Implementation). is ++ record
+    { interface = item.interface; methods = c.in_ok-methods.methods.items } ∷ [])
     (l.invariant slot m is low)
     ∙ ap (λ (ms : List ℕ). before ++ record { interface = item.interface; methods = ms } ∷ []) methods
     ∙ sym (map_twice_more f implementation_seen interfaces l.implementation-index item c.loop-implementation-test.true
@@ -29,6 +30,7 @@ pub returns : goal.returns
 returns c = record {
   interfaces = λ slot m is low.
       c.loop-implementation.invariant slot m is low
-      ∙ ap (λ (is : List implementation.Implementation). map (implementation_at m c.args.class) (map implementation_seen is))
+      ∙ ap (λ (is : List implementation.Implementation). map (implementation_at m c.args.class)
+      (map implementation_seen is))
       (take_all c.loop-implementation.implementation-index c.args.interfaces.now c.loop-implementation-test.false);
 }

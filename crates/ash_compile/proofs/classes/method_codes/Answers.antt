@@ -10,7 +10,8 @@ loop-method-preserved c = λ slot m is low.
     let f = λ (own : ℕ). index_of m (Method c.args.class own) in
     c.in_ok-push.ensures.items
     ∙ ap (λ (ks : List ℕ). ks ++ c.in_ok-code.code ∷ []) (l.invariant slot m is low)
-    ∙ ap (λ (k : ℕ). map f (take l.method-index c.args.methods.now) ++ k ∷ []) (c.in_ok-code.ensures.place slot m is low)
+    ∙ ap (λ (k : ℕ). map f (take l.method-index c.args.methods.now) ++ k ∷ [])
+    (c.in_ok-code.ensures.place slot m is low)
     ∙ sym (map_more f c.args.methods.now l.method-index 0 c.loop-method-test.true)
 
 pub returns : goal.returns

@@ -13,7 +13,8 @@ returns c =
     let tree = module_of c.args.tree.now in
     let (layout, compiled) = c.in_ok-parts.ensures.compiled in
     record {
-      slot = ok_by c.new.result _ c.ok_or.result parts (λ (code : CodeParts). code.module ≡ c.args.slot) c.ok_or.ensures.value
+      slot = ok_by c.new.result _ c.ok_or.result parts
+          (λ (code : CodeParts). code.module ≡ c.args.slot) c.ok_or.ensures.value
           c.new.ensures.same c.in_ok-parts.ensures.slot;
       compiled = ok_by c.new.result _ c.ok_or.result parts
           (λ (code : CodeParts). (k : Context) → IsContext k → (k.program).tree ≡ tree → IsCodeOf code k)

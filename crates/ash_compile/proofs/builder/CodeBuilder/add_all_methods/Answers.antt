@@ -21,8 +21,10 @@ loop-class-preserved c =
       λ xs are.
           let before = l.invariant.1 xs are in
           let more = subst (λ (places : Layout). AllZip (IsFrameCode places) before.0 l.codes.items
-          → AllZip (IsFrameCode places) (before.0 ++ map (frame_of_method (class_of item)) (map function_of c.deref.result.now))
-          c.add_methods.new.codes.items) l.invariant.0 (c.in_ok-add_methods.ensures.added (class_of item) before.0) before.1 in (
+          → AllZip (IsFrameCode places)
+          (before.0 ++ map (frame_of_method (class_of item)) (map function_of c.deref.result.now))
+          c.add_methods.new.codes.items) l.invariant.0
+          (c.in_ok-add_methods.ensures.added (class_of item) before.0) before.1 in (
             before.0 ++ methods_of (class_of item),
             subst (λ (fs : List function.Function). AllZip (IsFrameCode c.args.self.now.layout)
                 (before.0 ++ map (frame_of_method (class_of item)) (map function_of fs)) c.add_methods.new.codes.items)

@@ -21,7 +21,8 @@ loop-class-preserved c =
           let before = l.invariant.1 xs are in
           added (IsFrameCode c.args.self.now.layout) before.0 rest _ l.codes.items c.push.new.self.items
           (frame_of_construction (class_of item)) c.in_ok-code.code before.1
-          (subst (λ (places : Layout). IsFrameCode places (frame_of_construction (class_of item)) c.in_ok-code.code) l.invariant.0
+          (subst (λ (places : Layout). IsFrameCode places (frame_of_construction (class_of item)) c.in_ok-code.code)
+          l.invariant.0
           c.in_ok-code.ensures.construction)
           c.in_ok-push.ensures.items
           (ap (λ (zs : List FrameSource). before.0 ++ zs) (sym here) ∙ before.2),
@@ -35,7 +36,8 @@ returns c =
           let before = l.invariant.1 xs are in
           zip_grown (IsFrameCode c.args.self.now.layout) before.0 _ l.codes.items before.1
           (ap (λ (zs : List FrameSource). before.0 ++ zs)
-          (sym (ap (map frame_of_construction) (rest_none class_of c.args.classes.now l.class-index c.loop-class-test.false)))
+          (sym (ap (map frame_of_construction)
+          (rest_none class_of c.args.classes.now l.class-index c.loop-class-test.false)))
           ∙ before.2);
       layout = l.invariant.0;
     }

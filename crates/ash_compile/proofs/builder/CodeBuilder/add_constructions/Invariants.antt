@@ -10,4 +10,5 @@ invariant-loop-class l =
     (l.self.layout ≡ l.fn.self.layout)
     × ((xs : List FrameSource) → AllZip (IsFrameCode l.fn.self.layout) xs l.fn.codes.items
     → (zs : List FrameSource) × AllZip (IsFrameCode l.fn.self.layout) zs l.codes.items
-    × (zs ++ map frame_of_construction (map class_of (drop l.class-index l.classes)) ≡ xs ++ map frame_of_construction (map class_of l.classes)))
+    × (zs ++ map frame_of_construction (map class_of (drop l.class-index l.classes)) ≡ xs ++ map frame_of_construction
+    (map class_of l.classes)))

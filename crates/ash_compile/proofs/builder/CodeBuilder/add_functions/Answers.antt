@@ -21,7 +21,8 @@ loop-function-preserved c =
           let before = l.invariant.1 xs are in
           added (IsFrameCode c.args.self.now.layout) before.0 rest _ l.codes.items c.push.new.self.items
           (frame_of_function (function_of item)) c.in_ok-code.code before.1
-          (subst (λ (places : Layout). IsFrameCode places (frame_of_function (function_of item)) c.in_ok-code.code) l.invariant.0
+          (subst (λ (places : Layout). IsFrameCode places (frame_of_function (function_of item)) c.in_ok-code.code)
+          l.invariant.0
           c.in_ok-code.ensures.function)
           c.in_ok-push.ensures.items
           (ap (λ (zs : List FrameSource). before.0 ++ zs) (sym here) ∙ before.2),
@@ -35,7 +36,8 @@ returns c =
           let before = l.invariant.1 xs are in
           zip_grown (IsFrameCode c.args.self.now.layout) before.0 _ l.codes.items before.1
           (ap (λ (zs : List FrameSource). before.0 ++ zs)
-          (sym (ap (map frame_of_function) (rest_none function_of c.args.functions.now l.function-index c.loop-function-test.false)))
+          (sym (ap (map frame_of_function)
+          (rest_none function_of c.args.functions.now l.function-index c.loop-function-test.false)))
           ∙ before.2);
       layout = l.invariant.0;
     }

@@ -10,4 +10,5 @@ invariant-loop-function l =
     (l.self.layout ≡ l.fn.self.layout)
     × ((xs : List FrameSource) → AllZip (IsFrameCode l.fn.self.layout) xs l.fn.codes.items
     → (zs : List FrameSource) × AllZip (IsFrameCode l.fn.self.layout) zs l.codes.items
-    × (zs ++ map frame_of_function (map function_of (drop l.function-index l.functions)) ≡ xs ++ map frame_of_function (map function_of l.functions)))
+    × (zs ++ map frame_of_function (map function_of (drop l.function-index l.functions)) ≡ xs ++ map frame_of_function
+    (map function_of l.functions)))

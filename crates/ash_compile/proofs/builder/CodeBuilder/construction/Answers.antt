@@ -14,7 +14,8 @@ pub returns-in-Some-clause-construction : goal.returns-in-Some-clause-constructi
 returns-in-Some-clause-construction c =
     let class = c.args.class.now in
     if_ok c.frame.result (λ code any. any (frame_of_construction (class_of class))
-    (ap (λ (o : Option function.Function). option_map_or (λ (f : Function). f.line) (option_map function_of o) class.line)
+    (ap (λ (o : Option function.Function). option_map_or (λ (f : Function). f.line)
+    (option_map function_of o) class.line)
     c.in-Some.is)
     (sym (ap (map value_of) c.deref.ensures.value))
     (ap (λ (o : Option function.Function). option_map_or (λ (f : Function). f.body) (option_map function_of o) no_stmt)
@@ -27,7 +28,8 @@ pub returns-in-None-clause-construction : goal.returns-in-None-clause-constructi
 returns-in-None-clause-construction c =
     let class = c.args.class.now in
     if_ok c.frame-in-None.result (λ code any. any (frame_of_construction (class_of class))
-    (ap (λ (o : Option function.Function). option_map_or (λ (f : Function). f.line) (option_map function_of o) class.line)
+    (ap (λ (o : Option function.Function). option_map_or (λ (f : Function). f.line)
+    (option_map function_of o) class.line)
     c.in-None.is)
     (sym (ap (map value_of) c.deref-in-None.ensures.value))
     (ap (λ (o : Option function.Function). option_map_or (λ (f : Function). f.body) (option_map function_of o) no_stmt)

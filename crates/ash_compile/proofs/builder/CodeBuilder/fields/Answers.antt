@@ -22,7 +22,8 @@ loop-field-preserved c = λ new emits.
 pub returns : goal.returns
 returns c = record {
   emits = c.loop-field.invariant c.loop-field.self
-      (subst (λ (vs : List Initialization). EmitsFields c.loop-field.self c.loop-field.self c.loop-field.place vs c.args.locals)
+      (subst (λ (vs : List Initialization). EmitsFields c.loop-field.self c.loop-field.self c.loop-field.place vs
+      c.args.locals)
       (sym (rest_none value_of c.args.fields.now c.loop-field.field-index c.loop-field-test.false))
       (no_fields c.loop-field.self c.loop-field.place c.args.locals));
 }

@@ -29,8 +29,10 @@ returns c =
       code = λ x line are body many constructs.
           subst (λ (l : Layout). IsFrameCode l x c.finish.result) c.clear.ensures.layout
           (frame_code begun last c.args.line c.args.parameters fields stmts c.args.constructs c.finish.result x w
-          (finished.line ∙ c.in_ok-entry.ensures.line) finished.parameters finished.instructions finished.slots line are body
+          (finished.line ∙ c.in_ok-entry.ensures.line) finished.parameters finished.instructions finished.slots
+          line are body
           many constructs);
       layout = c.finish.ensures.layout
-          ∙ frame_layout begun last c.args.line c.args.parameters fields stmts c.args.constructs w ∙ c.clear.ensures.layout;
+          ∙ frame_layout begun last c.args.line c.args.parameters fields stmts c.args.constructs w
+          ∙ c.clear.ensures.layout;
     }

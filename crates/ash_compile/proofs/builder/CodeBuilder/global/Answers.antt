@@ -7,7 +7,8 @@ use Rattle.ash_compile.proofs.builder.CodeBuilder.global.Goals as goal
 
 pub returns-in-None : goal.returns-in-None
 returns-in-None c = record {
-  emits = global_without c.args.self.now c.args.place (value_of c.args.global.now) (ap (option_map expr_of) c.in-None.is);
+  emits = global_without c.args.self.now c.args.place (value_of c.args.global.now)
+      (ap (option_map expr_of) c.in-None.is);
 }
 
 pub returns-in_ok-put-in-Some : goal.returns-in_ok-put-in-Some
