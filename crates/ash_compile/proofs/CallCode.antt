@@ -26,7 +26,7 @@ use Rattle.ash_code.specs.declared.code.FunctionCode.{FunctionCode}
 use Rattle.ash_code.specs.declared.instruction.Instruction.{Instruction}
 use Rattle.ash_code.specs.declared.instruction.Instruction.TheVariants as i
 use Rattle.ash_code.specs.Controls.{Control, Window, control, word_at}
-use Rattle.ash_code.specs.Performing.{Setting, Next, call, perform, put}
+use Rattle.ash_code.specs.Performing.{Setting, Next, call, enter_at, perform, put}
 use Rattle.ash_code.specs.Running.{step}
 use Rattle.ash_compile.specs.Stretches.{continued, Arrives, with_slots, Fits, Holds, Has, Computes}
 use Rattle.ash_compile.specs.Performances.{Enters}
@@ -210,6 +210,57 @@ module _ (s : Scene) (scene : IsScene s) where
       entered room =
           entered_well scene.sound env ((s.setting.names).functions index) f.line this own good.0
           (lt_from (length a.callers + 1) max_frames room) this_is own_values
+
+    -- An instruction that enters the callee, in slots that have its arguments.
+    pub does_enter : (w : Window) (slot at : ℕ) (start a : Activity) (this : Word) (args : List Word)
+        (rest : Word → Activity → Option Outcome)
+        → w.count ≤ slot → slot < s.greatest → slot + length env.locals ≤ length w.slots → s.room ≤ length w.slots
+        → Fits w a → Good s a → length a.callers + 1 < max_frames
+        → take (length env.locals) (drop slot w.slots) ≡ args
+        → IsThis (s.context).program (a.world).objects env.this this
+        → AreValues (s.context).program (a.world).objects env.locals args
+        → step s.setting (control s.function at w) start
+        ≡ enter_at s.setting index this slot (control s.function at w) a
+        → ((d : Activity) (word : Word) (after : List Word) → called this args a ≡ Done word d
+        → Holds w slot word after d
+        → Arrives s.setting (control s.function (at + 1) (with_slots after w)) d (rest word d))
+        → Arrives s.setting (control s.function at w) start (continued (called this args a) rest)
+    does_enter w slot at start a this args rest low under fit long fits good room are this_is values does =
+        subst (λ (r : Run Word). ((d : Activity) (word : Word) (after : List Word) → r a ≡ Done word d
+        → Holds w slot word after d
+        → Arrives s.setting (control s.function (at + 1) (with_slots after w)) d (rest word d))
+        → Arrives s.setting (control s.function at w) start (continued (r a) rest))
+        (ap (λ (n : List ℕ). framed n f.line this own inside) there.name
+        ∙ ap (λ (n : ℕ). framed e.name n this own inside) there.line
+        ∙ ap (λ (ws : List Word). framed e.name e.line this ws inside) own_is)
+        (enters_there s.setting s.function index (Entering s.context s.depth env (s.env ∷ s.envs))
+        (room_for s.greatest (length (s.env ∷ s.envs))) f this w slot there.there low
+        (omega (arith, under, scene.roomy, long)) (omega (arith, fit, there.parameters)) at start a inside rest does fits
+        alive (enough a w slot good under long more) enters_line (entered, good.1) (returns_line _ entered))
+      where
+      more : nat_lt (length a.callers + 1) max_frames ≡ true
+      more = grind (arith, nat_tests)
+
+      f : FunctionCode
+      f = there.code
+
+      own : List Word
+      own = take f.parameters (drop slot w.slots)
+
+      own_is : own ≡ args
+      own_is = ap (λ (n : ℕ). take n (drop slot w.slots)) there.parameters ∙ are
+
+      own_values : AreValues (s.context).program (a.world).objects env.locals own
+      own_values = subst (λ (ws : List Word). AreValues (s.context).program (a.world).objects env.locals ws) (sym own_is) values
+
+      alive : are_alive (this ∷ own) a ≡ true
+      alive =
+          ap (λ (b : Bool). b && are_alive own a) (object_alive s.context env.this this a this_is)
+          ∙ values_alive (s.context).program a own_values
+
+      entered : IsWellFormed s.context env (s.env ∷ s.envs) (entered_at ((s.setting.names).functions index) f.line this own a)
+      entered =
+          entered_well scene.sound env ((s.setting.names).functions index) f.line this own good.0 room this_is own_values
 
 -- what was done, of a value and an activity
 

@@ -1,5 +1,6 @@
 -- Rows of operands, one after the other.
-use Rattle.std.proofs.Common.{◌≡◌, ◌<◌, ◌≤◌, ℕ, ◌+◌, List, [], ◌∷◌, length, get_or, drop, refl, sym, ap, ◌∙◌}
+use Rattle.std.proofs.Common.{◌≡◌, ◌<◌, ◌≤◌, ℕ, ◌+◌, List, [], ◌∷◌, ◌++◌, length, map, get_or, drop, refl, sym, ap, ◌∙◌}
+use Rattle.std.proofs.Common.{append_assoc, append-nil}
 use Rattle.std.proofs.lemmas.List.{drop_more, drop_all}
 use Rattle.ash_typed.specs.declared.tree.expressions.Expr as expr_code
 use Rattle.ash_typed.specs.declared.tree.expressions.Operand as operand_code
@@ -33,3 +34,17 @@ link_step e ls k l low is =
 
 pub link_end : (e f : Expr) (ls : List link_code.Link) (k : ℕ) → length ls ≤ k → all_linked e (drop k ls) ≡ f → e ≡ f
 link_end e f ls k over is = sym (ap (all_linked e) (drop_all k ls over)) ∙ is
+
+-- arguments, and what is left of them
+
+pub argument_step : (es : List Expr) (xs : List expr_code.Expr) (k : ℕ) (x : expr_code.Expr) → k < length xs
+    → x ≡ get_or xs k x → (es ++ expr_of x ∷ []) ++ map expr_of (drop (k + 1) xs) ≡ es ++ map expr_of (drop k xs)
+argument_step es xs k x low is =
+    append_assoc es (expr_of x ∷ []) (map expr_of (drop (k + 1) xs))
+    ∙ ap (λ (ys : List expr_code.Expr). es ++ map expr_of ys)
+    (sym (drop_more xs k x low ∙ ap (λ (y : expr_code.Expr). y ∷ drop (k + 1) xs) (sym is)))
+
+pub argument_end : (es all : List Expr) (xs : List expr_code.Expr) (k : ℕ) → length xs ≤ k
+    → es ++ map expr_of (drop k xs) ≡ all → es ≡ all
+argument_end es all xs k over is =
+    sym (append-nil es) ∙ ap (λ (ys : List expr_code.Expr). es ++ map expr_of ys) (sym (drop_all k xs over)) ∙ is

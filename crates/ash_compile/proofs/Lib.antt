@@ -34,5 +34,13 @@ pub mod Callees
 pub mod CallCode
 pub mod Layouts
 pub mod MethodCode
+pub mod EmittedCalls
+pub mod KeptLocals
+pub mod ConstructionCode
+pub mod HostCode
+pub mod ArrayCode
+pub mod HostMethodCode
+pub mod Tables
+pub mod InterfaceCode
 pub mod ClassTables
 pub mod CastCode

@@ -1,4 +1,4 @@
-use Rattle.std.proofs.Common.{◌≡◌, ◌+◌, ◌*◌, drop, max}
+use Rattle.std.proofs.Common.{◌≡◌, ◌+◌, ◌*◌, List, ◌++◌, map, length, drop, max}
 use denote.Param.Weighed.{most}
 use Rattle.ash_typed.specs.declared.tree.expressions.Expr.{size-Expr}
 use Rattle.ash_typed.specs.declared.tree.expressions.Operand.{size-Operand}
@@ -7,6 +7,7 @@ use Rattle.ash_typed.specs.declared.tree.expressions.Place.{size-Place}
 use Rattle.ash_typed.specs.TypedTree.{Expr}
 use Rattle.ash_typed.specs.TypedTreeViews.{expr_of, all_linked, all_chained, all_lazies}
 use Rattle.ash_compile.specs.Emission.{Emits}
+use Rattle.ash_compile.specs.Arguments.{EmitsArguments}
 use Rattle.ash_compile.proofs.builder.CodeBuilder.+expressions.Given as goal
 
 -- the depth of what a function goes down, and how near it is to the next expression
@@ -39,6 +40,12 @@ decreases-link l = 4 * size-Link l.link.now
 abbrev pub decreases-place : goal.decreases-place
 decreases-place l = 4 * size-Place l.place.now
 
+abbrev pub decreases-invoke : goal.decreases-invoke
+decreases-invoke l = 4 * most size-Expr l.arguments.now + 2
+
+abbrev pub decreases-arguments : goal.decreases-arguments
+decreases-arguments l = 4 * most size-Expr l.arguments.now + 1
+
 -- What is emitted is some expression; with what is left of the row it is the whole.
 
 abbrev pub invariant-chain-loop-operand : goal.invariant-chain-loop-operand
@@ -52,3 +59,8 @@ invariant-lazy_row-loop-other l =
 abbrev pub invariant-path-loop-link : goal.invariant-path-loop-link
 invariant-path-loop-link l =
     (e : Expr) × (Emits l.fn.self l.self e l.slot) × (all_linked e (drop l.link-index l.links) ≡ all_linked (expr_of l.base) l.links)
+
+abbrev pub invariant-arguments-loop-argument : goal.invariant-arguments-loop-argument
+invariant-arguments-loop-argument l =
+    (es : List Expr) × (EmitsArguments l.fn.self l.self es l.slot) × (l.next ≡ l.slot + length es)
+    × (es ++ map expr_of (drop l.argument-index l.arguments) ≡ map expr_of l.arguments)
