@@ -85,7 +85,7 @@ module _ (s : Setting) (m : Module) (has : HasClasses s m) where
 
   -- the methods of a class for those of an interface
 
-  listed : (interface class : ℕ) (k : Class) → slice_get m.classes class ≡ Some k
+  pub listed : (interface class : ℕ) (k : Class) → slice_get m.classes class ≡ Some k
       → option_map implementation_of (implementation_in (classes_of s) interface class)
       ≡ option_map (implementation_at m class) (listed_in m class interface)
   listed interface class k at =
