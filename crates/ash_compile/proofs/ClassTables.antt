@@ -1,6 +1,6 @@
 -- What code knows of the classes of a module says what an object may be cast to.
-use Rattle.std.proofs.Common.{◌≡◌, ◌≤◌, ◌<◌, ℕ, suc, zero, List, [], ◌∷◌, length, refl, sym, ap, ◌∙◌, arith, true, false, Bool}
-use Rattle.std.proofs.Common.{nat_lt}
+use Rattle.std.proofs.Common.{◌≡◌, ◌≤◌, ◌<◌, ℕ, suc, zero, List, [], ◌∷◌, length, refl, sym, ap, ◌∙◌, arith, true}
+use Rattle.std.proofs.Common.{false, Bool, nat_lt}
 use Rattle.std.specs.Prelude.{Option, Some, None, slice_get, is_some, option_map, nat_eq, find}
 use Rattle.std.specs.Option.{option_map_or, option_and_then}
 use Rattle.std.proofs.lemmas.Bool.Decides.{nat_tests}

@@ -19,8 +19,8 @@ use Rattle.ash_compile.specs.declared.places.Spot.{Spot}
 use Rattle.ash_compile.specs.declared.places.Spot.TheVariants as spots
 use Rattle.ash_compile.specs.Places.{located}
 use Rattle.ash_compile.proofs.Phrases.{grouped}
-use Rattle.ash_compile.proofs.KeptLocals.{locals_after, KeepsLocals, done_keeps, keeps_then, keeps_give, keeps_give_held}
-use Rattle.ash_compile.proofs.KeptLocals.{keeps_call_host, keeps_accept}
+use Rattle.ash_compile.proofs.KeptLocals.{locals_after, KeepsLocals, done_keeps, keeps_then, keeps_give}
+use Rattle.ash_compile.proofs.KeptLocals.{keeps_give_held, keeps_call_host, keeps_accept}
 use Rattle.ash_compile.proofs.PlaceSteps.{slots_after}
 
 -- what is left of a place
@@ -127,7 +127,8 @@ element_keeps : (x i word : Word)
 element_keeps x i word = record {
   keeps = λ a.
       ap (λ (p : Progress (Unit {0})). locals_after (a.frame).locals p)
-      (grouped (object_of x a) (λ number. index_in number i >>= (λ place. give (Part number place))) (λ l. write l word))
+      (grouped (object_of x a) (λ number. index_in number i >>= (λ place. give (Part number place)))
+      (λ l. write l word))
       ∙ (keeps_then (object_of x)
       (λ number. index_in number i >>= (λ place. give (Part number place)) >>= (λ l. write l word)) (keeps_object x)
       (λ number. indexed_keeps number i word)).keeps a;
