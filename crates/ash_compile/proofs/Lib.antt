@@ -52,3 +52,4 @@ pub mod EmittedBlocks
 pub mod EmittedLoops
 pub mod EmittedLandings
 pub mod EmittedRepeats
+pub mod EmittedSwitches

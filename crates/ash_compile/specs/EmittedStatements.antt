@@ -3,14 +3,18 @@
 -- A `break` or a `continue` is a jump whose target is not known yet: its place is among those that wait. The contracts say
 -- what code does in which each jump that waits leads to the exit.
 use Rattle.std.specs.Prelude.{◌≡◌, ◌≤◌, ◌<◌, ℕ, ◌+◌, List, [], ◌∷◌, ◌++◌, length, Option, Some, None, Bool, true, false}
-use Rattle.std.specs.Prelude.{◌||◌, nat_eq, slice_get, if◌then◌else◌}
+use Rattle.std.specs.Prelude.{suc, option_map, ◌||◌, nat_eq, slice_get, if◌then◌else◌}
 use Rattle.std.specs.List.{AllByRecursion}
 use Rattle.ash_host.specs.declared.word.Word.{Word}
+use Rattle.ash_integers.specs.declared.int_type.IntType.{IntType}
+use Rattle.ash_integers.specs.Integers.{number_of}
+use Rattle.ash_tree.specs.declared.tree.statements.Label.{Label}
 use Rattle.ash_typed.specs.declared.types.VarType.{VarType}
 use Rattle.ash_typed.specs.declared.tree.statements.Test.{Test}
 use Rattle.ash_typed.specs.declared.tree.statements.Test.TheVariants as tests
 use Rattle.ash_typed.specs.TypedTree.{Expr}
-use Rattle.ash_typed.specs.StatementTree.{Initialization, Head, Loop, Stmt, Stmts, stmt}
+use Rattle.ash_typed.specs.StatementTree.{Initialization, Head, Loop, Stmt, Stmts, stmt, Case, labelled, Cases, no_case, next_case}
+use Rattle.ash_typed.specs.SoundStatements.{AreSoundCases, constant_of}
 use Rattle.ash_typed.specs.SoundStatements.{TypedScope, IsSoundStmt, AreSoundStmts, IsLoop, IsSoundHead, AreSoundDeclarations}
 use Rattle.ash_typed.specs.SoundStatements.{IsEvaluated}
 use Rattle.ash_meaning.specs.Runs.{Run}
@@ -296,3 +300,62 @@ pub record EmitsLoop (old new : Draft) (line : ℕ) (inside : Loop) (scope : Sco
       (λ s exits result breaks continues. IsLoop (typed_scope s result breaks continues) inside)
       (λ s exits. DoesFlow s exits (loop (calls_of s) s.depth line inside) (end_in old) (end_in new)
       (length (s.env).locals))
+
+-- `switch`
+
+-- what leads to the statements of a label, if the value in a slot has its constant; `default` has none
+abbrev pub label_jump : Option Word → ℕ → ℕ → Instruction
+label_jump (Some word) slot to = i.JumpIfNumber slot word to
+label_jump None slot to = i.Jump to
+
+abbrev pub count_cases : Cases → ℕ
+count_cases no_case = 0
+count_cases (next_case c cs) = suc (count_cases cs)
+
+-- From a place on the code has a test for each label, which leads to one of these places.
+abbrev pub AreTests : List Instruction → ℕ → Cases → List ℕ → ℕ → Type 0
+AreTests code at no_case [] slot = Unit {0}
+AreTests code at (next_case (labelled l xs) cs) (to ∷ ats) slot =
+    ((word : Option Word) × (option_map number_of word ≡ constant_of l)
+    × (slice_get code at ≡ Some (label_jump word slot to)))
+    × AreTests code (at + 1) cs ats slot
+AreTests code at _ _ slot = ⊥
+
+-- where the statements of the first label are, or else the end of all
+abbrev pub next_label : List ℕ → ℕ → ℕ
+next_label [] to = to
+next_label (at ∷ ats) to = at
+
+-- The statements of each label are at one of these places, and lead to those of the next one.
+abbrev pub DoesLabels : Scene → Exits → Cases → List ℕ → ℕ → Type 0
+DoesLabels s exits no_case [] to = Unit {0}
+DoesLabels s exits (next_case (labelled l xs) cs) (at ∷ ats) to =
+    DoesFlow s exits (statements (calls_of s) s.depth xs) at (next_label ats to) (length (s.env).locals)
+    × DoesLabels s exits cs ats to
+DoesLabels s exits _ _ to = ⊥
+
+-- The code has grown by the statements of labels, to which the tests from a place on lead now.
+pub record EmitsLabels (old new : Draft) (test : ℕ) (cs : Cases) (scope : Scope) : Type 0 where
+  pub ats : List ℕ
+  pub longer : end_in old ≤ end_in new
+  pub before : (k : ℕ) → k < test → k < end_in old → slice_get (code_of new.code) k ≡ slice_get (code_of old.code) k
+  pub behind : (k : ℕ) → test + count_cases cs ≤ k → k < end_in old
+      → slice_get (code_of new.code) k ≡ slice_get (code_of old.code) k
+  pub slots : (old.code).slots ≤ (new.code).slots
+  pub layout : (new.code).layout ≡ (old.code).layout
+  pub breaks : Joins old.breaks new.breaks (end_in old) (end_in new)
+  pub continues : Joins old.continues new.continues (end_in old) (end_in new)
+  pub apart : AreBelow (end_in old) old.breaks → AreBelow (end_in old) old.continues
+      → AreApart old.breaks old.continues → AreApart new.breaks new.continues
+  pub tests : AreTests (code_of new.code) test cs ats scope.locals
+  pub first : next_label ats (end_in new) ≡ end_in old
+  pub does : Wherever old new scope
+      (λ s exits result breaks continues. (int_type : IntType) × (labels : List Label)
+      × AreSoundCases (typed_scope s result breaks continues) int_type labels cs)
+      (λ s exits. DoesLabels s exits cs ats (end_in new))
+
+-- With the code of the labels after it, that of a label is the code of a row.
+abbrev pub EmitsLabel : Draft → Draft → ℕ → Case → Scope → Type 0
+EmitsLabel old new test c scope =
+    (end : Draft) (cs : Cases) → test + 1 + count_cases cs ≤ end_in old → EmitsLabels new end (test + 1) cs scope
+    → EmitsLabels old end test (next_case c cs) scope

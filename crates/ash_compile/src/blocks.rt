@@ -34,8 +34,8 @@ pub(crate) fn line_of(line: usize) -> Result<u32, AllocError>
     u32::try_from(line).map_err(|_| AllocError)
 }
 
-/// One local more.
-fn one_more(locals: usize) -> Result<usize, AllocError>
+/// The next local, or the next place.
+pub(crate) fn one_more(locals: usize) -> Result<usize, AllocError>
     ensures more { IfOk result (λ more. more ≡ locals + 1) }
 {
     locals.checked_add(1).ok_or(AllocError)

@@ -125,7 +125,9 @@ impl CodeBuilder {
             },
             StmtKind::Repeat(inside) => self.repeat(line, inside, scope, jumps),
             StmtKind::For { head, inside } => self.for_loop(line, head, inside, scope, jumps),
-            StmtKind::Switch { .. } => Err(AllocError),
+            StmtKind::Switch { of, value, cases } => {
+                self.switch(line, *of, value, cases, scope, jumps)
+            }
             StmtKind::Break => self.break_out(line, scope, jumps),
             StmtKind::Continue => self.continue_on(line, scope, jumps),
             StmtKind::Return(value) => self.returning(line, value, scope),

@@ -3,7 +3,7 @@
 //! `specs/Stretches.antt` says when a stretch of code does what a phrase does, and `specs/Emission.antt` what emitted
 //! code does, wherever it stands.
 //!
-//! In reading order: `layout`, `builder`, `expressions`, `places`, `calls`, `blocks`, `bodies`, `looping`.
+//! In reading order: `layout`, `builder`, `expressions`, `places`, `calls`, `blocks`, `bodies`, `looping`, `switching`.
 #![tactic(auto)]
 
 mod blocks;
@@ -14,3 +14,4 @@ pub mod expressions;
 pub mod layout;
 mod looping;
 pub mod places;
+mod switching;

@@ -3,6 +3,10 @@ use Rattle.std.specs.Prelude.{Option, option_map}
 use Rattle.ash_typed.specs.TypedTree.{Expr}
 use Rattle.ash_typed.specs.declared.tree.expressions.Expr as expr_code
 use Rattle.ash_typed.specs.declared.tree.statements.Loop as loop_code
+use Rattle.ash_typed.specs.declared.tree.statements.Case as case_code
+use Rattle.ash_typed.specs.StatementTree.{Case, Cases, no_case, Switch, cases as case_list}
+use Rattle.ash_typed.specs.BodyViews.{case_of}
+use Rattle.ash_compile.specs.EmittedStatements.{EmitsLabel, EmitsLabels}
 use Rattle.ash_code.specs.declared.instruction.Instruction.{Instruction}
 use Rattle.ash_code.specs.declared.instruction.Instruction.TheVariants as i
 use Rattle.ash_typed.specs.declared.tree.statements.Stmt as stmt_code
@@ -10,7 +14,7 @@ use Rattle.ash_typed.specs.declared.tree.statements.Initialization as initializa
 use Rattle.ash_typed.specs.StatementTree.{Stmt, Declare, Block, If, no_branch, branch, Repeat, For, Loop, repeated, Break, Continue, Return}
 use Rattle.ash_typed.specs.TypedTreeViews.{expr_of}
 use Rattle.ash_typed.specs.BodyViews.{stmt_of, stmt_at, body_of, value_of, loop_of, head_of}
-use Rattle.ash_typed.proofs.StatementRows.{block_is}
+use Rattle.ash_typed.proofs.StatementRows.{block_is, switch_is}
 use Rattle.std.specs.declared.vec.Vec.{Vec}
 use Rattle.std.specs.declared.alloc.Global.{Global}
 use Rattle.ash_compile.specs.Emission.{Puts, Leads, end_of}
@@ -24,6 +28,7 @@ use Rattle.ash_compile.proofs.EmittedSingly as singly
 use Rattle.ash_compile.proofs.EmittedBlocks as blocks
 use Rattle.ash_compile.proofs.EmittedParts as parts
 use Rattle.ash_compile.proofs.EmittedLoops as loops
+use Rattle.ash_compile.proofs.EmittedSwitches as switches
 use Rattle.ash_compile.proofs.EmittedRepeats as repeats
 use Rattle.ash_compile.proofs.EmittedLandings as landings
 use Rattle.ash_compile.proofs.builder.CodeBuilder.+statements.Goals as goal
@@ -418,4 +423,119 @@ turns-returns t c = record {
       (subst (λ (xs : List expr_code.Expr). EmitsEvaluations c.loop_body.new.self c.evaluations.new.self (map expr_of xs)
       c.args.scope.locals) c.deref-2.ensures.value c.in_ok-evaluations.ensures.emits)
       c.in_ok-put-2.ensures.puts)));
+}
+
+-- `switch`
+
+pub label-returns : goal.label-returns
+label-returns t c = record {
+  emits = if_ok c.statements.result
+      (λ u emits.
+      let case = case_code.out-Case c.args.case.now in
+      subst (λ (k : Case). EmitsLabel (draft c.args.self.now c.args.jumps.now)
+      (draft c.statements.new.self c.statements.new.jumps) c.args.test k c.args.scope) (sym (switches.case_is c.args.case.now))
+      (switches.label_step c.args.self.now c.lead.new.self c.statements.new.self (c.args.jumps.now.breaks).items
+      (c.args.jumps.now.continues).items (c.statements.new.jumps.breaks).items (c.statements.new.jumps.continues).items
+      c.args.test c.here-to.result case.label (body_of (case.body).items) c.args.scope c.in_ok-word.word
+      c.in_ok-word.ensures.constant c.here-to.ensures.place c.requires.there
+      (subst (λ (j : Instruction). Leads c.args.self.now c.lead.new.self c.args.test j) c.label_test.ensures.jump
+      c.lead.ensures.leads)
+      (subst (λ (xs : List stmt_code.Stmt). EmitsStatements (draft c.lead.new.self c.args.jumps.now)
+      (draft c.statements.new.self c.statements.new.jumps) (body_of xs) c.args.scope) c.deref.ensures.value emits)))
+      c.statements.ensures.emits;
+}
+
+pub labels-loop-case-init : goal.labels-loop-case-init
+labels-loop-case-init t c = (omega arith, omega arith, λ end rest. rest)
+
+pub labels-loop-case-preserved : goal.labels-loop-case-preserved
+labels-loop-case-preserved t c =
+    let left = map case_of (drop (c.loop-case.case-index + 1) c.args.cases.now) in
+    let now = draft c.label.new.self c.label.new.jumps in
+    let room = switches.room_left c.args.cases.now c.loop-case.case-index c.args.tests c.loop-case.test
+    (end_of c.args.self.now) (end_of c.loop-case.self) c.loop-case-test.true c.loop-case.invariant.0
+    c.loop-case.invariant.1 c.requires.there in (
+      omega (arith, c.in_ok-test.ensures.more, c.loop-case.invariant.0),
+      omega (
+        arith,
+        c.loop-case.invariant.1,
+        (c.in_ok-label.ensures.emits now no_case (omega (arith, room))
+            (switches.no_labels now (c.loop-case.test + 1) c.args.scope)).longer,
+      ),
+      λ end rest.
+          c.loop-case.invariant.2 end
+          (subst (λ (xs : List case_code.Case). EmitsLabels (draft c.loop-case.self c.loop-case.jumps) end c.loop-case.test
+          (case_list (map case_of xs)) c.args.scope)
+          (next_of c.args.cases.now c.loop-case.case-index c.case-item.result c.loop-case-test.true c.case-item.is)
+          (c.in_ok-label.ensures.emits end (case_list left) room
+          (subst (λ (n : ℕ). EmitsLabels now end n (case_list left) c.args.scope) c.in_ok-test.ensures.more rest))),
+    )
+
+pub labels-returns : goal.labels-returns
+labels-returns t c = record {
+  emits = c.loop-case.invariant.2 (draft c.loop-case.self c.loop-case.jumps)
+      (subst (λ (xs : List case_code.Case). EmitsLabels (draft c.loop-case.self c.loop-case.jumps)
+      (draft c.loop-case.self c.loop-case.jumps) c.loop-case.test (case_list (map case_of xs)) c.args.scope)
+      (none_of c.args.cases.now c.loop-case.case-index c.loop-case-test.false)
+      (switches.no_labels (draft c.loop-case.self c.loop-case.jumps) c.loop-case.test c.args.scope));
+}
+
+pub switch-landing-requires : goal.switch-landing-requires
+switch-landing-requires t c = record {
+  there =
+      let none : (c.replace-outer.new.dest).items ≡ []
+      = ap (λ (v : Vec ℕ Global). v.items) c.replace-outer.ensures.after ∙ c.new.ensures.items in
+      subst (λ (places : List ℕ). AreBelow (end_of c.labels.new.self) places) (sym c.deref.ensures.value)
+      (((c.in_ok-labels.ensures.emits).breaks).below
+      (subst (λ (places : List ℕ). AreBelow (end_of c.put.new.self) places) (sym none) (λ k low. refl)));
+}
+
+pub switch-lead-requires : goal.switch-lead-requires
+switch-lead-requires t c = record {
+  there = omega (
+    arith,
+    c.here-past.ensures.place,
+    put_one c.test_places.new.self c.put.new.self c.args.scope.locals _ c.in_ok-put.ensures.puts,
+    (c.in_ok-labels.ensures.emits).longer,
+    (c.in_ok-landing.ensures.lands).long,
+  );
+}
+
+pub switch-returns : goal.switch-returns
+switch-returns t c = record {
+  emits =
+      let none : (c.replace-outer.new.dest).items ≡ []
+      = ap (λ (v : Vec ℕ Global). v.items) c.replace-outer.ensures.after ∙ c.new.ensures.items in
+      let cs : Cases = case_list (map case_of c.args.cases.now) in
+      subst (λ (places : List ℕ). EmitsStatement (draft c.args.self.now c.args.jumps.now)
+      (with_jumps c.lead.new.self places (c.labels.new.jumps.continues).items)
+      (Switch c.args.line c.args.of (expr_of c.args.value.now) cs) c.args.scope)
+      (sym (ap (λ (v : Vec ℕ Global). v.items) c.replace-outer.ensures.value))
+      (switches.switch c.args.self.now c.tick.new.self c.evaluation.new.self c.test_places.new.self c.put.new.self
+      c.labels.new.self c.landing.new.self c.lead.new.self (c.args.jumps.now.breaks).items
+      (c.args.jumps.now.continues).items (c.labels.new.jumps.breaks).items (c.labels.new.jumps.continues).items c.args.line
+      c.args.of (expr_of c.args.value.now) cs c.args.scope c.here-tests.result c.here-past.result c.here-end.result
+      c.in_ok-tick.ensures.puts c.in_ok-evaluation.ensures.emits c.here-tests.ensures.place
+      c.in_ok-test_places.ensures.keeps
+      (c.in_ok-test_places.ensures.places
+      ∙ ap (λ (n : ℕ). end_of c.evaluation.new.self + n) (sym (switches.counted c.args.cases.now)))
+      c.here-past.ensures.place c.in_ok-put.ensures.puts
+      (subst (λ (places : List ℕ). EmitsLabels (with_jumps c.put.new.self places (c.args.jumps.now.continues).items)
+      (draft c.labels.new.self c.labels.new.jumps) c.here-tests.result cs
+      (record c.args.scope { broken = c.args.scope.locals })) none c.in_ok-labels.ensures.emits)
+      (subst (λ (places : List ℕ). Landing c.labels.new.self c.landing.new.self places) c.deref.ensures.value
+      c.in_ok-landing.ensures.lands)
+      c.here-end.ensures.place c.lead.ensures.leads);
+}
+
+pub statement-returns-in-Switch : goal.statement-returns-in-Switch
+statement-returns-in-Switch t c = record {
+  emits = if_ok c.switch.result
+      (λ u emits. blocks.of_kind (draft c.args.self.now c.args.jumps.now) (draft c.switch.new.self c.switch.new.jumps)
+      c.args.stmt.now.line c.args.stmt.now.kind _ _ c.args.scope c.in-Switch.is
+      (switch_is c.args.stmt.now.line c.in-Switch.of c.in-Switch.value c.in-Switch.cases)
+      (subst (λ (xs : List case_code.Case). EmitsStatement (draft c.args.self.now c.args.jumps.now)
+      (draft c.switch.new.self c.switch.new.jumps) (Switch c.args.stmt.now.line c.in-Switch.of (expr_of c.in-Switch.value)
+      (case_list (map case_of xs))) c.args.scope) c.deref-in-Switch.ensures.value emits))
+      c.switch.ensures.emits;
 }

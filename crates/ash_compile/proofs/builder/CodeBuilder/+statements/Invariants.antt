@@ -1,9 +1,12 @@
-use Rattle.std.proofs.Common.{ℕ, ◌+◌, ◌*◌, drop, max}
+use Rattle.std.proofs.Common.{◌≡◌, ◌≤◌, ℕ, ◌+◌, ◌*◌, drop, map, max}
 use denote.Param.Weighed.{most}
 use Rattle.ash_typed.specs.declared.tree.statements.Stmt.{size-Stmt}
 use Rattle.ash_typed.specs.declared.tree.statements.Loop.{size-Loop}
-use Rattle.ash_typed.specs.BodyViews.{body_of}
-use Rattle.ash_compile.specs.EmittedStatements.{Draft, draft, EmitsStatements, with_count}
+use Rattle.ash_typed.specs.declared.tree.statements.Case.{size-Case}
+use Rattle.ash_typed.specs.StatementTree.{cases as case_list}
+use Rattle.ash_typed.specs.BodyViews.{body_of, case_of}
+use Rattle.ash_compile.specs.Emission.{end_of}
+use Rattle.ash_compile.specs.EmittedStatements.{Draft, draft, EmitsStatements, EmitsLabels, with_count}
 use Rattle.ash_compile.proofs.builder.CodeBuilder.+statements.Given as goal
 
 -- the depth of what a function goes down, and how near it is to the next statement
@@ -37,6 +40,24 @@ decreases-repeat l = 5 * size-Loop l.inside.now + 1
 
 abbrev pub decreases-for_loop : goal.decreases-for_loop
 decreases-for_loop l = 5 * size-Loop l.inside.now + 1
+
+abbrev pub decreases-label : goal.decreases-label
+decreases-label l = 5 * size-Case l.case.now
+
+abbrev pub decreases-labels : goal.decreases-labels
+decreases-labels l = 5 * most size-Case l.cases.now + 1
+
+abbrev pub decreases-switch : goal.decreases-switch
+decreases-switch l = 5 * most size-Case l.cases.now + 2
+
+-- With the code of the labels that are left, it is the code of all.
+abbrev pub invariant-labels-loop-case : goal.invariant-labels-loop-case
+invariant-labels-loop-case l =
+    (l.test ≡ l.tests + l.case-index)
+    × (end_of l.fn.self ≤ end_of l.self)
+    × ((end : Draft)
+    → EmitsLabels (draft l.self l.jumps) end l.test (case_list (map case_of (drop l.case-index l.cases))) l.scope
+    → EmitsLabels (draft l.fn.self l.fn.jumps) end l.tests (case_list (map case_of l.cases)) l.scope)
 
 -- With the code of the statements that are left, it is the code of all.
 abbrev pub invariant-statements-loop-stmt : goal.invariant-statements-loop-stmt

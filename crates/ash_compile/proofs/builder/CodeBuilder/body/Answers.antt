@@ -27,12 +27,12 @@ pub returns : goal.returns
 returns c = record {
   emits =
       let scope : Scope
-          = record {
-            locals = c.args.locals;
-            broken = c.args.locals;
-            continued = c.args.locals;
-            constructs = c.args.constructs;
-          } in
+      = record {
+        locals = c.args.locals;
+        broken = c.args.locals;
+        continued = c.args.locals;
+        constructs = c.args.constructs;
+      } in
       landings.body c.args.self.now c.statements.new.self c.lead_all.new.self c.lead_all-2.new.self
       (c.statements.new.jumps.breaks).items (c.statements.new.jumps.continues).items (body_of c.args.stmts.now) c.args.locals
       c.here-end.result c.args.constructs
