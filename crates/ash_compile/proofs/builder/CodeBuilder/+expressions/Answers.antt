@@ -15,11 +15,12 @@ use Rattle.ash_compile.specs.Places.{EmitsPlace}
 use Rattle.ash_compile.proofs.Emitted.{if_ok, of_kind}
 use Rattle.ash_compile.proofs.Emitted as emitted
 use Rattle.ash_compile.proofs.EmittedBranches as branches
-use Rattle.ash_compile.proofs.EmittedRows.{chain_step, chain_end, lazy_step, lazy_end, link_step, link_end, argument_step, argument_end}
-use Rattle.ash_compile.specs.Arguments.{EmitsArguments}
-use Rattle.ash_compile.proofs.Arguments.{no_code, one_argument}
 use Rattle.ash_compile.proofs.EmittedPlaces as places
 use Rattle.ash_compile.proofs.CastCode as casts
+use Rattle.ash_compile.proofs.EmittedRows.{chain_step, chain_end, lazy_step, lazy_end, link_step, link_end}
+use Rattle.ash_compile.proofs.EmittedRows.{argument_step, argument_end}
+use Rattle.ash_compile.specs.Arguments.{EmitsArguments}
+use Rattle.ash_compile.proofs.Arguments.{no_code, one_argument}
 use Rattle.ash_compile.proofs.builder.CodeBuilder.+expressions.Goals as goal
 
 pub chain-loop-operand-init : goal.chain-loop-operand-init
@@ -229,16 +230,6 @@ expression-returns-in-Path t c = record {
       c.path.ensures.emits;
 }
 
-pub expression-returns-in_ok-arguments-in-Call : goal.expression-returns-in_ok-arguments-in-Call
-expression-returns-in_ok-arguments-in-Call t c = record {
-  emits = if_ok c.call.result
-      (λ u next. of_kind c.args.self.now c.call.new.self c.args.expr.now.kind.value _ _ c.args.slot (sym c.deref.ensures ∙ c.in-Call.is) (call_is c.in-Call.target c.in-Call.parameters c.in-Call.arguments)
-      (next c.args.self.now (c.in-Call.parameters).items (map expr_of (c.in-Call.arguments).items)
-      (subst (λ (xs : List expr_code.Expr). EmitsArguments c.args.self.now c.arguments.new.self (map expr_of xs) c.args.slot) c.deref-in-Call.ensures.value c.in_ok-arguments-in-Call.ensures.emits)
-      (length-map (c.in-Call.arguments).items expr_of ∙ ap (λ (xs : List expr_code.Expr). length xs) (sym c.deref-in-Call.ensures.value) ∙ c.deref-in-Call.ensures.len ∙ sym c.len.ensures)))
-      c.call.ensures.emits;
-}
-
 pub expression-returns-in_ok-expression-in-Cast : goal.expression-returns-in_ok-expression-in-Cast
 expression-returns-in_ok-expression-in-Cast t c = record {
   emits = if_ok c.put-in-Cast.result
@@ -319,4 +310,14 @@ place-returns-in_ok-expression-in-Element-2 t c = record {
       (expr_of c.in-Element.index) c.in-Element.of c.args.slot c.in_ok-expression-in-Element.ensures.emits
       (subst (λ (r : ℕ). Emits c.expression-in-Element.new.self c.expression-in-Element-2.new.self (expr_of c.in-Element.index) r)
       c.in_ok-next-in-Element.ensures.next c.in_ok-expression-in-Element-2.ensures.emits));
+}
+
+pub expression-returns-in_ok-arguments-in-Call : goal.expression-returns-in_ok-arguments-in-Call
+expression-returns-in_ok-arguments-in-Call t c = record {
+  emits = if_ok c.call.result
+      (λ u next. of_kind c.args.self.now c.call.new.self c.args.expr.now.kind.value _ _ c.args.slot (sym c.deref.ensures ∙ c.in-Call.is) (call_is c.in-Call.target c.in-Call.parameters c.in-Call.arguments)
+      (next c.args.self.now (c.in-Call.parameters).items (map expr_of (c.in-Call.arguments).items)
+      (subst (λ (xs : List expr_code.Expr). EmitsArguments c.args.self.now c.arguments.new.self (map expr_of xs) c.args.slot) c.deref-in-Call.ensures.value c.in_ok-arguments-in-Call.ensures.emits)
+      (length-map (c.in-Call.arguments).items expr_of ∙ ap (λ (xs : List expr_code.Expr). length xs) (sym c.deref-in-Call.ensures.value) ∙ c.deref-in-Call.ensures.len ∙ sym c.len.ensures)))
+      c.call.ensures.emits;
 }
