@@ -408,6 +408,10 @@ array_method start mid old new method e ps es slot first second puts =
 
 -- methods of host objects
 
+host_is : {s : ModuleSignatures} {o : ObjectType} {id : ℕ} {result other : Option VarType} {ps : List VarType}
+    → IsMethod s o (methods.Host id result) ps other → (kind : ℕ) × (o ≡ objects.Host kind)
+host_is (operations.of_host offered) = (_, refl)
+
 pub host_method : (start mid old put new : CodeBuilder) (id : ℕ) (result : Option VarType) (e : Expr)
     (ps : List VarType)
     (es : List Expr) (slot count : ℕ)
@@ -420,7 +424,9 @@ host_method start mid old put new id result e ps es slot count first second long
     (λ s of typed. (_, (typed_invoked typed).typed)) (λ s of typed. (ps, (typed_invoked typed).args))
     (λ s of from between at scene typed suits under object does has moves.
     let invoked = typed_invoked typed in
-    does_host_method s scene invoked.object id result e es ps from between at slot invoked.typed invoked.args under
+    let host = host_is invoked.is in
+    does_host_method s scene host.0 id result e es ps from between at slot
+    (subst (λ (o : ObjectType). IsWellTyped s.env e (value (vars.Handle o))) host.1 invoked.typed) invoked.args under
     object does
     (subst (λ (n : ℕ). HasAt s at (i.CallHost slot id result (slot + 1) n)) (sym long) has) moves)
 
