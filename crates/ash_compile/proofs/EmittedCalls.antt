@@ -146,10 +146,10 @@ function_is : (s : Scene) (place : ℕ) (result other : Option VarType) (ps : Li
 function_is s place result other ps scene (operations.function {name = name} at) =
     let m = ((s.context).program).tree in
     let listed : slice_get (declared s.context).functions place ≡ Some
-        (record { name = name; result = result; parameters = ps })
+    (record { name = name; result = result; parameters = ps })
     = ap (λ (x : ModuleSignatures). slice_get x.functions place) (sym scene.declares) ∙ at in
     let (f, there, is) = mapped signature_of (slice_get m.functions place) _
-        (sym (slice_get-map signature_of m.functions place) ∙ listed) in
+    (sym (slice_get-map signature_of m.functions place) ∙ listed) in
     record { function = f; there = there; takes = sym (ap (λ (x : Signature). x.parameters) is) }
 
 pub function : (start old new : CodeBuilder) (place : ℕ) (result : Option VarType) (ps : List VarType)
@@ -196,8 +196,14 @@ method_is s o class place result other ps scene (operations.of_class {c = cs} {n
     = ap (λ (x : ClassTypes). slice_get x.methods place) of_k ∙ here in
     let (f, found, is) = mapped signature_of (slice_get k.methods place) signature
     (sym (slice_get-map signature_of k.methods place) ∙ own) in
-    record { source = k; method = f; there = there; here = found; takes = sym
-    (ap (λ (x : Signature). x.parameters) is) }
+    record {
+      source = k;
+      method = f;
+      there = there;
+      here = found;
+      takes = sym
+          (ap (λ (x : Signature). x.parameters) is);
+    }
 
 pub method : (start mid old put new : CodeBuilder) (class place index : ℕ) (result : Option VarType) (e : Expr)
     (ps : List VarType) (es : List Expr) (slot : ℕ)
