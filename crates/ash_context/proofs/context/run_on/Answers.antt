@@ -37,7 +37,8 @@ returns-clause-says g c = λ s run same compiles.
     let there : Compiles G s (control_of 0 (begin.result).frames) first run parts
     = subst (λ (f : Frames). Compiles G s (control_of 0 f) first run parts) (sym begin.ensures.frames) compiles in
     subst (λ (f : Frames). Says G s.names (λ world. outcome_of (run (first world)))
-    (λ world. Takes s (control_of 0 f) (first world) ran.result.steps) parts c.finish.result.outcome c.finish.result.parts)
+    (λ world. Takes s (control_of 0 f) (first world) ran.result.steps) parts c.finish.result.outcome
+    c.finish.result.parts)
     begin.ensures.frames
     (says G s first run parts c.finish.result.parts begin.result ran.new.state begin.ensures.same begin.ensures.events
     (λ records. begin.ensures.begun s.names records) there ran.result.steps code (same ∙ sym c.parts.ensures.parts)

@@ -43,7 +43,8 @@ returns-in-Ok-clause-called g c = λ x s f context is_code set at well.
     let stack : Frames = beginning_over function (code_of code function).line args rest in
     let is : c.replace-stack.result ≡ stack = c.replace-stack.ensures.value ∙ begun_is.1 in
     let run = run_of_call x.program budget (entry_of_function f) in
-    let compiles = function_compiles G x s code context is_code set budget parts rest f function args at well begun_is.2 in
+    let compiles = function_compiles G x s code context is_code set budget parts rest f function args at well
+    begun_is.2 in
     let framed = function_frame G x s code context is_code set budget parts rest f function args at well begun_is.2 in
     let said = says_in_frame G s run parts result.parts budget stack c.replace-stack.result is
     (frame_of f.name f.line words.Null args) framed result.outcome done.steps
@@ -53,7 +54,8 @@ returns-in-Ok-clause-called g c = λ x s f context is_code set at well.
     says_as G s.names (λ w. outcome_of (run (first_of_function f args budget w)))
     (λ w. call_entry x.program args budget w (entry_of_function f))
     (λ w o. Takes s (control_of 0 stack) (first_of_function f args budget w) done.steps o)
-    (λ w o. TakesFromEntry s function args (first_of_function f args budget w) done.steps o) parts result.parts result.outcome
+    (λ w o. TakesFromEntry s function args (first_of_function f args budget w) done.steps o) parts result.parts
+    result.outcome
     (λ records. refl)
     (λ records o takes. record { rest = rest; room = rw set.code begun_is.2; takes = takes }) said
 
