@@ -1,9 +1,8 @@
 //! The boxes that a test has.
 
 use crate::noted::{Inner, Log, new_box};
-use ash_host::{Counter, HostObject, Tally, Target};
+use ash_host::{Counter, HostObject, NoMemory, Tally, Target};
 use std::alloc::Global;
-use std::test::Fail;
 
 /// How many boxes are free: counters, and then boxes of the kind that answers badly.
 #[derive(Clone, Copy)]
@@ -18,13 +17,17 @@ fn push_box(
     log: &Log,
     target: Target,
     inner: Inner,
-) -> Result<(), Fail> {
+) -> Result<(), NoMemory> {
     boxes.push(Box::new(alloc, new_box(log, target, inner)?)?)?;
     Ok(())
 }
 
 /// Free boxes, named from 1 on.
-pub fn boxes_of(alloc: Global, log: &Log, pool: Pool) -> Result<Vec<Box<dyn HostObject>>, Fail> {
+pub fn boxes_of(
+    alloc: Global,
+    log: &Log,
+    pool: Pool,
+) -> Result<Vec<Box<dyn HostObject>>, NoMemory> {
     let mut boxes: Vec<Box<dyn HostObject>> = Vec::new(alloc);
     for place in 0..pool.counters {
         let target = Target::Object(1 + place as u64);
@@ -44,7 +47,7 @@ pub fn boxes_of(alloc: Global, log: &Log, pool: Pool) -> Result<Vec<Box<dyn Host
 }
 
 /// A tally as the service.
-pub fn services_of(alloc: Global, log: &Log) -> Result<Vec<Box<dyn HostObject>>, Fail> {
+pub fn services_of(alloc: Global, log: &Log) -> Result<Vec<Box<dyn HostObject>>, NoMemory> {
     let mut boxes: Vec<Box<dyn HostObject>> = Vec::new(alloc);
     push_box(
         alloc,

@@ -5,7 +5,7 @@ use crate::noted::{Log, Notes, take_notes};
 use crate::plain::{Task, run};
 use crate::texts::{NAME, machine_text, plain_text};
 use ash_context::outcome::{Outcome, RunFault};
-use ash_host::{Event, HostAnswer, HostObject, Target};
+use ash_host::{Event, HostAnswer, HostObject, NoMemory, Target};
 use ash_plain_data::classes::Program;
 use ash_plain_data::host_call::{HostCall, HostRecord};
 use ash_plain_scripts::ends::RunEnd;
@@ -13,7 +13,6 @@ use ash_plain_world::activity::World;
 use ash_typed::Module;
 use std::alloc::{AllocError, Global};
 use std::collections::VecDeque;
-use std::test::Fail;
 
 /// Both, after the same runs, and the numbers that boxes got, each after the name of the box.
 #[derive(Drop)]
@@ -109,14 +108,12 @@ pub fn run_both<B: HostObject>(
     log: &Log,
     task: Task<'_>,
     budget: u64,
-) -> Result<(Option<Pair<B>>, Compared), Fail> {
+) -> Result<(Option<Pair<B>>, Compared), NoMemory> {
     let Pair {
         machine,
         world,
         mut numbers,
     } = pair;
-    let mut machine = machine;
-    machine.parts.events = Vec::new(alloc);
     let (machine, outcome) = match task {
         Task::Load => machine.load(budget),
         Task::Call(place, args) => machine.run(place, args, budget),
@@ -127,11 +124,11 @@ pub fn run_both<B: HostObject>(
         is_short,
         ..
     } = take_notes(alloc, log);
-    number_boxes(&mut numbers, &records, &machine.parts.events)?;
+    number_boxes(&mut numbers, &records, &machine.parts().events)?;
     let gone = numbers_of(alloc, &gone, &numbers)?;
     let records = with_numbers(alloc, records, &numbers)?;
     let is_starved = starved(&records);
-    let mut found = machine_text(alloc, tree, outcome, &machine.parts, &gone)?;
+    let mut found = machine_text(alloc, tree, outcome, machine.parts(), &gone)?;
     if is_short {
         found.push_str(" (a note is missing)")?;
     }

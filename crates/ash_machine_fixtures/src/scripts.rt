@@ -6,12 +6,11 @@ use crate::noted::{Log, new_log};
 use crate::pairs::{Compared, Pair, run_both};
 use crate::plain::{Task, new_world};
 use crate::registered::ODD;
-use ash_host::{Counter, HostObject, Word};
+use ash_host::{Counter, HostObject, NoMemory, Word};
 use ash_integers::word_from;
 use ash_objects::Objects;
 use ash_typed::{Function, Module, VarType};
 use std::alloc::{AllocError, Global};
-use std::test::Fail;
 
 /// What came of a script with some budget.
 #[derive(Drop)]
@@ -85,7 +84,7 @@ fn call_both<B: HostObject>(
     log: &Log,
     call: &str,
     budget: u64,
-) -> Result<(Option<Pair<B>>, Compared), Fail> {
+) -> Result<(Option<Pair<B>>, Compared), NoMemory> {
     let name = call.split(' ').next().unwrap_or("");
     match place_of(tree, name) {
         Some(place) => {
@@ -112,7 +111,7 @@ fn play_with<B: HostObject>(
     log: &Log,
     calls: &[&str],
     budget: u64,
-) -> Result<Played, Fail> {
+) -> Result<Played, NoMemory> {
     let Ok(machine) = Machine::new(alloc, tree, Objects::new(alloc, boxes.0, boxes.1)) else {
         return Ok(Played {
             fault: Some(String::from_str(alloc, "it is not compiled")?),
@@ -159,7 +158,7 @@ pub fn play(
     pool: Pool,
     calls: &[&str],
     budget: u64,
-) -> Result<Played, Fail> {
+) -> Result<Played, NoMemory> {
     let log = new_log(alloc)?;
     let boxes = boxes_of(alloc, &log, pool)?;
     let services = services_of(alloc, &log)?;

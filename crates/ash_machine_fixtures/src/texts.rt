@@ -16,7 +16,6 @@ use ash_run_steps::beginning::Parts;
 use ash_typed::{Class, Module};
 use std::alloc::{AllocError, Global};
 use std::fmt::Write;
-use std::test::Fail;
 
 /// The name of the module.
 pub const NAME: &str = "m";
@@ -109,7 +108,7 @@ fn state_of<B: HostObject>(alloc: Global, object: &B) -> Result<Vec<u8>, NoMemor
     Ok(state)
 }
 
-fn write_host<B: HostObject>(alloc: Global, out: &mut String, object: &B) -> Result<(), Fail> {
+fn write_host<B: HostObject>(alloc: Global, out: &mut String, object: &B) -> Result<(), NoMemory> {
     write!(out, " host {} ", object.kind())?;
     let state = state_of(alloc, object)?;
     Ok(write_bytes(out, &state)?)
@@ -140,7 +139,11 @@ fn write_elements(out: &mut String, of: &Elements) -> Result<(), AllocError> {
     }
 }
 
-fn write_body<B: HostObject>(alloc: Global, out: &mut String, body: &Body<B>) -> Result<(), Fail> {
+fn write_body<B: HostObject>(
+    alloc: Global,
+    out: &mut String,
+    body: &Body<B>,
+) -> Result<(), NoMemory> {
     match body {
         Body::Script(script) => {
             if script.module != SLOT {
@@ -172,7 +175,7 @@ fn write_table<B: HostObject>(
     alloc: Global,
     out: &mut String,
     table: &Objects<B>,
-) -> Result<(), Fail> {
+) -> Result<(), NoMemory> {
     for number in table.numbers() {
         write!(out, "; {} count {}", *number, table.count(*number))?;
         if let Some(body) = table.body(*number) {
@@ -195,7 +198,7 @@ fn write_services<B: HostObject>(
     alloc: Global,
     out: &mut String,
     services: &[B],
-) -> Result<(), Fail> {
+) -> Result<(), NoMemory> {
     out.push_str(" | services")?;
     for service in services {
         out.push_str(" ")?;
@@ -241,7 +244,7 @@ pub fn machine_text<B: HostObject>(
     outcome: Result<Outcome, RunFault>,
     parts: &Parts<B>,
     gone: &[u64],
-) -> Result<String, Fail> {
+) -> Result<String, NoMemory> {
     let mut out = String::new(alloc);
     write_outcome(&mut out, tree, outcome)?;
     if let Ok(Outcome::Finished(Some(value))) = outcome {
@@ -309,7 +312,7 @@ pub fn events_text(alloc: Global, events: &[Event]) -> Result<String, AllocError
 }
 
 /// The globals, the numbers of the objects and the states of the services.
-pub fn left_text<B: HostObject>(alloc: Global, parts: &Parts<B>) -> Result<String, Fail> {
+pub fn left_text<B: HostObject>(alloc: Global, parts: &Parts<B>) -> Result<String, NoMemory> {
     let mut out = String::from_str(alloc, NAME)?;
     write_words(&mut out, &parts.globals)?;
     out.push_str(" | objects")?;

@@ -163,7 +163,7 @@ int g() { l.resize(2); Counter c(8); return l[1].value + c.add(1); } void h() { 
 ];
 
 /// The module of a script.
-fn tree_of(alloc: Global, source: &str) -> Result<Module, Fail> {
+pub fn tree_of(alloc: Global, source: &str) -> Result<Module, Fail> {
     let registry = registry(alloc)?;
     let sources = Sources {
         registry: &registry,
@@ -172,17 +172,17 @@ fn tree_of(alloc: Global, source: &str) -> Result<Module, Fail> {
     Ok(sources.read_tree(alloc, source.as_bytes())?)
 }
 
-/// Plays a script with a budget, and fails if the ends of a run differ.
-fn played(
+/// Plays calls with a budget, and fails if the ends of a run differ.
+pub fn play_once(
     rt: &impl Abort,
     alloc: Global,
-    script: &Script,
+    calls: (&str, &[&str]),
     tree: &Module,
     budget: u64,
 ) -> Result<Played, Fail> {
-    let played = play(alloc, tree, POOL, script.calls, budget)?;
+    let played = play(alloc, tree, POOL, calls.1, budget)?;
     if let Some(fault) = &played.fault {
-        check_text(rt, fault, "", (script.what, "the run"));
+        check_text(rt, fault, "", (calls.0, "the run"));
     }
     Ok(played)
 }
@@ -192,9 +192,10 @@ fn check_scripts(rt: &impl Abort, alloc: Global, scripts: &[Script]) -> Result<(
     for script in scripts {
         let tree = tree_of(alloc, script.source)?;
         for budget in 0..script.enough {
-            drop(played(rt, alloc, script, &tree, budget)?);
+            drop(play_once(rt, alloc, (script.what, script.calls), &tree, budget)?);
         }
-        if played(rt, alloc, script, &tree, script.enough)?.is_aborted {
+        let last = play_once(rt, alloc, (script.what, script.calls), &tree, script.enough)?;
+        if last.is_aborted {
             check_text(rt, "aborted", "enough", (script.what, "the budget"));
         }
     }

@@ -69,9 +69,9 @@ fn check_answer<B: HostObject>(
 ) -> Result<(), Fail> {
     let (outcome, seq) = answer;
     let (what, (_, reply, events)) = wanted;
-    let found = reply_text(alloc, tree, outcome, seq, &machine.parts.events)?;
+    let found = reply_text(alloc, tree, outcome, seq, &machine.parts().events)?;
     check_text(rt, &found, reply, (what, "the reply"));
-    let found = events_text(alloc, &machine.parts.events)?;
+    let found = events_text(alloc, &machine.parts().events)?;
     check_text(rt, &found, events, (what, reply));
     Ok(())
 }
@@ -86,9 +86,9 @@ fn check_unfinished<B: HostObject>(
     wanted: (&str, Exchange<'_>),
 ) -> Result<(), Fail> {
     let (what, (_, reply, events)) = wanted;
-    let found = reply_text(alloc, tree, outcome, 1, &machine.parts.events)?;
+    let found = reply_text(alloc, tree, outcome, 1, &machine.parts().events)?;
     check_beginning(rt, &found, reply, (what, "the reply"));
-    let found = events_text(alloc, &machine.parts.events)?;
+    let found = events_text(alloc, &machine.parts().events)?;
     check_beginning(rt, &found, events, (what, reply));
     Ok(())
 }
@@ -103,8 +103,6 @@ fn called<B: HostObject>(
 ) -> Result<(Machine<B>, Result<Outcome, RunFault>), Fail> {
     let place = place_of(tree, call.split(' ').next().unwrap_or("")).unwrap_or(0);
     let args = arguments_of(alloc, &tree.functions[place], call)?;
-    let mut machine = machine;
-    machine.parts.events = Vec::new(alloc);
     Ok(machine.run(place, &args, budget))
 }
 
@@ -138,7 +136,7 @@ fn check_calls<B: HostObject>(
             Verb::Other => {}
         }
     }
-    let found = left_text(alloc, &machine.parts)?;
+    let found = left_text(alloc, machine.parts())?;
     if !row.left.contains(found.as_str()) {
         check_text(rt, &found, row.left, (row.what, "what is left"));
     }
