@@ -83,7 +83,8 @@ fn invoke_odd(method: u16, args: &[Word]) -> HostAnswer {
     }
 }
 
-/// How one that answers badly begins: it raises at 101, gives a value at 102, has no memory at 103, and else begins well.
+/// How one that answers badly begins: it raises at 101, gives a value at 102, and has no memory at 103. Else it begins
+/// well.
 fn start_odd(args: &[Word]) -> HostAnswer {
     match args {
         [Word::Int(101)] => HostAnswer::Raise(77),

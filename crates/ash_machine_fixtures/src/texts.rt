@@ -1,5 +1,5 @@
-//! What a run leaves, as a text: how it ended, the events, the globals, the objects with their counts, and the states of
-//! the services.
+//! What a run leaves, as a text: how it ended, the events, the globals, the objects with their counts, and the states
+//! of the services.
 
 use crate::machine::SLOT;
 use crate::words::{

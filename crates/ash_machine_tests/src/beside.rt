@@ -27,7 +27,8 @@ const POOL: Pool = Pool {
 static PHRASES: [Script; 8] = [
     Script {
         what: "operands that change each other",
-        source: "int g; int f(int a) { int b = a + (a = 5) * a++ - (g = a) + g--; return b + (a > 3 ? a-- : ++a) * a; }
+        source: "int g; int f(int a) { int b = a + (a = 5) * a++ - (g = a) + g--;
+return b + (a > 3 ? a-- : ++a) * a; }
 int h(int k) { int x = k; x += (x = 3) + x; x -= x++ - --x; return x; }",
         calls: &["f 2", "h 7"],
         enough: 5,
@@ -72,7 +73,8 @@ int r(int k) { return k <= 0 ? 1 : r(k - 1) + r(k - 2); }",
     },
     Script {
         what: "interfaces, casts and identity",
-        source: "interface I { int v(); void set(int k); } class A : I { int k; int v() { return k; } void set(int j) { k = j; } }
+        source: "interface I { int v(); void set(int k); } class A : I { int k; int v() { return k; }
+void set(int j) { k = j; } }
 class B : I { array<int> l; int v() { return l.length(); } void set(int j) { l.insertLast(j); } }
 I@ g; A a;
 int f(int n) { @g = n == 0 ? cast<I>(a) : cast<I>(B()); g.set(n + 4); A@ b = cast<A>(g); if (b is a) return g.v();
@@ -91,7 +93,8 @@ int past(uint i) { return l[i].v; }",
     },
     Script {
         what: "conversions, shifts and quotients",
-        source: "int64 f(int a, uint b, int64 c, uint64 d) { a = b; b = c >>> 3; c = a * b; d = d << c; a -= d; b /= (a | 1);
+        source: "int64 f(int a, uint b, int64 c, uint64 d) { a = b; b = c >>> 3; c = a * b; d = d << c; a -= d;
+b /= (a | 1);
 return int(d) + int64(b) - (a >> 1) + uint(c % (b + 1)) + ~a; } int q(int a, int b) { return a / b + a % b; }",
         calls: &[
             "f -5 4000000000 -77 18446744073709551615",
@@ -104,40 +107,60 @@ return int(d) + int64(b) - (a >> 1) + uint(c % (b + 1)) + ~a; } int q(int a, int
         what: "initializers of fields and globals",
         source: "int n = 2; int next() { n *= 2; return n; } class Q { int w = next(); }
 class P { Q q; Q@ r; int v = next(); P(int k) { v += k; @r = q; if (k == 0) return; next(); } }
-P@ g = P(5), h = P(0); array<P@> l(1); bool b = g.r is g.q; int z = next() / (n - 128); int f() { return n + z + g.v + h.q.w; }",
+P@ g = P(5), h = P(0); array<P@> l(1); bool b = g.r is g.q; int z = next() / (n - 128);
+int f() { return n + z + g.v + h.q.w; }",
         calls: &["f"],
         enough: 40,
     },
 ];
 
-static HOSTS: [Script; 7] = [
+const ANSWERING_BADLY: &str =
+    "int n; int bad(int k) { Odd o(0); n++; switch (k) { case 0: return o.bad(); case 1: return o.none();
+case 2: o.some(); break; case 3: return o.raise(9); case 4: return o.truth; case 5: n = int(o.number);
+o.number = 3; o.truth = 4; }
+n++; return n; }";
+
+static HOSTS: [Script; 9] = [
     Script {
         what: "counters in a batch, in a block and in arguments",
         source: "class B { Counter@ c; } int two(Counter@ h, int k) { return h.value + k; }
 void f() { B@ x = B(); B@ y = B(); @x.c = Counter(1); B@ z = B(); @y.c = Counter(2); @z.c = x.c; }
-int g() { Counter@ a = Counter(1); { Counter b(5); int r = two(@a = b, b.add(1)); @a = null; } return two(Counter(7), 3); }",
+int g() { Counter@ a = Counter(1); { Counter b(5); int r = two(@a = b, b.add(1)); @a = null; }
+return two(Counter(7), 3); }",
         calls: &["f", "g"],
         enough: 20,
     },
     Script {
         what: "properties and services",
-        source: "Counter c(3); int f(int k) { c.value += c.add(k) * tally(c.value++); --c.value; return c.value = total() + k; }
+        source: "Counter c(3); int f(int k) { c.value += c.add(k) * tally(c.value++); --c.value;
+return c.value = total() + k; }
 int g() { return (c.value = 4) + c.value + tally(c.value) - total(); }",
         calls: &["f 2", "g", "f -1"],
         enough: 8,
     },
     Script {
         what: "a raised code, out of frames that hold counters",
-        source: "int n; void deep(int k, Counter@ h) { Counter c(k); n++; if (k == 0) h.fail(70000); deep(k - 1, c); n += 100; }
+        source: "int n; void deep(int k, Counter@ h) { Counter c(k); n++; if (k == 0) h.fail(70000);
+deep(k - 1, c); n += 100; }
 void f() { Counter c(9); deep(2, c); }",
         calls: &["f", "f"],
         enough: 20,
     },
     Script {
-        what: "answers of another type",
-        source: "int n; int bad(int k) { Odd o(0); n++; switch (k) { case 0: return o.bad(); case 1: return o.none();
-case 2: o.some(); break; case 3: return o.raise(9); case 4: return o.truth; case 5: n = int(o.number); o.number = 3; o.truth = 4; }
-n++; return n; }",
+        what: "answers of another type, and none",
+        source: ANSWERING_BADLY,
+        calls: &["bad 0", "bad 1"],
+        enough: 12,
+    },
+    Script {
+        what: "an answer if none is declared, and a raised code",
+        source: ANSWERING_BADLY,
+        calls: &["bad 2", "bad 3"],
+        enough: 12,
+    },
+    Script {
+        what: "properties of another type",
+        source: ANSWERING_BADLY,
         calls: &["bad 4", "bad 5"],
         enough: 12,
     },

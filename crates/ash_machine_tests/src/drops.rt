@@ -27,7 +27,8 @@ static ROWS: [Row; 6] = [
     },
     Row {
         what: "a batch that is held in another order",
-        source: "array<Counter@> l(5); void f() { for (uint i = 5; i > 0; i--) @l[i - 1] = Counter(i); l.resize(0); }",
+        source: "array<Counter@> l(5); void f() { for (uint i = 5; i > 0; i--) @l[i - 1] = Counter(i);
+l.resize(0); }",
         gone: "| gone 2 3 4 5 6 |",
     },
     Row {
@@ -37,7 +38,8 @@ static ROWS: [Row; 6] = [
     },
     Row {
         what: "all frames at once, by an exception",
-        source: "void g(int z, Counter@ h) { Counter b(2); { Counter c(3); z = 1 / z; } } void f() { g(0, Counter(1)); }",
+        source: "void g(int z, Counter@ h) { Counter b(2); { Counter c(3); z = 1 / z; } }
+void f() { g(0, Counter(1)); }",
         gone: "| gone 1 2 3 |",
     },
     Row {

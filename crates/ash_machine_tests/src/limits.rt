@@ -108,7 +108,8 @@ static ELEMENTS: [Row<'static>; 1] = [Row {
     steps: &[],
     exchanges: &[
         (
-            "load m array<int> a; void f(uint n) { a.resize(n); } uint push(int k) { a.insertLast(k); return a.length(); } \
+            "load m array<int> a; void f(uint n) { a.resize(n); } \
+        uint push(int k) { a.insertLast(k); return a.length(); } \
         uint made(uint n) { return array<bool>(n).length(); } int at(uint i) { return a[i]; }",
             "ok seq 1",
             "",

@@ -23,7 +23,7 @@ int f() { for (int i = 0; i < 5; i++) l.insertLast(B(i)); Counter c(4); @l[1].c 
 n = l[4].m(c.add(tally(g.value))); l.resize(2); return n / (n - 18); }";
 
 const LEFT: &str =
-    "exception DivideByZero f 4 | Drew 8; Drew 9; Called service 0 1; Called 8 1; Dropped 9; \
+    "exception DivideByZero f 4 | Drew 8; Drew 9; Called service 0 1; Called 8 1; Dropped 9;  \
 | gone | globals object 1 object 2 18 handle handle int | objects; 1 count 1 array class 0 object 3 object 4 \
 handle handle; 2 count 1 host 1 07000000; 3 count 1 class 0 null 3 handle int; 4 count 1 class 0 object 8 4 \
 handle int; 8 count 1 host 1 0b000000 | services 07000000";
