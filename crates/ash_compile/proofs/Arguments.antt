@@ -67,12 +67,12 @@ more_after : (word : Word) (p : Progress (List Word)) (last : Run Word)
     ≡ onward (onward p (λ rest. give (word ∷ rest))) (λ ws. last >>= (λ v. give (ws ++ v ∷ [])))
 more_after word (Done ws d) last = given_after (last d)
   where
-  given_after : (q : Progress Word)
-      → onward (onward q (λ v. give (ws ++ v ∷ []))) (λ rest. give (word ∷ rest))
-      ≡ onward q (λ v. give ((word ∷ ws) ++ v ∷ []))
-  given_after (Done v e) = refl
-  given_after (Ended i e) = refl
-  given_after NoStep = refl
+    given_after : (q : Progress Word)
+        → onward (onward q (λ v. give (ws ++ v ∷ []))) (λ rest. give (word ∷ rest))
+        ≡ onward q (λ v. give ((word ∷ ws) ++ v ∷ []))
+    given_after (Done v e) = refl
+    given_after (Ended i e) = refl
+    given_after NoStep = refl
 more_after word (Ended i d) last = refl
 more_after word NoStep last = refl
 
@@ -81,17 +81,17 @@ pub arguments_more : (calls : Calls) (es : List Expr) (e : Expr) (a : Activity)
 arguments_more calls [] e a = refl
 arguments_more calls (x ∷ es) e a = after_first (expression calls x a) (arguments_more calls es e)
   where
-  after_first : (p : Progress Word)
-      → ((b : Activity) → arguments calls (exprs (es ++ e ∷ [])) b
-      ≡ one_more (arguments calls (exprs es)) (expression calls e) b)
-      → onward p (λ word. arguments calls (exprs (es ++ e ∷ [])) >>= (λ rest. give (word ∷ rest)))
-      ≡ onward (onward p (λ word. arguments calls (exprs es) >>= (λ rest. give (word ∷ rest))))
-      (λ ws. expression calls e >>= (λ v. give (ws ++ v ∷ [])))
-  after_first (Done word b) later =
-      ap (λ (p : Progress (List Word)). onward p (λ rest. give (word ∷ rest))) (later b)
-      ∙ more_after word (arguments calls (exprs es) b) (expression calls e)
-  after_first (Ended i b) later = refl
-  after_first NoStep later = refl
+    after_first : (p : Progress Word)
+        → ((b : Activity) → arguments calls (exprs (es ++ e ∷ [])) b
+        ≡ one_more (arguments calls (exprs es)) (expression calls e) b)
+        → onward p (λ word. arguments calls (exprs (es ++ e ∷ [])) >>= (λ rest. give (word ∷ rest)))
+        ≡ onward (onward p (λ word. arguments calls (exprs es) >>= (λ rest. give (word ∷ rest))))
+        (λ ws. expression calls e >>= (λ v. give (ws ++ v ∷ [])))
+    after_first (Done word b) later =
+        ap (λ (p : Progress (List Word)). onward p (λ rest. give (word ∷ rest))) (later b)
+        ∙ more_after word (arguments calls (exprs es) b) (expression calls e)
+    after_first (Ended i b) later = refl
+    after_first NoStep later = refl
 
 -- what arguments are of
 
@@ -133,7 +133,7 @@ pub argued_good : (s : Scene) (es : List Expr) (types : List VarType) (a b : Act
     → AreSoundArguments s.env types (exprs es) → Good s a → arguments (calls_of s) (exprs es) a ≡ Done ws b → Good s b
 argued_good s es types a b ws scene sound good ran =
     let fewer = most_left (arguments (calls_of s) (exprs es) a) a.ticks ws b
-        (((ticks_fall (s.context).program s.depth).phrases).argument_lists (exprs es) a good.1) ran in
+    (((ticks_fall (s.context).program s.depth).phrases).argument_lists (exprs es) a good.1) ran in
     ((((argued s es types a b ws scene sound good ran).goes).passes).well, omega (arith, fewer, good.1))
 
 -- code
@@ -221,11 +221,11 @@ one_argument start old new es e slot next is first second = record {
       let parts = split es e sound in
       let typed = typed_last parts.last in
       let last : DoesExpression s e (end_of old) (end_of new) (slot + length es)
-          = subst (λ (k : ℕ). DoesExpression s e (end_of old) (end_of new) k) is
-          (second.does s typed.0 scene typed.1
-          (stands_after s (code_of new) (end_of start) (end_of old) (end_of new) (first.keeps).longer stands) suits) in
+      = subst (λ (k : ℕ). DoesExpression s e (end_of old) (end_of new) k) is
+      (second.does s typed.0 scene typed.1
+      (stands_after s (code_of new) (end_of start) (end_of old) (end_of new) (first.keeps).longer stands) suits) in
       let before = first.does s parts.before scene parts.first
-          (stands_before s old new (end_of start) second.keeps stands) (suits_before s old new second.keeps suits) in
+      (stands_before s old new (end_of start) second.keeps stands) (suits_before s old new second.keeps suits) in
       let longer : length es + 1 ≡ length (es ++ e ∷ []) = sym (length-append es (e ∷ [])) in
       subst (λ (n : ℕ). ComputesAll s.setting (Good s) s.function s.room (arguments (calls_of s) (exprs (es ++ e ∷ [])))
       (end_of start) (end_of new) slot n) longer

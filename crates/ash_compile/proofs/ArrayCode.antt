@@ -55,8 +55,8 @@ first_word [] zero word is = absurd (cc)
 first_word [] (suc k) word is = absurd (cc)
 first_word (x ∷ xs) zero word is = head_is is
   where
-  head_is : {x y : Word} → x ∷ [] ≡ y ∷ [] → x ≡ y
-  head_is same = cc
+    head_is : {x y : Word} → x ∷ [] ≡ y ∷ [] → x ≡ y
+    head_is same = cc
 first_word (x ∷ xs) (suc k) word is = first_word xs k word is
 
 -- what an instruction of a method does, of the object in a slot and the argument in the next one
@@ -186,7 +186,7 @@ module _ (s : Scene) (scene : IsScene s) where
       ∙ ap (λ (us : List Word). guarded_onward (Some (construct_array (element_of (s.context).program of) us b)) (put slot c))
       (one_word ws w.slots values (ap (λ (n : ℕ). take n (drop slot w.slots)) (sym (arguments_long es sound)) ∙ are)))
     where
-    one_word : {all : _} (ws slots : List Word) → AreValues (s.context).program all (vars.Integer ints.Uint ∷ []) ws
-        → take 1 (drop slot slots) ≡ ws → slice_index_or slots slot words.Null ∷ [] ≡ ws
-    one_word _ slots (and_value {word = word} v no_values) are =
-        ap (λ (x : Word). x ∷ []) (first_word slots slot word are)
+      one_word : {all : _} (ws slots : List Word) → AreValues (s.context).program all (vars.Integer ints.Uint ∷ []) ws
+          → take 1 (drop slot slots) ≡ ws → slice_index_or slots slot words.Null ∷ [] ≡ ws
+      one_word _ slots (and_value {word = word} v no_values) are =
+          ap (λ (x : Word). x ∷ []) (first_word slots slot word are)

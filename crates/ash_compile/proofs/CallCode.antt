@@ -129,8 +129,8 @@ module _ (s : Scene) (scene : IsScene s) where
   enough a w slot good low long room =
       let callers = frames_long (good.0).callers in
       let left = room_left s.greatest (length s.envs) slot (length w.slots)
-          (let more = lt_from (length a.callers + 1) max_frames room in omega (arith, more, callers)) low
-          (omega (arith, scene.roomy, long)) in
+      (let more = lt_from (length a.callers + 1) max_frames room in omega (arith, more, callers)) low
+      (omega (arith, scene.roomy, long)) in
       omega (arith, left, length-drop slot w.slots)
 
   module _ (callee : ModuleCallee) (env : TypedEnvironment) (result : Option VarType) (e : Entry)
@@ -188,28 +188,28 @@ module _ (s : Scene) (scene : IsScene s) where
         alive (enough a w slot good under long) enters_line
         (λ room. (entered room, good.1)) (λ room. returns_line _ (entered room)))
       where
-      f : FunctionCode
-      f = there.code
+        f : FunctionCode
+        f = there.code
 
-      own : List Word
-      own = take f.parameters (drop slot w.slots)
+        own : List Word
+        own = take f.parameters (drop slot w.slots)
 
-      own_is : own ≡ args
-      own_is = ap (λ (n : ℕ). take n (drop slot w.slots)) there.parameters ∙ are
+        own_is : own ≡ args
+        own_is = ap (λ (n : ℕ). take n (drop slot w.slots)) there.parameters ∙ are
 
-      own_values : AreValues (s.context).program (a.world).objects env.locals own
-      own_values = subst (λ (ws : List Word). AreValues (s.context).program (a.world).objects env.locals ws) (sym own_is) values
+        own_values : AreValues (s.context).program (a.world).objects env.locals own
+        own_values = subst (λ (ws : List Word). AreValues (s.context).program (a.world).objects env.locals ws) (sym own_is) values
 
-      alive : are_alive (this ∷ own) a ≡ true
-      alive =
-          ap (λ (b : Bool). b && are_alive own a) (object_alive s.context env.this this a this_is)
-          ∙ values_alive (s.context).program a own_values
+        alive : are_alive (this ∷ own) a ≡ true
+        alive =
+            ap (λ (b : Bool). b && are_alive own a) (object_alive s.context env.this this a this_is)
+            ∙ values_alive (s.context).program a own_values
 
-      entered : nat_lt (length a.callers + 1) max_frames ≡ true
-          → IsWellFormed s.context env (s.env ∷ s.envs) (entered_at ((s.setting.names).functions index) f.line this own a)
-      entered room =
-          entered_well scene.sound env ((s.setting.names).functions index) f.line this own good.0
-          (lt_from (length a.callers + 1) max_frames room) this_is own_values
+        entered : nat_lt (length a.callers + 1) max_frames ≡ true
+            → IsWellFormed s.context env (s.env ∷ s.envs) (entered_at ((s.setting.names).functions index) f.line this own a)
+        entered room =
+            entered_well scene.sound env ((s.setting.names).functions index) f.line this own good.0
+            (lt_from (length a.callers + 1) max_frames room) this_is own_values
 
     -- An instruction that enters the callee, in slots that have its arguments.
     pub does_enter : (w : Window) (slot at : ℕ) (start a : Activity) (this : Word) (args : List Word)
@@ -238,29 +238,29 @@ module _ (s : Scene) (scene : IsScene s) where
         (omega (arith, under, scene.roomy, long)) (omega (arith, fit, there.parameters)) at start a inside rest does fits
         alive (enough a w slot good under long more) enters_line (entered, good.1) (returns_line _ entered))
       where
-      more : nat_lt (length a.callers + 1) max_frames ≡ true
-      more = grind (arith, nat_tests)
+        more : nat_lt (length a.callers + 1) max_frames ≡ true
+        more = grind (arith, nat_tests)
 
-      f : FunctionCode
-      f = there.code
+        f : FunctionCode
+        f = there.code
 
-      own : List Word
-      own = take f.parameters (drop slot w.slots)
+        own : List Word
+        own = take f.parameters (drop slot w.slots)
 
-      own_is : own ≡ args
-      own_is = ap (λ (n : ℕ). take n (drop slot w.slots)) there.parameters ∙ are
+        own_is : own ≡ args
+        own_is = ap (λ (n : ℕ). take n (drop slot w.slots)) there.parameters ∙ are
 
-      own_values : AreValues (s.context).program (a.world).objects env.locals own
-      own_values = subst (λ (ws : List Word). AreValues (s.context).program (a.world).objects env.locals ws) (sym own_is) values
+        own_values : AreValues (s.context).program (a.world).objects env.locals own
+        own_values = subst (λ (ws : List Word). AreValues (s.context).program (a.world).objects env.locals ws) (sym own_is) values
 
-      alive : are_alive (this ∷ own) a ≡ true
-      alive =
-          ap (λ (b : Bool). b && are_alive own a) (object_alive s.context env.this this a this_is)
-          ∙ values_alive (s.context).program a own_values
+        alive : are_alive (this ∷ own) a ≡ true
+        alive =
+            ap (λ (b : Bool). b && are_alive own a) (object_alive s.context env.this this a this_is)
+            ∙ values_alive (s.context).program a own_values
 
-      entered : IsWellFormed s.context env (s.env ∷ s.envs) (entered_at ((s.setting.names).functions index) f.line this own a)
-      entered =
-          entered_well scene.sound env ((s.setting.names).functions index) f.line this own good.0 room this_is own_values
+        entered : IsWellFormed s.context env (s.env ∷ s.envs) (entered_at ((s.setting.names).functions index) f.line this own a)
+        entered =
+            entered_well scene.sound env ((s.setting.names).functions index) f.line this own good.0 room this_is own_values
 
 -- what was done, of a value and an activity
 
@@ -328,11 +328,11 @@ module _ (s : Scene) (scene : IsScene s) where
       (step_is s.setting (Good s) s.function s.room w b at (i.Call place slot) has)
       (λ d word after run held. goes word d after (is ∙ run) held)))
     where
-    within : slot < s.room
-    within = omega (arith, under, greatest_within s scene)
+      within : slot < s.room
+      within = omega (arith, under, greatest_within s scene)
 
-    count : length es ≡ length f.parameters
-    count = arguments_long es sound
+      count : length es ≡ length f.parameters
+      count = arguments_long es sound
 
-    fit : slot + length f.parameters ≤ s.room
-    fit = subst (λ (n : ℕ). slot + n ≤ s.room) count (row_within slot (length es) s.room within does.within)
+      fit : slot + length f.parameters ≤ s.room
+      fit = subst (λ (n : ℕ). slot + n ≤ s.room) count (row_within slot (length es) s.room within does.within)

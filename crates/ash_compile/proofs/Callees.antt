@@ -47,7 +47,7 @@ pub room_left : (greatest callers slot long : ℕ) → callers + 1 < max_frames 
 room_left greatest callers slot long more low room =
     let fewer : max_frames - (callers + 1) ≡ suc (max_frames - (suc callers + 1)) = omega (arith, more) in
     let next : (max_frames - (callers + 1)) * greatest ≡ greatest + (max_frames - (suc callers + 1)) * greatest
-        = ap (λ (n : ℕ). n * greatest) fewer ∙ one_more_time (max_frames - (suc callers + 1)) greatest in
+    = ap (λ (n : ℕ). n * greatest) fewer ∙ one_more_time (max_frames - (suc callers + 1)) greatest in
     omega (arith, next, room, low)
 
 pub frames_long : {c : Context} {all : LiveObjects (List ℕ)} {envs : List TypedEnvironment} {fs : List Frame}
@@ -123,21 +123,26 @@ module _ (s : Scene) (scene : IsScene s) where
       → d.callers ≡ a.callers → IsWellFormed s.context env envs d
       → Leaves s.context (Left a.callers) (given_by callee (body (s.context).program s.depth e) d)
   gives_left {env = env} {result} {e} (a_function at) envs a d same well =
-      weaken (λ v b r.
-      ((r.passes).callers ∙ same, given_alive (value_or_null v) b r.value,
-      scene.ranks b.world ((r.passes).well).world))
+      weaken (λ v b r. (
+        (r.passes).callers ∙ same,
+        given_alive (value_or_null v) b r.value,
+        scene.ranks b.world ((r.passes).well).world,
+      ))
       ((keeps_bodies scene.sound s.depth).keeps env result e (entry_is scene.sound (a_function at)) envs d well)
   gives_left {env = env} {result} {e} (a_method at here) envs a d same well =
-      weaken (λ v b r.
-      ((r.passes).callers ∙ same, given_alive (value_or_null v) b r.value,
-      scene.ranks b.world ((r.passes).well).world))
+      weaken (λ v b r. (
+        (r.passes).callers ∙ same,
+        given_alive (value_or_null v) b r.value,
+        scene.ranks b.world ((r.passes).well).world,
+      ))
       ((keeps_bodies scene.sound s.depth).keeps env result e (entry_is scene.sound (a_method at here)) envs d well)
   gives_left {env = env} {result} {e} (a_construction at) envs a d same well =
       bind ((keeps_bodies scene.sound s.depth).keeps env result e (entry_is scene.sound (a_construction at)) envs d well)
-      (λ v b r. done
-      ((r.passes).callers ∙ same,
-      object_alive s.context env.this (b.frame).this b (((r.passes).well).frame).this,
-      scene.ranks b.world ((r.passes).well).world))
+      (λ v b r. done (
+        (r.passes).callers ∙ same,
+        object_alive s.context env.this (b.frame).this b (((r.passes).well).frame).this,
+        scene.ranks b.world ((r.passes).well).world,
+      ))
 
   pub returns_from : {callee : ModuleCallee} {env : TypedEnvironment} {result : Option VarType} {e : Entry}
       (is : IsCallee s.context callee env result e) (envs : List TypedEnvironment) (caller place : ℕ) (a : Activity)

@@ -228,10 +228,10 @@ module _ (s : Scene) (scene : IsScene s) (class : ℕ) (k : Class)
     room = q.0;
   }))
     where
-    asked : Leaves s.context (λ (none : Unit {0}) b. (b ≡ a) × ((length a.callers + 1 < max_frames) × HasRoom a))
-        (onward (demand (nat_lt (length a.callers + 1) max_frames) StackOverflow a) (λ none. demand_number))
-    asked = after_demand _ (nat_lt (length a.callers + 1) max_frames) StackOverflow a (safe good.0)
-        (λ room. weaken (λ none b q. (q.0, (lt_from _ _ room, q.1))) (number_demanded good.0))
+      asked : Leaves s.context (λ (none : Unit {0}) b. (b ≡ a) × ((length a.callers + 1 < max_frames) × HasRoom a))
+          (onward (demand (nat_lt (length a.callers + 1) max_frames) StackOverflow a) (λ none. demand_number))
+      asked = after_demand _ (nat_lt (length a.callers + 1) max_frames) StackOverflow a (safe good.0)
+          (λ room. weaken (λ none b q. (q.0, (lt_from _ _ room, q.1))) (number_demanded good.0))
 
   -- the meaning makes the same, once the entry and the class are found
   means : (args : List Word) (a : Activity)
@@ -256,16 +256,16 @@ module _ (s : Scene) (scene : IsScene s) (class : ℕ) (k : Class)
       → (b.frame).this ≡ words.Object number
   this_stays name number args d v b well ran = left_done v b leaves ran
     where
-    first : Activity
-    first = entered_at name entry.line (words.Object number) args d
+      first : Activity
+      first = entered_at name entry.line (words.Object number) args d
 
-    leaves : Leaves s.context (λ (x : Option Word) y. (y.frame).this ≡ words.Object number)
-        ((tick entry.line >> body (s.context).program s.depth entry) first)
-    leaves =
-        bind (tick_goes entry.line well) (λ none x g.
-        weaken (λ u y r. (r.passes).this ∙ (g.passes).this)
-        ((keeps_bodies scene.sound s.depth).keeps env None entry (entry_is scene.sound (a_construction there)) (s.env ∷ s.envs)
-        x (g.passes).well))
+      leaves : Leaves s.context (λ (x : Option Word) y. (y.frame).this ≡ words.Object number)
+          ((tick entry.line >> body (s.context).program s.depth entry) first)
+      leaves =
+          bind (tick_goes entry.line well) (λ none x g.
+          weaken (λ u y r. (r.passes).this ∙ (g.passes).this)
+          ((keeps_bodies scene.sound s.depth).keeps env None entry (entry_is scene.sound (a_construction there)) (s.env ∷ s.envs)
+          x (g.passes).well))
 
   pub does_construction : (es : List Expr) (from at slot : ℕ)
       → AreSoundArguments s.env (parameters_of k.constructor) (exprs es)
@@ -290,12 +290,12 @@ module _ (s : Scene) (scene : IsScene s) (class : ℕ) (k : Class)
       let new = left_done number d (made b begun) made_at in
       let is = made_is object b d number made_at in
       let values : AreValues (s.context).program (d.world).objects (parameters_of k.constructor) ws
-          = (carry_all begun.0 new.goes arg.carried).values in
+      = (carry_all begun.0 new.goes arg.carried).values in
       let this_is = is_this new.shape (record { source = k; at = there; is = refl }) in
       let ready : Good s d = (((new.goes).passes).well, omega (arith, begun.1, ap (λ (x : Activity). x.ticks) is)) in
       let given = object_given entry.name entry.line (words.Object number) ws (body (s.context).program s.depth entry) d
-          (λ v x done_at. this_stays entry.name number ws d v x
-          (entered_well scene.sound env entry.name entry.line (words.Object number) ws ready.0 new.room this_is values) done_at) in
+      (λ v x done_at. this_stays entry.name number ws d v x
+      (entered_well scene.sound env entry.name entry.line (words.Object number) ws ready.0 new.room this_is values) done_at) in
       subst (λ (p : Progress Word). Arrives s.setting c b (continued p rest)) (sym given)
       (does_enter s scene (Construction class) env None entry (a_construction there) w slot at b d (words.Object number) ws rest
       low under (omega (arith, fit es slot sound under does, long)) long
@@ -306,8 +306,8 @@ module _ (s : Scene) (scene : IsScene s) (class : ℕ) (k : Class)
       (means ws b ∙ ap (λ (p : Progress ℕ). onward p (λ n. in_frame_of entry.name entry.line (words.Object n) ws
       (body (s.context).program s.depth entry >> give (words.Object n)))) made_at ∙ given ∙ called) held)))))
     where
-    fit : (es : List Expr) (slot : ℕ) → AreSoundArguments s.env (parameters_of k.constructor) (exprs es) → slot < s.greatest
-        → DoesArguments s es from at slot → slot + length (parameters_of k.constructor) ≤ s.room
-    fit es slot sound under does =
-        let within : slot < s.room = omega (arith, under, greatest_within s scene) in
-        subst (λ (n : ℕ). slot + n ≤ s.room) (arguments_long es sound) (row_within slot (length es) s.room within does.within)
+      fit : (es : List Expr) (slot : ℕ) → AreSoundArguments s.env (parameters_of k.constructor) (exprs es) → slot < s.greatest
+          → DoesArguments s es from at slot → slot + length (parameters_of k.constructor) ≤ s.room
+      fit es slot sound under does =
+          let within : slot < s.room = omega (arith, under, greatest_within s scene) in
+          subst (λ (n : ℕ). slot + n ≤ s.room) (arguments_long es sound) (row_within slot (length es) s.room within does.within)

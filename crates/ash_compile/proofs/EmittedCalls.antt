@@ -140,7 +140,7 @@ function_is : (s : Scene) (place : ℕ) (result other : Option VarType) (ps : Li
 function_is s place result other ps scene (operations.function {name = name} at) =
     let m = ((s.context).program).tree in
     let listed : slice_get (declared s.context).functions place ≡ Some (record { name = name; result = result; parameters = ps })
-        = ap (λ (x : ModuleSignatures). slice_get x.functions place) (sym scene.declares) ∙ at in
+    = ap (λ (x : ModuleSignatures). slice_get x.functions place) (sym scene.declares) ∙ at in
     let (f, there, is) = mapped signature_of (slice_get m.functions place) _ (sym (slice_get-map signature_of m.functions place) ∙ listed) in
     record { function = f; there = there; takes = sym (ap (λ (x : Signature). x.parameters) is) }
 
@@ -177,13 +177,13 @@ method_is s o class place result other ps scene (operations.of_class {c = cs} {n
     let m = ((s.context).program).tree in
     let signature : Signature = record { name = name; result = result; parameters = ps } in
     let listed : slice_get (declared s.context).classes class ≡ Some cs
-        = ap (λ (x : ModuleSignatures). slice_get x.classes class) (sym scene.declares) ∙ at in
+    = ap (λ (x : ModuleSignatures). slice_get x.classes class) (sym scene.declares) ∙ at in
     let (k, there, of_k) = mapped signature_of_class (slice_get m.classes class) cs
-        (sym (slice_get-map signature_of_class m.classes class) ∙ listed) in
+    (sym (slice_get-map signature_of_class m.classes class) ∙ listed) in
     let own : slice_get (map signature_of k.methods) place ≡ Some signature
-        = ap (λ (x : ClassTypes). slice_get x.methods place) of_k ∙ here in
+    = ap (λ (x : ClassTypes). slice_get x.methods place) of_k ∙ here in
     let (f, found, is) = mapped signature_of (slice_get k.methods place) signature
-        (sym (slice_get-map signature_of k.methods place) ∙ own) in
+    (sym (slice_get-map signature_of k.methods place) ∙ own) in
     record { source = k; method = f; there = there; here = found; takes = sym (ap (λ (x : Signature). x.parameters) is) }
 
 pub method : (start mid old put new : CodeBuilder) (class place index : ℕ) (result : Option VarType) (e : Expr)
@@ -201,7 +201,7 @@ method start mid old put new class place index result e ps es slot first second 
     let invoked = typed_invoked typed in
     let f = method_is s invoked.object class place result invoked.result ps scene invoked.is in
     let layout = subst (λ (l : Layout). IsLayout ((s.setting).code).module ((s.context).program).tree l)
-        (move.layout ∙ call.layout) suits.layout in
+    (move.layout ∙ call.layout) suits.layout in
     does_method s scene class place f.source f.method e es from between at slot f.there f.here
     (subst (λ (o : ObjectType). IsWellTyped s.env e (value (vars.Handle o))) (object_is invoked.is) invoked.typed)
     (subst (λ (types : List VarType). AreSoundArguments s.env types (exprs es)) f.takes invoked.args) under object does
@@ -246,9 +246,9 @@ class_is : (s : Scene) (class : ℕ) (other : Option VarType) (ps : List VarType
 class_is s class other ps scene (operations.class {c = cs} at) =
     let m = ((s.context).program).tree in
     let listed : slice_get (declared s.context).classes class ≡ Some cs
-        = ap (λ (x : ModuleSignatures). slice_get x.classes class) (sym scene.declares) ∙ at in
+    = ap (λ (x : ModuleSignatures). slice_get x.classes class) (sym scene.declares) ∙ at in
     let (k, there, is) = mapped signature_of_class (slice_get m.classes class) cs
-        (sym (slice_get-map signature_of_class m.classes class) ∙ listed) in
+    (sym (slice_get-map signature_of_class m.classes class) ∙ listed) in
     record { source = k; there = there; takes = sym (ap (λ (x : ClassTypes). x.parameters) is) }
 
 pub construction : (start old new : CodeBuilder) (class : ℕ) (ps : List VarType) (es : List Expr) (slot : ℕ)
@@ -280,17 +280,17 @@ shown s old new of tag ps result scene same suits shows is =
     (subst (λ (l : Layout). IsLayout ((s.setting).code).module ((s.context).program).tree l) same suits.layout) scene.owner
     (element_named (subst (λ (x : ModuleSignatures). IsTarget x (targets.Array of) ps result) scene.declares is))
   where
-  named : {e : typed_element.Element} → IsElementType (declared s.context) e → IsNamed ((s.context).program).tree e
-  named signatures.truths = tt
-  named signatures.integers = tt
-  named (signatures.of_class lt) = omega (arith, lt, length-map (((s.context).program).tree).classes signature_of_class)
-  named (signatures.of_interface lt) = omega (arith, lt, length-map (((s.context).program).tree).interfaces methods_of_interface)
-  named (signatures.of_host kind) = tt
+    named : {e : typed_element.Element} → IsElementType (declared s.context) e → IsNamed ((s.context).program).tree e
+    named signatures.truths = tt
+    named signatures.integers = tt
+    named (signatures.of_class lt) = omega (arith, lt, length-map (((s.context).program).tree).classes signature_of_class)
+    named (signatures.of_interface lt) = omega (arith, lt, length-map (((s.context).program).tree).interfaces methods_of_interface)
+    named (signatures.of_host kind) = tt
 
-  element_named : {e : typed_element.Element} {types : List VarType} {r : Option VarType}
-      → IsTarget (declared s.context) (targets.Array e) types r → IsNamed ((s.context).program).tree e
-  element_named (operations.empty_array of) = named of
-  element_named (operations.sized_array of) = named of
+    element_named : {e : typed_element.Element} {types : List VarType} {r : Option VarType}
+        → IsTarget (declared s.context) (targets.Array e) types r → IsNamed ((s.context).program).tree e
+    element_named (operations.empty_array of) = named of
+    element_named (operations.sized_array of) = named of
 
 pub empty_array : (start old new : CodeBuilder) (of : typed_element.Element) (tag : ElementTag) (ps : List VarType)
     (es : List Expr) (slot : ℕ) → EmitsArguments start old es slot → length es ≡ 0 → ShowsElement old of tag

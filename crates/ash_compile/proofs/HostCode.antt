@@ -129,7 +129,6 @@ pub not_there : (target : Target) (id : ℕ) (result : Option VarType) (args : L
     → is_there target b ≡ false → invoke_host target id result args b ≡ NoStep
 not_there target id result args b none = nowhere target id result args b (state_of target b.world) refl none
 
-
 module _ (s : Scene) (scene : IsScene s) where
   pub does_service : (service id : ℕ) (result : Option VarType) (es : List Expr) (from at slot : ℕ) → slot < s.greatest
       → DoesArguments s es from at slot
@@ -177,6 +176,6 @@ module _ (s : Scene) (scene : IsScene s) where
       ∙ ap (λ (us : List Word). guarded_onward (Some (construct_array (element_of (s.context).program of) us b))
       (put slot (control s.function at w))) (none_taken (drop slot w.slots) ∙ are))
     where
-    none_taken : (us : List Word) → [] ≡ take 0 us
-    none_taken [] = refl
-    none_taken (u ∷ us) = refl
+      none_taken : (us : List Word) → [] ≡ take 0 us
+      none_taken [] = refl
+      none_taken (u ∷ us) = refl

@@ -56,7 +56,7 @@ module _ (s : Scene) (scene : IsScene s) where
       let row = take (length es) (drop (slot + 1) w.slots) in
       let got = ready s o e es types a b d handle ws scene typed sound good ran run in
       let next : ℕ → Guarded Next
-          = λ number b. guarded_onward (invoke_guarded (hosts.Object number) id result row b) (put (slot + 1) c) in
+      = λ number b. guarded_onward (invoke_guarded (hosts.Object number) id result row b) (put (slot + 1) c) in
       on_object s scene w slot at d handle next (λ number. invoke_host (hosts.Object number) id result ws) rest got.reference
       held
       (step_is s.setting (Good s) s.function s.room w d at (i.CallHost slot id result (slot + 1) (length es)) has

@@ -64,9 +64,9 @@ module _ (s : Scene) (scene : IsScene s) (interface method : ℕ) (all : List Si
   has_own shape fits =
       let m = ((s.context).program).tree in
       let (own, found_own) = some_from (implemented m interface method fits.class)
-          (implemented_there scene.sound interface method all g at_all at_g fits) in
+      (implemented_there scene.sound interface method all g at_all at_g fits) in
       let (x, found_x, at_own) = chained (λ (i : Implementation). slice_get i.methods method)
-          (implementation_in m fits.class interface) own found_own in
+      (implementation_in m fits.class interface) own found_own in
       let (k, at_k, same, within, (others, at_others, zipped)) = implementation_found scene.sound fits.class interface x found_x in
       let one : others ≡ all = same_Some others all (sym at_others ∙ ap (slice_get (declared s.context).interfaces) same ∙ at_all) in
       let (y, at_y, (f, at_f, signature)) = zip_at (sound.ImplementsDeclared k.methods) others x.methods method own zipped at_own in
@@ -101,26 +101,26 @@ module _ (s : Scene) (scene : IsScene s) (interface method : ℕ) (all : List Si
       let m = ((s.context).program).tree in
       let got = ready s (objects.Interface interface) e es g.parameters a b d handle ws scene typed sound good ran run in
       let next : ℕ → Guarded Next
-          = λ number x. guarded_onward (found_guarded (method_of (own_name s.setting) (classes_of s.setting) interface method number) x)
-          (λ function. call s.setting function (words.Object number) (slot + 1) c) in
+      = λ number x. guarded_onward (found_guarded (method_of (own_name s.setting) (classes_of s.setting) interface method number) x)
+      (λ function. call s.setting function (words.Object number) (slot + 1) c) in
       on_object s scene w slot at d handle next (calls ws) rest got.reference held
       (step_is s.setting (Good s) s.function s.room w d at (i.CallInterface interface method slot (slot + 1)) has)
       (λ number shape at_shape lists is stepped.
       let own = has_own shape lists in
       let seen = class_at_seen scene.sound number (d.world).objects shape lists.class at_shape lists.of in
       let same = means number lists.class own.own ws d seen own.found
-          ∙ call_is s scene (Method lists.class own.own) (entry_of_method own.source own.function) (words.Object number) ws d
-          (entry_there scene.sound (a_method own.there own.here)) in
+      ∙ call_is s scene (Method lists.class own.own) (entry_of_method own.source own.function) (words.Object number) ws d
+      (entry_there scene.sound (a_method own.there own.here)) in
       let enters = stepped
-          ∙ ap (λ (name : List ℕ). guarded_onward (found_guarded (method_of name (classes_of s.setting) interface method number) d)
-          (λ function. call s.setting function (words.Object number) (slot + 1) c)) scene.owner
-          ∙ ap (λ (o : Option ℕ). guarded_onward (option_map_or (λ function. Some (Done function d)) o None)
-          (λ function. call s.setting function (words.Object number) (slot + 1) c))
-          (finds_method s.setting m scene.classes ((s.context).program).name interface method number lists.class own.own
-          own.source d seen own.there own.found) in
+      ∙ ap (λ (name : List ℕ). guarded_onward (found_guarded (method_of name (classes_of s.setting) interface method number) d)
+      (λ function. call s.setting function (words.Object number) (slot + 1) c)) scene.owner
+      ∙ ap (λ (o : Option ℕ). guarded_onward (option_map_or (λ function. Some (Done function d)) o None)
+      (λ function. call s.setting function (words.Object number) (slot + 1) c))
+      (finds_method s.setting m scene.classes ((s.context).program).name interface method number lists.class own.own
+      own.source d seen own.there own.found) in
       let types : g.parameters ≡ (own.function).parameters = ap (λ (x : Signature). x.parameters) (sym own.as_declared) in
       let count : length es ≡ length (own.function).parameters
-          = arguments_long es sound ∙ ap (λ (ts : List VarType). length ts) types in
+      = arguments_long es sound ∙ ap (λ (ts : List VarType). length ts) types in
       subst (λ (p : Progress Word). Arrives s.setting c d (continued p rest)) (sym same)
       (does_call s scene (Method lists.class own.own) _ (own.function).result (entry_of_method own.source own.function)
       (a_method own.there own.here) w (slot + 1) at d d (words.Object number) ws rest (omega (arith, low)) under
@@ -133,21 +133,21 @@ module _ (s : Scene) (scene : IsScene s) (interface method : ℕ) (all : List Si
       (λ slots last. goes word x slots
       (ap (λ (h : Word). onward (object_of h d) (calls ws)) is ∙ same ∙ called) last)))))
     where
-    calls : List Word → ℕ → Run Word
-    calls ws number = call_through (calls_of s) interface method number ws
+      calls : List Word → ℕ → Run Word
+      calls ws number = call_through (calls_of s) interface method number ws
 
-    means : (number class own : ℕ) (ws : List Word) (d : Activity)
-        → option_and_then (class_of (s.context).program) (object_at number (d.world).objects) ≡ Some class
-        → implemented ((s.context).program).tree interface method class ≡ Some own
-        → call_through (calls_of s) interface method number ws d
-        ≡ call_meaning (calls_of s) (Method class own) (words.Object number) ws d
-    means number class own ws d seen found_own =
-        ap (λ (o : Option ℕ). onward (found o d) (λ x. found (implemented ((s.context).program).tree interface method x)
-        >>= (λ y. call_meaning (calls_of s) (Method x y) (words.Object number) ws))) seen
-        ∙ ap (λ (o : Option ℕ). onward (found o d) (λ y. call_meaning (calls_of s) (Method class y) (words.Object number) ws))
-        found_own
+      means : (number class own : ℕ) (ws : List Word) (d : Activity)
+          → option_and_then (class_of (s.context).program) (object_at number (d.world).objects) ≡ Some class
+          → implemented ((s.context).program).tree interface method class ≡ Some own
+          → call_through (calls_of s) interface method number ws d
+          ≡ call_meaning (calls_of s) (Method class own) (words.Object number) ws d
+      means number class own ws d seen found_own =
+          ap (λ (o : Option ℕ). onward (found o d) (λ x. found (implemented ((s.context).program).tree interface method x)
+          >>= (λ y. call_meaning (calls_of s) (Method x y) (words.Object number) ws))) seen
+          ∙ ap (λ (o : Option ℕ). onward (found o d) (λ y. call_meaning (calls_of s) (Method class y) (words.Object number) ws))
+          found_own
 
-    fit : (slots : List Word) (count : ℕ) → length es ≡ count → s.room ≤ length slots → slot + 1 + count ≤ length slots
-    fit slots count same long =
-        let within : slot + 1 < s.room = omega (arith, under, greatest_within s scene) in
-        omega (arith, row_within (slot + 1) (length es) s.room within does.within, same, long)
+      fit : (slots : List Word) (count : ℕ) → length es ≡ count → s.room ≤ length slots → slot + 1 + count ≤ length slots
+      fit slots count same long =
+          let within : slot + 1 < s.room = omega (arith, under, greatest_within s scene) in
+          omega (arith, row_within (slot + 1) (length es) s.room within does.within, same, long)

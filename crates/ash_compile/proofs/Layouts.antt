@@ -57,8 +57,8 @@ counted_yes class k n xs x low is before same =
     ap (λ (m : ℕ). m + 1) same
     ∙ ap (λ (b : Bool). counted class k xs + cond b 1 0) (sym test) ∙ sym (counted_next class k xs x low is)
   where
-  test : is_before class x ≡ true
-  test = grind (arith, nat_tests)
+    test : is_before class x ≡ true
+    test = grind (arith, nat_tests)
 
 pub counted_no : (class k n : ℕ) (xs : List interface_code.Interface) (x : interface_code.Interface) → k < length xs
     → x ≡ get_or xs k x → class < x.classes_before → n ≡ counted class k xs → n ≡ counted class (k + 1) xs
@@ -66,11 +66,11 @@ counted_no class k n xs x low is after same =
     same ∙ sym (none_more (counted class k xs))
     ∙ ap (λ (b : Bool). counted class k xs + cond b 1 0) (sym test) ∙ sym (counted_next class k xs x low is)
   where
-  none_more : (m : ℕ) → m + 0 ≡ m
-  none_more m = omega arith
+    none_more : (m : ℕ) → m + 0 ≡ m
+    none_more m = omega arith
 
-  test : is_before class x ≡ false
-  test = grind (arith, nat_tests)
+    test : is_before class x ≡ false
+    test = grind (arith, nat_tests)
 
 pub before_there : (k : ℕ) (xs : List interface_code.Interface) (x : interface_code.Interface) → k < length xs
     → x ≡ get_or xs k x → classes_before k (map interface_of xs) ≡ x.classes_before
@@ -95,18 +95,19 @@ pub each_pushed : (f : ℕ → ℕ) (xs : List ℕ) (x i : ℕ) → length xs �
     → ((k : ℕ) → k < i → slice_get xs k ≡ Some (f k)) → (k : ℕ) → k < i + 1 → slice_get (xs ++ x ∷ []) k ≡ Some (f k)
 each_pushed f xs x i long is each k low = by_place (nat_le (suc k) i) refl
   where
-  by_place : (b : Bool) → nat_le (suc k) i ≡ b → slice_get (xs ++ x ∷ []) k ≡ Some (f k)
-  by_place true before =
-      let lower : k < i = grind (arith, nat_tests) in
-      get_kept xs x k (omega (arith, lower, long)) ∙ each k lower
-  by_place false after =
-      let here : k ≡ i = grind (arith, nat_tests) in
-      get_pushed xs x k (here ∙ sym long) ∙ ap Some (sym is ∙ ap f (sym here))
+    by_place : (b : Bool) → nat_le (suc k) i ≡ b → slice_get (xs ++ x ∷ []) k ≡ Some (f k)
+    by_place true before =
+        let lower : k < i = grind (arith, nat_tests) in
+        get_kept xs x k (omega (arith, lower, long)) ∙ each k lower
+    by_place false after =
+        let here : k ≡ i = grind (arith, nat_tests) in
+        get_pushed xs x k (here ∙ sym long) ∙ ap Some (sym is ∙ ap f (sym here))
 
 -- A list that grew by one.
 pub grown : (f : ℕ → ℕ) (xs new : List ℕ) (x i : ℕ) → new ≡ xs ++ x ∷ [] → length xs ≡ i → f i ≡ x
     → ((k : ℕ) → k < i → slice_get xs k ≡ Some (f k))
     → (length new ≡ i + 1) × ((k : ℕ) → k < i + 1 → slice_get new k ≡ Some (f k))
-grown f xs new x i items long is each =
-    (ap length items ∙ length-append xs (x ∷ []) ∙ omega (arith, long),
-    subst (λ (ys : List ℕ). (k : ℕ) → k < i + 1 → slice_get ys k ≡ Some (f k)) (sym items) (each_pushed f xs x i long is each))
+grown f xs new x i items long is each = (
+  ap length items ∙ length-append xs (x ∷ []) ∙ omega (arith, long),
+  subst (λ (ys : List ℕ). (k : ℕ) → k < i + 1 → slice_get ys k ≡ Some (f k)) (sym items) (each_pushed f xs x i long is each),
+)

@@ -11,6 +11,7 @@ pub mod Phrases
 pub mod Branches
 pub mod Emission
 pub mod Typed
+pub mod Conversions
 pub mod Emitted
 pub mod TypedStatements
 pub mod StatementCode

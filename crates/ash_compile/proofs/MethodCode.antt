@@ -109,7 +109,7 @@ module _ (s : Scene) (scene : IsScene s) where
       (step_is s.setting (Good s) s.function s.room w d at (i.CallMethod index slot (slot + 1)) has)
       (λ number shape at_shape of_class is stepped.
       let same = call_is s scene (Method class place) (entry_of_method k f) (words.Object number) ws d
-          (entry_there scene.sound (a_method there here)) in
+      (entry_there scene.sound (a_method there here)) in
       subst (λ (p : Progress Word). Arrives s.setting c d (continued p rest)) (sym same)
       (does_call s scene (Method class place) _ f.result (entry_of_method k f) (a_method there here) w (slot + 1) at d d
       (words.Object number) ws rest (omega (arith, low)) under (omega (arith, fit, long)) long fits got.good
@@ -120,16 +120,16 @@ module _ (s : Scene) (scene : IsScene s) where
       (λ slots last. goes word x slots
       (ap (λ (h : Word). onward (object_of h d) (calls ws)) is ∙ same ∙ called) last)))))
     where
-    index : ℕ
-    index = index_of ((s.context).program).tree (Method class place)
+      index : ℕ
+      index = index_of ((s.context).program).tree (Method class place)
 
-    calls : List Word → ℕ → Run Word
-    calls ws number = call_meaning (calls_of s) (Method class place) (words.Object number) ws
+      calls : List Word → ℕ → Run Word
+      calls ws number = call_meaning (calls_of s) (Method class place) (words.Object number) ws
 
-    count : length es ≡ length f.parameters
-    count = arguments_long es sound
+      count : length es ≡ length f.parameters
+      count = arguments_long es sound
 
-    fit : slot + 1 + length f.parameters ≤ s.room
-    fit =
-        let within : slot + 1 < s.room = omega (arith, under, greatest_within s scene) in
-        subst (λ (n : ℕ). slot + 1 + n ≤ s.room) count (row_within (slot + 1) (length es) s.room within does.within)
+      fit : slot + 1 + length f.parameters ≤ s.room
+      fit =
+          let within : slot + 1 < s.room = omega (arith, under, greatest_within s scene) in
+          subst (λ (n : ℕ). slot + 1 + n ≤ s.room) count (row_within (slot + 1) (length es) s.room within does.within)

@@ -181,14 +181,7 @@ impl CodeBuilder {
         ensures emits { IfOk result (λ u. (start : Written) (e : ExprData) → Emits start self.old e slot
             → Emits start self.new (converted (Some conversion) e) slot) }
     {
-        self.put(
-            slot,
-            Instruction::Convert {
-                int_type: conversion.to,
-                from: slot,
-                to: slot,
-            },
-        )
+        self.convert(conversion.from, conversion.to, slot)
     }
 
     /// Converts the value of a slot where a conversion is named.

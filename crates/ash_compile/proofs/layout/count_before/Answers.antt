@@ -8,14 +8,18 @@ loop-interface-preserved c =
     let here = c.loop-interface in
     let item = c.interface-item in
     elim c.if-interface-class.branch [
-      | then-interface-class w ↦
-          (omega arith, w.count-is
-          ∙ counted_yes c.args.class here.interface-index here.count c.args.interfaces.now item.result c.loop-interface-test.true
-          item.is w.if-interface-class.true here.invariant.1)
-      | else-interface-class w ↦
-          (omega arith, w.count-is
-          ∙ counted_no c.args.class here.interface-index here.count c.args.interfaces.now item.result c.loop-interface-test.true
-          item.is w.if-interface-class.false here.invariant.1)
+      | then-interface-class w ↦ (
+        omega arith,
+        w.count-is
+            ∙ counted_yes c.args.class here.interface-index here.count c.args.interfaces.now item.result c.loop-interface-test.true
+            item.is w.if-interface-class.true here.invariant.1,
+      )
+      | else-interface-class w ↦ (
+        omega arith,
+        w.count-is
+            ∙ counted_no c.args.class here.interface-index here.count c.args.interfaces.now item.result c.loop-interface-test.true
+            item.is w.if-interface-class.false here.invariant.1,
+      )
     ]
 
 pub returns : goal.returns

@@ -14,7 +14,7 @@ loop-class-preserved c =
     let own : length (map function_of (item.methods).items) ≡ length (item.methods).items = length-map (item.methods).items function_of in
     let next = c.in_ok-next.ensures.sum in
     let all = grown (λ (k : ℕ). c.args.first + methods_before k (map class_of classes)) (here.methods).items (c.push.new.self).items
-        here.next here.class-index c.in_ok-push.ensures.items here.invariant.0 (sym here.invariant.1) here.invariant.2 in
+    here.next here.class-index c.in_ok-push.ensures.items here.invariant.0 (sym here.invariant.1) here.invariant.2 in
     (all.0, omega (arith, next, more, own, here.invariant.1, c.len.ensures), all.1)
 
 pub returns : goal.returns

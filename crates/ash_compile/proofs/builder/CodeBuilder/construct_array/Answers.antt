@@ -21,5 +21,5 @@ returns-else-count-eq0 c = record {
       c.put-else-count-eq0.ensures.puts;
 }
   where
-  some : {m n : ℕ} → m ≡ n → (n ≡ 0 → ⊥) → 0 < m
-  some {m} {n} is none = omega arith
+    some : {m n : ℕ} → m ≡ n → (n ≡ 0 → ⊥) → 0 < m
+    some {m} {n} is none = omega arith
