@@ -76,7 +76,7 @@ own old new class slot puts =
     (λ s of from scene typed within has.
     run.own s.setting (Good s) s.function s.room from slot within has (λ a good. this_alive s a good))
 
-typed_local : {env : TypedEnvironment} {n : ℕ} {of : VarType} {t : ValueType}
+pub typed_local : {env : TypedEnvironment} {n : ℕ} {of : VarType} {t : ValueType}
     → IsWellTyped env (Read (Stored (variables.Local n of))) t → slice_get env.locals n ≡ Some of
 typed_local (typing.read (typing.local is)) = is
 
@@ -124,7 +124,7 @@ global old new n slot of puts =
 
 -- operators of one operand
 
-typed_converted : {env : TypedEnvironment} {conversion : Conversion} {e : Expr} {t : ValueType}
+pub typed_converted : {env : TypedEnvironment} {conversion : Conversion} {e : Expr} {t : ValueType}
     → IsWellTyped env (Convert conversion e) t → (inner : ValueType) × IsWellTyped env e inner
 typed_converted (typing.convert typed) = (_, typed)
 
@@ -178,13 +178,13 @@ alter start old new change e slot first puts =
 
 -- operators of two operands
 
-typed_left : {env : TypedEnvironment} {operation : Operation} {a b : Expr} {t : ValueType}
+pub typed_left : {env : TypedEnvironment} {operation : Operation} {a b : Expr} {t : ValueType}
     → IsWellTyped env (Operate operation a b) t → (inner : ValueType) × IsWellTyped env a inner
 typed_left (typing.calculate x y) = (_, x)
 typed_left (typing.shift is x y) = (_, x)
 typed_left (typing.compare is x left y right) = (_, x)
 
-typed_right : {env : TypedEnvironment} {operation : Operation} {a b : Expr} {t : ValueType}
+pub typed_right : {env : TypedEnvironment} {operation : Operation} {a b : Expr} {t : ValueType}
     → IsWellTyped env (Operate operation a b) t → (inner : ValueType) × IsWellTyped env b inner
 typed_right (typing.calculate x y) = (_, y)
 typed_right (typing.shift is x y) = (_, y)

@@ -46,7 +46,7 @@ fitting : {env : TypedEnvironment} {of : VarType} {e : Expr} → typing.Fits env
     → (inner : ValueType) × IsWellTyped env e inner
 fitting (typing.fits typed is) = (_, typed)
 
-typed_given : {env : TypedEnvironment} {place : Place} {e : Expr} {t : ValueType} → IsWellTyped env (Assign place e) t
+pub typed_given : {env : TypedEnvironment} {place : Place} {e : Expr} {t : ValueType} → IsWellTyped env (Assign place e) t
     → (inner : ValueType) × IsWellTyped env e inner
 typed_given (typing.assign at is fitted) = fitting fitted
 

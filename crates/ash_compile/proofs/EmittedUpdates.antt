@@ -28,13 +28,13 @@ put_as old new m n j k slots same puts =
 
 -- types of parts
 
-typed_updated : {env : TypedEnvironment} {place : Place} {int_type : IntType} {calculation : Calculation} {e : Expr}
+pub typed_updated : {env : TypedEnvironment} {place : Place} {int_type : IntType} {calculation : Calculation} {e : Expr}
     {t : ValueType}
     → IsWellTyped env (Update place int_type calculation e) t → HasPlace env place (vars.Integer int_type)
 typed_updated (typing.update at typed) = at
 typed_updated (typing.update_by_shift is at typed) = at
 
-typed_operand : {env : TypedEnvironment} {place : Place} {int_type : IntType} {calculation : Calculation} {e : Expr}
+pub typed_operand : {env : TypedEnvironment} {place : Place} {int_type : IntType} {calculation : Calculation} {e : Expr}
     {t : ValueType}
     → IsWellTyped env (Update place int_type calculation e) t → (inner : ValueType) × IsWellTyped env e inner
 typed_operand (typing.update at typed) = (_, typed)
@@ -44,7 +44,7 @@ typed_counted : {env : TypedEnvironment} {place : Place} {int_type : IntType} {s
     → IsWellTyped env (Count place int_type step) t → HasPlace env place (vars.Integer int_type)
 typed_counted (typing.count at) = at
 
-typed_right : {env : TypedEnvironment} {place : Place} {int_type : IntType} {calculation : Calculation} {e : Expr}
+pub typed_right : {env : TypedEnvironment} {place : Place} {int_type : IntType} {calculation : Calculation} {e : Expr}
     {t : ValueType} (typed : IsWellTyped env (Update place int_type calculation e) t)
     → IsShift calculation.operator ⊎ ((typed_operand typed).0 ≡ value (vars.Integer calculation.of))
 unfolding typed_operand

@@ -26,7 +26,9 @@ pub mod PlaceGuards
 pub mod PlaceSteps
 pub mod PlaceLocals
 pub mod PlaceCode
+pub mod OperandCode
 pub mod EmittedPlaces
+pub mod Operands
 pub mod Moves
 pub mod UpdateCode
 pub mod EmittedUpdates

@@ -68,14 +68,14 @@ pub data ConvertsAt (s : Scene) (from to : IntType) (slot at next : ℕ) : Type 
 abbrev pub IsRight : Calculation → Word → Type 0
 IsRight calculation right = IsShift calculation.operator ⊎ IsInteger calculation.of right
 
-right_operand : {p : Program} {all : LiveObjects (List ℕ)} (calculation : Calculation) (given : ValueType) (right : Word)
+pub right_operand : {p : Program} {all : LiveObjects (List ℕ)} (calculation : Calculation) (given : ValueType) (right : Word)
     → IsShift calculation.operator ⊎ (given ≡ value (vars.Integer calculation.of)) → IsGiven p all given right
     → IsRight calculation right
 right_operand calculation given right (inl shift) given_so = inl shift
 right_operand {p} {all} calculation given right (inr same) given_so =
     inr (integer_in right (subst (λ (t : ValueType). IsGiven p all t right) same given_so))
 
-integer_alive : (s : Scene) (int_type : IntType) (v : Word) (b : Activity) → IsInteger int_type v → is_alive v b ≡ true
+pub integer_alive : (s : Scene) (int_type : IntType) (v : Word) (b : Activity) → IsInteger int_type v → is_alive v b ≡ true
 integer_alive s int_type v b is =
     alive_of v None b (no_handle_in_integer int_type (s.context).program (b.world).objects v (is_integer is))
     (λ n there. absurd (cc))

@@ -5,4 +5,5 @@ pub mod Callees
 pub mod Emission
 pub mod Conversions
 pub mod Places
+pub mod Operands
 pub mod Arguments
