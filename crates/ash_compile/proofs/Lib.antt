@@ -29,6 +29,7 @@ pub mod PlaceCode
 pub mod OperandCode
 pub mod EmittedPlaces
 pub mod Operands
+pub mod EffectCode
 pub mod Moves
 pub mod UpdateCode
 pub mod EmittedUpdates

@@ -109,10 +109,10 @@ stays_in w slot left right l r slots more b d held also low (inl same) =
     stays_low w slot left right l r slots more b d held also low same
 stays_in w slot left right l r slots more b d held also low (inr same) =
     elim held.there [
-      inl here ↦ stays_low w slot left right l r slots more b d held also low here
-    | inr under ↦ sym (get_or-take w.count more left words.Null under)
-        ∙ ap (λ (ws : List Word). slice_index_or ws left words.Null) (sym also.locals ∙ same ∙ held.locals)
-        ∙ get_or-take w.count slots left words.Null under ∙ held.value
+      | inl here ↦ stays_low w slot left right l r slots more b d held also low here
+      | inr under ↦ sym (get_or-take w.count more left words.Null under)
+          ∙ ap (λ (ws : List Word). slice_index_or ws left words.Null) (sym also.locals ∙ same ∙ held.locals)
+          ∙ get_or-take w.count slots left words.Null under ∙ held.value
     ]
 
 module _ (s : Setting) (Good : Activity → Type 0) (function room : ℕ) where
@@ -195,11 +195,12 @@ module _ (s : Setting) (Good : Activity → Type 0) (function room : ℕ) where
       goes_by s (control function at (with_slots more w)) d (onward p R)
       (λ v. control function (at + 1) (with_slots (slice_set more to v) w)) rest
       (does ∙ put_received function at slot to (with_slots more w) R p receives
-      (λ v e is.
-      (λ low. lt_true to (length (e.frame).locals)
-      (let counted = ap length ((left v e is).0 ∙ fits.locals) in
-      let taken = length-take-le w.count more fits.within in omega (arith, low, counted, taken)),
-      (left v e is).1)))
+      (λ v e is. (
+        λ low. lt_true to (length (e.frame).locals)
+            (let counted = ap length ((left v e is).0 ∙ fits.locals) in
+            let taken = length-take-le w.count more fits.within in omega (arith, low, counted, taken)),
+        (left v e is).1,
+      )))
       (λ v g ran.
       goes v g (slice_set more to v) ran (record {
         long = length-set more to v ∙ held.long;
@@ -290,8 +291,10 @@ module _ (s : Setting) (Good : Activity → Type 0) (function room : ℕ) where
             (step_is s Good function room (with_slots more w) d at i has
             ∙ does (with_slots more w) a b d l r good ran run there
             (stays_in w slot left right l r slots more b d held also low unmoved) also.value)
-            (λ v e made. (same l r v d e made,
-            alive a e v good (then_is (p a) l b (λ x. q >>= f x) _ ran (then_is (q b) r d (f l) _ run made))))
+            (λ v e made. (
+              same l r v d e made,
+              alive a e v good (then_is (p a) l b (λ x. q >>= f x) _ ran (then_is (q b) r d (f l) _ run made)),
+            ))
             (λ v g xs made holds.
             goes v g xs
             (ap (λ (x : Progress Word). onward (onward x (λ y. q >>= f y)) R) ran

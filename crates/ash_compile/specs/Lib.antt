@@ -6,4 +6,5 @@ pub mod Emission
 pub mod Conversions
 pub mod Places
 pub mod Operands
+pub mod Effects
 pub mod Arguments

@@ -187,7 +187,12 @@ impl CodeBuilder {
     }
 
     /// Converts an operand. Its value is in the slot that is given back.
-    fn converted(&mut self, conversion: Conversion, left: usize, slot: usize) -> Result<usize, AllocError>
+    fn converted(
+        &mut self,
+        conversion: Conversion,
+        left: usize,
+        slot: usize,
+    ) -> Result<usize, AllocError>
         ensures emits { IfOk result (λ at. (start : Written) (e : ExprData) → EmitsIn start self.old e slot left
             → EmitsIn start self.new (converted (Some conversion) e) slot at) }
         ensures there { IfOk result (λ at. (at ≡ left) ⊎ (at ≡ slot)) }

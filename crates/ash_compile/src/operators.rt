@@ -27,13 +27,7 @@ fn plain_local(variable: Variable) -> Option<usize>
     ensures reads { IfSome result (λ n. ReadsLocal (Read (Stored variable)) n) }
 {
     match variable {
-        Variable::Local { slot, of } => {
-            if is_plain(of) {
-                Some(slot)
-            } else {
-                None
-            }
-        }
+        Variable::Local { slot, of } => { if is_plain(of) { Some(slot) } else { None } }
         Variable::Global { .. } => None,
     }
 }

@@ -105,21 +105,23 @@ operand-returns-in_ok-right-in-None t c = record {
 
 pub row-loop-operand-init : goal.row-loop-operand-init
 row-loop-operand-init t c =
-    let first = expr_of c.args.first.now in
-    (chained first c.in-Some.next.now,
-    (c.in_ok-operand-in-Some.ensures.emits c.args.self.now first c.in_ok-left-in-Some.ensures.stays
-    c.in_ok-left-in-Some.ensures.emits).in_slot refl,
-    sym (ap (all_chained first) (c.in-Some.ensures.cases).0))
+    let first = expr_of c.args.first.now in (
+      chained first c.in-Some.next.now,
+      (c.in_ok-operand-in-Some.ensures.emits c.args.self.now first c.in_ok-left-in-Some.ensures.stays
+          c.in_ok-left-in-Some.ensures.emits).in_slot refl,
+      sym (ap (all_chained first) (c.in-Some.ensures.cases).0),
+    )
 
 pub row-loop-operand-preserved : goal.row-loop-operand-preserved
 row-loop-operand-preserved t c =
     let here = c.loop-operand in
-    let e = here.invariant.0 in
-    (chained e c.operand-item.result,
-    (c.in_ok-operand-in-Some-2.ensures.emits c.args.self.now e (inl refl)
-    (operands.emits_in c.args.self.now here.self e c.args.slot here.invariant.1)).in_slot refl,
-    chain_step e c.in-Some.rest.now here.operand-index c.operand-item.result c.loop-operand-test.true c.operand-item.is
-    ∙ here.invariant.2)
+    let e = here.invariant.0 in (
+      chained e c.operand-item.result,
+      (c.in_ok-operand-in-Some-2.ensures.emits c.args.self.now e (inl refl)
+          (operands.emits_in c.args.self.now here.self e c.args.slot here.invariant.1)).in_slot refl,
+      chain_step e c.in-Some.rest.now here.operand-index c.operand-item.result c.loop-operand-test.true c.operand-item.is
+          ∙ here.invariant.2,
+    )
 
 pub row-returns-after-loop-operand-clause-emits : goal.row-returns-after-loop-operand-clause-emits
 row-returns-after-loop-operand-clause-emits t c =
