@@ -157,7 +157,7 @@ chain-returns-in_ok-left-in-Some t c =
           (next c.args.self.now (all_chained first c.in-Some.before.now) c.in_ok-left-in-Some.ensures.stays
           c.in_ok-left-in-Some.ensures.emits))
           c.operand.ensures.emits;
-}
+    }
 
 pub conditional-returns : goal.conditional-returns
 conditional-returns t c = record {
