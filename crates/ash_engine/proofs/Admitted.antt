@@ -17,10 +17,9 @@ use Rattle.ash_soundness.specs.WellFormedStates.{AreHosts}
 use Rattle.ash_soundness.proofs.Stepped.{steps_keep}
 use Rattle.ash_soundness.proofs.Ended as ended
 use Rattle.ash_sources.specs.SourceFaults.{SourceFault}
-use Rattle.ash_sources.specs.Sources.{admitting_unregistered}
 use Rattle.ash_sources.proofs.SourceLaws.{read_sound}
 use Rattle.ash_image.specs.Image.{max_services}
-use Rattle.ash_states.specs.HostStates.{HostState, IsAdmitted, embedding_for, offered_to}
+use Rattle.ash_states.specs.HostStates.{HostState, IsAdmitted, rules_for, embedding_for, offered_to}
 use Rattle.ash_engine.specs.LiveStates.{Boxes, LiveState}
 use Rattle.ash_engine.specs.LiveSteps.{IsReached, StepsKeepReached, reached_by, box_at, IsValidOf, LiveStepsKeepReached}
 use Rattle.ash_engine.proofs.Untouched.{steps_keep_hosts}
@@ -34,12 +33,12 @@ nothing_offered registered (a_property kind id of within) = none_in of within
 
 -- there is a step of the definitions
 pub has_step : (budget : ℕ) (request : Request) (s : HostState) (hosts : Hosts) → IsAdmitted s → AreHosts hosts → IsSome (steps.step (embedding_for s.registered) budget request s.state hosts)
-has_step budget request s hosts h fit = ended.have_steps (embedding_for s.registered) (offered_to s.registered) budget request s.state hosts (nothing_offered s.registered) (read_sound (admitting_unregistered s.registered)) h.formed fit
+has_step budget request s hosts h fit = ended.have_steps (embedding_for s.registered) (offered_to s.registered) budget request s.state hosts (nothing_offered s.registered) (read_sound (rules_for s.registered)) h.formed fit
 
 -- after a step of the definitions
 pub step_admitted : (budget : ℕ) (request : Request) (old : HostState) (hosts : Hosts) (one : Step SourceFault) → IsAdmitted old → AreHosts hosts → steps.Steps (embedding_for old.registered) budget request old.state hosts one → IsAdmitted (record { registered = old.registered; state = one.state }) × AreHosts one.hosts
 step_admitted budget request old hosts one h fit stepped =
-    let kept = steps_keep (embedding_for old.registered) (offered_to old.registered) budget request old.state hosts one (read_sound (admitting_unregistered old.registered)) h.formed fit stepped in
+    let kept = steps_keep (embedding_for old.registered) (offered_to old.registered) budget request old.state hosts one (read_sound (rules_for old.registered)) h.formed fit stepped in
     let served : length (one.state).services ≡ length (old.state).services = (steps_keep_hosts SourceFault old.state hosts ((h.formed).numbered) (embedding_for old.registered) budget request one stepped).served in (
       record { formed = kept.0; served = served ∙ h.served; few = subst (λ (n : ℕ). n ≤ max_services) (sym served) h.few },
       kept.1,
