@@ -62,8 +62,8 @@ fn enter<B: HostObject>(
     going_on(step, 0)
 }
 
-// Enters a function, if there is one.
-fn enter_at<B: HostObject>(
+/// Enters a function, if there is one.
+pub(crate) fn enter_at<B: HostObject>(
     code: &CodeParts,
     state: &mut RunState<B>,
     at: usize,
@@ -81,8 +81,8 @@ fn enter_at<B: HostObject>(
     }
 }
 
-// Calls a function, a method or a construction.
-fn call_with<B: HostObject>(
+/// Calls a function or a method.
+pub(crate) fn call_with<B: HostObject>(
     code: &CodeParts,
     state: &mut RunState<B>,
     at: usize,

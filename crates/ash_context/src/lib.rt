@@ -2,20 +2,28 @@
 //!
 //! A run's control is a function of its frames and of one index: each frame says where its caller goes on. An
 //! instruction reads and writes slots of the frame that runs. A slot past the last reads as null, and a write past it
-//! does nothing, as the meaning of code says. `running::run` goes on from instruction to instruction until the run ends,
-//! and does what `denote` of the code says: `HasRun` in `specs/Turns.antt` is its invariant.
+//! does nothing, as the meaning of code says. `running::run` goes on from instruction to instruction until the run
+//! ends, and does what `denote` of the code says: `HasRun` in `specs/Turns.antt` is its invariant.
 //!
-//! Code that was compiled from a sound module never ends with `Stop::Unsound`. Of a run that ends so nothing is said.
-//! These instructions are not done yet, and end so too: `AddNumber`, `Cast`, those of globals, fields, elements and
-//! properties, `CallInterface`, `Construct`, and those of arrays and host objects.
+//! A run ends with `Stop::Unsound` only if the guards of its code leave nothing of it. Code that was compiled from a
+//! sound module never ends so.
 //!
 //! In reading order: `turning` (what is left after an instruction), `storing` (slots), `operators`, `calculating`,
-//! `stepping` (statements), `jumping`, `calling`, `returning`, `running`.
+//! `members` (globals and fields), `elements`, `arrays`, `hosts` (host objects and services), `stepping` (statements),
+//! `jumping`, `calling`, `returning`, `classes` (of objects), `casting` (casts, and calls by an interface),
+//! `constructing`, `running`.
 #![tactic(auto)]
 
+mod arrays;
 mod calculating;
 pub mod calling;
+mod casting;
+mod classes;
+mod constructing;
+mod elements;
+mod hosts;
 mod jumping;
+mod members;
 mod operators;
 mod returning;
 pub mod running;

@@ -3,7 +3,7 @@ ghost use Rattle.std.specs.Prelude.{◌≡◌, ◌<◌, ◌≤◌, ℕ, List, le
 ghost use Rattle.ash_code.specs.Controls.{Control};
 ghost use Rattle.ash_code.specs.Performing.{Setting, put};
 ghost use Rattle.ash_code.specs.Steps.{give_held};
-ghost use Rattle.ash_context.specs.Composed.{putting};
+ghost use Rattle.ash_context.specs.Composed.{putting, putting_null};
 ghost use Rattle.ash_context.specs.Positions.{control_of, came_to};
 ghost use Rattle.ash_context.specs.Turns.{Does, SameControl};
 ghost use Rattle.ash_host.specs.declared.word.Word.{Word};
@@ -102,6 +102,25 @@ pub(crate) fn store_given<B: HostObject>(
 {
     match step {
         Ok(word) => store(state, at, to, word),
+        Err(stop) => Err(stop),
+    }
+}
+
+/// Stores null after a step that has no value, unless it ended the run.
+pub(crate) fn store_null<B: HostObject>(
+    step: Result<(), Stop>,
+    state: &mut RunState<B>,
+    at: usize,
+    to: usize,
+) -> Result<Turn, Stop>
+    requires within { at < usize.MAX }
+    ensures put { (s : Setting) (run : Guarded (Unit {0})) (c : Control) (start : State B)
+        → Comes B.HostObject s.names run start step state.old
+        → OnOk step (control_of at state.old.frames ≡ c)
+        → Comes B.HostObject s.names (putting_null run to c) start (came_to result state.new.frames) state.new }
+{
+    match step {
+        Ok(()) => store(state, at, to, Word::Null),
         Err(stop) => Err(stop),
     }
 }

@@ -1,5 +1,4 @@
-use Rattle.std.proofs.Common.{◌≡◌, subst}
-use Rattle.std.specs.Prelude.{Err, Result}
+use Rattle.std.proofs.Common.{subst}
 use Rattle.ash_host.specs.declared.word.Word.{Word}
 use Rattle.ash_host.specs.declared.word.Word.TheVariants as words
 use Rattle.ash_meaning.specs.ObjectSteps.{object_of}

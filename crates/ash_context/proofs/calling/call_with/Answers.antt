@@ -1,5 +1,5 @@
-use Rattle.std.proofs.Common.{◌≡◌, subst, sym}
-use Rattle.std.specs.Prelude.{Result, Ok, Err}
+use Rattle.std.proofs.Common.{subst}
+use Rattle.std.specs.Prelude.{Result}
 use Rattle.ash_meaning.specs.Frames as frames
 use Rattle.ash_run_steps.specs.declared.stop.Stop.{Stop}
 use Rattle.ash_run_steps.specs.Becoming.{Comes}

@@ -1,6 +1,5 @@
 use Rattle.std.proofs.Common.{◌≡◌, ◌+◌, ◌∙◌, ap, sym, true, false, Bool, cond}
 use Rattle.std.specs.Prelude.{◌&&◌, nat_le, length}
-use Rattle.ash_run_steps.specs.FrameChanges.{entering as framed_entering}
 use Rattle.ash_run_steps.specs.Guarded.{Guarded, give, unsound, ◌>>◌}
 use Rattle.ash_run_steps.specs.GuardedSteps.{enter}
 use Rattle.ash_run_steps.specs.Stacks.{Frames}

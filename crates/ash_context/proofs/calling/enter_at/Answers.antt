@@ -1,10 +1,7 @@
-use Rattle.std.proofs.Common.{◌≡◌, ◌∙◌, ap, List}
-use Rattle.std.specs.Prelude.{Option, Some, None, option_map, slice_get}
-use Rattle.std.specs.Option.{option_map_or}
-use Rattle.ash_run_steps.specs.Guarded.{Guarded, unsound}
+use Rattle.std.proofs.Common.{◌∙◌, ap, List}
+use Rattle.std.specs.Prelude.{Some, None, option_map, slice_get}
 use Rattle.ash_code.specs.declared.code.FunctionCode.{FunctionCode}
-use Rattle.ash_code.specs.Performing.{Next, enter_at}
-use Rattle.ash_context.specs.declared.calling.Entry.{Entry}
+use Rattle.ash_code.specs.Performing.{enter_at}
 use Rattle.ash_context.specs.Calls.{enter_entry, entry_in}
 use Rattle.ash_context.specs.Positions.{control_of, came_to}
 use Rattle.ash_context.proofs.Entries.{entered_by}

@@ -1,7 +1,5 @@
-use Rattle.std.proofs.Common.{◌≡◌, subst, sym, ap}
-use Rattle.std.specs.Prelude.{Ok, Err, Result, OnOk}
-use Rattle.ash_run_steps.specs.declared.stop.Stop.{Stop}
-use Rattle.ash_run_steps.specs.Becoming.{Comes}
+use Rattle.std.proofs.Common.{ap}
+use Rattle.std.specs.Prelude.{Ok}
 use Rattle.ash_run_steps.specs.Guarded.{give}
 use Rattle.ash_run_steps.specs.GuardedSteps.{hold}
 use Rattle.ash_run_steps.specs.Stacks.{Frames}

@@ -1,6 +1,5 @@
 use Rattle.std.proofs.Common.{◌≡◌, ◌+◌, refl, true, nat_lt, arith, ap}
 use Rattle.std.proofs.lemmas.Bool.Decides.{nat_tests}
-use Rattle.ash_run_steps.specs.FrameChanges.{in_running, overwriting}
 use Rattle.ash_run_steps.specs.GuardedSteps.{write_local}
 use Rattle.ash_run_steps.specs.Stacks.{Frames}
 use Rattle.ash_context.specs.Positions.{control_of}

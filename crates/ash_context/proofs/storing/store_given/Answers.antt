@@ -1,5 +1,5 @@
-use Rattle.std.proofs.Common.{◌≡◌, subst, sym}
-use Rattle.std.specs.Prelude.{Ok, Err, Result, OnOk}
+use Rattle.std.proofs.Common.{◌≡◌, subst}
+use Rattle.std.specs.Prelude.{Result, OnOk}
 use Rattle.ash_host.specs.declared.word.Word.{Word}
 use Rattle.ash_run_steps.specs.declared.stop.Stop.{Stop}
 use Rattle.ash_run_steps.specs.Becoming.{Comes}

@@ -1,6 +1,5 @@
-use Rattle.std.proofs.Common.{◌≡◌, List, refl, ap, sym, arith, rules}
+use Rattle.std.proofs.Common.{List, refl, ap, sym, arith}
 use Rattle.ash_host.specs.declared.word.Word.{Word}
-use Rattle.ash_run_steps.specs.RunStates.{State}
 use Rattle.ash_run_steps.specs.Stacks.{with_slots}
 use Rattle.ash_context.proofs.Puts.{set_beyond}
 use Rattle.ash_context.proofs.storing.write_slot.Goals as goal

@@ -1,0 +1,21 @@
+use Rattle.ash_meaning.specs.ObjectSteps.{object_of}
+use Rattle.ash_run_steps.specs.Guarded.{plain}
+use Rattle.ash_run_steps.specs.HostGuards.{get_property}
+use Rattle.ash_context.proofs.Puts.{after_ok, after_err}
+use Rattle.ash_context.proofs.hosts.property_of.Goals as goal
+
+pub returns-in-Ok : goal.returns-in-Ok
+returns-in-Ok g c =
+    let s = c.args.state.now in
+    record {
+      read = λ names. after_ok g.B.HostObject names (plain (object_of c.args.object)) (λ number. get_property number c.args.id c.args.of) s s s c.object_of.result c.in-Ok.number c.get_property.result c.in-Ok.is
+          (c.object_of.ensures.found names) (c.get_property.ensures.read names);
+    }
+
+pub returns-in-Err : goal.returns-in-Err
+returns-in-Err g c =
+    let s = c.args.state.now in
+    record {
+      read = λ names. after_err g.B.HostObject names (plain (object_of c.args.object)) (λ number. get_property number c.args.id c.args.of) s s c.object_of.result c.in-Err.stop c.in-Err.is
+          (c.object_of.ensures.found names);
+    }

@@ -1,0 +1,29 @@
+use Rattle.std.proofs.Common.{◌≡◌, subst}
+use Rattle.std.specs.Prelude.{OnOk, Result}
+use Rattle.ash_host.specs.declared.word.Word.TheVariants.{Null}
+use Rattle.ash_run_steps.specs.declared.stop.Stop.{Stop}
+use Rattle.ash_run_steps.specs.Becoming.{Comes}
+use Rattle.ash_code.specs.Controls.{Control}
+use Rattle.ash_code.specs.Performing.{put}
+use Rattle.ash_context.specs.Positions.{control_of, came_to}
+use Rattle.ash_context.proofs.Puts.{after_ok, after_err}
+use Rattle.ash_context.proofs.storing.store_null.Goals as goal
+
+pub returns-in-Ok : goal.returns-in-Ok
+returns-in-Ok g c =
+    let mid = c.args.state.now in
+    let new = c.store.new.state in
+    let last = came_to c.store.result new.frames in
+    record {
+      put = λ s run at start comes same.
+          let is : control_of c.args.at mid.frames ≡ at = subst (λ (r : Result (Unit {0}) Stop). OnOk r (control_of c.args.at mid.frames ≡ at)) c.in-Ok.is same in
+          after_ok g.B.HostObject s.names run (λ _. put c.args.to at Null) start mid new c.args.step tt last c.in-Ok.is comes
+          (subst (λ (k : Control). Comes g.B.HostObject s.names (put c.args.to k Null) mid last new) is (c.store.ensures.put s));
+    }
+
+pub returns-in-Err : goal.returns-in-Err
+returns-in-Err g c =
+    record {
+      put = λ s run at start comes same.
+          after_err g.B.HostObject s.names run (λ _. put c.args.to at Null) start c.args.state.now c.args.step c.in-Err.stop c.in-Err.is comes;
+    }
