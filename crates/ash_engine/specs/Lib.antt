@@ -3,4 +3,5 @@ pub mod Drawing
 pub mod SavedDrawing
 pub mod LiveSteps
 pub mod RestoredBoxes
-pub mod PlainSteps
+pub mod TableStates
+pub mod TableSteps

@@ -1,0 +1,106 @@
+-- The live state that the code has: modules with their code, and the table of objects, where a module has a slot in
+-- place of its name.
+use Rattle.std.specs.Prelude.{◌≡◌, ℕ, List, [], ◌∷◌, map, filter_map, nat_eq, string_bytes, if◌then◌else◌, Option}
+use Rattle.std.specs.List.{AllByRecursion, AllZip, IsDistinct}
+use Rattle.std.specs.Option.{option_map}
+use Rattle.ash_host.specs.declared.host_object.HostObject.{Ghosts}
+use Rattle.ash_host.specs.Objects.{handles}
+use Rattle.ash_registry.specs.AcceptedRegistrations.{Registration}
+use Rattle.ash_typed.specs.Modules.{module_of}
+use Rattle.ash_meaning.specs.Activity.{FreeBox}
+use Rattle.ash_soundness.specs.WellFormed.{Context, IsContext, IsState}
+use Rattle.ash_slots.specs.SlotResponses.{box_of}
+use Rattle.ash_objects.specs.Table.{Living, Table}
+use Rattle.ash_object_ranks.specs.ShownTables.{SlotNames, objects_shown}
+use Rattle.ash_run_steps.specs.RunStates.{HoldsRoots}
+use Rattle.ash_code.specs.CompiledCode.{IsCodeOf}
+use Rattle.ash_requests.specs.States.{State, globals_of}
+use Rattle.ash_plain_steps.specs.declared.state.LoadedModule.{LoadedModule}
+use Rattle.ash_plain_steps.specs.declared.state.PlainState.{PlainState}
+use Rattle.ash_plain_steps.specs.StateViews.{modules_seen}
+use Rattle.ash_plain_steps.specs.Consistency.{AreConsistent}
+use Rattle.ash_states.specs.HostStates.{HostState, IsAdmitted, embedding_for, service_kinds}
+use Rattle.ash_engine.specs.declared.live.Compiled.{Compiled}
+use Rattle.ash_engine.specs.declared.live.Live.{Live}
+use Rattle.ash_engine.specs.LiveStates.{Boxes, LiveState, plain_box}
+
+-- the names of modules by the slots of their code; what is the slot of none has no name
+abbrev pub names_in : List LoadedModule → List Compiled → SlotNames
+names_in (m ∷ ms) (c ∷ cs) slot = if nat_eq slot c.code.module then string_bytes m.name else names_in ms cs slot
+names_in _ _ slot = []
+
+-- the slots of modules, in their order
+abbrev pub slots_of : List Compiled → List ℕ
+slots_of cs = map (λ (c : Compiled). c.code.module) cs
+
+-- the code is that of the module's tree, whatever else is known
+abbrev pub IsCompiledFrom : LoadedModule → Compiled → Type 0
+IsCompiledFrom m c = (x : Context) → IsContext x → (x.program).tree ≡ module_of m.tree → IsCodeOf c.code x
+
+-- The modules have code, each in its place, and slots that differ.
+pub record AreCompiled (ms : List LoadedModule) (cs : List Compiled) : Type 0 where
+  pub each : AllZip IsCompiledFrom ms cs
+  pub apart : IsDistinct nat_eq (slots_of cs)
+
+-- the state of a free box is no longer than a state may be
+abbrev pub BoxFits : FreeBox → Type 0
+BoxFits box = IsState box.state
+
+abbrev pub BoxesFit : List FreeBox → Type 0
+BoxesFit pool = AllByRecursion BoxFits pool
+
+module _ {B : Type 0} where
+  -- the names of the modules of a live state, by their slots
+  abbrev pub names_of : Live B → SlotNames
+  names_of l = names_in l.loaded.modules.items l.compiled.items
+
+  -- the objects that globals are handles to, once for each
+  abbrev pub roots_of : Live B → List ℕ
+  roots_of l = handles (globals_of (modules_seen l.loaded.modules.items))
+
+  -- a host object's box by its number; what is none has no box
+  abbrev pub boxed_entry : ℕ × Living B → Option (ℕ × B)
+  boxed_entry e = option_map (λ box. (e.0, box)) (box_of (e.1).body)
+
+  -- the boxes of a table
+  abbrev pub boxes_of : Table B → Boxes B
+  boxes_of table = record {
+    objects = filter_map boxed_entry table.objects;
+    pool = table.pool;
+    services = table.services;
+  }
+
+module _ {B : Type 0} (G : Ghosts B) where
+  -- what outlives a request: the modules and how many requests were answered, and what the table shows by these names
+  abbrev pub state_shown : SlotNames → PlainState → Table B → State
+  state_shown names loaded table = record {
+    modules = modules_seen loaded.modules.items;
+    objects = objects_shown G names table.objects;
+    services = map G.state table.services;
+    last = table.last;
+    seq = loaded.seq;
+  }
+
+  -- the state that a live state has, with what is registered
+  abbrev pub durable_seen : List Registration → Live B → HostState
+  durable_seen registered l = record { registered = registered; state = state_shown (names_of l) l.loaded l.table }
+
+  -- the live state that the code has
+  abbrev pub live_seen : List Registration → Live B → LiveState B
+  live_seen registered l = record {
+    durable = durable_seen registered l;
+    pool = map (plain_box G) l.table.pool;
+    boxes = boxes_of l.table;
+  }
+
+  -- A host may be in it; the typed tree of each module is that of its source, and its code is that of the tree; each
+  -- object is held in the table as often as globals hold it; the services are of the kinds that are registered, in
+  -- order; and the states of free boxes are not too long. That each object is of a module that is loaded, and that the
+  -- boxes are those of the state, follows.
+  pub record IsLive (registered : List Registration) (l : Live B) : Type 0 where
+    pub admitted : IsAdmitted (durable_seen registered l)
+    pub consistent : AreConsistent (embedding_for registered) l.loaded.modules.items
+    pub compiled : AreCompiled l.loaded.modules.items l.compiled.items
+    pub held : HoldsRoots l.table (roots_of l)
+    pub kinds : map G.kind_of l.table.services ≡ service_kinds registered
+    pub fit : BoxesFit (map (plain_box G) l.table.pool)
