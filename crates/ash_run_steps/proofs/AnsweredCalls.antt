@@ -1,8 +1,9 @@
 -- Calls of hosts are the meaning's.
-use Rattle.std.proofs.Common.{◌≡◌, ◌≤◌, ℕ, Bool, true, false, cond, List, [], ◌∷◌, ◌++◌, zero, suc, length, refl, sym, ap, ◌∙◌, arith, inl}
-use Rattle.std.specs.Prelude.{Option, Some, None, IfSome, IsSomeAnd, All, Result, Ok, Err, slice_get, is_some}
+use Rattle.std.proofs.Common.{◌≡◌, ◌≤◌, ℕ, Bool, true, false, cond, List, [], ◌∷◌, ◌++◌, length, refl, sym, ap, ◌∙◌, subst, arith}
+use Rattle.std.specs.Prelude.{Option, Some, None, IfSome, IsSomeAnd, Result, Ok, Err, nat_le, slice_get, is_some}
 use Rattle.std.specs.Option.{option_map, option_and_then}
-use Rattle.std.proofs.lemmas.List.{map-set}
+use Rattle.std.proofs.lemmas.Bool.Decides.{nat_tests}
+use Rattle.std.proofs.lemmas.List.{append-nil, map-set}
 use Rattle.std.proofs.lemmas.Option.{slice_get-map}
 use Rattle.ash_host.specs.declared.answer.HostAnswer.{HostAnswer}
 use Rattle.ash_host.specs.declared.answer.HostAnswer.TheVariants as answers
@@ -14,7 +15,7 @@ use Rattle.ash_host.specs.declared.host_object.HostObject.{Ghosts}
 use Rattle.ash_host.specs.declared.word.Word.{Word}
 use Rattle.ash_host.specs.Calls.{HostCall, Start, Invoke, Get, Set}
 use Rattle.ash_host.specs.Limits.{max_state_bytes}
-use Rattle.ash_host.specs.Objects.{LiveObjects, IsInOrder}
+use Rattle.ash_host.specs.Objects.{LiveObjects, AreNumbered}
 use Rattle.ash_host.specs.Records.{HostRecord, next_record}
 use Rattle.ash_host.specs.Words.{IsAnswer}
 use Rattle.ash_host.proofs.RecordLaws.{next_record_takes}
@@ -32,9 +33,11 @@ use Rattle.ash_run_steps.specs.declared.stop.Stop.TheVariants as stops
 use Rattle.ash_run_steps.specs.Guarded.{Guarded, plain, give, stop, unsound}
 use Rattle.ash_run_steps.specs.HostGuards.{is_there, invoke_host, get_property, set_property, start_host, IsMade}
 use Rattle.ash_run_steps.specs.RunStates.{State, Names, shown, world_shown}
-use Rattle.ash_run_steps.specs.Becoming.{Becomes, Comes, IsOf, IsOfIts, KeepsBoxes}
-use Rattle.ash_run_steps.proofs.Bare.{keeps_bare}
-use Rattle.ash_run_steps.proofs.BoxChanges.{with_service, keeps_service, keeps_object, host_shown_at, lacks_shown_at, service_shown_at, same_state, boxed_shown}
+use Rattle.ash_run_steps.specs.Answered.{drawn_in, IsValidOf}
+use Rattle.ash_run_steps.specs.Becoming.{Gave, Becomes, Comes}
+use Rattle.ash_run_steps.specs.Following.{box_for, Follows}
+use Rattle.ash_run_steps.proofs.Bare.{follows_bare}
+use Rattle.ash_run_steps.proofs.BoxChanges.{with_service, box_lives, follows_service, follows_object, host_shown_at, lacks_shown_at, service_shown_at, same_state, boxed_shown}
 use Rattle.ash_run_steps.proofs.Composed.{becomes_by}
 use Rattle.ash_run_steps.proofs.HoldSteps.{at_table}
 use Rattle.ash_run_steps.proofs.LocalSteps.{guard_off}
@@ -42,10 +45,6 @@ use Rattle.ash_run_steps.proofs.LocalSteps.{guard_off}
 pub some_of : {X : Type 0} (P : X → Type 0) (o : Option X) → IsSomeAnd o P → (x : X) × (o ≡ Some x) × P x
 some_of P None is = absurd is
 some_of P (Some x) is = (x, refl, is)
-
-one_of_all : {X : Type 0} (P : X → Type 0) (x : X) → P x → All P (x ∷ [])
-one_of_all P x is zero d within = is
-one_of_all P x is (suc k) d within = absurd (omega (arith, within))
 
 module _ {B : Type 0} (G : Ghosts B) (names : Names) where
   -- the record of a call
@@ -62,12 +61,12 @@ module _ {B : Type 0} (G : Ghosts B) (names : Names) where
   pub record IsAnswered (target : Target) (call : HostCall) (answer : HostAnswer) (s : State B) (table : Table B) : Type 0 where
     pub before : B
     pub after : B
-    pub of : IsOf s.table target before
+    pub of : box_for s.table [] target ≡ Some before
     pub allowed : G.allows before call (G.state before) answer (G.state after)
     pub before_fits : length (G.state before) ≤ max_state_bytes
     pub after_fits : length (G.state after) ≤ max_state_bytes
     pub in_range : IsAnswer answer
-    pub keeps : KeepsBoxes G s.table table
+    pub follows : Follows G [] s.table table
     pub asked : (rest : List HostRecord) → hosts.state_of target (world_shown G names rest s) ≡ Some (G.state before)
     pub left : (rest : List HostRecord) → hosts.with_state target (G.state after) (world_shown G names rest s) ≡ world_shown G names rest (at_table table s)
 
@@ -88,32 +87,45 @@ module _ {B : Type 0} (G : Ghosts B) (names : Names) where
         ∙ ap (λ (o : Option (HostRecord × List HostRecord)). onward (found o now) after_taken) (taken_by rest)
         ∙ ap (λ (w : World). Done answer (record (shown G names rest s) { world = w })) (is.left rest)
 
-    valid_one : All (IsOfIts G s.table) (answered ∷ [])
-    valid_one = one_of_all (IsOfIts G s.table) answered (
-      is.before,
-      is.of,
-      record { allowed = is.allowed; answered_fits = is.in_range; before_fits = is.before_fits; after_fits = is.after_fits },
-    )
+    -- the box that was asked gave the answer
+    gave_one : (new : State B) (happened : List Event) → drawn_in happened ≡ [] → new.table ≡ table → new.events ≡ s.events ++ happened
+        → Gave G (answered ∷ []) s new
+    gave_one new happened none now told = record {
+      drawn = [];
+      happened = happened;
+      told = told;
+      in_turn = sym none;
+      valid = (
+        subst (λ (o : Option B). IsValidOf G o answered) (sym is.of) (record {
+          allowed = is.allowed;
+          answered_fits = is.in_range;
+          before_fits = is.before_fits;
+          after_fits = is.after_fits;
+        }),
+        tt,
+      );
+      table = subst (λ (t : Table B). Follows G [] s.table t) (sym now) is.follows;
+    }
 
     -- a run that comes to this after the answer
-    pub becomes_after : {A : Type 0} (run : Run A) (left : Guarded A) (new : State B) → KeepsBoxes G s.table new.table
+    pub becomes_after : {A : Type 0} (run : Run A) (left : Guarded A) (new : State B) (happened : List Event) → drawn_in happened ≡ [] → new.table ≡ table
+        → new.events ≡ s.events ++ happened
         → ((rest : List HostRecord) → left (shown G names rest new) ≡ Some (run (shown G names (answered ∷ rest) s)))
         → Becomes G names (plain run) s left new
-    becomes_after run left new keeps same = record {
+    becomes_after run left new happened none now told same = record {
       records = answered ∷ [];
-      valid = valid_one;
-      keeps = keeps;
+      gave = gave_one new happened none now told;
       same = same;
     }
 
     -- the same of a run under the guard that who is asked is there
-    pub becomes_answered : {A : Type 0} (run : Run A) (left : Guarded A) (new : State B) → KeepsBoxes G s.table new.table
+    pub becomes_answered : {A : Type 0} (run : Run A) (left : Guarded A) (new : State B) (happened : List Event) → drawn_in happened ≡ [] → new.table ≡ table
+        → new.events ≡ s.events ++ happened
         → ((rest : List HostRecord) → left (shown G names rest new) ≡ Some (run (shown G names (answered ∷ rest) s)))
         → Becomes G names (λ a. cond (is_there target a) (Some (run a)) None) s left new
-    becomes_answered run left new keeps same = record {
+    becomes_answered run left new happened none now told same = record {
       records = answered ∷ [];
-      valid = valid_one;
-      keeps = keeps;
+      gave = gave_one new happened none now told;
       same = λ rest. under (is_there target (shown G names (answered ∷ rest) s)) (run (shown G names (answered ∷ rest) s)) (left (shown G names rest new)) (same rest);
     }
       where
@@ -126,13 +138,20 @@ module _ {B : Type 0} (G : Ghosts B) (names : Names) where
       → ((rest : List HostRecord) → hosts.state_of target (world_shown G names rest s) ≡ None)
       → Becomes G names (λ a. cond (is_there target a) (Some (run a)) None) s unsound s
   lacks_host target run s none =
-      becomes_by G names (λ a. cond (is_there target a) (Some (run a)) None) s unsound s refl
+      becomes_by G names (λ a. cond (is_there target a) (Some (run a)) None) s unsound s refl refl
       (λ rest. guard_off (is_there target (shown G names rest s)) (run (shown G names rest s)) (ap is_some (none rest)))
 
   -- methods and functions
 
   abbrev pub with_call : Target → ℕ → HostAnswer → Table B → State B → State B
   with_call target id answer table s = record s { table = table; events = s.events ++ called target id answer }
+
+  -- a call draws nothing
+  call_draws : (target : Target) (id : ℕ) (answer : HostAnswer) → drawn_in (called target id answer) ≡ []
+  call_draws target id answers.Nothing = refl
+  call_draws target id (answers.Value word) = refl
+  call_draws target id (answers.Raise code) = refl
+  call_draws target id answers.NoMemory = refl
 
   no_step_of : (result : Option VarType) (a : Activity) → hosts.accept result answers.NoMemory a ≡ NoStep
   no_step_of None a = refl
@@ -157,12 +176,12 @@ module _ {B : Type 0} (G : Ghosts B) (names : Names) where
     pub invoke_comes : (r : Result Word Stop) → ((a : Activity) → IsMade (hosts.accept result answer a) r a)
         → Comes G names (invoke_host target id result args) s r (with_call target id answer table s)
     invoke_comes (Ok w) made =
-        becomes_answered target (Invoke id args) answer s table is (hosts.invoke_host target id result args) (give w) (with_call target id answer table s) is.keeps
+        becomes_answered target (Invoke id args) answer s table is (hosts.invoke_host target id result args) (give w) (with_call target id answer table s) (called target id answer) (call_draws target id answer) refl refl
         (λ rest.
         let here = noted_is rest (Done w (noted rest)) (made (noted rest)) (λ e. cc) in
         sym (ap Some (invoked_same rest ∙ made (noted rest) ∙ ap (Done w) here)))
     invoke_comes (Err (stops.Raised exception)) made =
-        becomes_answered target (Invoke id args) answer s table is (hosts.invoke_host target id result args) (stop (Raising exception)) (with_call target id answer table s) is.keeps
+        becomes_answered target (Invoke id args) answer s table is (hosts.invoke_host target id result args) (stop (Raising exception)) (with_call target id answer table s) (called target id answer) (call_draws target id answer) refl refl
         (λ rest.
         let here = noted_is rest (Ended (Raising exception) (noted rest)) (made (noted rest)) (λ e. cc) in
         sym (ap Some (invoked_same rest ∙ made (noted rest) ∙ ap (Ended (Raising exception)) here)))
@@ -180,10 +199,10 @@ module _ {B : Type 0} (G : Ghosts B) (names : Names) where
     pub get_comes : (of : VarType) (answer : HostAnswer) (s : State B) (r : Result Word Stop) → IsAnswered (targets.Object number) (Get id) answer s s.table
         → ((a : Activity) → IsMade (hosts.accept (Some of) answer a) r a) → Comes G names (get_property number id of) s r s
     get_comes of answer s (Ok w) is made =
-        becomes_answered (targets.Object number) (Get id) answer s s.table is (hosts.get_property number id of) (give w) s is.keeps
+        becomes_answered (targets.Object number) (Get id) answer s s.table is (hosts.get_property number id of) (give w) s [] refl refl (sym (append-nil s.events))
         (λ rest. sym (ap Some (read_same of answer s is rest ∙ made (shown G names rest s))))
     get_comes of answer s (Err (stops.Raised exception)) is made =
-        becomes_answered (targets.Object number) (Get id) answer s s.table is (hosts.get_property number id of) (stop (Raising exception)) s is.keeps
+        becomes_answered (targets.Object number) (Get id) answer s s.table is (hosts.get_property number id of) (stop (Raising exception)) s [] refl refl (sym (append-nil s.events))
         (λ rest. sym (ap Some (read_same of answer s is rest ∙ made (shown G names rest s))))
     get_comes of answer s (Err stops.OutOfTicks) is made = absurd (made (shown G names [] s))
     get_comes of answer s (Err stops.Unsound) is made = absurd (made (shown G names [] s))
@@ -192,7 +211,7 @@ module _ {B : Type 0} (G : Ghosts B) (names : Names) where
     pub set_gives : (word : Word) (s : State B) (table : Table B) → IsAnswered (targets.Object number) (Set id word) answers.Nothing s table
         → Becomes G names (set_property number id word) s (give tt) (at_table table s)
     set_gives word s table is =
-        becomes_answered (targets.Object number) (Set id word) answers.Nothing s table is (hosts.set_property number id word) (give tt) (at_table table s) is.keeps
+        becomes_answered (targets.Object number) (Set id word) answers.Nothing s table is (hosts.set_property number id word) (give tt) (at_table table s) [] refl refl (sym (append-nil s.events))
         (λ rest. sym (ap (λ (p : Progress HostAnswer). Some (onward (onward p (hosts.accept None)) (λ _. gives tt))) (called_same (targets.Object number) (Set id word) answers.Nothing s table is rest)))
 
   -- the start of an object
@@ -203,10 +222,10 @@ module _ {B : Type 0} (G : Ghosts B) (names : Names) where
 
     pub start_comes : (r : Result Word Stop) → ((a : Activity) → IsMade (hosts.accept None answer a) r a) → Comes G names (plain (start_host number args)) s r (at_table table s)
     start_comes (Ok w) made =
-        becomes_after (targets.Object number) (Start args) answer s table is (start_host number args) (give w) (at_table table s) is.keeps
+        becomes_after (targets.Object number) (Start args) answer s table is (start_host number args) (give w) (at_table table s) [] refl refl (sym (append-nil s.events))
         (λ rest. sym (ap Some (started_same rest ∙ made (shown G names rest (at_table table s)))))
     start_comes (Err (stops.Raised exception)) made =
-        becomes_after (targets.Object number) (Start args) answer s table is (start_host number args) (stop (Raising exception)) (at_table table s) is.keeps
+        becomes_after (targets.Object number) (Start args) answer s table is (start_host number args) (stop (Raising exception)) (at_table table s) [] refl refl (sym (append-nil s.events))
         (λ rest. sym (ap Some (started_same rest ∙ made (shown G names rest (at_table table s)))))
     start_comes (Err stops.OutOfTicks) made = absurd (made (shown G names [] s))
     start_comes (Err stops.Unsound) made = absurd (made (shown G names [] s))
@@ -226,44 +245,52 @@ module _ {B : Type 0} (G : Ghosts B) (names : Names) where
     before_fits = fits;
     after_fits = responds.bounded;
     in_range = in_range;
-    keeps = keeps_service G index before after call answer s.table was responds;
+    follows = follows_service G index before after call answer s.table was responds;
     asked = λ rest. service_shown_at G names.modules index before s.table was;
     left = λ rest. ap (λ (l : List (List ℕ)). record (world_shown G names rest s) { services = l }) (sym (map-set G.state (s.table).services index after));
   }
 
-  pub object_answers : (number : ℕ) (call : HostCall) (answer : HostAnswer) (before after : B) (s : State B) → IsInOrder (s.table).objects
+  -- the box of an object that lives
+  living_for : (number : ℕ) (box : B) (table : Table B) → AreNumbered table.last table.objects → box_at number table ≡ Some box
+      → box_for table [] (targets.Object number) ≡ Some box
+  living_for number box table numbered was =
+      let given : number ≤ table.last = (numbered.given number (box_lives number table (ap is_some was))).1 in
+      let yes : nat_le number table.last ≡ true = grind (arith, nat_tests) in
+      ap (λ (b : Bool). cond b (box_at number table) None) yes ∙ was
+
+  pub object_answers : (number : ℕ) (call : HostCall) (answer : HostAnswer) (before after : B) (s : State B) → AreNumbered (s.table).last (s.table).objects
       → box_at number s.table ≡ Some before → Responds G before call answer after
       → length (G.state before) ≤ max_state_bytes → IsAnswer answer
       → IsAnswered (targets.Object number) call answer s (with_object number (with_box after) s.table)
-  object_answers number call answer before after s ordered was responds fits in_range = record {
+  object_answers number call answer before after s numbered was responds fits in_range = record {
     before = before;
     after = after;
-    of = inl was;
+    of = living_for number before s.table numbered was;
     allowed = responds.allowed;
     before_fits = fits;
     after_fits = responds.bounded;
     in_range = in_range;
-    keeps = keeps_object G number before after call answer s.table was responds;
+    follows = follows_object G number before after call answer s.table was responds;
     asked = λ rest. ap (option_and_then hosts.state_in) (host_shown_at G names.modules number before s.table was);
-    left = λ rest. ap (λ (l : LiveObjects (List ℕ)). record (world_shown G names rest s) { objects = l }) (boxed_shown G names.modules number before after s.table ordered was responds.same_kind);
+    left = λ rest. ap (λ (l : LiveObjects (List ℕ)). record (world_shown G names rest s) { objects = l }) (boxed_shown G names.modules number before after s.table numbered.in_order was responds.same_kind);
   }
 
   -- a property that is read leaves the table
-  pub property_answers : (number prop : ℕ) (answer : HostAnswer) (box : B) (s : State B) → IsInOrder (s.table).objects
+  pub property_answers : (number prop : ℕ) (answer : HostAnswer) (box : B) (s : State B) → AreNumbered (s.table).last (s.table).objects
       → box_at number s.table ≡ Some box → G.allows box (Get prop) (G.state box) answer (G.state box)
       → length (G.state box) ≤ max_state_bytes → IsAnswer answer
       → IsAnswered (targets.Object number) (Get prop) answer s s.table
-  property_answers number prop answer box s ordered was allowed fits in_range = record {
+  property_answers number prop answer box s numbered was allowed fits in_range = record {
     before = box;
     after = box;
-    of = inl was;
+    of = living_for number box s.table numbered was;
     allowed = allowed;
     before_fits = fits;
     after_fits = fits;
     in_range = in_range;
-    keeps = keeps_bare G s.table s.table refl;
+    follows = follows_bare G s.table s.table refl;
     asked = λ rest. ap (option_and_then hosts.state_in) (host_shown_at G names.modules number box s.table was);
-    left = λ rest. ap (λ (l : LiveObjects (List ℕ)). record (world_shown G names rest s) { objects = l }) (same_state G names.modules number box s.table ordered was);
+    left = λ rest. ap (λ (l : LiveObjects (List ℕ)). record (world_shown G names rest s) { objects = l }) (same_state G names.modules number box s.table numbered.in_order was);
   }
 
   -- who is not there

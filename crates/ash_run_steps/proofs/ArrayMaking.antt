@@ -37,7 +37,7 @@ use Rattle.ash_run_steps.proofs.ArraySteps.{initial_shown, le_on, le_off}
 use Rattle.ash_run_steps.proofs.ChangedObjects.{becomes_kept, then_held}
 use Rattle.ash_run_steps.proofs.Composed.{becomes_by}
 use Rattle.ash_run_steps.proofs.HoldSteps.{at_table}
-use Rattle.ash_run_steps.proofs.MadeObjects.{made_activity, keeps_made, none_next, demand_given, demand_full, demand_spent}
+use Rattle.ash_run_steps.proofs.MadeObjects.{made_activity, follows_made, none_next, demand_given, demand_full, demand_spent}
 use Rattle.ash_run_steps.proofs.MakingSteps.{below}
 use Rattle.ash_run_steps.proofs.Roots.{holding}
 
@@ -97,7 +97,7 @@ module _ {B : Type 0} (G : Ghosts B) (names : Names) (element : ElementTag) (cou
   construct_gives number slot table numbered full spent long is many all_of same =
       subst (λ (n : ℕ). Becomes G names step s (give (words.Object n)) (at_table table (holding (n ∷ []) s))) (sym is)
       (then_held G names step s (words.Object next) (constructed slot) table (same ∙ ap (λ (k : ℕ). bare (with_new_object slot (array_of_zeros element k) s.table)) all_of)
-      (becomes_kept G names step s (give (words.Object next)) (constructed slot) (keeps_made slot (array_of_zeros element (natural_of count)) s.table numbered G refl)
+      (becomes_kept G names step s (give (words.Object next)) (constructed slot) (follows_made slot (array_of_zeros element (natural_of count)) s.table numbered G refl) refl
       (λ rest. ap Some (ran rest slot (below (length (s.table).objects) max_objects full) (below (s.table).last objects.max_number spent) (not_long long)))))
     where
       not_long : (max_elements < natural_of count → ⊥) → natural_of count ≤ max_elements
@@ -110,14 +110,14 @@ module _ {B : Type 0} (G : Ghosts B) (names : Names) (element : ElementTag) (cou
       → (fault ≡ faults.ArrayLimit → (IsFull s.table → ⊥) × (IsSpent s.table → ⊥) × (max_elements < natural_of count))
       → Comes G names step s (Err (stop_of fault)) s
   construct_ends faults.ObjectLimit full spent pool long =
-      becomes_by G names step s (stop (Raising ObjectLimit)) s refl (λ rest. ap Some (ap onto (sym (demand_full G names rest s (full refl)))))
+      becomes_by G names step s (stop (Raising ObjectLimit)) s refl refl (λ rest. ap Some (ap onto (sym (demand_full G names rest s (full refl)))))
   construct_ends faults.NumbersSpent full spent pool long =
       let is = spent refl in
-      becomes_by G names step s (stop (Raising NumbersSpent)) s refl (λ rest. ap Some (ap onto (sym (demand_spent G names rest s (below (length (s.table).objects) max_objects is.0) is.1))))
+      becomes_by G names step s (stop (Raising NumbersSpent)) s refl refl (λ rest. ap Some (ap onto (sym (demand_spent G names rest s (below (length (s.table).objects) max_objects is.0) is.1))))
   construct_ends faults.PoolEmpty full spent pool long = absurd (pool refl)
   construct_ends faults.ArrayLimit full spent pool long =
       let is = long refl in
-      becomes_by G names step s (stop (Raising ArrayLimit)) s refl
+      becomes_by G names step s (stop (Raising ArrayLimit)) s refl refl
       (λ rest. ap Some (ap (λ (b : Bool). made (runs.demand b ArrayLimit (shown G names rest s))) (sym (le_off (natural_of count) max_elements is.2))
       ∙ ap onto (sym (demand_given G names rest s (below (length (s.table).objects) max_objects is.0) (below (s.table).last objects.max_number is.1)))))
   construct_ends faults.NoMemory full spent pool long = tt

@@ -47,7 +47,7 @@ use Rattle.ash_run_steps.specs.GuardedSteps.{is_alive}
 use Rattle.ash_run_steps.specs.PartSteps.{words_at}
 use Rattle.ash_run_steps.specs.RunStates.{State, Names, HoldsMore, shown, bare, is_alive_in}
 use Rattle.ash_run_steps.proofs.Bare.{alive_shown}
-use Rattle.ash_run_steps.proofs.ChangedObjects.{words_in_shown, changed_activity, keeps_changed, becomes_kept, then_held}
+use Rattle.ash_run_steps.proofs.ChangedObjects.{words_in_shown, changed_activity, follows_changed, becomes_kept, then_held}
 use Rattle.ash_run_steps.proofs.Composed.{becomes_by, guarded_same}
 use Rattle.ash_run_steps.proofs.HoldSteps.{at_table}
 use Rattle.ash_run_steps.proofs.LocalSteps.{guard_off, and_second}
@@ -179,7 +179,7 @@ module _ {B : Type 0} (G : Ghosts B) (names : SlotNames) where
 module _ {B : Type 0} (G : Ghosts B) (names : Names) (n : ℕ) (s : State B) where
   pub not_array : (run : runs.Run (Unit {0})) → is_some (array_at n s.table) ≡ false → Becomes G names (λ activity. cond (is_array n activity) (Some (run activity)) None) s (unsound {A = Unit {0}}) s
   not_array run off =
-      becomes_by G names (λ activity. cond (is_array n activity) (Some (run activity)) None) s unsound s refl
+      becomes_by G names (λ activity. cond (is_array n activity) (Some (run activity)) None) s unsound s refl refl
       (λ rest. guard_off (is_array n (shown G names rest s)) _ (array_shown G names.modules n s.table ∙ off))
 
   module _ (array : array_code.Array) (at : array_at n s.table ≡ Some array) (o : IsInOrder (s.table).objects) where
@@ -199,7 +199,7 @@ module _ {B : Type 0} (G : Ghosts B) (names : Names) (n : ℕ) (s : State B) whe
         → Becomes G names run s (give tt) (at_table table (refilled ws ns))
     refilled_gives run ws ns table same says =
         then_held G names run s tt (refilled ws ns) table same
-        (becomes_kept G names run s (give tt) (refilled ws ns) (keeps_changed G (with_elements ws) (elements_box ws) n s.table)
+        (becomes_kept G names run s (give tt) (refilled ws ns) (follows_changed G (with_elements ws) (elements_box ws) (λ x. refl) n s.table) refl
         (λ rest. subst (λ (a : Activity). IfSome (run (shown G names rest s)) (λ p. Some (Done tt a) ≡ Some p)) (sym (refilled_shown rest ws ns)) (says rest)))
 
     -- resizing
@@ -252,7 +252,7 @@ module _ {B : Type 0} (G : Ghosts B) (names : Names) (n : ℕ) (s : State B) whe
 
     pub insert_full : (word : Word) → max_elements ≤ length (words_at n s.table) → Becomes G names (insert_last n word) s (stop (Raising ArrayLimit)) s
     insert_full word full =
-        becomes_by G names (insert_last n word) s (stop (Raising ArrayLimit)) s refl
+        becomes_by G names (insert_last n word) s (stop (Raising ArrayLimit)) s refl refl
         (λ rest. guarded_same (guard word (shown G names rest s)) _ _
         (sym (added_same rest word ∙ ap (λ (b : Bool). runs.onward (runs.demand b ArrayLimit (shown G names rest s)) (λ _. objects.put_words n (words_at n s.table ++ word ∷ []))) (lt_off (length (words_at n s.table)) max_elements full))))
 
@@ -275,13 +275,13 @@ module _ {B : Type 0} (G : Ghosts B) (names : Names) (n : ℕ) (s : State B) whe
 module _ {B : Type 0} (G : Ghosts B) (names : Names) (s : State B) where
   pub length_gives : (n count : ℕ) → count ≡ length (words_at n s.table) → Becomes G names (array_length n) s (give (words.Uint count)) s
   length_gives n count is =
-      becomes_by G names (array_length n) s (give (words.Uint count)) s refl
+      becomes_by G names (array_length n) s (give (words.Uint count)) s refl refl
       (λ rest. ap (λ (k : ℕ). Some (Done (words.Uint k) (shown G names rest s))) is
       ∙ ap (λ (ws : List Word). Some (Done (words.Uint (length ws)) (shown G names rest s))) (sym (words_in_shown G names.modules n s.table)))
 
   pub empty_gives : (n : ℕ) (b : Bool) → b ≡ (length (words_at n s.table) == 0) → Becomes G names (array_is_empty n) s (give (words.Bool b)) s
   empty_gives n b is =
-      becomes_by G names (array_is_empty n) s (give (words.Bool b)) s refl
+      becomes_by G names (array_is_empty n) s (give (words.Bool b)) s refl refl
       (λ rest. ap (λ (c : Bool). Some (Done (words.Bool c) (shown G names rest s))) is
       ∙ ap (λ (ws : List Word). Some (Done (words.Bool (length ws == 0)) (shown G names rest s))) (sym (words_in_shown G names.modules n s.table)))
 
@@ -297,44 +297,43 @@ module _ {B : Type 0} (G : Ghosts B) (names : Names) (s : State B) where
   pub element_gives : (array index : Word) (n place : ℕ) → handle array ≡ Some n → place ≡ natural_of index → place < length (words_at n s.table)
       → Becomes G names (element_at array index) s (give (record { number = n; place = place })) s
   element_gives array index n place is at within =
-      becomes_by G names (element_at array index) s (give (record { number = n; place = place })) s refl
+      becomes_by G names (element_at array index) s (give (record { number = n; place = place })) s refl refl
       (λ rest. rw (element_same rest array index n is, ← at, lt_on place (length (words_at n s.table)) within) refl)
 
   pub element_past : (array index : Word) (n place : ℕ) → handle array ≡ Some n → place ≡ natural_of index → length (words_at n s.table) ≤ place
       → Becomes G names (element_at array index) s (stop (Raising IndexOutOfBounds)) s
   element_past array index n place is at past =
-      becomes_by G names (element_at array index) s (stop (Raising IndexOutOfBounds)) s refl
+      becomes_by G names (element_at array index) s (stop (Raising IndexOutOfBounds)) s refl refl
       (λ rest. rw (element_same rest array index n is, ← at, lt_off place (length (words_at n s.table)) past) refl)
 
   -- what ends a step on an array
 
   pub resize_long : (n : ℕ) (count : Word) → max_elements < natural_of count → Becomes G names (resize_array n count) s (stop (Raising ArrayLimit)) s
   resize_long n count long =
-      becomes_by G names (resize_array n count) s (stop (Raising ArrayLimit)) s refl
+      becomes_by G names (resize_array n count) s (stop (Raising ArrayLimit)) s refl refl
       (λ rest. guarded_same (is_array n (shown G names rest s)) _ _ (rw (le_off (natural_of count) max_elements long) refl))
 
   -- what is done without the guard is done with it
   pub resize_guarded : (n : ℕ) (count : Word) (left : Guarded (Unit {0})) (new : State B) → Becomes G names (plain (arrays.resize n (natural_of count))) s left new → Becomes G names (resize_array n count) s left new
   resize_guarded n count left new is = record {
     records = is.records;
-    valid = is.valid;
-    keeps = is.keeps;
+    gave = is.gave;
     same = λ rest. unless (is_array n (shown G names (is.records ++ rest) s)) (arrays.resize n (natural_of count) (shown G names (is.records ++ rest) s)) (left (shown G names rest new)) (is.same rest);
   }
 
   pub insert_dangles : (n : ℕ) (word : Word) → is_alive_in word s.table ≡ false → Becomes G names (insert_last n word) s unsound s
   insert_dangles n word none =
-      becomes_by G names (insert_last n word) s unsound s refl
+      becomes_by G names (insert_last n word) s unsound s refl refl
       (λ rest. guard_off (is_array n (shown G names rest s) && is_alive word (shown G names rest s)) _ (and_second (is_array n (shown G names rest s)) (is_alive word (shown G names rest s)) (alive_shown G names.modules word s.table ∙ none)))
 
   pub insert_lacks : (n : ℕ) (word : Word) → is_some (array_at n s.table) ≡ false → Becomes G names (insert_last n word) s unsound s
   insert_lacks n word off =
-      becomes_by G names (insert_last n word) s unsound s refl
+      becomes_by G names (insert_last n word) s unsound s refl refl
       (λ rest. guard_off (is_array n (shown G names rest s) && is_alive word (shown G names rest s)) _ (ap (λ (b : Bool). b && is_alive word (shown G names rest s)) (array_shown G names.modules n s.table ∙ off)))
 
   pub remove_empty : (n : ℕ) → length (words_at n s.table) ≡ 0 → Becomes G names (remove_last n) s (stop (Raising IndexOutOfBounds)) s
   remove_empty n none =
-      becomes_by G names (remove_last n) s (stop (Raising IndexOutOfBounds)) s refl
+      becomes_by G names (remove_last n) s (stop (Raising IndexOutOfBounds)) s refl refl
       (λ rest. guarded_same (is_array n (shown G names rest s)) _ _
       (sym (ap (λ (all : List Word). removed_by n (nat_lt 0 (length all)) all (shown G names rest s)) (words_in_shown G names.modules n s.table)
       ∙ ap (λ (b : Bool). removed_by n b (words_at n s.table) (shown G names rest s)) (lt_off 0 (length (words_at n s.table)) (omega (arith, none))))))

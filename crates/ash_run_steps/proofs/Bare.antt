@@ -1,11 +1,8 @@
 -- Tables that differ in holds alone show the same.
 use Rattle.std.proofs.Common.{◌≡◌, ℕ, Bool, true, false, cond, List, [], ◌∷◌, map, refl, sym, ap, ◌∙◌, subst, arith, nat_eq, inl, inr}
-use Rattle.std.specs.Prelude.{Option, Some, None, Contains, slice_get, is_some}
+use Rattle.std.specs.Prelude.{Option, Some, None, Contains, is_some}
 use Rattle.std.specs.Option.{option_map, option_map_or, option_and_then}
-use Rattle.ash_host.specs.declared.event.Target.{Target}
-use Rattle.ash_host.specs.declared.event.Target.TheVariants as targets
 use Rattle.ash_host.specs.declared.host_object.HostObject.{Ghosts}
-use Rattle.ash_host.specs.Calls.{HostCall, SameRelation}
 use Rattle.ash_host.specs.declared.word.Word.{Word}
 use Rattle.ash_host.specs.Objects.{object_at, LiveObjects, handle}
 use Rattle.ash_slots.specs.Store.{change_at}
@@ -16,7 +13,8 @@ use Rattle.ash_objects.proofs.Marks.{object_at-mapped}
 use Rattle.ash_object_ranks.specs.ShownTables.{SlotNames, body_shown, objects_shown}
 use Rattle.ash_run_steps.specs.RunStates.{bare, bare_living, is_alive_in}
 use Rattle.ash_object_ranks.proofs.ShownTables.{lives_shown}
-use Rattle.ash_run_steps.specs.Becoming.{IsOf, KeepsBoxes}
+use Rattle.ash_run_steps.specs.Following.{KeepsMarks, Follows}
+use Rattle.ash_run_steps.proofs.Followed.{keeps_by}
 
 module _ {B : Type 0} where
   abbrev bare_objects : List (ℕ × Living B) → List (ℕ × Living B)
@@ -50,10 +48,7 @@ module _ {B : Type 0} (G : Ghosts B) (names : SlotNames) where
   same_shown old new same =
       sym (shown_bare new.objects) ∙ ap (λ (t : Table B). objects_shown G names t.objects) same ∙ shown_bare old.objects
 
-module _ {B : Type 0} (G : Ghosts B) where
-  pub same_relation : (relation : HostCall → _) → SameRelation relation relation
-  same_relation relation = record { onward = λ _ _ _ _ h. h; back = λ _ _ _ _ h. h }
-
+module _ {B : Type 0} where
   box_in : (o : Option (Living B)) → option_and_then (λ (object : Living B). box_of object.body) (option_map bare_living o) ≡ option_and_then (λ (object : Living B). box_of object.body) o
   box_in None = refl
   box_in (Some object) = refl
@@ -63,19 +58,6 @@ module _ {B : Type 0} (G : Ghosts B) where
 
   same_box : (old new : Table B) → bare new ≡ bare old → (n : ℕ) → box_at n new ≡ box_at n old
   same_box old new same n = sym (box_bare n new) ∙ ap (box_at n) same ∙ box_bare n old
-
-  is_of_bare : (old new : Table B) → bare new ≡ bare old → (target : Target) (box : B) → IsOf new target box → IsOf old target box
-  is_of_bare old new same (targets.Object n) box (inl at) = inl (sym (same_box old new same n) ∙ at)
-  is_of_bare old new same (targets.Object n) box (inr free) =
-      inr (rw (sym (ap (λ (t : Table B). t.last) same)) free.0, subst (λ (l : List B). Contains l box) (ap (λ (t : Table B). t.pool) same) free.1)
-  is_of_bare old new same (targets.Service index) box at =
-      subst (λ (l : List B). slice_get l index ≡ Some box) (ap (λ (t : Table B). t.services) same) at
-
-  pub keeps_bare : (old new : Table B) → bare new ≡ bare old → KeepsBoxes G old new
-  keeps_bare old new same = record {
-    rises = omega (arith, ap (λ (t : Table B). t.last) same);
-    from = λ target box is. (box, is_of_bare old new same target box is, refl, same_relation (G.allows box));
-  }
 
 module _ {B : Type 0} where
   lives_in : (o : Option (Living B)) → is_some (option_map bare_living o) ≡ is_some o
@@ -94,6 +76,43 @@ module _ {B : Type 0} where
       go : (o : Option ℕ) → option_map_or (λ (n : ℕ). is_some (object_at n new.objects)) o true ≡ option_map_or (λ (n : ℕ). is_some (object_at n old.objects)) o true
       go None = refl
       go (Some n) = same_lives old new same n
+
+module _ {B : Type 0} where
+  same_bare : (old new : Table B) → bare new ≡ bare old → (n : ℕ) (x : Living B) → object_at n new.objects ≡ Some x
+      → option_map bare_living (object_at n old.objects) ≡ Some (bare_living x)
+  same_bare old new same n x at =
+      sym (object_at-mapped bare_living n old.objects)
+      ∙ ap (λ (t : Table B). object_at n t.objects) (sym same)
+      ∙ object_at-mapped bare_living n new.objects
+      ∙ ap (option_map bare_living) at
+
+  pub marks_bare : (old new : Table B) → bare new ≡ bare old → KeepsMarks old new
+  marks_bare old new same = record {
+    settled = ap (λ (t : Table B). t.settled) same;
+    unmarked = λ n x at un. found n x (object_at n old.objects) refl (same_bare old new same n x at);
+    once = λ n below lives. sym (same_lives old new same n) ∙ lives;
+    gone = λ cleared n. (
+      λ h. inl (subst (λ (l : List ℕ). Contains l n) (ap (λ (t : Table B). t.gone) same) h),
+      λ h. elim h [
+        | inl was ↦ subst (λ (l : List ℕ). Contains l n) (sym (ap (λ (t : Table B). t.gone) same)) was
+        | inr went ↦ let lives = same_lives old new same n ∙ went.lived in let not = ap is_some went.none in absurd (cc)
+      ],
+    );
+  }
+    where
+      found : (n : ℕ) (x : Living B) (o : Option (Living B)) → object_at n old.objects ≡ o → option_map bare_living o ≡ Some (bare_living x)
+          → (before : Living B) × (object_at n old.objects ≡ Some before) × (bare_living before ≡ bare_living x)
+      found n x None is same = absurd (cc)
+      found n x (Some y) is same = (y, is, cc)
+
+  pub follows_bare : (G : Ghosts B) (old new : Table B) → bare new ≡ bare old → Follows G [] old new
+  follows_bare G old new same =
+      let last = ap (λ (t : Table B). t.last) same in
+      record {
+        boxes = keeps_by G old new (omega (arith, last)) (ap (λ (t : Table B). t.pool) same) (ap (λ (t : Table B). t.services) same)
+            (λ n box below at. (omega (arith, below, last), sym (same_box old new same n) ∙ at));
+        marks = marks_bare old new same;
+      }
 
 module _ {B : Type 0} (G : Ghosts B) (names : SlotNames) where
   pub alive_shown : (w : Word) (table : Table B) → option_map_or (λ (n : ℕ). is_some (object_at n (objects_shown G names table.objects))) (handle w) true ≡ is_alive_in w table

@@ -1,6 +1,6 @@
 -- A box that answered, in the table and as it is shown.
 use Rattle.std.proofs.Common.{◌≡◌, ℕ, Bool, true, false, cond, List, [], ◌∷◌, zero, suc, map, refl, sym, ap, ◌∙◌, subst, arith, nat_eq, inl, inr, ◌⊎◌}
-use Rattle.std.specs.Prelude.{Option, Some, None, IsSome, slice_get, slice_set}
+use Rattle.std.specs.Prelude.{Option, Some, None, IsSome, nat_le, slice_get, slice_set}
 use Rattle.std.specs.Option.{option_map, option_map_or, option_and_then}
 use Rattle.std.proofs.lemmas.Bool.{eqb-true, eq-eqb}
 use Rattle.std.proofs.lemmas.Option.{slice_get-map}
@@ -8,7 +8,7 @@ use Rattle.ash_host.specs.declared.answer.HostAnswer.{HostAnswer}
 use Rattle.ash_host.specs.declared.event.Target.{Target}
 use Rattle.ash_host.specs.declared.event.Target.TheVariants as targets
 use Rattle.ash_host.specs.declared.host_object.HostObject.{Ghosts}
-use Rattle.ash_host.specs.Calls.{HostCall, SameRelation}
+use Rattle.ash_host.specs.Calls.{HostCall}
 use Rattle.ash_host.specs.Objects.{Plain, Host, LiveObjects, object_at, with_at, IsInOrder, Lives}
 use Rattle.ash_host.proofs.Order.{same_in_order, object_at-with_at, in_order-with_at}
 use Rattle.ash_meaning.specs.ObjectSteps as meaning
@@ -23,8 +23,9 @@ use Rattle.ash_objects.specs.Responses.{box_at, with_box}
 use Rattle.ash_objects.proofs.Marks.{in_order-mapped}
 use Rattle.ash_object_ranks.specs.ShownTables.{SlotNames, body_shown, objects_shown}
 use Rattle.ash_object_ranks.proofs.ShownTables.{living_shown, shown_at}
-use Rattle.ash_run_steps.specs.Becoming.{IsOf, KeepsBoxes}
-use Rattle.ash_run_steps.proofs.Bare.{same_relation}
+use Rattle.ash_run_steps.specs.Answered.{IsStill}
+use Rattle.ash_run_steps.specs.Following.{box_for, Follows}
+use Rattle.ash_run_steps.proofs.Followed.{still_same, marks_by, marks_changed}
 
 -- lists of which one is replaced
 
@@ -117,47 +118,48 @@ module _ {B : Type 0} where
       ]
 
 module _ {B : Type 0} (G : Ghosts B) where
-  -- a box was there before, of the same kind and with the same relation
-  abbrev pub WasBefore : Table B → Target → B → Type 0
-  WasBefore old target box = (before : B) × IsOf old target before × (G.kind_of box ≡ G.kind_of before)
-      × SameRelation (G.allows before) (G.allows box)
+  -- the box that answered is what it was
+  answered_still : (o : Option B) (box before after : B) (call : HostCall) (answer : HostAnswer)
+      → o ≡ Some before → Responds G before call answer after → box ≡ after → IsStill G o box
+  answered_still o box before after call answer was responds is =
+      subst (λ (p : Option B). IsStill G p box) (sym was)
+      (subst (λ (b : B). IsStill G (Some before) b) (sym is) (responds.same_kind, responds.same_relation))
 
-  pub as_before : (old : Table B) (target : Target) (box : B) → IsOf old target box → WasBefore old target box
-  as_before old target box is = (box, is, refl, same_relation G (G.allows box))
-
-  answered_before : (old : Table B) (target : Target) (box before after : B) (call : HostCall) (answer : HostAnswer)
-      → IsOf old target before → Responds G before call answer after → box ≡ after → WasBefore old target box
-  answered_before old target box before after call answer was responds is = (
-    before,
-    was,
-    ap G.kind_of is ∙ responds.same_kind,
-    subst (λ (b : B). SameRelation (G.allows before) (G.allows b)) (sym is) responds.same_relation,
-  )
-
-  pub keeps_service : (index : ℕ) (before after : B) (call : HostCall) (answer : HostAnswer) (table : Table B)
-      → slice_get table.services index ≡ Some before → Responds G before call answer after → KeepsBoxes G table (with_service index after table)
-  keeps_service index before after call answer table was responds = record { rises = omega arith; from = from }
+  pub follows_service : (index : ℕ) (before after : B) (call : HostCall) (answer : HostAnswer) (table : Table B)
+      → slice_get table.services index ≡ Some before → Responds G before call answer after → Follows G [] table (with_service index after table)
+  follows_service index before after call answer table was responds = record {
+    boxes = record { rises = omega arith; given = tt; first_free = refl; still = still };
+    marks = marks_by table (with_service index after table) refl refl (λ n x at un. at) (λ n below lives. lives) (λ n lives. lives);
+  }
     where
-      from : (target : Target) (box : B) → IsOf (with_service index after table) target box → WasBefore table target box
-      from (targets.Object n) box is = as_before table (targets.Object n) box is
-      from (targets.Service k) box is =
+      still : (target : Target) (box : B) → box_for (with_service index after table) [] target ≡ Some box → IsStill G (box_for table [] target) box
+      still (targets.Object n) box is = still_same G (box_for table [] (targets.Object n)) box is
+      still (targets.Service k) box is =
           elim (got_set table.services index k after box before was is) [
-            | inl same ↦ answered_before table (targets.Service k) box before after call answer (subst (λ (j : ℕ). slice_get table.services j ≡ Some before) (sym same.0) was) responds same.1
-            | inr other ↦ as_before table (targets.Service k) box other
+            | inl same ↦
+                answered_still (slice_get table.services k) box before after call answer (ap (slice_get table.services) same.0 ∙ was) responds same.1
+            | inr other ↦ still_same G (slice_get table.services k) box other
           ]
 
-  pub keeps_object : (number : ℕ) (before after : B) (call : HostCall) (answer : HostAnswer) (table : Table B)
-      → box_at number table ≡ Some before → Responds G before call answer after → KeepsBoxes G table (with_object number (with_box after) table)
-  keeps_object number before after call answer table was responds = record { rises = omega arith; from = from }
+  pub follows_object : (number : ℕ) (before after : B) (call : HostCall) (answer : HostAnswer) (table : Table B)
+      → box_at number table ≡ Some before → Responds G before call answer after → Follows G [] table (with_object number (with_box after) table)
+  follows_object number before after call answer table was responds = record {
+    boxes = record { rises = omega arith; given = tt; first_free = refl; still = still };
+    marks = marks_changed (with_box after) (λ x. refl) number table;
+  }
     where
-      from : (target : Target) (box : B) → IsOf (with_object number (with_box after) table) target box → WasBefore table target box
-      from (targets.Object m) box (inl at) =
-          elim (box_boxed number m after box table at) [
-            | inl same ↦ answered_before table (targets.Object m) box before after call answer (inl (subst (λ (k : ℕ). box_at k table ≡ Some before) same.0 was)) responds same.1
-            | inr other ↦ as_before table (targets.Object m) box (inl other)
+      by : (m : ℕ) (b : Bool) (box : B) → cond b (box_at m (with_object number (with_box after) table)) None ≡ Some box → IsStill G (cond b (box_at m table) None) box
+      by m true box is =
+          elim (box_boxed number m after box table is) [
+            | inl same ↦
+                answered_still (box_at m table) box before after call answer (ap (λ (k : ℕ). box_at k table) (sym same.0) ∙ was) responds same.1
+            | inr other ↦ still_same G (box_at m table) box other
           ]
-      from (targets.Object m) box (inr free) = as_before table (targets.Object m) box (inr free)
-      from (targets.Service k) box is = as_before table (targets.Service k) box is
+      by m false box is = absurd (cc)
+
+      still : (target : Target) (box : B) → box_for (with_object number (with_box after) table) [] target ≡ Some box → IsStill G (box_for table [] target) box
+      still (targets.Object m) box is = by m (nat_le m table.last) box is
+      still (targets.Service k) box is = still_same G (slice_get table.services k) box is
 
 module _ {B : Type 0} (G : Ghosts B) (names : SlotNames) where
   -- the host object of a number, as it is shown

@@ -1,10 +1,8 @@
 -- Tables in which an object is changed: what is held, which boxes there are, and what is shown.
-use Rattle.std.proofs.Common.{◌≡◌, ℕ, ◌≤◌, Bool, true, false, cond, List, [], refl, sym, ap, ◌∙◌, subst, arith, nat_eq, inl, inr}
-use Rattle.std.specs.Prelude.{Option, Some, None, IfSome, Contains, is_some, slice_get}
+use Rattle.std.proofs.Common.{◌≡◌, ℕ, Bool, true, false, cond, List, [], refl, sym, ap, ◌∙◌, arith, nat_eq}
+use Rattle.std.specs.Prelude.{Option, Some, None, IfSome, is_some}
 use Rattle.std.specs.Option.{option_map, option_map_or, option_and_then}
 use Rattle.std.proofs.lemmas.Bool.{eqb-true, eq-eqb}
-use Rattle.ash_host.specs.declared.event.Target.{Target}
-use Rattle.ash_host.specs.declared.event.Target.TheVariants as targets
 use Rattle.ash_host.specs.declared.host_object.HostObject.{Ghosts}
 use Rattle.ash_host.specs.declared.word.Word.{Word}
 use Rattle.ash_host.specs.Objects.{Plain, LiveObjects, object_at, with_at, IsInOrder, fields_of, handle}
@@ -22,12 +20,13 @@ use Rattle.ash_objects.specs.Responses.{box_at}
 use Rattle.ash_objects.proofs.Marks.{in_order-mapped}
 use Rattle.ash_object_ranks.specs.ShownTables.{SlotNames, body_shown, objects_shown}
 use Rattle.ash_object_ranks.proofs.ShownTables.{living_shown, shown_at, words_shown}
-use Rattle.ash_run_steps.specs.Becoming.{Becomes, IsOf, KeepsBoxes}
+use Rattle.ash_run_steps.specs.Becoming.{Becomes}
+use Rattle.ash_run_steps.specs.Following.{Follows}
 use Rattle.ash_run_steps.specs.Guarded.{Guarded, give}
 use Rattle.ash_run_steps.specs.PartSteps.{words_at}
 use Rattle.ash_run_steps.specs.RunStates.{State, Names, shown, bare, is_alive_in}
-use Rattle.ash_run_steps.proofs.Bare.{same_relation}
-use Rattle.ash_run_steps.proofs.Composed.{becomes_by, becomes_then}
+use Rattle.ash_run_steps.proofs.Composed.{gave_nothing, becomes_by, becomes_then}
+use Rattle.ash_run_steps.proofs.Followed.{keeps_by, marks_changed}
 use Rattle.ash_run_steps.proofs.HoldSteps.{at_table, same_activity}
 
 module _ {B : Type 0} (f : Living B → Living B) (n : ℕ) where
@@ -68,23 +67,13 @@ module _ {B : Type 0} (f : Living B → Living B) (n : ℕ) where
       go false o = refl
 
 module _ {B : Type 0} (G : Ghosts B) where
-  -- boxes stay if each that is there was there
-  pub keeps_by : (old new : Table B) → old.last ≤ new.last → new.pool ≡ old.pool → new.services ≡ old.services
-      → ((n : ℕ) (box : B) → box_at n new ≡ Some box → box_at n old ≡ Some box) → KeepsBoxes G old new
-  keeps_by old new rises pool services boxes = record {
-    rises = rises;
-    from = λ target box is. (box, was target box is, refl, same_relation G (G.allows box));
+  -- a change that leaves an object's box leaves all boxes, and one that marks it marks what changed
+  pub follows_changed : (f : Living B → Living B) → ((x : Living B) → box_of (f x).body ≡ box_of x.body) → ((x : Living B) → (f x).touched ≡ true)
+      → (n : ℕ) (table : Table B) → Follows G [] table (with_object n f table)
+  follows_changed f same touches n table = record {
+    boxes = keeps_by G table (with_object n f table) (omega arith) refl refl (λ m box below at. (below, sym (changed_box f n same m table) ∙ at));
+    marks = marks_changed f touches n table;
   }
-    where
-      was : (target : Target) (box : B) → IsOf new target box → IsOf old target box
-      was (targets.Object n) box (inl at) = inl (boxes n box at)
-      was (targets.Object n) box (inr free) = inr (omega (arith, free.0, rises), subst (λ (l : List B). Contains l box) pool free.1)
-      was (targets.Service index) box at = subst (λ (l : List B). slice_get l index ≡ Some box) services at
-
-  -- a change that leaves an object's box leaves all boxes
-  pub keeps_changed : (f : Living B → Living B) → ((x : Living B) → box_of (f x).body ≡ box_of x.body) → (n : ℕ) (table : Table B) → KeepsBoxes G table (with_object n f table)
-  keeps_changed f same n table =
-      keeps_by table (with_object n f table) (omega arith) refl refl (λ m box at. sym (changed_box f n same m table) ∙ at)
 
 module _ {B : Type 0} (G : Ghosts B) (names : SlotNames) where
   -- the words of an object are shown as they are
@@ -151,13 +140,12 @@ module _ {B : Type 0} (G : Ghosts B) (names : Names) where
       ap (λ (all : LiveObjects (List ℕ)). in_world (λ (world : World). record world { objects = all }) (shown G names rest s)) (changed_shown G names.modules n f how (s.table).objects o each)
 
   -- a step in which no host answers
-  pub becomes_kept : {A : Type 0} (run : Guarded A) (old : State B) (left : Guarded A) (new : State B) → KeepsBoxes G old.table new.table
+  pub becomes_kept : {A : Type 0} (run : Guarded A) (old : State B) (left : Guarded A) (new : State B) → Follows G [] old.table new.table → new.events ≡ old.events
       → ((rest : List HostRecord) → IfSome (run (shown G names rest old)) (λ progress. left (shown G names rest new) ≡ Some progress))
       → Becomes G names run old left new
-  becomes_kept run old left new keeps says = record {
+  becomes_kept run old left new follows told says = record {
     records = [];
-    valid = λ k d h. absurd (omega (arith, h));
-    keeps = keeps;
+    gave = gave_nothing G old new follows told;
     same = says;
   }
 
@@ -166,4 +154,4 @@ module _ {B : Type 0} (G : Ghosts B) (names : Names) where
       → Becomes G names run old (give value) mid → Becomes G names run old (give value) (at_table table mid)
   then_held run old value mid table same is =
       becomes_then G names run old (give value) mid (give value) (at_table table mid) is
-      (becomes_by G names (give value) mid (give value) (at_table table mid) same (λ rest. ap (λ (a : _). Some (Done value a)) (same_activity G names rest mid table same)))
+      (becomes_by G names (give value) mid (give value) (at_table table mid) same refl (λ rest. ap (λ (a : _). Some (Done value a)) (same_activity G names rest mid table same)))

@@ -53,5 +53,5 @@ module _ {B : Type 0} (G : Ghosts B) (names : Names) (owner : ℕ) (alone : IsAl
   pub place_gives : (n : ℕ) (place : Option ℕ) (s : State B) → place ≡ option_and_then (place_in_slot owner) (body_of n s.table)
       → Becomes G names (class_place (names.modules owner) n) s (give place) s
   place_gives n place s at =
-      becomes_by G names (class_place (names.modules owner) n) s (give place) s refl
+      becomes_by G names (class_place (names.modules owner) n) s (give place) s refl refl
       (λ rest. ap (λ (o : Option ℕ). Some (Done o (shown G names rest s))) (at ∙ sym (places_shown n s.table)))

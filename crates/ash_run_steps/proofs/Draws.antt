@@ -1,15 +1,15 @@
 -- Boxes that are drawn are the meaning's.
-use Rattle.std.proofs.Common.{◌≡◌, ◌<◌, ◌≤◌, ◌+◌, ◌-◌, ◌^◌, ℕ, Bool, true, false, cond, not, List, [], ◌∷◌, ◌++◌, suc, map, length, take, drop, refl, sym, ap, ◌∙◌, subst, arith, nat_eq, nat_lt, inl, inr, ◌⊎◌, Less, Equal, Greater}
-use Rattle.std.specs.Prelude.{Option, Some, None, IsSome, IsSomeAnd, Contains, slice_get}
+use Rattle.std.proofs.Common.{◌≡◌, ◌<◌, ◌≤◌, ◌+◌, ◌-◌, ◌^◌, ℕ, Bool, true, false, cond, not, List, [], ◌∷◌, ◌++◌, suc, map, length, take, drop, refl, sym, ap, ◌∙◌, subst, arith, nat_eq, nat_lt, Less, Equal, Greater}
+use Rattle.std.specs.Prelude.{Option, Some, None, IsSome, IsSomeAnd, nat_le, slice_get}
 use Rattle.std.specs.List.{remove, position, position_or_len}
 use Rattle.std.specs.Option.{option_map, option_map_or, option_and_then}
 use Rattle.std.specs.Ordering.{nat_cmp, match_ordering}
 use Rattle.std.specs.declared.cmp.Ordering.{Ordering}
 use Rattle.std.proofs.lemmas.Bool.{eqb-true, eq-eqb}
 use Rattle.std.proofs.lemmas.Bool.Decides.{nat_tests}
-use Rattle.std.proofs.lemmas.List.{map-append, take-map, drop-map, length-map, take-append-drop}
-use Rattle.std.proofs.lemmas.List.Elements.{Contains-append_left, Contains-append_right, Contains-append_cases}
-use Rattle.std.proofs.lemmas.Option.{slice_get-map, slice_get_within, get_or_from_slice_get}
+use Rattle.std.proofs.lemmas.List.{map-append, take-map, drop-map, length-map}
+use Rattle.std.proofs.lemmas.List.Quantifiers.{position-Some}
+use Rattle.std.proofs.lemmas.Option.{slice_get-map, get_or_from_slice_get}
 use Rattle.ash_host.specs.declared.event.Event.TheVariants.{Drew}
 use Rattle.ash_host.specs.declared.word.Word.TheVariants as words
 use Rattle.ash_host.specs.declared.event.Target.{Target}
@@ -33,14 +33,18 @@ use Rattle.ash_slots.specs.SlotResponses.{box_of}
 use Rattle.ash_objects.specs.Table.{Living, Table, holds_of}
 use Rattle.ash_objects.specs.Making.{new_object, with_new_object, first_of_kind, IsFull, IsSpent}
 use Rattle.ash_objects.specs.Responses.{box_at}
+use Rattle.ash_objects.specs.Restoring.{draw_box as box_from}
 use Rattle.ash_object_ranks.specs.ShownTables.{SlotNames, objects_shown}
 use Rattle.ash_object_ranks.proofs.ShownTables.{living_shown}
 use Rattle.ash_run_steps.specs.Guarded.{give, stop, plain}
 use Rattle.ash_run_steps.specs.RunStates.{State, Names, bare, shown, world_shown, box_shown}
-use Rattle.ash_run_steps.specs.Becoming.{Becomes, IsOf, KeepsBoxes}
+use Rattle.ash_run_steps.specs.Answered.{IsStill}
+use Rattle.ash_run_steps.specs.Becoming.{Becomes}
+use Rattle.ash_run_steps.specs.Drawing.{Enough, draw_then}
+use Rattle.ash_run_steps.specs.Following.{box_for, Follows}
 use Rattle.ash_run_steps.proofs.AnsweredCalls.{some_of}
-use Rattle.ash_run_steps.proofs.BoxChanges.{WasBefore, as_before}
 use Rattle.ash_run_steps.proofs.Composed.{becomes_by}
+use Rattle.ash_run_steps.proofs.Followed.{still_same, marks_made}
 use Rattle.ash_run_steps.proofs.HoldSteps.{at_table, same_activity}
 use Rattle.ash_run_steps.proofs.Roots.{holding}
 
@@ -60,16 +64,6 @@ remove_mapped f xs i =
     map-append f (take i xs) (drop (suc i) xs)
     ∙ ap (λ (l : List _). l ++ map f (drop (suc i) xs)) (sym (take-map f i xs))
     ∙ ap (λ (l : List _). take i (map f xs) ++ l) (sym (drop-map f (suc i) xs))
-
-removed_within : {X : Type 0} (xs : List X) (i : ℕ) (x : X) → Contains (remove xs i) x → Contains xs x
-removed_within xs i x h =
-    elim (Contains-append_cases (take i xs) (drop (suc i) xs) x h) [
-      | inl below ↦ subst (λ (l : List _). Contains l x) (take-append-drop i xs) (Contains-append_left (take i xs) (drop i xs) x below)
-      | inr above ↦ subst (λ (l : List _). Contains l x) (take-append-drop (suc i) xs) (Contains-append_right (take (suc i) xs) (drop (suc i) xs) x above)
-    ]
-
-at_within : {X : Type 0} (xs : List X) (i : ℕ) (x : X) → slice_get xs i ≡ Some x → Contains xs x
-at_within xs i x at = (i, slice_get_within xs i x at, get_or_from_slice_get xs i x x at)
 
 -- draws of the meaning
 
@@ -126,12 +120,6 @@ module _ {B : Type 0} where
   abbrev pub drawn_table : ℕ → B → ℕ → Table B → Table B
   drawn_table slot box place table = record (with_new_object slot (bodies.Host box) table) { pool = remove table.pool place }
 
-  box_new : (b : Bool) (slot : ℕ) (box other : B) (o : Option (Living B))
-      → option_and_then (λ (object : Living B). box_of object.body) (cond b (Some (new_object slot (bodies.Host box))) o) ≡ Some other
-      → ((b ≡ true) × (other ≡ box)) ⊎ (option_and_then (λ (object : Living B). box_of object.body) o ≡ Some other)
-  box_new true slot box other o is = inl (refl, cc)
-  box_new false slot box other o is = inr is
-
   pub box_drawn : (slot place : ℕ) (box : B) (table : Table B) (number : ℕ) → number ≡ table.last + 1 → box_at number (drawn_table slot box place table) ≡ Some box
   box_drawn slot place box table number is =
       ap (option_and_then (λ (object : Living B). box_of object.body)) (object_at-with_at (table.last + 1) (new_object slot (bodies.Host box)) number table.objects
@@ -163,22 +151,48 @@ module _ {B : Type 0} (G : Ghosts B) where
         becomes = three.2;
       }
 
-  pub keeps_drawn : (slot place : ℕ) (box : B) (table : Table B) → slice_get table.pool place ≡ Some box → KeepsBoxes G table (drawn_table slot box place table)
-  keeps_drawn slot place box table at = record { rises = omega arith; from = from }
-    where
-      drew : (m : ℕ) (other : B) → m ≡ table.last + 1 → other ≡ box → WasBefore G table (targets.Object m) other
-      drew m other is same = as_before G table (targets.Object m) other (inr (omega (arith, is), subst (λ (b : B). Contains table.pool b) (sym same) (at_within table.pool place box at)))
+  -- the box that is drawn is the first of its kind
+  first_drawn : (kind place : ℕ) (box : B) (table : Table B) → first_of_kind G kind table ≡ Some place → slice_get table.pool place ≡ Some box
+      → box_from G (G.kind_of box) table.pool ≡ Some (box, remove table.pool place)
+  first_drawn kind place box table first at =
+      let passes = (position-Some (λ (b : B). nat_eq (G.kind_of b) kind) table.pool place box first).1 in
+      let same = eqb-true (G.kind_of box) kind (ap (λ (b : B). nat_eq (G.kind_of b) kind) (sym (get_or_from_slice_get table.pool place box box at)) ∙ passes) in
+      ap (λ (k : ℕ). box_from G k table.pool) same
+      ∙ ap (option_and_then (λ (p : ℕ). option_map (λ (b : B). (b, remove table.pool p)) (slice_get table.pool p))) first
+      ∙ ap (option_map (λ (b : B). (b, remove table.pool place))) at
 
-      from : (target : Target) (other : B) → IsOf (drawn_table slot box place table) target other → WasBefore G table target other
-      from (targets.Object m) other (inl there) =
-          elim (box_new (nat_eq m (table.last + 1)) slot box other (object_at m table.objects) (sym (ap (option_and_then (λ (object : Living B). box_of object.body)) (object_at-with_at (table.last + 1) (new_object slot (bodies.Host box)) m table.objects)) ∙ there)) [
-            | inl same ↦ drew m other (eqb-true m (table.last + 1) same.0) same.1
-            | inr was ↦ as_before G table (targets.Object m) other (inl was)
-          ]
-      from (targets.Object m) other (inr free) =
-          let above : table.last + 1 < m = free.0 in
-          as_before G table (targets.Object m) other (inr (omega (arith, above), removed_within table.pool place other free.1))
-      from (targets.Service k) other is = as_before G table (targets.Service k) other is
+  pub follows_drawn : (kind slot place : ℕ) (box : B) (table : Table B) → first_of_kind G kind table ≡ Some place → slice_get table.pool place ≡ Some box
+      → Follows G ((table.last + 1, box) ∷ []) table (drawn_table slot box place table)
+  follows_drawn kind slot place box table first at = record {
+    boxes = record {
+      rises = omega arith;
+      given = ((omega arith, omega arith), tt);
+      first_free = ap (λ (one : Option (B × List B)). draw_then (table.last + 1) (G.kind_of box) one (λ left. Enough [] left)) (first_drawn kind place box table first at);
+      still = still;
+    };
+    marks = marks_made slot (bodies.Host box) (remove table.pool place) table;
+  }
+    where
+      by : (m : ℕ) (c b : Bool) (other : B) → nat_le m (table.last + 1) ≡ c → nat_eq m (table.last + 1) ≡ b
+          → cond c (option_and_then (λ (object : Living B). box_of object.body) (cond b (Some (new_object slot (bodies.Host box))) (object_at m table.objects))) None ≡ Some other
+          → cond (nat_le m table.last) (box_at m table) (cond b (Some box) None) ≡ Some other
+      by m true true other within is got =
+          let next : m ≡ table.last + 1 = eqb-true m (table.last + 1) is in
+          let above : nat_le m table.last ≡ false = grind (arith, nat_tests) in
+          ap (λ (d : Bool). cond d (box_at m table) (Some box)) above ∙ got
+      by m true false other within is got =
+          let below : nat_le m table.last ≡ true = grind (arith, nat_tests) in
+          ap (λ (d : Bool). cond d (box_at m table) None) below ∙ got
+      by m false b other within is got = absurd (cc)
+
+      still : (target : Target) (other : B) → box_for (drawn_table slot box place table) [] target ≡ Some other
+          → IsStill G (box_for table ((table.last + 1, box) ∷ []) target) other
+      still (targets.Object m) other is =
+          still_same G (box_for table ((table.last + 1, box) ∷ []) (targets.Object m)) other
+          (by m (nat_le m (table.last + 1)) (nat_eq m (table.last + 1)) other refl refl
+          (ap (λ (o : Option (Living B)). cond (nat_le m (table.last + 1)) (option_and_then (λ (object : Living B). box_of object.body) o) None)
+          (sym (object_at-with_at (table.last + 1) (new_object slot (bodies.Host box)) m table.objects)) ∙ is))
+      still (targets.Service k) other is = still_same G (slice_get table.services k) other is
 
 module _ {B : Type 0} (G : Ghosts B) (names : SlotNames) where
   pub shown_with : (n : ℕ) (x : Living B) (l : List (ℕ × Living B)) → objects_shown G names (with_at n x l) ≡ with_at n (living_shown G names x) (objects_shown G names l)
@@ -218,7 +232,7 @@ module _ {B : Type 0} (G : Ghosts B) (names : Names) where
   ended_by : (kind : ℕ) (s : State B) (exception : Exception)
       → ((rest : List HostRecord) → hosts.draw kind (shown G names rest s) ≡ Ended (Raising exception) (shown G names rest s))
       → Becomes G names (plain (hosts.draw kind)) s (stop (Raising exception)) s
-  ended_by kind s exception ends = becomes_by G names (plain (hosts.draw kind)) s (stop (Raising exception)) s refl (λ rest. sym (ap Some (ends rest)))
+  ended_by kind s exception ends = becomes_by G names (plain (hosts.draw kind)) s (stop (Raising exception)) s refl refl (λ rest. sym (ap Some (ends rest)))
 
   pub draw_is_full : (kind : ℕ) (s : State B) → IsFull s.table → Becomes G names (plain (hosts.draw kind)) s (stop (Raising ObjectLimit)) s
   draw_is_full kind s full = ended_by kind s ObjectLimit (λ rest. draw_ended kind (shown G names rest s) ObjectLimit (number_full (shown G names rest s) (has_none s rest full)))
@@ -261,8 +275,14 @@ module _ {B : Type 0} (G : Ghosts B) (names : Names) where
       → Becomes G names (plain (hosts.draw kind)) s (give ((s.table).last + 1)) (drawn_to slot box place s)
   draw_gives kind place slot box s few left first at = record {
     records = [];
-    valid = λ k d h. absurd (omega (arith, h));
-    keeps = keeps_drawn G slot place box s.table at;
+    gave = record {
+      drawn = ((s.table).last + 1, box) ∷ [];
+      happened = Drew ((s.table).last + 1) ∷ [];
+      told = refl;
+      in_turn = refl;
+      valid = tt;
+      table = follows_drawn G kind slot place box s.table first at;
+    };
     same = λ rest. sym (ap Some (drawn_same kind place slot box s rest few left first at));
   }
 
@@ -271,5 +291,5 @@ module _ {B : Type 0} (G : Ghosts B) (names : Names) where
   pub held_gives : (number : ℕ) (s : State B) (table : Table B) → bare table ≡ bare s.table
       → Becomes G names (plain (hold (words.Object number))) s (give tt) (at_table table (holding (number ∷ []) s))
   held_gives number s table same =
-      becomes_by G names (plain (hold (words.Object number))) s (give tt) (at_table table (holding (number ∷ []) s)) same
+      becomes_by G names (plain (hold (words.Object number))) s (give tt) (at_table table (holding (number ∷ []) s)) same refl
       (λ rest. ap (λ (a : Activity). Some (Done tt a)) (same_activity G names rest (holding (number ∷ []) s) table same))

@@ -1,7 +1,7 @@
 -- The end of a run is the meaning's.
-use Rattle.std.proofs.Common.{◌≡◌, ℕ, ◌+◌, ◌<◌, ◌++◌, Bool, true, false, cond, List, [], ◌∷◌, map, length, refl, sym, ap, ◌∙◌, arith, append_assoc, get_or, subst}
+use Rattle.std.proofs.Common.{◌≡◌, ℕ, ◌+◌, ◌<◌, ◌++◌, Bool, true, false, cond, List, [], ◌∷◌, map, length, refl, sym, ap, ◌∙◌, arith, append_assoc, subst}
 use Rattle.std.specs.Prelude.{Option, Some, None, IfSome, OnOk, Result, Ok, Err}
-use Rattle.std.proofs.lemmas.List.Elements.{All-append}
+use Rattle.std.proofs.lemmas.List.{append-nil}
 use Rattle.std.proofs.lemmas.List.Folds.{flat_map-map}
 use Rattle.ash_host.specs.declared.event.Event.TheVariants.{Dropped}
 use Rattle.ash_host.specs.declared.host_object.HostObject.{Ghosts}
@@ -15,7 +15,7 @@ use Rattle.ash_meaning.specs.Releases as releases
 use Rattle.ash_meaning.specs.Releases.{sweep, release as release_point}
 use Rattle.ash_meaning.specs.Runs.{Progress, Done, Interrupt}
 use Rattle.ash_run_steps.specs.declared.stop.Stop.{Stop}
-use Rattle.ash_run_steps.specs.Becoming.{Becomes, Comes, IsOfIts}
+use Rattle.ash_run_steps.specs.Becoming.{Gave, Becomes, Comes}
 use Rattle.ash_run_steps.specs.FrameChanges.{leaving, leaving_to}
 use Rattle.ash_run_steps.specs.FrameSteps.{return_value}
 use Rattle.ash_run_steps.specs.Guarded.{Guarded, give, stop, onward}
@@ -23,8 +23,8 @@ use Rattle.ash_run_steps.specs.GuardedSteps.{RankTest, release}
 use Rattle.ash_run_steps.specs.Outcomes.{outcome_if, ComesTo}
 use Rattle.ash_run_steps.specs.RunStates.{State, Names, HoldsRoots, roots_in, times, shown, world_shown, frame_shown, bare}
 use Rattle.ash_run_steps.specs.Stacks.{StackFrame, Frames, roots_of_frames}
-use Rattle.ash_run_steps.proofs.Bare.{keeps_bare}
-use Rattle.ash_run_steps.proofs.Composed.{keeps_then, of_before}
+use Rattle.ash_run_steps.proofs.Bare.{follows_bare}
+use Rattle.ash_run_steps.proofs.Composed.{gave_nothing, gave_then}
 use Rattle.ash_run_steps.proofs.HoldSteps.{same_activity}
 use Rattle.ash_run_steps.proofs.JumpSteps.{each_left}
 use Rattle.ash_run_steps.proofs.Roots.{times_append}
@@ -122,15 +122,17 @@ module _ {B : Type 0} (G : Ghosts B) (names : Names) where
     ended_by : (run : Guarded (Option Word)) (start : State B) (left : Guarded (Option Word)) (end : End)
         → ((all : List HostRecord) → outcome_if test (left (shown G names all now)) ≡ cond (test.has_ranks (world_shown G names all now)) (Some (Some (outcome_with end (world_shown G names all now)))) None)
         → Becomes G names run start left now → ComesTo G names test run start end new
-    ended_by run start left end says first =
-        let keeps = keeps_then G start.table now.table mid.table first.keeps (keeps_bare G now.table mid.table same) in
-        record {
-          records = first.records ++ released.records;
-          valid = All-append (IsOfIts G start.table) first.records released.records first.valid (λ k d within. of_before G start.table mid.table keeps (get_or released.records k d) (released.valid k d within));
-          keeps = keeps_then G start.table mid.table new.table keeps released.keeps;
-          same = λ rest. subst (λ (all : List HostRecord). IfSome (outcome_if test (run (shown G names all start))) (λ outcome. Some (record { end = end; world = world_shown G names rest new }) ≡ outcome)) (sym (append_assoc first.records released.records rest))
-              (outcome_same rest end left (run (shown G names (first.records ++ (released.records ++ rest)) start)) (says (released.records ++ rest)) (first.same (released.records ++ rest)));
-        }
+    ended_by run start left end says first = record {
+      records = first.records ++ released.records;
+      gave = gave_then G first.records released.records start mid new first_gave released.gave;
+      same = λ rest. subst (λ (all : List HostRecord). IfSome (outcome_if test (run (shown G names all start))) (λ outcome. Some (record { end = end; world = world_shown G names rest new }) ≡ outcome)) (sym (append_assoc first.records released.records rest))
+          (outcome_same rest end left (run (shown G names (first.records ++ (released.records ++ rest)) start)) (says (released.records ++ rest)) (first.same (released.records ++ rest)));
+    }
+      where
+        first_gave : Gave G first.records start mid
+        first_gave =
+            subst (λ (rs : List HostRecord). Gave G rs start mid) (append-nil first.records)
+            (gave_then G first.records [] start now mid first.gave (gave_nothing G now mid (follows_bare G now.table mid.table same) (ap (λ (s : State B). s.events) others)))
 
     pub finishes : (run : Guarded (Option Word)) (start : State B) (counts : List ℕ) (value : Option Word)
         → Becomes G names run start (return_value counts value) now → ComesTo G names test run start (Finished value) new

@@ -1,6 +1,8 @@
 pub mod AnsweredCalls
+pub mod AnsweredRuns
 pub mod ArrayMaking
 pub mod ArraySteps
+pub mod AskedObjects
 pub mod Bare
 pub mod BeginSteps
 pub mod BoxChanges
@@ -12,6 +14,7 @@ pub mod DeclareSteps
 pub mod Draws
 pub mod EndSteps
 pub mod EnterSteps
+pub mod Followed
 pub mod GlobalSteps
 pub mod HeldLists
 pub mod HoldSteps
@@ -20,7 +23,9 @@ pub mod LeaveSteps
 pub mod LocalSteps
 pub mod MadeObjects
 pub mod MakingSteps
+pub mod MarkedChanges
 pub mod PartSteps
+pub mod RankTests
 pub mod Roots
 pub mod Stacking
 pub mod Swept

@@ -23,9 +23,9 @@ use Rattle.ash_objects.specs.Making.{new_object, with_new_object}
 use Rattle.ash_objects.specs.Responses.{box_at}
 use Rattle.ash_objects.specs.Table.{Living, Table, holds_of}
 use Rattle.ash_object_ranks.specs.ShownTables.{body_shown, objects_shown}
-use Rattle.ash_run_steps.specs.Becoming.{KeepsBoxes}
+use Rattle.ash_run_steps.specs.Following.{Follows}
 use Rattle.ash_run_steps.specs.RunStates.{State, Names, shown}
-use Rattle.ash_run_steps.proofs.ChangedObjects.{keeps_by}
+use Rattle.ash_run_steps.proofs.Followed.{keeps_by, marks_made}
 use Rattle.ash_run_steps.proofs.HoldSteps.{at_table}
 
 -- a value that is put among others, each of which is mapped
@@ -69,9 +69,20 @@ module _ {B : Type 0} where
     made_box : box_of body ≡ None → (m : ℕ) → box_at m (with_new_object slot body table) ≡ box_at m table
     made_box none m = at_each (λ o. option_and_then (λ (x : Living B). box_of x.body) o) none m
 
-    pub keeps_made : (G : Ghosts B) → box_of body ≡ None → KeepsBoxes G table (with_new_object slot body table)
-    keeps_made G none =
-        keeps_by G table (with_new_object slot body table) (omega arith) refl refl (λ m box at. sym (made_box none m) ∙ at)
+    -- a box is that of an object that lived
+    lived : (m : ℕ) (box : B) → box_at m table ≡ Some box → m ≤ table.last
+    lived m box at = go (object_at m table.objects) refl at
+      where
+        go : (o : Option (Living B)) → object_at m table.objects ≡ o → option_and_then (λ (x : Living B). box_of x.body) o ≡ Some box → m ≤ table.last
+        go None is at = absurd (cc)
+        go (Some x) is at = (numbered.given m (ap is_some is)).1
+
+    pub follows_made : (G : Ghosts B) → box_of body ≡ None → Follows G [] table (with_new_object slot body table)
+    follows_made G none = record {
+      boxes = keeps_by G table (with_new_object slot body table) (omega arith) refl refl
+          (λ m box below at. let was = sym (made_box none m) ∙ at in (lived m box was, was));
+      marks = marks_made slot body table.pool table;
+    }
 
 module _ {B : Type 0} (G : Ghosts B) (names : Names) where
   -- an activity in which an object is made

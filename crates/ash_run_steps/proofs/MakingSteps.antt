@@ -27,7 +27,7 @@ use Rattle.ash_run_steps.proofs.Composed.{becomes_by, guarded_same}
 use Rattle.ash_run_steps.proofs.EnterSteps.{all_shown}
 use Rattle.ash_run_steps.proofs.HoldSteps.{at_table}
 use Rattle.ash_run_steps.proofs.LocalSteps.{guard_off, and_second}
-use Rattle.ash_run_steps.proofs.MadeObjects.{made_activity, made_holds, keeps_made, demand_given, demand_full, demand_spent}
+use Rattle.ash_run_steps.proofs.MadeObjects.{made_activity, made_holds, follows_made, demand_given, demand_full, demand_spent}
 
 pub below : (many most : ℕ) → (most ≤ many → ⊥) → many < most
 below many most not_full = go (nat_le most many) refl
@@ -70,18 +70,18 @@ module _ {B : Type 0} (G : Ghosts B) (names : Names) (owner class : ℕ) (fields
   pub script_gives : (slot : ℕ) → AreNumbered (s.table).last (s.table).objects → length (s.table).objects < max_objects → (s.table).last < max_number
       → Becomes G names step s (give ((s.table).last + 1)) (at_table (with_new_object slot (script owner class fields s) s.table) s)
   script_gives slot numbered room left =
-      becomes_kept G names step s (give ((s.table).last + 1)) (at_table (with_new_object slot (script owner class fields s) s.table) s) (keeps_made slot (script owner class fields s) s.table numbered G refl)
+      becomes_kept G names step s (give ((s.table).last + 1)) (at_table (with_new_object slot (script owner class fields s) s.table) s) (follows_made slot (script owner class fields s) s.table numbered G refl) refl
       (λ rest. guarded_same (may_have fields (shown G names rest s)) _ _
       (ap (Done ((s.table).last + 1)) (made_activity G names rest s slot (script owner class fields s)) ∙ ap onto (sym (demand_given G names rest s room left))))
 
   script_full : max_objects ≤ length (s.table).objects → Becomes G names step s (stop (Raising ObjectLimit)) s
   script_full full =
-      becomes_by G names step s (stop (Raising ObjectLimit)) s refl
+      becomes_by G names step s (stop (Raising ObjectLimit)) s refl refl
       (λ rest. guarded_same (may_have fields (shown G names rest s)) _ _ (ap onto (sym (demand_full G names rest s full))))
 
   script_spent : length (s.table).objects < max_objects → max_number ≤ (s.table).last → Becomes G names step s (stop (Raising NumbersSpent)) s
   script_spent room spent =
-      becomes_by G names step s (stop (Raising NumbersSpent)) s refl
+      becomes_by G names step s (stop (Raising NumbersSpent)) s refl refl
       (λ rest. guarded_same (may_have fields (shown G names rest s)) _ _ (ap onto (sym (demand_spent G names rest s room spent))))
 
   pub script_made : (number : ℕ) (copy : List Word) (table : Table B) → AreNumbered (s.table).last (s.table).objects → (IsFull s.table → ⊥) → (IsSpent s.table → ⊥)
@@ -112,10 +112,10 @@ module _ {B : Type 0} (G : Ghosts B) (names : Names) (owner class : ℕ) (fields
 
   pub script_long : max_elements < length fields → Becomes G names step s unsound s
   script_long long =
-      becomes_by G names step s unsound s refl
+      becomes_by G names step s unsound s refl refl
       (λ rest. guard_off (may_have fields (shown G names rest s)) _ (ap (λ (b : Bool). b && are_alive fields (shown G names rest s)) (too_long (length fields) long)))
 
   pub script_dangles : list_all (λ w. is_alive_in w s.table) fields ≡ false → Becomes G names step s unsound s
   script_dangles off =
-      becomes_by G names step s unsound s refl
+      becomes_by G names step s unsound s refl refl
       (λ rest. guard_off (may_have fields (shown G names rest s)) _ (and_second (nat_le (length fields) max_elements) (are_alive fields (shown G names rest s)) (all_shown G names rest s fields ∙ off)))

@@ -1,6 +1,9 @@
+pub mod Answered
 pub mod ArrayGuards
 pub mod Becoming
 pub mod ClassPlaces
+pub mod Drawing
+pub mod Following
 pub mod FrameChanges
 pub mod FrameSteps
 pub mod GlobalSteps
@@ -11,6 +14,8 @@ pub mod Keeping
 pub mod MakingSteps
 pub mod Outcomes
 pub mod PartSteps
+pub mod RankedObjects
+pub mod Ranks
 pub mod RunStates
 pub mod Stacks
 pub mod Worlds

@@ -1,11 +1,11 @@
 -- How a run over the table ends.
-use Rattle.std.specs.Prelude.{◌≡◌, List, ◌++◌, All, Option, Some, None, IfSome, cond}
+use Rattle.std.specs.Prelude.{◌≡◌, List, ◌++◌, Option, Some, None, IfSome, cond}
 use Rattle.ash_host.specs.declared.host_object.HostObject.{Ghosts}
 use Rattle.ash_host.specs.declared.word.Word.{Word}
 use Rattle.ash_host.specs.Records.{HostRecord}
 use Rattle.ash_meaning.specs.Ends.{End, Outcome, outcome_of}
 use Rattle.ash_meaning.specs.Runs.{Progress, Done, Ended, NoStep}
-use Rattle.ash_run_steps.specs.Becoming.{IsOfIts, KeepsBoxes}
+use Rattle.ash_run_steps.specs.Becoming.{Gave}
 use Rattle.ash_run_steps.specs.Guarded.{Guarded}
 use Rattle.ash_run_steps.specs.GuardedSteps.{RankTest}
 use Rattle.ash_run_steps.specs.RunStates.{State, Names, shown, world_shown}
@@ -25,7 +25,6 @@ module _ {B : Type 0} (G : Ghosts B) where
   pub record ComesTo (names : Names) (test : RankTest) (run : Guarded (Option Word)) (old : State B) (end : End)
       (new : State B) : Type 0 where
     pub records : List HostRecord
-    pub valid : All (IsOfIts G old.table) records
-    pub keeps : KeepsBoxes G old.table new.table
+    pub gave : Gave G records old new
     pub same : (rest : List HostRecord) → IfSome (outcome_if test (run (shown G names (records ++ rest) old)))
         (λ outcome. Some (record { end = end; world = world_shown G names rest new }) ≡ outcome)

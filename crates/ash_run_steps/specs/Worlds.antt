@@ -10,7 +10,8 @@ use Rattle.ash_object_ranks.specs.ShownTables.{objects_shown}
 use Rattle.ash_run_steps.specs.RunStates.{Names, box_shown}
 
 -- the world of a table, of globals, of what is held outside and of events, if hosts still answer this
-abbrev pub world_of : {B : Type 0} (G : Ghosts B) → Names → List HostRecord → Table B → List Word → List ℕ → List Event → World
+abbrev pub world_of : {B : Type 0} (G : Ghosts B) → Names → List HostRecord → Table B → List Word → List ℕ
+    → List Event → World
 world_of G names answers table globals outside events = record {
   globals = globals;
   outside = outside;

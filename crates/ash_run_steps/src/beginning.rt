@@ -4,8 +4,7 @@ ghost use Rattle.ash_host.specs.Objects.{handles};
 ghost use Rattle.ash_host.specs.Records.{HostRecord};
 ghost use Rattle.ash_host.specs.declared.word.Word.TheVariants as words;
 ghost use Rattle.ash_meaning.specs.Ends.{begun};
-ghost use Rattle.ash_run_steps.specs.Becoming.{KeepsBoxes};
-ghost use Rattle.ash_run_steps.specs.RunStates.{Names, HoldsRoots, frame_shown, is_alive_in, shown};
+ghost use Rattle.ash_run_steps.specs.RunStates.{Names, HoldsRoots, bare, frame_shown, is_alive_in, shown};
 ghost use Rattle.ash_run_steps.specs.Stacks.{locals_of};
 ghost use Rattle.ash_run_steps.specs.Worlds.{world_of};
 
@@ -38,7 +37,8 @@ impl<B: HostObject> RunState<B> {
         ensures begun { (names : Names) (rest : List HostRecord) → shown B.HostObject names rest result
             ≡ begun (world_of B.HostObject names rest parts.table parts.globals.items parts.outside.items
             parts.events.items) ticks (frame_shown names stack.frame) }
-        ensures keeps { KeepsBoxes B.HostObject parts.table result.table }
+        ensures same { bare result.table ≡ bare parts.table }
+        ensures events { result.events ≡ parts.events.items }
         ensures frames { result.frames ≡ stack }
     {
         let mut table = parts.table;

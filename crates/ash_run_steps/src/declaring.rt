@@ -1,5 +1,6 @@
 //! Slots, locals that are declared and read, and the object whose method runs.
-ghost use Rattle.std.specs.Prelude.{◌≡◌, ◌<◌, ◌≤◌, ◌∷◌, List, length, Some, OnOk, OnErr, IfOk, slice_get, slice_index_or};
+ghost use Rattle.std.specs.Prelude.{◌≡◌, ◌<◌, ◌≤◌, ◌∷◌, List, length, Some};
+ghost use Rattle.std.specs.Prelude.{OnOk, OnErr, IfOk, slice_get, slice_index_or};
 ghost use Rattle.ash_host.specs.declared.word.Word.TheVariants as words;
 ghost use Rattle.ash_host.specs.Records.{HostRecord};
 ghost use Rattle.ash_meaning.specs.Locations as locations;

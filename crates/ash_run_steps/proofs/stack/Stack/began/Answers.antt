@@ -1,4 +1,4 @@
-use Rattle.std.proofs.Common.{◌+◌, ◌-◌, arith, refl, sym}
+use Rattle.std.proofs.Common.{◌-◌, arith, refl, sym}
 use Rattle.ash_run_steps.proofs.Stacking.{began_at}
 use Rattle.ash_run_steps.proofs.stack.Stack.began.Goals as goal
 

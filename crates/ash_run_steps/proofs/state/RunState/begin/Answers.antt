@@ -1,6 +1,5 @@
 use Rattle.std.proofs.Common.{arith}
 use Rattle.ash_run_steps.specs.RunStates.{state_with}
-use Rattle.ash_run_steps.proofs.Bare.{keeps_bare}
 use Rattle.ash_run_steps.proofs.BeginSteps.{begun_shown, counts_begun, few_begun}
 use Rattle.ash_run_steps.proofs.state.RunState.begin.Goals as goal
 
@@ -18,6 +17,3 @@ pub returns-clause-begun : goal.returns-clause-begun
 returns-clause-begun g c = λ names rest.
     let p = c.args.parts in
     begun_shown g.B.HostObject names rest (state_with p.table c.args.stack p.globals.items p.outside.items p.events.items c.args.ticks) c.hold_words.new.table c.requires.first c.hold_words.ensures.held.same
-
-pub returns-clause-keeps : goal.returns-clause-keeps
-returns-clause-keeps g c = keeps_bare g.B.HostObject c.args.parts.table c.hold_words.new.table c.hold_words.ensures.held.same

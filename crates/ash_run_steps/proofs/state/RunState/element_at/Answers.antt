@@ -2,7 +2,12 @@ use Rattle.std.proofs.Common.{◌≤◌, ◌<◌, ◌∙◌, sym, length}
 use Rattle.ash_run_steps.specs.PartSteps.{words_at}
 use Rattle.ash_run_steps.specs.RunStates.{state_with}
 use Rattle.ash_run_steps.proofs.ArraySteps.{element_gives, element_past}
+use Rattle.ash_run_steps.proofs.AskedObjects.{element_lacks}
 use Rattle.ash_run_steps.proofs.state.RunState.element_at.Goals as goal
+
+pub returns-in_default-clause-element : goal.returns-in_default-clause-element
+returns-in_default-clause-element g c = λ names.
+    element_lacks g.B.HostObject names c.args.array c.args.index c.args.self.now (sym c.handle.ensures.handle ∙ c.in_default.is)
 
 pub returns-then-place-words_at-clause-element : goal.returns-then-place-words_at-clause-element
 returns-then-place-words_at-clause-element g c = λ names.

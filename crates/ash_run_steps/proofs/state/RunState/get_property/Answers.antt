@@ -25,5 +25,5 @@ returns-clause-read g c =
     let there = some_of (λ box. g.B.HostObject.allows box (Get a.property) (g.B.HostObject.state box) (Value value) (g.B.HostObject.state box)) (box_at a.number s.table) c.get_prop.ensures.allowed in
     let fits = rw there.1 at (c.is_host.ensures.host yes) in
     λ names. rw (← c.self.view_is) (get_comes g.B.HostObject names a.number a.property a.of (Value value) (state_with s.table s.stack s.globals.items s.outside.items s.events.items s.ticks) c.accept.result
-    (property_answers g.B.HostObject names a.number a.property (Value value) there.0 (state_with s.table s.stack s.globals.items s.outside.items s.events.items s.ticks) ((c.facts.ensures.sound).numbered).in_order there.1 there.2 fits c.answers_have_their_ranges.ensures.in_range)
+    (property_answers g.B.HostObject names a.number a.property (Value value) there.0 (state_with s.table s.stack s.globals.items s.outside.items s.events.items s.ticks) (c.facts.ensures.sound).numbered there.1 there.2 fits c.answers_have_their_ranges.ensures.in_range)
     c.accept.ensures.made)

@@ -31,4 +31,4 @@ returns-clause-written g c =
     let got = c.set_prop.ensures.answered in
     let fits = rw got.was at (c.is_host.ensures.host yes) in
     λ names. rw (← c.self.view_is, got.becomes) (set_gives g.B.HostObject names a.number a.property a.word (state_with s.table s.stack s.globals.items s.outside.items s.events.items s.ticks) (with_object a.number (with_box got.after) s.table)
-    (object_answers g.B.HostObject names a.number (Set a.property a.word) Nothing got.before got.after (state_with s.table s.stack s.globals.items s.outside.items s.events.items s.ticks) ((c.facts.ensures.sound).numbered).in_order got.was got.responds fits tt))
+    (object_answers g.B.HostObject names a.number (Set a.property a.word) Nothing got.before got.after (state_with s.table s.stack s.globals.items s.outside.items s.events.items s.ticks) (c.facts.ensures.sound).numbered got.was got.responds fits tt))

@@ -20,5 +20,5 @@ returns-clause-started g c =
     let got = rw c.slots_from-args.ensures.slots at c.start-answer.ensures.answered in
     let fits = rw got.was at (c.is_host.ensures.host yes) in
     λ names. rw (← c.self.view_is, got.becomes) (start_comes g.B.HostObject names a.number (take a.count (drop a.at (s.stack.frame).slots)) c.start-answer.result (state_with s.table s.stack s.globals.items s.outside.items s.events.items s.ticks) (with_object a.number (with_box got.after) s.table)
-    (object_answers g.B.HostObject names a.number (Start (take a.count (drop a.at (s.stack.frame).slots))) c.start-answer.result got.before got.after (state_with s.table s.stack s.globals.items s.outside.items s.events.items s.ticks) ((c.facts.ensures.sound).numbered).in_order got.was got.responds fits c.answers_have_their_ranges.ensures.in_range)
+    (object_answers g.B.HostObject names a.number (Start (take a.count (drop a.at (s.stack.frame).slots))) c.start-answer.result got.before got.after (state_with s.table s.stack s.globals.items s.outside.items s.events.items s.ticks) (c.facts.ensures.sound).numbered got.was got.responds fits c.answers_have_their_ranges.ensures.in_range)
     c.accept.result c.accept.ensures.made)

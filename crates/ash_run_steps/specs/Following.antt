@@ -1,0 +1,54 @@
+-- What a table still is of one before it: its boxes are what they were, and what came, changed or went is marked.
+use Rattle.std.specs.Prelude.{◌≡◌, ◌⊎◌, ◌↔◌, ◌<◌, ◌≤◌}
+use Rattle.std.specs.Prelude.{ℕ, false, cond, nat_le, List, [], slice_get, Option, Some, None, Contains}
+use Rattle.std.specs.List.{AllByRecursion}
+use Rattle.ash_host.specs.declared.event.Target.{Target}
+use Rattle.ash_host.specs.declared.event.Target.TheVariants as targets
+use Rattle.ash_host.specs.declared.host_object.HostObject.{Ghosts}
+use Rattle.ash_host.specs.Objects.{object_at, Lives}
+use Rattle.ash_objects.specs.Table.{Living, Table}
+use Rattle.ash_objects.specs.Responses.{box_at}
+use Rattle.ash_run_steps.specs.Answered.{IsStill}
+use Rattle.ash_run_steps.specs.Drawing.{Enough, draw_all, kinds_of}
+use Rattle.ash_run_steps.specs.RunStates.{bare_living}
+
+module _ {B : Type 0} where
+  -- The box that a call goes to: that of a service, of an object whose number was given, or of one drawn since.
+  abbrev pub box_for : Table B → List (ℕ × B) → Target → Option B
+  box_for old drawn (targets.Object number) =
+      cond (nat_le number old.last) (box_at number old) (object_at number drawn)
+  box_for old drawn (targets.Service place) = slice_get old.services place
+
+  -- a number was given after one table, and before another
+  abbrev pub IsGivenBetween : Table B → Table B → ℕ → Type 0
+  IsGivenBetween old new number = (old.last < number) × (number ≤ new.last)
+
+  -- Each object that was drawn got a new number and the first free box of its kind, and each box is what it was.
+  pub record KeepsBoxes (G : Ghosts B) (drawn : List (ℕ × B)) (old new : Table B) : Type 0 where
+    pub rises : old.last ≤ new.last
+    pub given : AllByRecursion (λ (e : ℕ × B). IsGivenBetween old new e.0) drawn
+    pub first_free : draw_all G (kinds_of G drawn) old.pool ≡ Enough drawn new.pool
+    pub still : (target : Target) (box : B) → box_for new [] target ≡ Some box
+        → IsStill G (box_for old drawn target) box
+
+  -- an object lived that was there when the marks were cleared, and lives no longer
+  pub record HasGone (old new : Table B) (number : ℕ) : Type 0 where
+    pub settled : number ≤ old.settled
+    pub lived : Lives old.objects number
+    pub none : object_at number new.objects ≡ None
+
+  -- What came, changed or went is marked, and marks stay. What has no mark was there, without a mark, and is what it
+  -- was but for its holds; no number comes again; and the numbers that went are those that the table keeps.
+  pub record KeepsMarks (old new : Table B) : Type 0 where
+    pub settled : new.settled ≡ old.settled
+    pub unmarked : (number : ℕ) (object : Living B) → object_at number new.objects ≡ Some object
+        → object.touched ≡ false
+        → (before : Living B) × (object_at number old.objects ≡ Some before) × (bare_living before ≡ bare_living object)
+    pub once : (number : ℕ) → number ≤ old.last → Lives new.objects number → Lives old.objects number
+    pub gone : old.settled ≤ old.last → (number : ℕ)
+        → Contains new.gone number ↔ (Contains old.gone number ⊎ HasGone old new number)
+
+  -- the same of both, if these were drawn
+  pub record Follows (G : Ghosts B) (drawn : List (ℕ × B)) (old new : Table B) : Type 0 where
+    pub boxes : KeepsBoxes G drawn old new
+    pub marks : KeepsMarks old new
