@@ -13,9 +13,10 @@
 //! begins with one. What depends on how many locals there are is tested at run time: that the arguments of a call come
 //! after the locals, and that there is a slot to declare. So are the parameters of a call by an interface.
 //!
-//! In reading order: `instruction`, `code`, `validity`.
+//! In reading order: `instruction`, `code`, `validity`, `sizes`.
 #![tactic(auto)]
 
 pub mod code;
 pub mod instruction;
+pub mod sizes;
 pub mod validity;

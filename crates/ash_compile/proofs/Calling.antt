@@ -1,8 +1,8 @@
 -- The code of calls does what they do.
 use Rattle.std.proofs.Common.{◌≡◌, ◌≤◌, ◌<◌, ℕ, zero, suc, ◌+◌, List, [], ◌∷◌, ◌++◌, take, drop, length, refl, sym, ap, ◌∙◌, subst, arith}
 use Rattle.std.proofs.Common.{true, false, Bool, cond, nat_lt, length-append, length-drop}
-use Rattle.std.specs.Prelude.{Option, Some, None, slice_index_or, slice_set, slice_get, nat_le, ◌&&◌}
-use Rattle.std.specs.Option.{option_and_then, option_map_or}
+use Rattle.std.specs.Prelude.{Option, Some, None, slice_index_or, slice_set, slice_get, nat_le, ◌&&◌, option_map}
+use Rattle.std.specs.Option.{option_map_or}
 use Rattle.std.proofs.lemmas.List.{take-take, length-take-le, take-append-le, length-set}
 use Rattle.std.proofs.lemmas.Bool.Decides.{nat_tests}
 use Rattle.ash_host.specs.declared.word.Word.{Word}
@@ -13,7 +13,7 @@ use Rattle.ash_meaning.specs.Runs.{Run, Progress, Raising, Done, Ended, NoStep, 
 use Rattle.ash_meaning.specs.Frames.{tick, demand_frame, frame_of, in_frame_of, leave, back_in, max_frames}
 use Rattle.ash_meaning.specs.Releases as releases
 use Rattle.ash_meaning.specs.CallMeaning.{value_or_null}
-use Rattle.ash_meaning.specs.Ends.{Outcome, outcome_of}
+use Rattle.ash_meaning.specs.Ends.{Outcome}
 use Rattle.ash_run_steps.specs.Guarded.{Guarded, onward as guarded_onward, give as guarded_give}
 use Rattle.ash_run_steps.specs.GuardedSteps.{is_alive, are_alive, release, enter}
 use Rattle.ash_code.specs.declared.instruction.Instruction.TheVariants as i
@@ -21,6 +21,7 @@ use Rattle.ash_code.specs.declared.code.FunctionCode.{FunctionCode}
 use Rattle.ash_code.specs.Controls.{Control, Window, Caller, control}
 use Rattle.ash_code.specs.Performing.{Setting, Next, GoesOn, return_to, enter_at, enter_function, call}
 use Rattle.ash_code.specs.Running.{step, after, denote}
+use Rattle.ash_code.specs.Arrivals.{end_of}
 use Rattle.ash_compile.specs.Stretches.{continued, Arrives, Leaves, with_slots, Fits, Holds, with_locals, Has}
 use Rattle.ash_compile.specs.Performances.{here, HasLocals, Enters}
 use Rattle.ash_compile.proofs.Simulation.{continued_then, steps_on, steps_out, step_is, then_is}
@@ -33,7 +34,7 @@ leaves_done : (s : Setting) (value : Option Word) (c next : Control) (a b : Acti
 leaves_done s value c next a b o is later = record {
   fuel = later.fuel;
   ends = λ n more.
-      ap (λ (p : Option (Progress Next)). option_and_then outcome_of (guarded_onward p (after (denote s n)))) is
+      ap (λ (p : Option (Progress Next)). option_map end_of (guarded_onward p (after (denote s n)))) is
       ∙ later.ends n more;
 }
 
@@ -46,12 +47,12 @@ leaves_by s value c next a (Done v b) rest is go = leaves_done s value c next a 
 leaves_by s value c next a (Ended e b) rest is go = record {
   fuel = 0;
   ends = λ n more.
-      ap (λ (p : Option (Progress Next)). option_and_then outcome_of (guarded_onward p (after (denote s n)))) is;
+      ap (λ (p : Option (Progress Next)). option_map end_of (guarded_onward p (after (denote s n)))) is;
 }
 leaves_by s value c next a NoStep rest is go = record {
   fuel = 0;
   ends = λ n more.
-      ap (λ (p : Option (Progress Next)). option_and_then outcome_of (guarded_onward p (after (denote s n)))) is;
+      ap (λ (p : Option (Progress Next)). option_map end_of (guarded_onward p (after (denote s n)))) is;
 }
 
 left_is : (word : Word) (b : Activity)

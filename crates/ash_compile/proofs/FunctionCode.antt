@@ -12,7 +12,7 @@ use Rattle.ash_meaning.specs.CallMeaning.{value_or_null}
 use Rattle.ash_meaning.specs.Classes.{Entry}
 use Rattle.ash_meaning.specs.StatementMeaning.{Flow, Broke, Continued, statements}
 use Rattle.ash_meaning.specs.Functions.{initialize_fields, body}
-use Rattle.ash_meaning.specs.Ends.{begun, call_entry}
+use Rattle.ash_meaning.specs.Ends.{begun}
 use Rattle.ash_soundness.specs.WellFormedLaws.{Leaves, IsLeftBy, by_break, by_continue}
 use Rattle.ash_soundness.proofs.SoundStaysSound as sound
 use Rattle.ash_soundness.proofs.Bodies.{keeps_bodies}
@@ -21,6 +21,8 @@ use Rattle.ash_soundness.proofs.Frames.{tick_goes}
 use Rattle.ash_soundness.proofs.Triples.{bind, weaken}
 use Rattle.ash_run_steps.specs.GuardedSteps.{is_alive}
 use Rattle.ash_code.specs.declared.instruction.Instruction.TheVariants as i
+use Rattle.ash_code.specs.Arrivals.{end_of}
+use Rattle.ash_code.specs.CompiledCode.{run_of_call}
 use Rattle.ash_compile.specs.Stretches.{Arrives, Has}
 use Rattle.ash_compile.specs.Performances.{here, Exits, Acts, Performs, Enters}
 use Rattle.ash_compile.specs.Emission.{Scene, IsScene, calls_of, Good}
@@ -117,7 +119,7 @@ module _ (s : Scene) (scene : IsScene s) where
       → Good s (begun world (suc s.depth) (frame_of e.name e.line Null args))
       → Arrives s.setting (here s.function 0 (length (s.env).locals) slots [])
       (begun world (suc s.depth) (frame_of e.name e.line Null args))
-      (call_entry (s.context).program args (suc s.depth) world e)
+      (end_of (run_of_call (s.context).program (suc s.depth) e (begun world (suc s.depth) (frame_of e.name e.line Null args))))
   does_call_from_outside e args world slots enters long within are good =
       calls_entry s.setting (Entering s) s.function s.room (s.context).program (suc s.depth) e args world slots
       (length (s.env).locals) enters long within are (good, omega arith)

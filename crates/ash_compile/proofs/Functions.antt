@@ -16,7 +16,7 @@ use Rattle.ash_meaning.specs.ObjectSteps.{object_of}
 use Rattle.ash_meaning.specs.StatementMeaning.{Flow, On, Broke, Continued, Returned}
 use Rattle.ash_meaning.specs.Functions.{value_of, write_field, initialize_module, body, calls_within}
 use Rattle.ash_meaning.specs.Classes.{Program, Entry}
-use Rattle.ash_meaning.specs.Ends.{Outcome, outcome_of, begun, call_entry, load_module, init_frame, with_globals}
+use Rattle.ash_meaning.specs.Ends.{Outcome, begun, init_frame, with_globals}
 use Rattle.ash_run_steps.specs.Guarded.{Guarded, onward as guarded_onward, plain, ◌>>=◌ as guarded_then}
 use Rattle.ash_run_steps.specs.GuardedSteps.{is_alive}
 use Rattle.ash_code.specs.declared.instruction.Instruction.{Instruction}
@@ -25,6 +25,8 @@ use Rattle.ash_code.specs.Controls.{Caller, Control, Window, word_at, forward}
 use Rattle.ash_code.specs.Steps.{has_global, has_part, write_part}
 use Rattle.ash_code.specs.Performing.{Setting, Next, GoesOn, go, perform}
 use Rattle.ash_code.specs.Running.{step, denote}
+use Rattle.ash_code.specs.Arrivals.{end_of}
+use Rattle.ash_code.specs.CompiledCode.{run_of_call, run_of_load}
 use Rattle.ash_compile.specs.Stretches.{continued, Arrives, Leaves, with_locals, Holds, Has, Computes}
 use Rattle.ash_compile.specs.Performances.{here, HasLocals, Exits, Acts, Outs, Performs, Enters}
 use Rattle.ash_compile.proofs.Simulation.{goes_by, step_is, then_is, frame_in}
@@ -184,10 +186,10 @@ module _ (s : Setting) (Good : Activity → Type 0) (function room : ℕ) where
 
   -- the end of a run, where no caller waits
   finishes : (value : Option Word) (at count : ℕ) (slots locals : List Word) (b : Activity)
-      → Leaves s value (here function at count slots []) (with_locals locals b) (outcome_of (Done value b))
+      → Leaves s value (here function at count slots []) (with_locals locals b) (end_of (Done value b))
   finishes value at count slots locals b = record { fuel = 0; ends = λ n more. refl }
 
-  whole_run : (p : Progress (Option Word)) → continued p (λ v b. outcome_of (Done v b)) ≡ outcome_of p
+  whole_run : (p : Progress (Option Word)) → continued p (λ v b. end_of (Done v b)) ≡ end_of p
   whole_run (Done v b) = refl
   whole_run (Ended e b) = refl
   whole_run NoStep = refl
@@ -196,21 +198,21 @@ module _ (s : Setting) (Good : Activity → Type 0) (function room : ℕ) where
   pub runs : (run : Run (Option Word)) (parameters : ℕ) (slots : List Word) (a : Activity)
       → Enters s Good function room run parameters
       → room ≤ length slots → parameters ≤ length slots → (a.frame).locals ≡ take parameters slots → Good a
-      → Arrives s (here function 0 parameters slots []) a (outcome_of (run a))
+      → Arrives s (here function 0 parameters slots []) a (end_of (run a))
   runs run parameters slots a enters long within locals good =
       subst (λ (o : Option Outcome). Arrives s (here function 0 parameters slots []) a o) (whole_run (run a))
-      (enters.comes [] (length slots) slots a (λ v b. outcome_of (Done v b)) long
+      (enters.comes [] (length slots) slots a (λ v b. end_of (Done v b)) long
       (record { long = refl; within = within; locals = locals }) good
       (λ value b next locals_b at last ran same. finishes value at last next locals_b b))
 
-  -- A call from outside: in so many instructions, or more, the code comes to the outcome of the call.
+  -- A call from outside: in so many instructions, or more, the code comes to the end of the call.
   pub calls_entry : (program : Program) (budget : ℕ) (e : Entry) (args : List Word) (world : World) (slots : List Word)
       (parameters : ℕ)
       → Enters s Good function room (tick e.line >> body program budget e) parameters
       → room ≤ length slots → parameters ≤ length slots → args ≡ take parameters slots
       → Good (begun world budget (frame_of e.name e.line Null args))
       → Arrives s (here function 0 parameters slots []) (begun world budget (frame_of e.name e.line Null args))
-      (call_entry program args budget world e)
+      (end_of (run_of_call program budget e (begun world budget (frame_of e.name e.line Null args))))
   calls_entry program budget e args world slots parameters enters long within locals good =
       runs (tick e.line >> body program budget e) parameters slots
       (begun world budget (frame_of e.name e.line Null args)) enters long within locals good
@@ -222,15 +224,15 @@ module _ (s : Setting) (Good : Activity → Type 0) (function room : ℕ) where
       → room ≤ length slots
       → Good (begun (with_globals program.tree world) budget init_frame)
       → Arrives s (here function 0 0 slots []) (begun (with_globals program.tree world) budget init_frame)
-      (load_module program budget world)
+      (end_of (run_of_load program budget (begun (with_globals program.tree world) budget init_frame)))
   loads_module program budget world slots end more acts has long good =
       let a = begun (with_globals program.tree world) budget init_frame in
       let run = initialize_module (calls_within program budget) 0 (program.tree).globals in
       subst (λ (o : Option Outcome). Arrives s (here function 0 0 slots []) a o) (whole_run ((run >> give None) a))
-      (arrives_then s (here function 0 0 slots []) a (run a) (λ _. give None) (λ v b. outcome_of (Done v b))
-      (acts.comes [] (length slots) slots a (λ _ b. outcome_of (Done None b)) long
+      (arrives_then s (here function 0 0 slots []) a (run a) (λ _. give None) (λ v b. end_of (Done v b))
+      (acts.comes [] (length slots) slots a (λ _ b. end_of (Done None b)) long
       (record { long = refl; within = omega arith; locals = refl }) good (λ b next ran there.
       let w : Window = record { slots = next; count = more; callers = [] } in
-      leaves_at s None (here function end more next []) b (outcome_of (Done None b))
+      leaves_at s None (here function end more next []) b (end_of (Done None b))
       (step_is s Good function room w b end i.ReturnNothing has)
       (finishes None end more next (b.frame).locals b))))

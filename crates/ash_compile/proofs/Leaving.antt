@@ -1,7 +1,6 @@
 -- The code of what leaves blocks and functions does what that does.
 use Rattle.std.proofs.Common.{◌≡◌, ◌≤◌, ◌<◌, ℕ, zero, suc, ◌+◌, List, take, length, refl, sym, ap, ◌∙◌, subst, arith, true, false, Bool, cond}
-use Rattle.std.specs.Prelude.{Option, Some, None, slice_index_or, min}
-use Rattle.std.specs.Option.{option_and_then}
+use Rattle.std.specs.Prelude.{Option, Some, None, slice_index_or, min, option_map}
 use Rattle.std.proofs.lemmas.List.{take-take, length-take-le}
 use Rattle.ash_host.specs.declared.word.Word.{Word}
 use Rattle.ash_meaning.specs.Activity.{Frame, Activity, in_frame}
@@ -10,12 +9,13 @@ use Rattle.ash_meaning.specs.Frames.{tick}
 use Rattle.ash_meaning.specs.Releases as releases
 use Rattle.ash_meaning.specs.Releases.{keeping, leave_blocks}
 use Rattle.ash_meaning.specs.StatementMeaning.{Flow, On, Broke, Continued, Returned, in_block, end_block}
-use Rattle.ash_meaning.specs.Ends.{Outcome, outcome_of}
+use Rattle.ash_meaning.specs.Ends.{Outcome}
 use Rattle.ash_run_steps.specs.Guarded.{Guarded, onward as guarded_onward}
 use Rattle.ash_code.specs.declared.instruction.Instruction.TheVariants as i
 use Rattle.ash_code.specs.Controls.{Caller, Control, Window, with_count}
 use Rattle.ash_code.specs.Performing.{Setting, Next, GoesOn, go, return_to}
 use Rattle.ash_code.specs.Running.{step, after, denote}
+use Rattle.ash_code.specs.Arrivals.{end_of}
 use Rattle.ash_compile.specs.Stretches.{continued, Arrives, Leaves, with_locals, Holds, Has, Computes}
 use Rattle.ash_compile.specs.Performances.{here, HasLocals, Exit, Exits, Jumps, Outs, Performs}
 use Rattle.ash_compile.proofs.Simulation.{steps_on, goes_by, step_is, then_is}
@@ -48,10 +48,10 @@ released_stands size count slots a b is stands = record {
 
 leaving_ends : (s : Setting) (value : Option Word) (c : Control) (a : Activity) (o : Option Outcome)
     → step s c a ≡ return_to s value c c.callers a → (later : Leaves s value c a o) → (n : ℕ) → suc later.fuel ≤ n
-    → option_and_then outcome_of (denote s n c a) ≡ o
+    → option_map end_of (denote s n c a) ≡ Some o
 leaving_ends s value c a o is later zero more = absurd (omega (arith, more))
 leaving_ends s value c a o is later (suc n) more =
-    ap (λ (p : Option (Progress Next)). option_and_then outcome_of (guarded_onward p (after (denote s n)))) is
+    ap (λ (p : Option (Progress Next)). option_map end_of (guarded_onward p (after (denote s n)))) is
     ∙ later.ends n (omega (arith, more))
 
 pub leaves_at : (s : Setting) (value : Option Word) (c : Control) (a : Activity) (o : Option Outcome)

@@ -1,21 +1,22 @@
 -- The code of phrases does what they do: what every phrase uses.
 use Rattle.std.proofs.Common.{◌≡◌, ◌≤◌, ◌<◌, ℕ, zero, suc, ◌+◌, List, take, length, refl, sym, ap, ◌∙◌}
 use Rattle.std.proofs.Common.{subst, arith, true, false, Bool, cond, nat_lt}
-use Rattle.std.specs.Prelude.{Option, Some, None, slice_index_or, slice_set, if◌then◌else◌}
-use Rattle.std.specs.Option.{option_and_then, option_map_or}
+use Rattle.std.specs.Prelude.{Option, Some, None, slice_index_or, slice_set, if◌then◌else◌, option_map}
+use Rattle.std.specs.Option.{option_map_or}
 use Rattle.std.proofs.lemmas.Bool.Decides.{nat_tests}
 use Rattle.std.proofs.lemmas.List.{length-set, get_or-set_same, get_or-set_other, take-set-le}
 use Rattle.ash_host.specs.declared.word.Word.{Word}
 use Rattle.ash_host.specs.declared.word.Word.TheVariants.{Null}
 use Rattle.ash_meaning.specs.Activity.{Activity, Frame}
 use Rattle.ash_meaning.specs.Runs.{Run, Progress, Interrupt, Done, Ended, NoStep, onward, give, ◌>>=◌}
-use Rattle.ash_meaning.specs.Ends.{Outcome, outcome_of, outcome_with, interrupted_in}
+use Rattle.ash_meaning.specs.Ends.{Outcome, interrupted_in}
 use Rattle.ash_run_steps.specs.Guarded.{Guarded, onward as guarded_onward, give as guarded_give}
 use Rattle.ash_run_steps.specs.GuardedSteps.{write_local}
 use Rattle.ash_code.specs.declared.instruction.Instruction.{Instruction}
 use Rattle.ash_code.specs.Controls.{Place, Control, Window, control, going, forward, with_word, word_at}
 use Rattle.ash_code.specs.Performing.{Setting, Next, GoesOn, Finishes, perform, put, go}
 use Rattle.ash_code.specs.Running.{instruction_at, step, after, denote}
+use Rattle.ash_code.specs.Arrivals.{end_with, end_of}
 use Rattle.ash_compile.specs.Stretches.{continued, Arrives, with_slots, Fits, Holds, Has, Computes}
 
 -- what follows two phrases
@@ -43,10 +44,10 @@ ended_after s n o i b is = ap (λ (x : Option (Progress Next)). guarded_onward x
 
 steps_ends : (s : Setting) (c : Control) (a : Activity) (next : Control) (b : Activity) (o : Option Outcome)
     → step s c a ≡ Some (Done (GoesOn next) b) → (later : Arrives s next b o) → (n : ℕ) → suc later.fuel ≤ n
-    → option_and_then outcome_of (denote s n c a) ≡ o
+    → option_map end_of (denote s n c a) ≡ Some o
 steps_ends s c a next b o does later zero more = absurd (omega (arith, more))
 steps_ends s c a next b o does later (suc n) more =
-    ap (λ (p : Option (Progress (Option Word))). option_and_then outcome_of p)
+    ap (λ (p : Option (Progress (Option Word))). option_map end_of p)
     (done_after s n (step s c a) next b does)
     ∙ later.ends n (omega (arith, more))
 
@@ -57,13 +58,13 @@ steps_on s c a next b o does later =
 
 ended_ends : (s : Setting) (c : Control) (a : Activity) (i : Interrupt) (b : Activity) → step s c a ≡ Some (Ended i b)
     → (n : ℕ) → 1 ≤ n
-    → option_and_then outcome_of (denote s n c a) ≡ Some (outcome_with (interrupted_in i b.frame) b.world)
+    → option_map end_of (denote s n c a) ≡ Some (Some (end_with (interrupted_in i b.frame) b.world))
 ended_ends s c a i b does zero more = absurd (omega (arith, more))
 ended_ends s c a i b does (suc n) more =
-    ap (λ (p : Option (Progress (Option Word))). option_and_then outcome_of p) (ended_after s n (step s c a) i b does)
+    ap (λ (p : Option (Progress (Option Word))). option_map end_of p) (ended_after s n (step s c a) i b does)
 
 pub steps_out : (s : Setting) (c : Control) (a : Activity) (i : Interrupt) (b : Activity)
-    → step s c a ≡ Some (Ended i b) → Arrives s c a (Some (outcome_with (interrupted_in i b.frame) b.world))
+    → step s c a ≡ Some (Ended i b) → Arrives s c a (Some (end_with (interrupted_in i b.frame) b.world))
 steps_out s c a i b does = record { fuel = 1; ends = ended_ends s c a i b does }
 
 none_after : (s : Setting) (n : ℕ) (o : Option (Progress Next)) → o ≡ Some NoStep
@@ -71,10 +72,10 @@ none_after : (s : Setting) (n : ℕ) (o : Option (Progress Next)) → o ≡ Some
 none_after s n o is = ap (λ (x : Option (Progress Next)). guarded_onward x (after (denote s n))) is
 
 lacks_ends : (s : Setting) (c : Control) (a : Activity) → step s c a ≡ Some NoStep
-    → (n : ℕ) → 1 ≤ n → option_and_then outcome_of (denote s n c a) ≡ None
+    → (n : ℕ) → 1 ≤ n → option_map end_of (denote s n c a) ≡ Some None
 lacks_ends s c a does zero more = absurd (omega (arith, more))
 lacks_ends s c a does (suc n) more =
-    ap (λ (p : Option (Progress (Option Word))). option_and_then outcome_of p) (none_after s n (step s c a) does)
+    ap (λ (p : Option (Progress (Option Word))). option_map end_of p) (none_after s n (step s c a) does)
 
 pub steps_nowhere : (s : Setting) (c : Control) (a : Activity) → step s c a ≡ Some NoStep → Arrives s c a None
 steps_nowhere s c a does = record { fuel = 1; ends = lacks_ends s c a does }

@@ -1,35 +1,31 @@
 -- When a stretch of code does what a phrase does.
-use Rattle.std.specs.Prelude.{◌≡◌, ◌≤◌, ◌<◌, ℕ, ◌+◌, List, take, length, slice_index_or, Option, Some, None, Bool, true}
-use Rattle.std.specs.Option.{option_and_then}
+use Rattle.std.specs.Prelude.{◌≡◌, ◌≤◌, ◌<◌, ℕ, ◌+◌, List, take, length, slice_index_or, Option, Some, None, option_map, Bool, true}
 use Rattle.ash_host.specs.declared.word.Word.{Word}
 use Rattle.ash_host.specs.declared.word.Word.TheVariants.{Null}
 use Rattle.ash_meaning.specs.Activity.{Frame, Activity, in_frame}
 use Rattle.ash_meaning.specs.Runs.{Run, Progress, Done, Ended, NoStep}
-use Rattle.ash_meaning.specs.Ends.{Outcome, outcome_of, outcome_with, interrupted_in}
+use Rattle.ash_meaning.specs.Ends.{Outcome, interrupted_in}
 use Rattle.ash_run_steps.specs.Guarded.{◌>>=◌}
 use Rattle.ash_code.specs.declared.instruction.Instruction.{Instruction}
 use Rattle.ash_code.specs.Controls.{Control, Window, control}
 use Rattle.ash_code.specs.Performing.{Setting, return_to}
 use Rattle.ash_code.specs.Running.{instruction_at, after, denote}
+use Rattle.ash_code.specs.Arrivals.{end_with, end_of}
+pub use Rattle.ash_code.specs.Arrivals.{Arrives}
 
 -- outcomes
 
 -- what comes of a phrase, if this comes of its values
 abbrev pub continued : {A : Type 0} → Progress A → (A → Activity → Option Outcome) → Option Outcome
 continued (Done value activity) rest = rest value activity
-continued (Ended interrupt activity) rest = Some (outcome_with (interrupted_in interrupt activity.frame) activity.world)
+continued (Ended interrupt activity) rest = Some (end_with (interrupted_in interrupt activity.frame) activity.world)
 continued NoStep rest = None
-
--- From here the code comes to an outcome, in so many instructions or fewer.
-pub record Arrives (s : Setting) (c : Control) (a : Activity) (o : Option Outcome) : Type 0 where
-  pub fuel : ℕ
-  pub ends : (n : ℕ) → fuel ≤ n → option_and_then outcome_of (denote s n c a) ≡ o
 
 -- From here the code leaves its function with a value, and comes to an outcome.
 pub record Leaves (s : Setting) (value : Option Word) (c : Control) (a : Activity) (o : Option Outcome) : Type 0 where
   pub fuel : ℕ
   pub ends : (n : ℕ) → fuel ≤ n
-      → option_and_then outcome_of ((return_to s value c c.callers >>= after (denote s n)) a) ≡ o
+      → option_map end_of ((return_to s value c c.callers >>= after (denote s n)) a) ≡ Some o
 
 -- slots and activities
 

@@ -1,7 +1,11 @@
 pub mod ClassSteps
+pub mod Endings
 pub mod Entries
+pub mod Falling
 pub mod Jumps
+pub mod Lengths
 pub mod Loops
 pub mod Puts
 pub mod Regrouping
 pub mod Returns
+pub mod Walked

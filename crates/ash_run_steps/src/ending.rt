@@ -18,6 +18,7 @@ ghost use Rattle.ash_run_steps.specs.Worlds.{world_of};
 
 use crate::beginning::Parts;
 use crate::leaving::unhold_frame;
+use crate::stack::Stack;
 use crate::state::RunState;
 use crate::stop::Stop;
 use ash_host::HostObject;
@@ -92,23 +93,24 @@ impl<B: HostObject> RunState<B> {
         self.release()
     }
 
-    /// What the run leaves. All frames were given up.
-    pub fn into_parts(self) -> Parts<B>
+    /// What the run leaves, and its stack. All frames were given up.
+    pub fn into_parts(self) -> (Parts<B>, Stack)
         requires ended { roots_of_frames self.frames ≡ [] }
-        ensures table { result.table ≡ self.table }
-        ensures globals { result.globals.items ≡ self.globals }
-        ensures outside { result.outside.items ≡ self.outside }
-        ensures events { result.events.items ≡ self.events }
+        ensures table { result.0.table ≡ self.table }
+        ensures globals { result.0.globals.items ≡ self.globals }
+        ensures outside { result.0.outside.items ≡ self.outside }
+        ensures events { result.0.events.items ≡ self.events }
         ensures world { (names : Names) (rest : List HostRecord) → world_of B.HostObject names rest
-            result.table result.globals.items result.outside.items result.events.items
+            result.0.table result.0.globals.items result.0.outside.items result.0.events.items
             ≡ world_shown B.HostObject names rest self }
-        ensures held { HoldsRoots result.table (result.outside.items ++ handles result.globals.items) }
+        ensures held { HoldsRoots result.0.table (result.0.outside.items ++ handles result.0.globals.items) }
     {
-        Parts {
+        let parts = Parts {
             table: self.table,
             globals: self.globals,
             outside: self.outside,
             events: self.events,
-        }
+        };
+        (parts, self.stack)
     }
 }

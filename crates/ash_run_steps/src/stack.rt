@@ -3,7 +3,7 @@ ghost use Rattle.std.specs.Prelude.{◌≡◌, ◌<◌, ◌≤◌, ◌+◌, ◌^
 ghost use Rattle.std.specs.Prelude.{ℕ, List, OnOk, OnErr, IfOk, slice_set, slice_get, Some, None, IsTrue, false};
 ghost use Rattle.ash_host.specs.Objects.{handles};
 ghost use Rattle.ash_host.specs.declared.word.Word.TheVariants as words;
-ghost use Rattle.ash_run_steps.specs.FrameChanges.{beginning};
+ghost use Rattle.ash_run_steps.specs.FrameChanges.{beginning, beginning_over};
 ghost use Rattle.ash_run_steps.specs.Stacks.{StackFrame, with_slots, locals_of, roots_of_frames};
 
 use crate::counting::handle;
@@ -67,35 +67,94 @@ fn append_handles(held: &mut Vec<u64>, words: &[Word]) -> Result<(), NoMemory>
     Ok(())
 }
 
+// The first frame of a run.
+fn first_frame(function: usize, line: u32, count: usize) -> Frame
+    ensures frame { result ≡ record {
+      function = function;
+      line = line;
+      this = words.Null;
+      back = 0;
+      base = 0;
+      count = count;
+      mark = 0;
+    } }
+{
+    Frame {
+        function,
+        line,
+        this: Word::Null,
+        back: 0,
+        base: 0,
+        count,
+        mark: 0,
+    }
+}
+
+// Gives a list so many words at least.
+fn make_room(slots: &mut Vec<Word>, count: usize) -> Result<(), NoMemory>
+    ensures room { OnOk result (count ≤ length slots.new.items) }
+    ensures kept { length slots.old.items ≤ length slots.new.items }
+{
+    if slots.len() < count {
+        slots.resize(count, Word::Null)?;
+    }
+    Ok(())
+}
+
+// Writes words into the first slots.
+fn write_first(slots: &mut [Word], words: &[Word])
+    requires room { length words.now ≤ length slots.old }
+    ensures written { slots.new ≡ words.now ++ drop (length words.now) slots.old }
+{
+    slots[..words.len()].copy_from_slice(words);
+}
+
 impl Stack {
-    /// A stack with one frame, of a function at a line. Its locals are these words, and so many slots are behind them.
+    /// A stack without slots. It takes no memory.
+    pub fn new(alloc: Global) -> Stack {
+        Stack {
+            slots: Vec::new(alloc),
+            held: Vec::new(alloc),
+            frame: first_frame(0, 0, 0),
+            callers: Vec::new(alloc),
+        }
+    }
+
+    /// A stack that has memory for so many slots, and for so many frames beside the first.
+    pub fn reserve(alloc: Global, slots: usize, frames: usize) -> Result<Stack, NoMemory>
+        ensures reserved { IfOk result (λ stack. stack ≡ beginning 0 0 [] slots) }
+    {
+        let mut words = Vec::new(alloc);
+        words.resize(slots, Word::Null)?;
+        let callers = Vec::with_capacity(alloc, frames)?;
+        Ok(Stack {
+            slots: words,
+            held: Vec::new(alloc),
+            frame: first_frame(0, 0, 0),
+            callers,
+        })
+    }
+
+    /// Begins with one frame, of a function at a line. Its locals are these words, and there are so many slots at
+    /// least. Of what was there words may stay behind the locals. It takes memory only if there are fewer slots.
     pub fn begin(
-        alloc: Global,
+        &mut self,
         function: usize,
         line: u32,
         locals: &[Word],
-        room: usize,
-    ) -> Result<Stack, NoMemory>
-        ensures begun { IfOk result (λ stack. stack ≡ beginning function line locals.now room) }
-        ensures locals { IfOk result (λ stack. locals_of stack.frame ≡ locals.now) }
+        slots: usize,
+    ) -> Result<(), NoMemory>
+        ensures begun { OnOk result ((rest : List Word) × (self.new ≡ beginning_over function line locals.now rest)
+            × (slots ≤ length locals.now + length rest)) }
     {
         let count = locals.len();
-        let mut slots = Vec::from_slice(alloc, locals)?;
-        slots.resize(count.checked_add(room).ok_or(NoMemory)?, Word::Null)?;
-        Ok(Stack {
-            slots,
-            held: Vec::new(alloc),
-            frame: Frame {
-                function,
-                line,
-                this: Word::Null,
-                back: 0,
-                base: 0,
-                count,
-                mark: 0,
-            },
-            callers: Vec::new(alloc),
-        })
+        make_room(&mut self.slots, slots)?;
+        make_room(&mut self.slots, count)?;
+        write_first(&mut self.slots, locals);
+        self.held.clear();
+        self.callers.clear();
+        self.frame = first_frame(function, line, count);
+        Ok(())
     }
 
     /// What holds of every stack. It does nothing.
