@@ -1,17 +1,16 @@
 -- The live state that the code has: modules with their code, and the table of objects, where a module has a slot in
 -- place of its name.
-use Rattle.std.specs.Prelude.{◌≡◌, ℕ, List, [], ◌∷◌, map, filter_map, nat_eq, string_bytes, if◌then◌else◌, Option}
+use Rattle.std.specs.Prelude.{◌≡◌, ℕ, List, [], ◌∷◌, map, nat_eq, string_bytes, if◌then◌else◌}
 use Rattle.std.specs.List.{AllByRecursion, AllZip, IsDistinct}
-use Rattle.std.specs.Option.{option_map}
 use Rattle.ash_host.specs.declared.host_object.HostObject.{Ghosts}
 use Rattle.ash_host.specs.Objects.{handles}
 use Rattle.ash_registry.specs.AcceptedRegistrations.{Registration}
 use Rattle.ash_typed.specs.Modules.{module_of}
 use Rattle.ash_meaning.specs.Activity.{FreeBox}
 use Rattle.ash_soundness.specs.WellFormed.{Context, IsContext, IsState}
-use Rattle.ash_slots.specs.SlotResponses.{box_of}
-use Rattle.ash_objects.specs.Table.{Living, Table}
+use Rattle.ash_objects.specs.Table.{Table}
 use Rattle.ash_object_ranks.specs.ShownTables.{SlotNames, objects_shown}
+use Rattle.ash_run_steps.specs.Answered.{boxes_of}
 use Rattle.ash_run_steps.specs.RunStates.{HoldsRoots}
 use Rattle.ash_code.specs.CompiledCode.{IsCodeOf}
 use Rattle.ash_requests.specs.States.{State, globals_of}
@@ -22,7 +21,7 @@ use Rattle.ash_plain_steps.specs.Consistency.{AreConsistent}
 use Rattle.ash_states.specs.HostStates.{HostState, IsAdmitted, embedding_for, service_kinds}
 use Rattle.ash_engine.specs.declared.live.Compiled.{Compiled}
 use Rattle.ash_engine.specs.declared.live.Live.{Live}
-use Rattle.ash_engine.specs.LiveStates.{Boxes, LiveState, plain_box}
+use Rattle.ash_engine.specs.LiveStates.{LiveState, plain_box}
 
 -- the names of modules by the slots of their code; what is the slot of none has no name
 abbrev pub names_in : List LoadedModule → List Compiled → SlotNames
@@ -57,18 +56,6 @@ module _ {B : Type 0} where
   -- the objects that globals are handles to, once for each
   abbrev pub roots_of : Live B → List ℕ
   roots_of l = handles (globals_of (modules_seen l.loaded.modules.items))
-
-  -- a host object's box by its number; what is none has no box
-  abbrev pub boxed_entry : ℕ × Living B → Option (ℕ × B)
-  boxed_entry e = option_map (λ box. (e.0, box)) (box_of (e.1).body)
-
-  -- the boxes of a table
-  abbrev pub boxes_of : Table B → Boxes B
-  boxes_of table = record {
-    objects = filter_map boxed_entry table.objects;
-    pool = table.pool;
-    services = table.services;
-  }
 
 module _ {B : Type 0} (G : Ghosts B) where
   -- what outlives a request: the modules and how many requests were answered, and what the table shows by these names
