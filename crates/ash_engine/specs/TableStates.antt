@@ -1,6 +1,6 @@
 -- The live state that the code has: modules with their code, and the table of objects, where a module has a slot in
 -- place of its name.
-use Rattle.std.specs.Prelude.{◌≡◌, ℕ, List, [], ◌∷◌, map, nat_eq, string_bytes, if◌then◌else◌}
+use Rattle.std.specs.Prelude.{◌≡◌, ℕ, List, map, nat_eq}
 use Rattle.std.specs.List.{AllByRecursion, AllZip, IsDistinct}
 use Rattle.ash_host.specs.declared.host_object.HostObject.{Ghosts}
 use Rattle.ash_host.specs.Objects.{handles}
@@ -8,25 +8,19 @@ use Rattle.ash_registry.specs.AcceptedRegistrations.{Registration}
 use Rattle.ash_typed.specs.Modules.{module_of}
 use Rattle.ash_meaning.specs.Activity.{FreeBox}
 use Rattle.ash_soundness.specs.WellFormed.{Context, IsContext, IsState}
-use Rattle.ash_objects.specs.Table.{Table}
-use Rattle.ash_object_ranks.specs.ShownTables.{SlotNames, objects_shown}
+use Rattle.ash_object_ranks.specs.ShownTables.{SlotNames}
 use Rattle.ash_run_steps.specs.Answered.{boxes_of}
 use Rattle.ash_run_steps.specs.RunStates.{HoldsRoots}
 use Rattle.ash_code.specs.CompiledCode.{IsCodeOf}
-use Rattle.ash_requests.specs.States.{State, globals_of}
+use Rattle.ash_requests.specs.States.{globals_of}
 use Rattle.ash_plain_steps.specs.declared.state.LoadedModule.{LoadedModule}
-use Rattle.ash_plain_steps.specs.declared.state.PlainState.{PlainState}
 use Rattle.ash_plain_steps.specs.StateViews.{modules_seen}
 use Rattle.ash_plain_steps.specs.Consistency.{AreConsistent}
 use Rattle.ash_states.specs.HostStates.{HostState, IsAdmitted, embedding_for, service_kinds}
+use Rattle.ash_table_states.specs.TableStates.{names_in, state_shown}
 use Rattle.ash_engine.specs.declared.live.Compiled.{Compiled}
 use Rattle.ash_engine.specs.declared.live.Live.{Live}
 use Rattle.ash_engine.specs.LiveStates.{LiveState, plain_box}
-
--- the names of modules by the slots of their code; what is the slot of none has no name
-abbrev pub names_in : List LoadedModule → List Compiled → SlotNames
-names_in (m ∷ ms) (c ∷ cs) slot = if nat_eq slot c.code.module then string_bytes m.name else names_in ms cs slot
-names_in _ _ slot = []
 
 -- the slots of modules, in their order
 abbrev pub slots_of : List Compiled → List ℕ
@@ -51,26 +45,19 @@ BoxesFit pool = AllByRecursion BoxFits pool
 module _ {B : Type 0} where
   -- the names of the modules of a live state, by their slots
   abbrev pub names_of : Live B → SlotNames
-  names_of l = names_in l.loaded.modules.items l.compiled.items
+  names_of l = names_in (modules_seen l.loaded.modules.items) (slots_of l.compiled.items)
 
   -- the objects that globals are handles to, once for each
   abbrev pub roots_of : Live B → List ℕ
   roots_of l = handles (globals_of (modules_seen l.loaded.modules.items))
 
 module _ {B : Type 0} (G : Ghosts B) where
-  -- what outlives a request: the modules and how many requests were answered, and what the table shows by these names
-  abbrev pub state_shown : SlotNames → PlainState → Table B → State
-  state_shown names loaded table = record {
-    modules = modules_seen loaded.modules.items;
-    objects = objects_shown G names table.objects;
-    services = map G.state table.services;
-    last = table.last;
-    seq = loaded.seq;
-  }
-
   -- the state that a live state has, with what is registered
   abbrev pub durable_seen : List Registration → Live B → HostState
-  durable_seen registered l = record { registered = registered; state = state_shown (names_of l) l.loaded l.table }
+  durable_seen registered l = record {
+    registered = registered;
+    state = state_shown G (modules_seen l.loaded.modules.items) (slots_of l.compiled.items) l.loaded.seq l.table;
+  }
 
   -- the live state that the code has
   abbrev pub live_seen : List Registration → Live B → LiveState B
