@@ -5,3 +5,5 @@ pub mod LiveSteps
 pub mod RestoredBoxes
 pub mod TableStates
 pub mod TableSteps
+pub mod TableTasks
+pub mod TableRuns

@@ -11,8 +11,13 @@
 #![tactic(auto)]
 
 mod boxes;
+mod discarding;
 pub mod engine;
 pub mod laws;
 mod live;
+mod loading;
+mod names;
+mod runs;
+mod showing;
 mod starting;
 mod steps;

@@ -24,3 +24,11 @@ pub struct Live<B> {
     /// The objects by their numbers, the free boxes and the services. Each object is held as often as globals hold it.
     pub(crate) table: Objects<B>,
 }
+
+/// What no run takes of a live state.
+#[derive(Drop)]
+pub struct Rest {
+    /// The modules. The one that runs has lent its globals.
+    pub(crate) loaded: PlainState,
+    pub(crate) compiled: Vec<Compiled>,
+}
