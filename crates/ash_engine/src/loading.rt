@@ -124,11 +124,7 @@ fn prepare<B: HostObject>(new: NewModule<'_>, live: &Live<B>) -> Result<Prepared
 }
 
 /// Runs the initializers of code.
-fn run_initializers<B: HostObject>(
-    compiled: &mut Compiled,
-    parts: Parts<B>,
-    budget: u64,
-) -> Left<B>
+fn run_initializers<B: HostObject>(compiled: &mut Compiled, parts: Parts<B>, budget: u64) -> Left<B>
     requires held { HoldsRoots parts.table (parts.outside.items ++ handles parts.globals.items) }
     ensures says { SaysOfLoad B.HostObject compiled.old.code parts budget result }
     ensures code { compiled.new.code ≡ compiled.old.code }
@@ -223,7 +219,7 @@ fn finish_abandoned<B: HostObject>(
 ) -> Result<LiveStep<B>, StepError>
     requires numbered { rest.loaded.seq < max_seq }
     requires held { (number : ℕ) → times number (handles parts.globals.items) ≤ holds_of number parts.table }
-    ensures abandoned { IfOk result (λ one. (live : Live B) (events : List Event)
+    ensures abandoned { IfOk result (λ one. (live : Live B) × (events : List Event)
         × IsAbandoned rest parts live events
         × IsAnswered live (end_named (entry_name (module_of new_module.tree)) outcome) events one) }
     ensures memory { IfErr result (λ error. error ≡ StepError.NoMemory) }
@@ -251,7 +247,7 @@ fn finish_load<B: HostObject>(
         × IsAnswered live (Finished value) left.parts.events.items one) }
     ensures abandoned { (outcome : outcomes.Outcome) → left.outcome ≡ Ok outcome
         → ((value : Option Word) → outcome ≡ variants.Finished value → ⊥)
-        → IfOk result (λ one. (live : Live B) (events : List Event)
+        → IfOk result (λ one. (live : Live B) × (events : List Event)
         × IsAbandoned rest left.parts live events
         × IsAnswered live (end_named (entry_name (module_of new_module.tree)) outcome) events one) }
     ensures refused { left.outcome ≡ Err faults.NotBegun
