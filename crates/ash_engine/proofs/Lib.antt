@@ -3,3 +3,11 @@ pub mod Admitted
 pub mod Served
 pub mod Started
 pub mod Drawn
+pub mod NamedSlots
+pub mod ShownAlike
+pub mod KnownRanks
+pub mod RunSettings
+pub mod GivenAnswers
+pub mod TableCalls
+pub mod ChangedModules
+pub mod CallEnds

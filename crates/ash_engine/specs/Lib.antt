@@ -7,3 +7,4 @@ pub mod TableStates
 pub mod TableSteps
 pub mod TableTasks
 pub mod TableRuns
+pub mod RankedSources
