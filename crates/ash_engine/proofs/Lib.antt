@@ -11,3 +11,4 @@ pub mod GivenAnswers
 pub mod TableCalls
 pub mod ChangedModules
 pub mod CallEnds
+pub mod Invoked
