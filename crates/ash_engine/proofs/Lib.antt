@@ -11,4 +11,8 @@ pub mod GivenAnswers
 pub mod TableCalls
 pub mod ChangedModules
 pub mod CallEnds
+pub mod InsertedSlots
+pub mod TableReleases
+pub mod RanksExist
+pub mod ReadRanks
 pub mod Invoked
