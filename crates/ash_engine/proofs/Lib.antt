@@ -1,5 +1,7 @@
 pub mod Untouched
 pub mod Admitted
 pub mod Served
-pub mod Started
 pub mod Drawn
+pub mod RestoredHosts
+pub mod RefusedHosts
+pub mod Started

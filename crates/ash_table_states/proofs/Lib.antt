@@ -1,0 +1,3 @@
+pub mod SlotNames
+pub mod Shown
+pub mod Stored
