@@ -34,7 +34,7 @@ use Rattle.ash_code.specs.declared.instruction.Instruction.{Instruction}
 use Rattle.ash_code.specs.declared.instruction.Instruction.TheVariants as i
 use Rattle.ash_compile.specs.Stretches.{Has, Computes}
 use Rattle.ash_compile.specs.Performances.{Exits, Acts, Performs}
-use Rattle.ash_compile.specs.Emission.{Scene, IsScene, calls_of, Good, DoesExpression}
+use Rattle.ash_compile.specs.Emission.{Scene, IsScene, calls_of, DoesExpression}
 use Rattle.ash_compile.proofs.Typed.{left_done, evaluates, value_alive}
 use Rattle.ash_compile.proofs.Statements as code
 use Rattle.ash_compile.proofs.Statements.{LeadsTo, ticks_in}
@@ -49,7 +49,15 @@ abbrev pub with_types : Scene → List VarType → Scene
 with_types s types = record s { env = with_locals s.env types }
 
 pub still_scene : (s : Scene) (types : List VarType) → IsScene s → IsScene (with_types s types)
-still_scene s types scene = record { sound = scene.sound; declares = scene.declares }
+still_scene s types scene = record {
+  sound = scene.sound;
+  declares = scene.declares;
+  owner = scene.owner;
+  ranks = scene.ranks;
+  callees = scene.callees;
+  classes = scene.classes;
+  roomy = scene.roomy;
+}
 
 pub given_alive : {p : Program} {of : ValueType} (w : Word) (a : Activity) → IsGiven p (a.world).objects of w
     → is_alive w a ≡ true
@@ -66,7 +74,7 @@ abbrev pub beginning : Scene → VarType → Option Expr → Run (Unit {0})
 beginning s of value = option_map_or (λ e. full (expression (calls_of s) e >>= declare)) value (declare (zero_of of))
 
 module _ (s : Scene) (scene : IsScene s) where
-  begins_fitting : {of : VarType} {e : Expr} → IsSoundBeginning s.env of (Some e) → Fits s.env of e
+  pub begins_fitting : {of : VarType} {e : Expr} → IsSoundBeginning s.env of (Some e) → Fits s.env of e
   begins_fitting (stored nothing e) = e
   begins_fitting (constructed k e) = fits e sig.same
 
@@ -107,15 +115,16 @@ pub spends_declarations : (s : Scene) {vs : List Initialization} {types : List V
     → SpendsTo (Ready s) (declare_all (calls_of s) vs) (Ready (with_types s types))
 spends_declarations s scene none_declared a b v good is =
     let same : b.ticks ≡ a.ticks = ap (λ (p : Progress (Unit {0})). ticks_in a.ticks p) (sym is) in
-    let there : Good s b = at_same a b v good.0 is in
+    let there : IsWellFormed s.context s.env s.envs b = at_same a b v good.0 is in
     ((subst (λ (ls : List VarType). IsWellFormed s.context (record s.env { locals = ls }) s.envs b)
     (sym (append-nil (s.env).locals)) there, omega (arith, same, good.1)), omega (arith, same))
   where
-  at_same : (a b : Activity) (v : Unit {0}) → Good s a → skip a ≡ Done v b → Good s b
+  at_same : (a b : Activity) (v : Unit {0}) → IsWellFormed s.context s.env s.envs a → skip a ≡ Done v b
+      → IsWellFormed s.context s.env s.envs b
   at_same a b v good is = subst (λ (p : Progress (Unit {0})). At p) is good
     where
     At : Progress (Unit {0}) → Type 0
-    At (Done u d) = Good s d
+    At (Done u d) = IsWellFormed s.context s.env s.envs d
     At _ = Unit {0}
 spends_declarations s scene (and_declared {v = x} {vs = vs} {types = types} begins rest) a b v good is =
     let there = came (declare_one (calls_of s) x a) (λ _. declare_all (calls_of s) vs) v b is in
@@ -150,10 +159,10 @@ module _ (s : Scene) (scene : IsScene s) (ranked : IsRanked s) where
       declarations.declares_value s.setting (Ready s) s.function s.room (expression (calls_of s) e) from mid locals
       (record {
         within = does.within;
-        comes = λ w a rest low long fits good. does.comes w a rest low long fits good.0;
+        comes = λ w a rest low long fits good. does.comes w a rest low long fits good;
       })
       has
-      (λ a b v good is. given_alive v b ((evaluates s e t a b v scene typed good.0 is).carried).value)
+      (λ a b v good is. given_alive v b ((evaluates s e t a b v scene typed good is).carried).value)
       (λ a b v good is. ranked s.env b (((spends_expression s scene e t typed a b v good is).0).0))
 
   pub does_no_declarations : (at count : ℕ)

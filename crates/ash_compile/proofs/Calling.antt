@@ -287,8 +287,9 @@ module _ (s : Setting) (function callee : ℕ) where
         → Enters s Callee callee callee_room (tick f.line >> inside) f.parameters
         → (nat_lt (length a.callers + 1) max_frames ≡ true
         → Callee (entered_at ((s.names).functions callee) f.line this args a))
+        → (nat_lt (length a.callers + 1) max_frames ≡ true
         → Returns (tick f.line >> inside) (entered_at ((s.names).functions callee) f.line this args a)
-        (a.frame ∷ a.callers)
+        (a.frame ∷ a.callers))
         → ((d : Activity) (word : Word) (after : List Word)
         → (demand_frame >> framed ((s.names).functions callee) f.line this args inside) a ≡ Done word d
         → Holds w slot word after d
@@ -320,4 +321,4 @@ module _ (s : Setting) (function callee : ℕ) where
           (enters_there at start a inside rest
           (does ∙ ap (λ (q : Progress (Unit {0})). guarded_onward (Some q)
           (λ _. enter_at s callee this slot (control function at w))) (demands true is))
-          fits alive (enough is) enters (good is) ends (λ d word after ran held. go d word after (begins ∙ ran) held))
+          fits alive (enough is) enters (good is) (ends is) (λ d word after ran held. go d word after (begins ∙ ran) held))

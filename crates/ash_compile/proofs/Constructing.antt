@@ -34,34 +34,9 @@ after_first s c a (Done v b) next run rest does go = go v b refl does
 after_first s c a (Ended e b) next run rest does go = steps_out s c a e b does
 after_first s c a NoStep next run rest does go = steps_nowhere s c a does
 
-plain_then : {A B : Type 0} (p : Progress A) (f : A → Run B)
-    → guarded_onward (Some p) (λ v. plain (f v)) ≡ Some (onward p f)
-plain_then (Done v b) f = refl
-plain_then (Ended e b) f = refl
-plain_then NoStep f = refl
-
 -- what makes an object
 abbrev pub making : Plain (List ℕ) → Run ℕ
 making object = demand_frame >> demand_number >> make object
-
--- what a construction does: `makes` is the object of the class as the code knows it
-pub construct_is : (s : Setting) (Good : Activity → Type 0) (function room at slot place : ℕ) (w : Window) (a : Activity)
-    (class : ClassCode)
-    → Has s Good function room at (i.Construct place slot)
-    → slice_get (classes_of s) place ≡ Some class
-    → step s (control function at w) a
-    ≡ guarded_onward (Some (making (Script (own_name s) class.place (class.fields).items) a))
-    (λ number. enter_at s class.construction (words.Object number) slot (control function at w))
-construct_is s Good function room at slot place w a class has there =
-    let c = control function at w in
-    let object = Script (own_name s) class.place (class.fields).items in
-    let next : ℕ → Guarded Next = λ number. enter_at s class.construction (words.Object number) slot c in
-    step_is s Good function room w a at (i.Construct place slot) has
-    ∙ ap (λ (o : Option ClassCode). option_map_or (construct s slot c) o (λ b. None) a) there
-    ∙ ap (λ (p : Option (Progress (Unit {0}))). guarded_onward (guarded_onward p (λ _. plain (make object))) next)
-    (plain_then (demand_frame a) (λ _. demand_number))
-    ∙ ap (λ (p : Option (Progress ℕ)). guarded_onward p next)
-    (plain_then ((demand_frame >> demand_number) a) (λ _. make object))
 
 -- The frame of a construction gives the object, whatever its statements return.
 

@@ -15,7 +15,8 @@ use Rattle.ash_meaning.specs.Releases as releases
 use Rattle.ash_meaning.specs.Releases.{let_go, full, declaring, declare}
 use Rattle.ash_meaning.specs.OperatorMeaning.{zero_of}
 use Rattle.ash_meaning.specs.Ends.{Outcome}
-use Rattle.ash_run_steps.specs.Guarded.{Guarded, onward as guarded_onward, give as guarded_give}
+use Rattle.std.proofs.lemmas.Bool.Decides.{nat_tests}
+use Rattle.ash_run_steps.specs.Guarded.{Guarded, onward as guarded_onward, give as guarded_give, unsound}
 use Rattle.ash_run_steps.specs.GuardedSteps.{is_alive, write_local, end_expression}
 use Rattle.ash_run_steps.specs.FrameSteps as steps
 use Rattle.ash_code.specs.declared.instruction.Instruction.TheVariants as i
@@ -27,6 +28,9 @@ use Rattle.ash_compile.specs.Performances.{here, HasLocals, Acts}
 use Rattle.ash_compile.proofs.Simulation.{steps_on, goes_by, step_is, off, then_is}
 use Rattle.ash_compile.proofs.Statements.{arrives_then, released_frame, fits_there}
 use Rattle.ash_compile.proofs.Conditions.{RanksAfter}
+
+is_below : (count size : ℕ) → count < size → nat_lt count size ≡ true
+is_below count size low = grind (arith, nat_tests)
 
 -- one more local
 
@@ -67,13 +71,16 @@ module _ (s : Setting) (Good : Activity → Type 0) (function room : ℕ) where
       (λ _. go (with_word count word c))) (off count count (omega arith))
 
   declares_at : (at count : ℕ) (slots : List Word) (callers : List Caller) (word : Word) (a : Activity)
+      → count < length slots
       → Has s Good function room at i.Declare → slice_index_or slots count Null ≡ word → is_alive word a ≡ true
       → step s (here function at count slots callers) a
       ≡ Some (Done (GoesOn (here function (at + 1) (count + 1) slots callers)) (in_frame (declaring word) a))
-  declares_at at count slots callers word a has value alive =
+  declares_at at count slots callers word a there has value alive =
       let w : Window = record { slots = slots; count = count; callers = callers } in
       let c = here function at count slots callers in
       step_is s Good function room w a at i.Declare has
+      ∙ ap (λ (t : Bool). guarded_onward (cond t (steps.declare (slice_index_or slots count Null)) unsound a)
+      (λ _. go (with_count (count + 1) c))) (is_below count (length slots) there)
       ∙ ap (λ (x : Word). guarded_onward (steps.declare x a) (λ _. go (with_count (count + 1) c))) value
       ∙ ap (λ (t : Bool). guarded_onward (cond t (Some (Done tt (in_frame (declaring word) a))) None)
       (λ _. go (with_count (count + 1) c))) alive
@@ -91,7 +98,8 @@ module _ (s : Setting) (Good : Activity → Type 0) (function room : ℕ) where
         (rest tt (in_frame (declaring word) a)) (loads from count slots callers word a has_load)
         (steps_on s (here function (from + 1) count next callers) a (here function (from + 1 + 1) (count + 1) next callers)
         (in_frame (declaring word) a) (rest tt (in_frame (declaring word) a))
-        (declares_at (from + 1) count next callers word a has_declare value (zero_is_alive of a))
+        (declares_at (from + 1) count next callers word a
+        (omega (arith, fits, long, stands.long, length-set slots count word)) has_declare value (zero_is_alive of a))
         (goes (in_frame (declaring word) a) next refl
         (one_more size count slots next word a (in_frame (declaring word) a) (omega (arith, fits, long))
         (length-set slots count word ∙ stands.long) value
@@ -101,15 +109,18 @@ module _ (s : Setting) (Good : Activity → Type 0) (function room : ℕ) where
   -- a variable with a value
 
   ends_declared : (at count : ℕ) (slots : List Word) (callers : List Caller) (word : Word) (a : Activity)
+      → count < length slots
       → Has s Good function room at i.DeclareAndEnd → slice_index_or slots count Null ≡ word → is_alive word a ≡ true
       → (s.test).has_ranks a.world ≡ true
       → step s (here function at count slots callers) a
       ≡ guarded_onward (Some (releases.end_expression (in_frame (declaring word) a)))
       (λ _ b. Some (Done (GoesOn (here function (at + 1) (count + 1) slots callers)) b))
-  ends_declared at count slots callers word a has value alive ranks =
+  ends_declared at count slots callers word a there has value alive ranks =
       let w : Window = record { slots = slots; count = count; callers = callers } in
       let c = here function at count slots callers in
       step_is s Good function room w a at i.DeclareAndEnd has
+      ∙ ap (λ (t : Bool). guarded_onward (guarded_onward (cond t (steps.declare (slice_index_or slots count Null)) unsound a)
+      (λ _. end_expression s.test)) (λ _. go (with_count (count + 1) c))) (is_below count (length slots) there)
       ∙ ap (λ (x : Word). guarded_onward (guarded_onward (steps.declare x a) (λ _. end_expression s.test))
       (λ _. go (with_count (count + 1) c))) value
       ∙ ap (λ (t : Bool). guarded_onward (guarded_onward (cond t (Some (Done tt (in_frame (declaring word) a))) None)
@@ -135,7 +146,7 @@ module _ (s : Setting) (Good : Activity → Type 0) (function room : ℕ) where
         arrives_then s c b (releases.end_expression declared) (λ _. give tt) rest
         (goes_by s c b (releases.end_expression declared) (λ _. here function (mid + 1) (count + 1) next callers)
         (λ _ d. rest tt d)
-        (ends_declared mid count next callers v b has held.value (alive a b v good ran) (ranks a b v good ran))
+        (ends_declared mid count next callers v b (omega (arith, computes.within, long, held.long, stands.long)) has held.value (alive a b v good ran) (ranks a b v good ran))
         (λ u d ended.
         goes d next (then_is ((p >>= declare) a) tt declared (λ u. releases.end_expression >> give u) _
         (then_is (p a) v b declare _ ran refl) (ap (λ (x : Progress (Unit {0})). onward x (λ _. give tt)) ended))

@@ -7,7 +7,9 @@ use Rattle.ash_typed.specs.SoundExpressions.{IsWellTyped}
 use Rattle.ash_code.specs.declared.instruction.Instruction.{Instruction}
 use Rattle.ash_compile.specs.declared.builder.CodeBuilder.{CodeBuilder}
 use Rattle.ash_compile.specs.Stretches.{Has}
-use Rattle.ash_compile.specs.Emission.{code_of, end_of, Keeps, Puts, Scene, IsScene, Good, Stands, DoesExpression, Emits}
+use Rattle.ash_compile.specs.declared.layout.Layout.{Layout}
+use Rattle.ash_compile.specs.Layout.{IsLayout}
+use Rattle.ash_compile.specs.Emission.{code_of, end_of, Keeps, Puts, Scene, IsScene, Suits, Good, Stands, DoesExpression, Emits}
 
 -- lists
 
@@ -27,6 +29,7 @@ keeps_on old mid new first second = record {
   longer = omega (arith, first.longer, second.longer);
   same = λ k low. second.same k (omega (arith, low, first.longer)) ∙ first.same k low;
   slots = omega (arith, first.slots, second.slots);
+  layout = second.layout ∙ first.layout;
 }
 
 pub put_one : (old new : CodeBuilder) (slot : ℕ) (i : Instruction) → Puts old new slot i → end_of new ≡ end_of old + 1
@@ -37,6 +40,7 @@ put_keeps old new slot i puts = record {
   longer = omega (arith, put_one old new slot i puts);
   same = λ k low. ap (λ (xs : List Instruction). slice_get xs k) puts.code ∙ get_before (code_of old) (i ∷ []) k low;
   slots = omega (arith, puts.slots);
+  layout = puts.layout;
 }
 
 pub put_there : (old new : CodeBuilder) (slot : ℕ) (i : Instruction) → Puts old new slot i
@@ -44,9 +48,25 @@ pub put_there : (old new : CodeBuilder) (slot : ℕ) (i : Instruction) → Puts 
 put_there old new slot i puts =
     ap (λ (xs : List Instruction). slice_get xs (end_of old)) puts.code ∙ get_last (code_of old) i
 
-pub put_within : (old new : CodeBuilder) (slot room : ℕ) (i : Instruction) → Puts old new slot i → new.slots ≤ room
-    → slot < room
-put_within old new slot room i puts within = omega (arith, puts.slots, within)
+-- code that suits a scene
+
+pub suits_before : (s : Scene) (mid new : CodeBuilder) → Keeps mid new → Suits s new → Suits s mid
+suits_before s mid new keeps suits = record {
+  slots = omega (arith, keeps.slots, suits.slots);
+  layout = subst (λ (l : Layout). IsLayout ((s.setting).code).module ((s.context).program).tree l) keeps.layout suits.layout;
+}
+
+pub put_greatest : (s : Scene) (old new : CodeBuilder) (slot : ℕ) (i : Instruction) → Puts old new slot i → Suits s new
+    → slot < s.greatest
+put_greatest s old new slot i puts suits = omega (arith, puts.slots, suits.slots)
+
+pub greatest_within : (s : Scene) → IsScene s → s.greatest ≤ s.room
+greatest_within s scene = omega (arith, scene.roomy)
+
+pub put_within : (s : Scene) (old new : CodeBuilder) (slot : ℕ) (i : Instruction) → IsScene s → Puts old new slot i
+    → Suits s new → slot < s.room
+put_within s old new slot i scene puts suits =
+    omega (arith, put_greatest s old new slot i puts suits, greatest_within s scene)
 
 -- where code stands
 
@@ -79,7 +99,7 @@ emits_one old new e slot i puts does = record {
   keeps = put_keeps old new slot i puts;
   does = λ s of scene typed stands within.
       subst (λ (to : ℕ). DoesExpression s e (end_of old) to slot) (sym (put_one old new slot i puts))
-      (does s of (end_of old) scene typed (put_within old new slot s.room i puts within)
+      (does s of (end_of old) scene typed (put_within s old new slot i scene puts within)
       (has_put s old new (end_of old) slot i (omega arith) puts stands));
 }
 
@@ -97,7 +117,7 @@ emits_then start old new e f slot i first puts inner does = record {
       (does s of (end_of start) (end_of old) scene typed
       (first.does s (inner s of typed).0 scene (inner s of typed).1
       (stands_before s old new (end_of start) (put_keeps old new slot i puts) stands)
-      (omega (arith, (put_keeps old new slot i puts).slots, within)))
+      (suits_before s old new (put_keeps old new slot i puts) within))
       (has_put s old new (end_of start) slot i (first.keeps).longer puts stands));
 }
 
@@ -119,9 +139,9 @@ emits_both start mid old new a b f slot i first second puts left right does = re
       subst (λ (to : ℕ). DoesExpression s f (end_of start) to slot) (sym (put_one old new slot i puts))
       (does s of (end_of start) (end_of mid) (end_of old) scene typed
       (first.does s (left s of typed).0 scene (left s of typed).1
-      (stands_before s mid new (end_of start) later stands) (omega (arith, later.slots, within)))
+      (stands_before s mid new (end_of start) later stands) (suits_before s mid new later within))
       (second.does s (right s of typed).0 scene (right s of typed).1
       (stands_after s (code_of old) (end_of start) (end_of mid) (end_of old) (first.keeps).longer
-      (stands_before s old new (end_of start) last stands)) (omega (arith, last.slots, within)))
+      (stands_before s old new (end_of start) last stands)) (suits_before s old new last within))
       (has_put s old new (end_of start) slot i (omega (arith, (first.keeps).longer, (second.keeps).longer)) puts stands));
 }

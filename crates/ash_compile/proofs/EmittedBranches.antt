@@ -15,9 +15,11 @@ use Rattle.ash_meaning.specs.ExpressionMeaning.{expression}
 use Rattle.ash_code.specs.declared.instruction.Instruction.{Instruction}
 use Rattle.ash_code.specs.declared.instruction.Instruction.TheVariants as i
 use Rattle.ash_compile.specs.declared.builder.CodeBuilder.{CodeBuilder}
-use Rattle.ash_compile.specs.Emission.{code_of, end_of, Keeps, Puts, Leads, lazy_jump, Scene, IsScene, Good, Stands, DoesExpression, Emits, calls_of}
+use Rattle.ash_compile.specs.declared.layout.Layout.{Layout}
+use Rattle.ash_compile.specs.Layout.{IsLayout}
+use Rattle.ash_compile.specs.Emission.{code_of, end_of, Keeps, Puts, Leads, lazy_jump, Scene, IsScene, Suits, Good, Stands, DoesExpression, Emits, calls_of}
 use Rattle.ash_compile.proofs.Branches as run
-use Rattle.ash_compile.proofs.Emission.{HasAt, keeps_on, put_keeps, put_one, put_within, put_there}
+use Rattle.ash_compile.proofs.Emission.{HasAt, keeps_on, put_keeps, put_one, put_there, suits_before}
 use Rattle.ash_compile.proofs.Typed.{stays_good, evaluates, truth_is}
 
 -- one instruction that is another one
@@ -53,6 +55,15 @@ leads_keeps start old new at i keeps later leads = record {
   longer = omega (arith, keeps.longer, leads_end old new at i leads);
   same = λ k low. leads_other old new at k i leads (λ is. omega (arith, is, low, later)) ∙ keeps.same k low;
   slots = omega (arith, keeps.slots, leads.slots);
+  layout = leads.layout ∙ keeps.layout;
+}
+
+-- What leads elsewhere suits the same scenes.
+pub suits_led : (s : Scene) (old new : CodeBuilder) (at : ℕ) (i : Instruction) → Leads old new at i → Suits s new
+    → Suits s old
+suits_led s old new at i leads suits = record {
+  slots = omega (arith, leads.slots, suits.slots);
+  layout = subst (λ (l : Layout). IsLayout ((s.setting).code).module ((s.context).program).tree l) leads.layout suits.layout;
 }
 
 -- `&&` and `||`
@@ -91,7 +102,7 @@ lazily start old put mid new op a b slot to i first puts second is leads =
         (λ k low high. stands k low (omega (arith, high, end, after.longer))
         ∙ leads_other mid new (end_of old) k (lazy_jump op slot to) leads (λ same. omega (arith, same, high))
         ∙ after.same k high)
-        (omega (arith, after.slots, leads.slots, within)))
+        (suits_before s old mid after (suits_led s mid new (end_of old) (lazy_jump op slot to) leads within)))
         (stands (end_of old) (first.keeps).longer (omega (arith, end, one, (second.keeps).longer))
         ∙ leads_there mid new (end_of old) (lazy_jump op slot to) leads (omega (arith, one, (second.keeps).longer))
         ∙ ap (λ (n : ℕ). Some (lazy_jump op slot n)) (is ∙ sym end))
@@ -100,7 +111,7 @@ lazily start old put mid new op a b slot to i first puts second is leads =
         (second.does s (value vars.Bool) scene (typed_lazily typed).1
         (λ k low high. stands k (omega (arith, (first.keeps).longer, one, low)) (omega (arith, high, end))
         ∙ leads_other mid new (end_of old) k (lazy_jump op slot to) leads (λ same. omega (arith, same, one, low)))
-        (omega (arith, leads.slots, within)))));
+        (suits_led s mid new (end_of old) (lazy_jump op slot to) leads within))));
   }
 
 -- `c ? a : b`
@@ -136,6 +147,9 @@ conditional start m1 p1 m2 p2 m3 q new c a b slot to end n j first branch second
   let k1 = keeps_on m1 p1 m3 (put_keeps m1 p1 slot n branch) (keeps_on p1 m2 m3 second.keeps k3) in
   let e1 = leads_end m3 q (end_of m1) (i.JumpUnless slot to) one in
   let e2 = leads_end q new (end_of m2) (i.Jump end) two in
+  let led : (s : Scene) → Suits s new → Suits s m3
+      = λ s within. suits_led s m3 q (end_of m1) (i.JumpUnless slot to) one
+      (suits_led s q new (end_of m2) (i.Jump end) two within) in
   let later : end_of m1 < end_of m2 = omega (arith, at1, (second.keeps).longer) in
   let other : (k : ℕ) → (k ≡ end_of m1 → ⊥) → (k ≡ end_of m2 → ⊥) → slice_get (code_of new) k ≡ slice_get (code_of m3) k
       = λ k x y. leads_other q new (end_of m2) k (i.Jump end) two y ∙ leads_other m3 q (end_of m1) k (i.JumpUnless slot to) one x in
@@ -149,7 +163,7 @@ conditional start m1 p1 m2 p2 m3 q new c a b slot to end n j first branch second
         (first.does s (value vars.Bool) scene (typed_condition typed)
         (λ k low high. stands k low (omega (arith, high, e1, e2, k1.longer))
         ∙ other k (λ same. omega (arith, same, high)) (λ same. omega (arith, same, high, later)) ∙ k1.same k high)
-        (omega (arith, k1.slots, one.slots, two.slots, within)))
+        (suits_before s m1 m3 k1 (led s within)))
         (stands (end_of m1) (first.keeps).longer (omega (arith, e1, e2, later, k3.longer))
         ∙ leads_other q new (end_of m2) (end_of m1) (i.Jump end) two (λ same. omega (arith, same, later))
         ∙ leads_there m3 q (end_of m1) (i.JumpUnless slot to) one (omega (arith, later, k3.longer))
@@ -158,7 +172,7 @@ conditional start m1 p1 m2 p2 m3 q new c a b slot to end n j first branch second
         (second.does s (typed_then typed).0 scene (typed_then typed).1
         (λ k low high. stands k (omega (arith, (first.keeps).longer, at1, low)) (omega (arith, high, e1, e2, k3.longer))
         ∙ other k (λ same. omega (arith, same, at1, low)) (λ same. omega (arith, same, high)) ∙ k3.same k high)
-        (omega (arith, k3.slots, one.slots, two.slots, within))))
+        (suits_before s m2 m3 k3 (led s within))))
         (stands (end_of m2) (omega (arith, (first.keeps).longer, later)) (omega (arith, e1, e2, at2, (third.keeps).longer))
         ∙ leads_there q new (end_of m2) (i.Jump end) two (omega (arith, e1, at2, (third.keeps).longer))
         ∙ ap (λ (x : ℕ). Some (i.Jump x)) (end_is ∙ sym (e2 ∙ e1)))
@@ -167,6 +181,6 @@ conditional start m1 p1 m2 p2 m3 q new c a b slot to end n j first branch second
         (third.does s (typed_otherwise typed).0 scene (typed_otherwise typed).1
         (λ k low high. stands k (omega (arith, (first.keeps).longer, later, at2, low)) (omega (arith, high, e1, e2))
         ∙ other k (λ same. omega (arith, same, at2, later, low)) (λ same. omega (arith, same, at2, low)))
-        (omega (arith, one.slots, two.slots, within)))))
+        (led s within))))
         (λ x y v good ran. stays_good s c (value vars.Bool) x y v scene (typed_condition typed) good ran);
   }

@@ -13,6 +13,7 @@ use Rattle.ash_meaning.specs.Classes.{Entry}
 use Rattle.ash_meaning.specs.StatementMeaning.{Flow, Broke, Continued, statements}
 use Rattle.ash_meaning.specs.Functions.{initialize_fields, body}
 use Rattle.ash_meaning.specs.Ends.{begun}
+use Rattle.ash_soundness.specs.WellFormed.{IsWellFormed}
 use Rattle.ash_soundness.specs.WellFormedLaws.{Leaves, IsLeftBy, by_break, by_continue}
 use Rattle.ash_soundness.proofs.SoundStaysSound as sound
 use Rattle.ash_soundness.proofs.Bodies.{keeps_bodies}
@@ -25,7 +26,7 @@ use Rattle.ash_code.specs.Arrivals.{end_of}
 use Rattle.ash_code.specs.CompiledCode.{run_of_call}
 use Rattle.ash_compile.specs.Stretches.{Arrives, Has}
 use Rattle.ash_compile.specs.Performances.{here, Exits, Acts, Performs, Enters}
-use Rattle.ash_compile.specs.Emission.{Scene, IsScene, calls_of, Good}
+use Rattle.ash_compile.specs.Emission.{Scene, IsScene, calls_of}
 use Rattle.ash_compile.proofs.Typed.{left_done}
 use Rattle.ash_compile.proofs.Statements.{LeadsTo, spent, ticks_first}
 use Rattle.ash_compile.proofs.Leaving.{Ends}
@@ -38,7 +39,7 @@ use Rattle.ash_compile.proofs.BlockCode.{given_alive}
 
 -- Activities in which a function is entered: its first tick leads to those in which its statements run.
 abbrev pub Entering : Scene → Activity → Type 0
-Entering s a = Good s a × (a.ticks ≤ suc s.depth)
+Entering s a = IsWellFormed s.context s.env s.envs a × (a.ticks ≤ suc s.depth)
 
 module _ (s : Scene) (scene : IsScene s) where
   first_tick : (line : ℕ) → LeadsTo (Entering s) (tick line) (Ready s)
@@ -116,7 +117,7 @@ module _ (s : Scene) (scene : IsScene s) where
       → Enters s.setting (Entering s) s.function s.room (tick e.line >> body (s.context).program (suc s.depth) e)
       (length (s.env).locals)
       → s.room ≤ length slots → length (s.env).locals ≤ length slots → args ≡ take (length (s.env).locals) slots
-      → Good s (begun world (suc s.depth) (frame_of e.name e.line Null args))
+      → IsWellFormed s.context s.env s.envs (begun world (suc s.depth) (frame_of e.name e.line Null args))
       → Arrives s.setting (here s.function 0 (length (s.env).locals) slots [])
       (begun world (suc s.depth) (frame_of e.name e.line Null args))
       (end_of (run_of_call (s.context).program (suc s.depth) e (begun world (suc s.depth) (frame_of e.name e.line Null args))))
@@ -126,7 +127,7 @@ module _ (s : Scene) (scene : IsScene s) where
 
   -- What a caller needs of the frame of a function.
   pub returns_of : IsRanked s → (caller : ℕ) (result : Option VarType) (e : Entry) → IsEntry s.context s.env result e
-      → (a : Activity) → Good s a
+      → (a : Activity) → IsWellFormed s.context s.env s.envs a
       → Returns s.setting caller s.function (tick e.line >> body (s.context).program (suc s.depth) e) a a.callers
   returns_of ranked caller result e entry a good = record {
     returns = λ b v is. left_done v b leaves is;

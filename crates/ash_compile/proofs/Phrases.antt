@@ -76,7 +76,7 @@ held_alive word a alive =
     ap (λ (t : Bool). guarded_onward (cond t (Some (Done tt (in_frame (holding (handles (word ∷ []))) a))) None)
     (λ _. guarded_give word)) alive
 
-put_held : (word : Word) (a : Activity) (next : Word → Guarded Next) → is_alive word a ≡ true
+pub put_held : (word : Word) (a : Activity) (next : Word → Guarded Next) → is_alive word a ≡ true
     → guarded_onward (guarded_give_held word a) next ≡ guarded_onward (Some (give_held word a)) next
 put_held word a next alive = ap (λ (o : Option (Progress Word)). guarded_onward o next) (held_alive word a alive)
 
@@ -90,7 +90,7 @@ none_held (words.Int64 n) a is = refl
 none_held (words.Uint64 n) a is = refl
 none_held (words.Object number) a is = cc
 
-local_in : (w : Window) (a : Activity) (n : ℕ) → Fits w a → n < length (a.frame).locals
+pub local_in : (w : Window) (a : Activity) (n : ℕ) → Fits w a → n < length (a.frame).locals
     → slice_index_or w.slots n words.Null ≡ slice_index_or (a.frame).locals n words.Null
 local_in w a n fits within =
     sym (ap (λ (ws : List Word). slice_index_or ws n words.Null) fits.locals

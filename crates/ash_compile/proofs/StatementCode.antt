@@ -25,7 +25,7 @@ use Rattle.ash_code.specs.declared.instruction.Instruction.{Instruction}
 use Rattle.ash_code.specs.declared.instruction.Instruction.TheVariants as i
 use Rattle.ash_compile.specs.Stretches.{Has, Computes}
 use Rattle.ash_compile.specs.Performances.{Exits, Acts, Decides, Performs, Reaches, Lands}
-use Rattle.ash_compile.specs.Emission.{Scene, IsScene, calls_of, Good, DoesExpression}
+use Rattle.ash_compile.specs.Emission.{Scene, IsScene, calls_of, DoesExpression}
 use Rattle.ash_compile.proofs.Statements as code
 use Rattle.ash_compile.proofs.Statements.{LeadsTo}
 use Rattle.ash_compile.proofs.Conditions as conditions
@@ -63,7 +63,7 @@ module _ (s : Scene) (scene : IsScene s) (ranked : IsRanked s) where
       → Computes s.setting (Ready s) s.function s.room (expression (calls_of s) e) from to slot
   ready e from to slot does = record {
     within = does.within;
-    comes = λ w a rest low long fits good. does.comes w a rest low long fits good.0;
+    comes = λ w a rest low long fits good. does.comes w a rest low long fits good;
   }
 
   ranks_after : (e : Expr) (of : ValueType) → IsWellTyped s.env e of

@@ -114,7 +114,7 @@ module _ (s : Scene) (scene : IsScene s) where
       (length (s.env).locals) has (λ a b v good is. (spends_tick s scene line a b v good is).0)
       (record {
         within = does.within;
-        comes = λ w a rest low long fits good. does.comes w a rest low long fits good.0;
+        comes = λ w a rest low long fits good. does.comes w a rest low long fits good;
       })
       ends
       (λ a b v good is. ranked s.env b (((spends_expression s scene e of typed a b v good is).0).0))

@@ -17,6 +17,8 @@ use Rattle.ash_meaning.specs.Runs.{Run, Progress, Done, Ended, NoStep}
 use Rattle.ash_meaning.specs.OperatorMeaning.{is_true}
 use Rattle.ash_meaning.specs.ExpressionMeaning.{expression}
 use Rattle.ash_meaning.specs.Classes.{Program}
+use Rattle.ash_meaning.specs.MeaningLaws.{LeavesAtMost}
+use Rattle.ash_meaning.proofs.Ticks.{ticks_fall}
 use Rattle.ash_soundness.specs.WellFormed.{Context, IsReference, to_nothing, to_object, IsInteger, int, uint, int64, uint64}
 use Rattle.ash_soundness.specs.WellFormed.{IsValue, is_truth, is_integer, is_object, is_handle, AreValues, no_values, and_value}
 use Rattle.ash_soundness.specs.WellFormed.{IsGiven, gives_nothing, gives_null, gives, IsWellFormed}
@@ -47,11 +49,24 @@ pub evaluates : (s : Scene) (e : Expr) (of : ValueType) (a b : Activity) (v : Wo
     → Good s a → expression (calls_of s) e a ≡ Done v b → Evaluates s.context s.env s.envs of a v b
 evaluates s e of a b v scene typed good ran =
     left_done v b
-    (sound.expressions_keep scene.sound s.depth s.env s.envs e of a scene.declares typed good) ran
+    (sound.expressions_keep scene.sound s.depth s.env s.envs e of a scene.declares typed good.0) ran
+
+-- what has at most so many ticks left, at its end
+pub most_left : {A : Type 0} (p : Progress A) (n : ℕ) (v : A) (b : Activity) → LeavesAtMost n p → p ≡ Done v b → b.ticks ≤ n
+most_left p n v b left is = subst (λ q. LeavesAtMost n q) is left
+
+-- An expression spends ticks, and gains none.
+pub fewer_ticks : (s : Scene) (e : Expr) (a b : Activity) (v : Word) → Good s a → expression (calls_of s) e a ≡ Done v b
+    → b.ticks ≤ a.ticks
+fewer_ticks s e a b v good ran =
+    most_left (expression (calls_of s) e a) a.ticks v b
+    (((ticks_fall (s.context).program s.depth).phrases).expressions e a good.1) ran
 
 pub stays_good : (s : Scene) (e : Expr) (of : ValueType) (a b : Activity) (v : Word) → IsScene s → IsWellTyped s.env e of
     → Good s a → expression (calls_of s) e a ≡ Done v b → Good s b
-stays_good s e of a b v scene typed good ran = ((evaluates s e of a b v scene typed good ran).goes).passes.well
+stays_good s e of a b v scene typed good ran =
+    (((evaluates s e of a b v scene typed good ran).goes).passes.well,
+    omega (arith, fewer_ticks s e a b v good ran, good.1))
 
 -- words of a type
 
@@ -105,20 +120,20 @@ value_at (suc k) of (and_value v vs) is = value_at k of vs is
 pub local_there : (s : Scene) (a : Activity) (n : ℕ) (of : VarType) → Good s a → slice_get (s.env).locals n ≡ Some of
     → n < length (a.frame).locals
 local_there s a n of good is =
-    omega (arith, values_long (good.frame).locals, slice_get_within (s.env).locals n of is)
+    omega (arith, values_long ((good.0).frame).locals, slice_get_within (s.env).locals n of is)
 
 pub local_value : (s : Scene) (a : Activity) (n : ℕ) (of : VarType) → Good s a → slice_get (s.env).locals n ≡ Some of
     → IsValue (s.context).program (a.world).objects of (slice_index_or (a.frame).locals n words.Null)
-local_value s a n of good is = value_at n of (good.frame).locals is
+local_value s a n of good is = value_at n of ((good.0).frame).locals is
 
-this_lives : {p : Program} {all : LiveObjects (List ℕ)} {class : Option ℕ} {w : Word} (n : ℕ) → IsThis p all class w
+pub this_lives : {p : Program} {all : LiveObjects (List ℕ)} {class : Option ℕ} {w : Word} (n : ℕ) → IsThis p all class w
     → handle w ≡ Some n → Lives all n
 this_lives n no_this is = absurd (cc)
 this_lives {all = all} n (is_this {number = number} {shape = shape} at of) is =
     subst (λ (k : ℕ). Lives all k) (same_Some number n is) (shape_lives number all shape at)
 
 pub this_alive : (s : Scene) (a : Activity) → Good s a → is_alive (a.frame).this a ≡ true
-this_alive s a good = alive_of (a.frame).this (handle (a.frame).this) a refl (λ n is. this_lives n (good.frame).this is)
+this_alive s a good = alive_of (a.frame).this (handle (a.frame).this) a refl (λ n is. this_lives n ((good.0).frame).this is)
 
 -- the globals of one
 
@@ -127,4 +142,4 @@ pub global_alive : (s : Scene) (a : Activity) (n : ℕ) (of : VarType) → IsSce
     → is_alive (slice_index_or (a.world).globals n words.Null) a ≡ true
 global_alive s a n of scene good is =
     value_alive (s.context).program of (slice_index_or (a.world).globals n words.Null) a
-    (value_at n of (good.world).globals (ap (λ (m : ModuleSignatures). slice_get m.globals n) (sym scene.declares) ∙ is))
+    (value_at n of ((good.0).world).globals (ap (λ (m : ModuleSignatures). slice_get m.globals n) (sym scene.declares) ∙ is))

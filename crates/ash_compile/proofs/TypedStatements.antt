@@ -21,26 +21,29 @@ use Rattle.ash_meaning.specs.OperatorMeaning.{is_true}
 use Rattle.ash_meaning.specs.ExpressionMeaning.{expression}
 use Rattle.ash_meaning.specs.StatementMeaning.{Flow, On, Broke, Continued, Returned, Turn, turn, turns, repeat, after_body}
 use Rattle.ash_meaning.specs.StatementMeaning.{statement, condition, condition_or_true, evaluate, evaluate_all}
-use Rattle.ash_meaning.specs.MeaningLaws.{LeavesAtMost}
 use Rattle.ash_meaning.proofs.Ticks.{ticks_fall}
 use Rattle.ash_soundness.specs.WellFormed.{IsWellFormed}
 use Rattle.ash_soundness.specs.WellFormedLaws.{Leads, IsLeftBy, by_itself, by_break, by_continue, by_return}
 use Rattle.ash_soundness.proofs.SoundStaysSound as sound
 use Rattle.ash_soundness.proofs.Frames.{tick_goes, release_passes, end_passes}
 use Rattle.ash_compile.specs.Emission.{Scene, IsScene, calls_of, Good}
-use Rattle.ash_compile.proofs.Typed.{left_done, values_long, stays_good}
+use Rattle.ash_compile.proofs.Typed.{left_done, most_left, fewer_ticks, values_long, stays_good}
 use Rattle.ash_compile.proofs.Statements.{spent, LeadsTo}
 use Rattle.ash_compile.proofs.Loops.{Spends, Whole, released_ticks}
 
--- Activities in which the statements of a function run: well-formed ones with no more ticks than turns of loops.
+-- Activities in which the statements of a function run are those in which its expressions do: they have no more ticks
+-- than turns of loops.
 abbrev pub Ready : Scene → Activity → Type 0
-Ready s a = Good s a × (a.ticks ≤ s.depth)
+Ready s = Good s
 
 -- Objects have ranks in every well-formed activity whose callers are those of the function.
 abbrev pub IsRanked : Scene → Type 0
 IsRanked s =
     (env : TypedEnvironment) (a : Activity) → IsWellFormed s.context env s.envs a
     → ((s.setting).test).has_ranks a.world ≡ true
+
+pub ranked_of : (s : Scene) → IsScene s → IsRanked s
+ranked_of s scene env a well = scene.ranks env s.envs a well
 
 -- how a phrase came to its value
 
@@ -66,9 +69,6 @@ spends_give {A} Good v a b w good is =
   At (Done u d) = Good d × (d.ticks ≤ a.ticks)
   At _ = Unit {0}
 
-most_left : {A : Type 0} (p : Progress A) (n : ℕ) (v : A) (b : Activity) → LeavesAtMost n p → p ≡ Done v b → b.ticks ≤ n
-most_left p n v b left is = subst (λ q. LeavesAtMost n q) is left
-
 module _ (s : Scene) (scene : IsScene s) where
   -- the law of ticks, and those of expressions and of statements
 
@@ -93,9 +93,7 @@ module _ (s : Scene) (scene : IsScene s) where
   pub spends_expression : (e : Expr) (of : ValueType) → IsWellTyped s.env e of
       → Spends (Ready s) (expression (calls_of s) e)
   spends_expression e of typed a b v good is =
-      let fewer = most_left (expression (calls_of s) e a) a.ticks v b
-          (((ticks_fall (s.context).program s.depth).phrases).expressions e a good.1) is in
-      ((stays_good s e of a b v scene typed good.0 is, omega (arith, fewer, good.1)), fewer)
+      (stays_good s e of a b v scene typed good is, fewer_ticks s e a b v good is)
 
   pub spends_full : (e : Expr) (of : ValueType) → IsWellTyped s.env e of
       → Spends (Ready s) (full (expression (calls_of s) e))

@@ -1,5 +1,6 @@
 -- What code that is emitted for a phrase does, wherever it stands.
-use Rattle.std.specs.Prelude.{◌≡◌, ◌≤◌, ◌<◌, ℕ, ◌+◌, List, [], ◌∷◌, ◌++◌, length, max, Option, Some, slice_get, slice_set}
+use Rattle.std.specs.Prelude.{◌≡◌, ◌≤◌, ◌<◌, ℕ, ◌+◌, List, [], ◌∷◌, ◌++◌, length, max, Option, Some, true}
+use Rattle.std.specs.Prelude.{slice_get, slice_set}
 use Rattle.ash_typed.specs.declared.types.VarType.{VarType}
 use Rattle.ash_typed.specs.declared.types.VarType.TheVariants as vars
 use Rattle.ash_typed.specs.TypeOf.{ValueType}
@@ -14,10 +15,12 @@ use Rattle.ash_typed.specs.declared.tree.operations.Lazy.{Lazy}
 use Rattle.ash_typed.specs.declared.tree.operations.Lazy.TheVariants as lazies
 use Rattle.ash_code.specs.declared.instruction.Instruction.{Instruction}
 use Rattle.ash_code.specs.declared.instruction.Instruction.TheVariants as i
-use Rattle.ash_code.specs.Performing.{Setting}
+use Rattle.ash_code.specs.Performing.{Setting, own_name}
 use Rattle.ash_code.specs.Running.{instruction_at}
 use Rattle.ash_compile.specs.declared.builder.CodeBuilder.{CodeBuilder}
 use Rattle.ash_compile.specs.Stretches.{Computes}
+use Rattle.ash_compile.specs.Layout.{IsLayout}
+use Rattle.ash_compile.specs.Callees.{room_for, HasCallees, HasClasses}
 
 -- code that is written
 
@@ -32,16 +35,19 @@ pub record Keeps (old new : CodeBuilder) : Type 0 where
   pub longer : end_of old ≤ end_of new
   pub same : (k : ℕ) → k < end_of old → slice_get (code_of new) k ≡ slice_get (code_of old) k
   pub slots : old.slots ≤ new.slots
+  pub layout : new.layout ≡ old.layout
 
 -- One instruction more, which names a slot.
 pub record Puts (old new : CodeBuilder) (slot : ℕ) (i : Instruction) : Type 0 where
   pub code : code_of new ≡ code_of old ++ i ∷ []
   pub slots : new.slots ≡ max old.slots (slot + 1)
+  pub layout : new.layout ≡ old.layout
 
 -- One instruction is another one now.
 pub record Leads (old new : CodeBuilder) (at : ℕ) (i : Instruction) : Type 0 where
   pub code : code_of new ≡ slice_set (code_of old) at i
   pub slots : new.slots ≡ old.slots
+  pub layout : new.layout ≡ old.layout
 
 -- what leaves the value of a lazy operator to its right operand, or jumps over that
 abbrev pub lazy_jump : Lazy → ℕ → ℕ → Instruction
@@ -56,8 +62,8 @@ read_local from _ to = i.Hold from to
 
 -- where it stands
 
--- A function of a module that runs in a frame of so many slots, or more: how deep calls go, and what its expressions
--- see.
+-- A function of a module that runs in a frame of so many slots, or more: how deep calls go, what its expressions see,
+-- what its callers see, and how many slots a function of the module uses at most.
 pub record Scene : Type 0 where
   pub setting : Setting
   pub context : Context
@@ -66,18 +72,31 @@ pub record Scene : Type 0 where
   pub envs : List TypedEnvironment
   pub function : ℕ
   pub room : ℕ
+  pub greatest : ℕ
 
--- The module is sound.
+-- The module is sound, and runs under its name. Objects have ranks in its activities. The code has its functions, up
+-- to this depth of calls, and its classes. The frame has slots for itself and for each frame that it may call.
 pub record IsScene (s : Scene) : Type 0 where
   pub sound : IsContext s.context
   pub declares : (s.env).signatures ≡ declared s.context
+  pub owner : own_name s.setting ≡ ((s.context).program).name
+  pub ranks : (env : TypedEnvironment) (envs : List TypedEnvironment) (a : Activity) → IsWellFormed s.context env envs a
+      → ((s.setting).test).has_ranks a.world ≡ true
+  pub callees : HasCallees s.setting s.context s.depth s.greatest
+  pub classes : HasClasses s.setting ((s.context).program).tree
+  pub roomy : room_for s.greatest (length s.envs) ≤ s.room
+
+-- Code that is written for the module of the scene, and uses no more slots than a function may.
+pub record Suits (s : Scene) (builder : CodeBuilder) : Type 0 where
+  pub slots : builder.slots ≤ s.greatest
+  pub layout : IsLayout ((s.setting).code).module ((s.context).program).tree builder.layout
 
 abbrev pub calls_of : Scene → Calls
 calls_of s = calls_within (s.context).program s.depth
 
--- activities in which the expressions of the function run
+-- Activities in which the expressions of the function run: well-formed ones with no more ticks than calls go deep.
 abbrev pub Good : Scene → Activity → Type 0
-Good s = IsWellFormed s.context s.env s.envs
+Good s a = IsWellFormed s.context s.env s.envs a × (a.ticks ≤ s.depth)
 
 -- The function has this code from one place to another.
 abbrev pub Stands : Scene → List Instruction → ℕ → ℕ → Type 0
@@ -100,5 +119,5 @@ pub record Emits (old new : CodeBuilder) (e : Expr) (slot : ℕ) : Type 0 where
       → IsScene s
       → IsWellTyped s.env e of
       → Stands s (code_of new) (end_of old) (end_of new)
-      → new.slots ≤ s.room
+      → Suits s new
       → DoesExpression s e (end_of old) (end_of new) slot

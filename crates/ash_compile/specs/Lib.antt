@@ -1,3 +1,10 @@
 pub mod Stretches
 pub mod Performances
+pub mod Layout
+pub mod Callees
 pub mod Emission
+pub mod EmittedFrames
+pub mod EmittedParts
+pub mod EmittedStatements
+pub mod Places
+pub mod Arguments

@@ -3,6 +3,7 @@
 ghost use Rattle.std.specs.Prelude.{◌≡◌, ◌<◌, IfOk};
 ghost use Rattle.ash_compile.specs.Emission.{end_of, Puts, Leads};
 
+use crate::layout::Layout;
 use ash_code::instruction::Instruction;
 use std::alloc::AllocError;
 
@@ -12,6 +13,8 @@ pub struct CodeBuilder {
     pub instructions: Vec<Instruction>,
     /// How many slots the instructions use.
     pub slots: usize,
+    /// Where the code of what it calls stands.
+    pub layout: Layout,
 }
 
 impl CodeBuilder {

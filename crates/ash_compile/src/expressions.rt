@@ -3,18 +3,25 @@
 //! An expression leaves its value in a slot of no local, and uses no slot below that. Its parts use the slots from
 //! there on.
 
-ghost use Rattle.std.specs.Prelude.{◌≡◌, ◌+◌, IfOk, pos};
+ghost use Rattle.std.specs.Prelude.{◌≡◌, ◌+◌, List, map, IfOk, pos};
+ghost use Rattle.ash_typed.specs.declared.types.VarType.{VarType as VarTypeData};
 ghost use Rattle.ash_typed.specs.TypedTree.{Expr as ExprData, Read, Stored, Alter, Operate, Lazily, Conditional, converted};
-ghost use Rattle.ash_typed.specs.TypedTreeViews.{expr_of, chained, all_chained, all_lazies};
+ghost use Rattle.ash_typed.specs.TypedTree.{Invoke, exprs};
+ghost use Rattle.ash_typed.specs.TypedTreeViews.{expr_of, place_of, linked, all_linked, chained, all_chained, all_lazies};
 ghost use Rattle.ash_meaning.specs.OperatorMeaning.{word_at};
 ghost use Rattle.ash_compile.specs.Emission.{Emits, lazy_jump, read_local};
+ghost use Rattle.ash_compile.specs.Places.{EmitsPlace};
+ghost use Rattle.ash_compile.specs.Arguments.{EmitsArguments};
 ghost use Rattle.ash_compile.specs.declared.builder.CodeBuilder.{CodeBuilder as Written};
 
 use crate::builder::CodeBuilder;
+use crate::places::{Spot, spot_of_member, spot_of_variable};
 use ash_code::instruction::Instruction;
 use ash_host::Word;
 use ash_integers::{IntType, word_from};
-use ash_typed::{Conversion, Expr, ExprKind, Lazy, Operand, Operation, VarType, Variable};
+use ash_typed::{
+    Conversion, Expr, ExprKind, Lazy, Link, Method, Operand, Operation, Place, VarType, Variable,
+};
 use std::alloc::AllocError;
 
 /// The slot after one.
@@ -108,7 +115,50 @@ impl CodeBuilder {
                 then,
                 otherwise,
             } => self.conditional(condition, then, otherwise, slot),
-            _ => Err(AllocError),
+            ExprKind::Path { base, links } => self.path(base, links, slot),
+            ExprKind::Cast { to, value } => {
+                self.expression(value, slot)?;
+                self.put(
+                    slot,
+                    Instruction::Cast {
+                        object_type: *to,
+                        from: slot,
+                        to: slot,
+                    },
+                )
+            }
+            ExprKind::Assign { place, value } => {
+                self.expression(value, slot)?;
+                let next = after(slot)?;
+                let spot = self.place(place, next)?;
+                self.assignment(spot, slot)
+            }
+            ExprKind::Update {
+                place,
+                of,
+                calculation,
+                value,
+            } => {
+                self.expression(value, slot)?;
+                let left = after(slot)?;
+                let next = after(left)?;
+                let spot = self.place(place, next)?;
+                self.update(spot, *of, *calculation, slot, left)
+            }
+            ExprKind::Step { place, of, step } => {
+                let other = after(slot)?;
+                let next = after(other)?;
+                let spot = self.place(place, next)?;
+                self.step(spot, *of, *step, slot, other)
+            }
+            ExprKind::Call {
+                target,
+                arguments,
+                ..
+            } => {
+                self.arguments(arguments, slot)?;
+                self.call(*target, slot, arguments.len())
+            }
         }
     }
 
@@ -140,7 +190,11 @@ impl CodeBuilder {
     }
 
     /// Converts the value of a slot where a conversion is named.
-    fn conversion_before(&mut self, before: Option<Conversion>, slot: usize) -> Result<(), AllocError>
+    fn conversion_before(
+        &mut self,
+        before: Option<Conversion>,
+        slot: usize,
+    ) -> Result<(), AllocError>
         ensures emits { IfOk result (λ u. (start : Written) (e : ExprData) → Emits start self.old e slot
             → Emits start self.new (converted before e) slot) }
     {
@@ -151,7 +205,12 @@ impl CodeBuilder {
     }
 
     /// What an operator makes of the values of a slot and the next one.
-    fn operation(&mut self, operation: Operation, slot: usize, right: usize) -> Result<(), AllocError>
+    fn operation(
+        &mut self,
+        operation: Operation,
+        slot: usize,
+        right: usize,
+    ) -> Result<(), AllocError>
         requires next { right ≡ slot + 1 }
         ensures emits { IfOk result (λ u. (start mid : Written) (a b : ExprData) → Emits start mid a slot
             → Emits mid self.old b (slot + 1) → Emits start self.new (Operate operation a b) slot) }
@@ -273,5 +332,86 @@ impl CodeBuilder {
         );
         self.lead(back, Instruction::Jump { to: end });
         Ok(())
+    }
+
+    /// What links make of the value of an expression, one after the other.
+    #[cycle(expressions)]
+    fn path(&mut self, base: &Expr, links: &[Link], slot: usize) -> Result<(), AllocError>
+        ensures emits { IfOk result (λ u. Emits self.old self.new (all_linked (expr_of base.now) links.now) slot) }
+    {
+        self.expression(base, slot)?;
+        for link in links {
+            self.link(link, slot)?;
+        }
+        Ok(())
+    }
+
+    /// What a link makes of the value of a slot.
+    #[cycle(expressions)]
+    fn link(&mut self, link: &Link, slot: usize) -> Result<(), AllocError>
+        ensures emits { IfOk result (λ u. (start : Written) (e : ExprData) → Emits start self.old e slot
+            → Emits start self.new (linked e link.now) slot) }
+    {
+        match link {
+            Link::Member(member) => self.read_member(*member, slot),
+            Link::Index { index, .. } => {
+                let next = after(slot)?;
+                self.expression(index, next)?;
+                self.read_element(slot, next)
+            }
+            Link::Invoke {
+                method,
+                arguments,
+                ..
+            } => self.invoke(*method, arguments, slot),
+        }
+    }
+
+    /// Appends the code of what a place names, which comes into slots from one on.
+    #[cycle(expressions)]
+    fn place(&mut self, place: &Place, slot: usize) -> Result<Spot, AllocError>
+        ensures emits { IfOk result (λ spot. EmitsPlace self.old self.new (place_of place.now) spot slot) }
+    {
+        match place {
+            Place::Variable(variable) => Ok(spot_of_variable(*variable)),
+            Place::Member { object, member } => {
+                self.expression(object, slot)?;
+                Ok(spot_of_member(*member, slot))
+            }
+            Place::Element { array, index, .. } => {
+                self.expression(array, slot)?;
+                let next = after(slot)?;
+                self.expression(index, next)?;
+                Ok(Spot::Element {
+                    array: slot,
+                    index: next,
+                })
+            }
+        }
+    }
+
+    /// Arguments, from left to right, in slots one after another.
+    #[cycle(expressions)]
+    fn arguments(&mut self, arguments: &[Expr], slot: usize) -> Result<(), AllocError>
+        ensures emits { IfOk result (λ u. EmitsArguments self.old self.new (map expr_of arguments.now) slot) }
+    {
+        let mut next = slot;
+        for argument in arguments {
+            self.expression(argument, next)?;
+            next = after(next)?;
+        }
+        Ok(())
+    }
+
+    /// What a method makes of the object in a slot. Its arguments are in the slots after that.
+    #[cycle(expressions)]
+    fn invoke(&mut self, method: Method, arguments: &[Expr], slot: usize) -> Result<(), AllocError>
+        ensures emits { IfOk result (λ u. (start : Written) (e : ExprData) (parameters : List VarTypeData)
+            → Emits start self.old e slot
+            → Emits start self.new (Invoke e method parameters (exprs (map expr_of arguments.now))) slot) }
+    {
+        let first = after(slot)?;
+        self.arguments(arguments, first)?;
+        self.method(method, slot, first, arguments.len())
     }
 }

@@ -3,8 +3,20 @@
 //! `specs/Stretches.antt` says when a stretch of code does what a phrase does, and `specs/Emission.antt` what emitted
 //! code does, wherever it stands.
 //!
-//! In reading order: `builder`, `expressions`.
+//! In reading order: `layout`, `builder`, `expressions`, `places`, `calls`, `blocks`, `bodies`, `looping`, `switching`,
+//! `initializers`, `frames`, `classes`, `module`.
 #![tactic(auto)]
 
+mod blocks;
+pub mod bodies;
 pub mod builder;
+mod calls;
+mod classes;
 pub mod expressions;
+mod frames;
+mod initializers;
+pub mod layout;
+mod looping;
+pub mod module;
+pub mod places;
+mod switching;

@@ -1,18 +1,25 @@
-use Rattle.std.proofs.Common.{rules, ◌≡◌, IfOk, ℕ, ◌+◌, refl, sym, ap, ◌∙◌, subst}
+use Rattle.std.proofs.Common.{rules, ◌≡◌, IfOk, ℕ, ◌+◌, [], ◌∷◌, ◌++◌, length, map, refl, sym, ap, ◌∙◌, subst, arith, length-append}
+use Rattle.std.proofs.lemmas.List.{length-map}
 use Rattle.ash_host.specs.declared.word.Word.{Word}
 use Rattle.ash_code.specs.declared.instruction.Instruction.TheVariants as i
-use Rattle.ash_typed.proofs.Rows.{chain_is, lazy_is}
+use Rattle.ash_typed.proofs.Rows.{path_is, call_is, invoke_is, chain_is, lazy_is}
 use Rattle.ash_typed.specs.declared.tree.expressions.Expr as expr_code
 use Rattle.ash_typed.specs.declared.tree.expressions.Operand as operand_code
+use Rattle.ash_typed.specs.declared.tree.expressions.Link as link_code
 use Rattle.std.proofs.Common.{List}
 use Rattle.ash_code.specs.declared.instruction.Instruction.{Instruction}
-use Rattle.ash_typed.specs.TypedTree.{Expr, Lazily, converted}
-use Rattle.ash_typed.specs.TypedTreeViews.{expr_of, chained, all_chained, all_lazies}
+use Rattle.ash_typed.specs.TypedTree.{Expr, Lazily, Call, Invoke, exprs, converted}
+use Rattle.ash_typed.specs.TypedTreeViews.{expr_of, place_of, linked, all_linked, chained, all_chained, all_lazies}
 use Rattle.ash_compile.specs.Emission.{Puts, Leads, Emits, end_of, lazy_jump}
+use Rattle.ash_compile.specs.Places.{EmitsPlace}
 use Rattle.ash_compile.proofs.Emitted.{if_ok, of_kind}
 use Rattle.ash_compile.proofs.Emitted as emitted
 use Rattle.ash_compile.proofs.EmittedBranches as branches
-use Rattle.ash_compile.proofs.EmittedRows.{chain_step, chain_end, lazy_step, lazy_end}
+use Rattle.ash_compile.proofs.EmittedRows.{chain_step, chain_end, lazy_step, lazy_end, link_step, link_end, argument_step, argument_end}
+use Rattle.ash_compile.specs.Arguments.{EmitsArguments}
+use Rattle.ash_compile.proofs.Arguments.{no_code, one_argument}
+use Rattle.ash_compile.proofs.EmittedPlaces as places
+use Rattle.ash_compile.proofs.CastCode as casts
 use Rattle.ash_compile.proofs.builder.CodeBuilder.+expressions.Goals as goal
 
 pub chain-loop-operand-init : goal.chain-loop-operand-init
@@ -155,3 +162,161 @@ expression-returns-in_ok-expression-in-Change t c = record {
       c.put-in-Change.ensures.puts;
 }
 
+pub path-loop-link-init : goal.path-loop-link-init
+path-loop-link-init t c = (expr_of c.args.base.now, c.in_ok-expression.ensures.emits, refl)
+
+pub path-loop-link-preserved : goal.path-loop-link-preserved
+path-loop-link-preserved t c = (linked c.loop-link.invariant.0 c.link-item.result,
+    c.in_ok-link.ensures.emits c.args.self.now c.loop-link.invariant.0 c.loop-link.invariant.1,
+    link_step c.loop-link.invariant.0 c.args.links.now c.loop-link.link-index c.link-item.result c.loop-link-test.true c.link-item.is ∙ c.loop-link.invariant.2)
+
+pub path-returns : goal.path-returns
+path-returns t c = record {
+  emits = subst (λ (x : Expr). Emits c.args.self.now c.loop-link.self x c.args.slot)
+      (link_end c.loop-link.invariant.0 _ c.args.links.now c.loop-link.link-index c.loop-link-test.false c.loop-link.invariant.2) c.loop-link.invariant.1;
+}
+
+pub arguments-loop-argument-init : goal.arguments-loop-argument-init
+arguments-loop-argument-init t c = ([], no_code c.args.self.now c.args.slot, omega arith, refl)
+
+pub arguments-loop-argument-preserved : goal.arguments-loop-argument-preserved
+arguments-loop-argument-preserved t c =
+    let here = c.loop-argument in
+    let es = here.invariant.0 in
+    let item = c.argument-item.result in
+    let longer = length-append es (expr_of item ∷ []) in
+    let next = c.in_ok-next.ensures.next in
+    let before = here.invariant.2 in
+    (es ++ expr_of item ∷ [],
+    one_argument c.args.self.now here.self c.expression.new.self es (expr_of item) c.args.slot here.next before here.invariant.1
+    c.in_ok-expression.ensures.emits,
+    omega (arith, longer, next, before),
+    argument_step es c.args.arguments.now here.argument-index item c.loop-argument-test.true c.argument-item.is ∙ here.invariant.3)
+
+pub arguments-returns : goal.arguments-returns
+arguments-returns t c = record {
+  emits = subst (λ es. EmitsArguments c.args.self.now c.loop-argument.self es c.args.slot)
+      (argument_end c.loop-argument.invariant.0 _ c.args.arguments.now c.loop-argument.argument-index c.loop-argument-test.false c.loop-argument.invariant.3)
+      c.loop-argument.invariant.1;
+}
+
+pub invoke-returns : goal.invoke-returns
+invoke-returns t c = record {
+  emits = if_ok c.method.result
+      (λ u then start e ps first.
+      then start c.args.self.now e ps (map expr_of c.args.arguments.now) first
+      (subst (λ (n : ℕ). EmitsArguments c.args.self.now c.arguments.new.self (map expr_of c.args.arguments.now) n) c.in_ok-first.ensures.next c.in_ok-arguments.ensures.emits)
+      (length-map c.args.arguments.now expr_of))
+      c.method.ensures.emits;
+}
+
+pub link-returns-in-Invoke : goal.link-returns-in-Invoke
+link-returns-in-Invoke t c = record {
+  emits = if_ok c.invoke.result
+      (λ u next start e first.
+      subst (λ (x : Expr). Emits start c.invoke.new.self x c.args.slot)
+      (sym (ap (λ (l : link_code.Link). linked e l) c.in-Invoke.is ∙ invoke_is e c.in-Invoke.method c.in-Invoke.parameters c.in-Invoke.arguments))
+      (subst (λ (xs : List expr_code.Expr). Emits start c.invoke.new.self (Invoke e c.in-Invoke.method (c.in-Invoke.parameters).items (exprs (map expr_of xs))) c.args.slot)
+      c.deref.ensures.value (next start e (c.in-Invoke.parameters).items first)))
+      c.invoke.ensures.emits;
+}
+
+pub expression-returns-in-Path : goal.expression-returns-in-Path
+expression-returns-in-Path t c = record {
+  emits = if_ok c.path.result
+      (λ u emits. of_kind c.args.self.now c.path.new.self c.args.expr.now.kind.value _ _ c.args.slot (sym c.deref.ensures ∙ c.in-Path.is) (path_is c.in-Path.base c.in-Path.links)
+      (subst (λ (ls : List link_code.Link). Emits c.args.self.now c.path.new.self (all_linked (expr_of c.in-Path.base) ls) c.args.slot) c.deref-in-Path.ensures.value emits))
+      c.path.ensures.emits;
+}
+
+pub expression-returns-in_ok-arguments-in-Call : goal.expression-returns-in_ok-arguments-in-Call
+expression-returns-in_ok-arguments-in-Call t c = record {
+  emits = if_ok c.call.result
+      (λ u next. of_kind c.args.self.now c.call.new.self c.args.expr.now.kind.value _ _ c.args.slot (sym c.deref.ensures ∙ c.in-Call.is) (call_is c.in-Call.target c.in-Call.parameters c.in-Call.arguments)
+      (next c.args.self.now (c.in-Call.parameters).items (map expr_of (c.in-Call.arguments).items)
+      (subst (λ (xs : List expr_code.Expr). EmitsArguments c.args.self.now c.arguments.new.self (map expr_of xs) c.args.slot) c.deref-in-Call.ensures.value c.in_ok-arguments-in-Call.ensures.emits)
+      (length-map (c.in-Call.arguments).items expr_of ∙ ap (λ (xs : List expr_code.Expr). length xs) (sym c.deref-in-Call.ensures.value) ∙ c.deref-in-Call.ensures.len ∙ sym c.len.ensures)))
+      c.call.ensures.emits;
+}
+
+pub expression-returns-in_ok-expression-in-Cast : goal.expression-returns-in_ok-expression-in-Cast
+expression-returns-in_ok-expression-in-Cast t c = record {
+  emits = if_ok c.put-in-Cast.result
+      (λ u puts. of_kind c.args.self.now c.put-in-Cast.new.self c.args.expr.now.kind.value _ _ c.args.slot (sym c.deref.ensures ∙ c.in-Cast.is) refl
+      (casts.cast c.args.self.now c.expression-in-Cast.new.self c.put-in-Cast.new.self c.in-Cast.to (expr_of c.in-Cast.value) c.args.slot c.in_ok-expression-in-Cast.ensures.emits puts))
+      c.put-in-Cast.ensures.puts;
+}
+
+pub expression-returns-in_ok-spot-in-Assign : goal.expression-returns-in_ok-spot-in-Assign
+expression-returns-in_ok-spot-in-Assign t c = record {
+  emits = if_ok c.assignment.result
+      (λ u then. of_kind c.args.self.now c.assignment.new.self c.args.expr.now.kind.value _ _ c.args.slot (sym c.deref.ensures ∙ c.in-Assign.is) (refl)
+      (then c.args.self.now c.expression-in-Assign.new.self (place_of c.in-Assign.place) (expr_of c.in-Assign.value)
+      c.in_ok-expression-in-Assign.ensures.emits
+      (subst (λ (k : ℕ). EmitsPlace c.expression-in-Assign.new.self c.place.new.self (place_of c.in-Assign.place) c.in_ok-spot-in-Assign.spot k)
+      c.in_ok-next-in-Assign.ensures.next c.in_ok-spot-in-Assign.ensures.emits)))
+      c.assignment.ensures.emits;
+}
+
+pub expression-returns-in_ok-spot-in-Update : goal.expression-returns-in_ok-spot-in-Update
+expression-returns-in_ok-spot-in-Update t c =
+    let two : c.in_ok-next-in-Update.next ≡ c.args.slot + 2 =
+        omega (arith, c.in_ok-next-in-Update.ensures.next, c.in_ok-left-in-Update.ensures.next) in
+    record {
+      emits = if_ok c.update.result
+          (λ u then. of_kind c.args.self.now c.update.new.self c.args.expr.now.kind.value _ _ c.args.slot (sym c.deref.ensures ∙ c.in-Update.is) (refl)
+          (then c.args.self.now c.expression-in-Update.new.self (place_of c.in-Update.place) (expr_of c.in-Update.value)
+          c.in_ok-expression-in-Update.ensures.emits
+          (subst (λ (k : ℕ). EmitsPlace c.expression-in-Update.new.self c.place-in-Update.new.self (place_of c.in-Update.place) c.in_ok-spot-in-Update.spot k)
+          two c.in_ok-spot-in-Update.ensures.emits)))
+          c.update.ensures.emits;
+    }
+
+pub expression-returns-in_ok-spot-in-Step : goal.expression-returns-in_ok-spot-in-Step
+expression-returns-in_ok-spot-in-Step t c =
+    let two : c.in_ok-next-in-Step.next ≡ c.args.slot + 2 =
+        omega (arith, c.in_ok-next-in-Step.ensures.next, c.in_ok-other-in-Step.ensures.next) in
+    record {
+      emits = if_ok c.step.result
+          (λ u then. of_kind c.args.self.now c.step.new.self c.args.expr.now.kind.value _ _ c.args.slot (sym c.deref.ensures ∙ c.in-Step.is) (refl)
+          (then c.args.self.now (place_of c.in-Step.place)
+          (subst (λ (k : ℕ). EmitsPlace c.args.self.now c.place-in-Step.new.self (place_of c.in-Step.place) c.in_ok-spot-in-Step.spot k)
+          two c.in_ok-spot-in-Step.ensures.emits)))
+          c.step.ensures.emits;
+    }
+
+pub link-returns-in-Member : goal.link-returns-in-Member
+link-returns-in-Member t c = record {
+  emits = rw c.in-Member.is (if_ok c.read_member.result (λ u emits. emits) c.read_member.ensures.emits);
+}
+
+pub link-returns-in_ok-expression-in-Index : goal.link-returns-in_ok-expression-in-Index
+link-returns-in_ok-expression-in-Index t c = record {
+  emits = rw c.in-Index.is (if_ok c.read_element.result
+      (λ u then start e first.
+      then start c.args.self.now e (expr_of c.in-Index.index) c.in-Index.of first
+      (subst (λ (r : ℕ). Emits c.args.self.now c.expression.new.self (expr_of c.in-Index.index) r) c.in_ok-next-in-Index.ensures.next c.in_ok-expression-in-Index.ensures.emits))
+      c.read_element.ensures.emits);
+}
+
+pub place-returns-in-Variable : goal.place-returns-in-Variable
+place-returns-in-Variable t c = record {
+  emits = rw (c.in-Variable.is, c.spot_of_variable.ensures.spot)
+      (places.variable c.args.self.now c.in-Variable.variable c.args.slot);
+}
+
+pub place-returns-in_ok-expression-in-Member : goal.place-returns-in_ok-expression-in-Member
+place-returns-in_ok-expression-in-Member t c = record {
+  emits = rw (c.in-Member.is, c.spot_of_member.ensures.spot)
+      (places.member c.args.self.now c.expression.new.self (expr_of c.in-Member.object) c.in-Member.member c.args.slot
+      c.in_ok-expression-in-Member.ensures.emits);
+}
+
+pub place-returns-in_ok-expression-in-Element-2 : goal.place-returns-in_ok-expression-in-Element-2
+place-returns-in_ok-expression-in-Element-2 t c = record {
+  emits = rw (c.in-Element.is, c.in_ok-next-in-Element.ensures.next)
+      (places.element c.args.self.now c.expression-in-Element.new.self c.expression-in-Element-2.new.self (expr_of c.in-Element.array)
+      (expr_of c.in-Element.index) c.in-Element.of c.args.slot c.in_ok-expression-in-Element.ensures.emits
+      (subst (λ (r : ℕ). Emits c.expression-in-Element.new.self c.expression-in-Element-2.new.self (expr_of c.in-Element.index) r)
+      c.in_ok-next-in-Element.ensures.next c.in_ok-expression-in-Element-2.ensures.emits));
+}

@@ -1,10 +1,13 @@
-use Rattle.std.proofs.Common.{◌≡◌, ◌+◌, ◌*◌, drop, max}
+use Rattle.std.proofs.Common.{◌≡◌, ◌+◌, ◌*◌, List, ◌++◌, map, length, drop, max}
 use denote.Param.Weighed.{most}
 use Rattle.ash_typed.specs.declared.tree.expressions.Expr.{size-Expr}
 use Rattle.ash_typed.specs.declared.tree.expressions.Operand.{size-Operand}
+use Rattle.ash_typed.specs.declared.tree.expressions.Link.{size-Link}
+use Rattle.ash_typed.specs.declared.tree.expressions.Place.{size-Place}
 use Rattle.ash_typed.specs.TypedTree.{Expr}
-use Rattle.ash_typed.specs.TypedTreeViews.{expr_of, all_chained, all_lazies}
+use Rattle.ash_typed.specs.TypedTreeViews.{expr_of, all_linked, all_chained, all_lazies}
 use Rattle.ash_compile.specs.Emission.{Emits}
+use Rattle.ash_compile.specs.Arguments.{EmitsArguments}
 use Rattle.ash_compile.proofs.builder.CodeBuilder.+expressions.Given as goal
 
 -- the depth of what a function goes down, and how near it is to the next expression
@@ -28,6 +31,21 @@ decreases-operand l = 4 * size-Operand l.operand.now
 abbrev pub decreases-lazily : goal.decreases-lazily
 decreases-lazily l = 4 * size-Expr l.right.now + 1
 
+abbrev pub decreases-path : goal.decreases-path
+decreases-path l = 4 * max (size-Expr l.base.now) (most size-Link l.links.now) + 2
+
+abbrev pub decreases-link : goal.decreases-link
+decreases-link l = 4 * size-Link l.link.now
+
+abbrev pub decreases-invoke : goal.decreases-invoke
+decreases-invoke l = 4 * most size-Expr l.arguments.now + 2
+
+abbrev pub decreases-arguments : goal.decreases-arguments
+decreases-arguments l = 4 * most size-Expr l.arguments.now + 1
+
+abbrev pub decreases-place : goal.decreases-place
+decreases-place l = 4 * size-Place l.place.now
+
 -- What is emitted is some expression; with what is left of the row it is the whole.
 
 abbrev pub invariant-chain-loop-operand : goal.invariant-chain-loop-operand
@@ -37,3 +55,12 @@ invariant-chain-loop-operand l =
 abbrev pub invariant-lazy_row-loop-other : goal.invariant-lazy_row-loop-other
 invariant-lazy_row-loop-other l =
     (e : Expr) × (Emits l.fn.self l.self e l.slot) × (all_lazies l.operator e (drop l.other-index l.others) ≡ all_lazies l.operator (expr_of l.first) l.others)
+
+abbrev pub invariant-path-loop-link : goal.invariant-path-loop-link
+invariant-path-loop-link l =
+    (e : Expr) × (Emits l.fn.self l.self e l.slot) × (all_linked e (drop l.link-index l.links) ≡ all_linked (expr_of l.base) l.links)
+
+abbrev pub invariant-arguments-loop-argument : goal.invariant-arguments-loop-argument
+invariant-arguments-loop-argument l =
+    (es : List Expr) × (EmitsArguments l.fn.self l.self es l.slot) × (l.next ≡ l.slot + length es)
+    × (es ++ map expr_of (drop l.argument-index l.arguments) ≡ map expr_of l.arguments)

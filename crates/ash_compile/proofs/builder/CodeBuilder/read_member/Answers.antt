@@ -1,0 +1,19 @@
+use Rattle.std.proofs.Common.{rules, ◌≡◌, IfOk, ℕ, ◌+◌, refl, sym, ap, ◌∙◌, subst}
+use Rattle.ash_code.specs.declared.instruction.Instruction.{Instruction}
+use Rattle.ash_compile.specs.Emission.{Puts}
+use Rattle.ash_compile.specs.Places.{reading, writing, spot_of_member}
+use Rattle.ash_compile.specs.declared.places.Spot.{Spot}
+use Rattle.ash_compile.specs.declared.places.Spot.TheVariants as spots
+use Rattle.ash_compile.proofs.Emitted.{if_ok}
+use Rattle.ash_compile.proofs.EmittedPlaces as emitted
+use Rattle.ash_compile.proofs.builder.CodeBuilder.read_member.Goals as goal
+
+pub returns : goal.returns
+returns c = record {
+  emits = if_ok c.put.result
+      (λ u puts start e first.
+      emitted.read_member start c.args.self.now c.put.new.self e c.args.member c.args.slot first
+      (subst (λ (j : Instruction). Puts c.args.self.now c.put.new.self c.args.slot j)
+      (c.reading.ensures.reads ∙ ap (λ (x : Spot). reading x c.args.slot) c.spot_of_member.ensures.spot) puts))
+      c.put.ensures.puts;
+}

@@ -1,0 +1,133 @@
+//! The code of variables, of full expressions and of lists of statements.
+
+ghost use Rattle.std.specs.Prelude.{◌≡◌, ◌+◌, IfOk, map};
+ghost use Rattle.ash_typed.specs.TypedTreeViews.{expr_of};
+ghost use Rattle.ash_typed.specs.BodyViews.{value_of, head_of};
+ghost use Rattle.ash_meaning.specs.OperatorMeaning.{zero_of};
+ghost use Rattle.ash_code.specs.declared.instruction.Instruction.TheVariants as i;
+ghost use Rattle.ash_compile.specs.Emission.{Puts, end_of};
+ghost use Rattle.ash_compile.specs.EmittedStatements.{EmitsVariable, EmitsVariables, EmitsHead, EmitsEvaluation};
+ghost use Rattle.ash_compile.specs.EmittedStatements.{EmitsEvaluations, Tests};
+
+use crate::builder::CodeBuilder;
+use ash_code::instruction::Instruction;
+use ash_host::Word;
+use ash_integers::word_from;
+use ash_typed::{Expr, Head, Initialization, VarType};
+use std::alloc::AllocError;
+
+/// What a variable has that begins with nothing.
+fn zero_word(of: VarType) -> Word
+    ensures word { result ≡ zero_of of }
+{
+    match of {
+        VarType::Bool => Word::Bool(false),
+        VarType::Integer(int_type) => word_from(int_type, 0),
+        VarType::Object(_) | VarType::Handle(_) => Word::Null,
+    }
+}
+
+/// A line, as instructions have it.
+pub(crate) fn line_of(line: usize) -> Result<u32, AllocError>
+    ensures same { IfOk result (λ same. same ≡ line) }
+{
+    u32::try_from(line).map_err(|_| AllocError)
+}
+
+/// The next local, or the next place.
+pub(crate) fn one_more(locals: usize) -> Result<usize, AllocError>
+    ensures more { IfOk result (λ more. more ≡ locals + 1) }
+{
+    locals.checked_add(1).ok_or(AllocError)
+}
+
+impl CodeBuilder {
+    /// A tick at a line.
+    pub(crate) fn tick(&mut self, line: usize, slot: usize) -> Result<(), AllocError>
+        ensures puts { IfOk result (λ u. Puts self.old self.new slot (i.Tick line)) }
+    {
+        let line = line_of(line)?;
+        self.put(slot, Instruction::Tick { line })
+    }
+
+    /// An expression that is evaluated for what it does, as a full expression.
+    pub(crate) fn evaluation(&mut self, expr: &Expr, slot: usize) -> Result<(), AllocError>
+        ensures emits { IfOk result (λ u. EmitsEvaluation self.old self.new (expr_of expr.now) slot) }
+    {
+        self.expression(expr, slot)?;
+        self.put(slot, Instruction::EndExpression)
+    }
+
+    /// Full expressions, one after the other.
+    pub(crate) fn evaluations(&mut self, exprs: &[Expr], slot: usize) -> Result<(), AllocError>
+        ensures emits { IfOk result (λ u. EmitsEvaluations self.old self.new (map expr_of exprs.now) slot) }
+    {
+        for expr in exprs {
+            self.evaluation(expr, slot)?;
+        }
+        Ok(())
+    }
+
+    /// A condition. The place of its branch is returned: where that leads if the condition is not met is written later.
+    pub(crate) fn condition(&mut self, expr: &Expr, slot: usize) -> Result<usize, AllocError>
+        ensures emits { IfOk result (λ branch. Tests self.old self.new (expr_of expr.now) slot branch) }
+    {
+        self.expression(expr, slot)?;
+        let branch = self.here();
+        self.put(
+            slot,
+            Instruction::Branch {
+                condition: slot,
+                to: 0,
+            },
+        )?;
+        Ok(branch)
+    }
+
+    /// A variable, which becomes the local in this slot.
+    fn variable_begins(&mut self, value: &Initialization, slot: usize) -> Result<(), AllocError>
+        ensures emits { IfOk result (λ u. EmitsVariable self.old self.new (value_of value.now) slot) }
+    {
+        match &value.value {
+            None => {
+                let word = zero_word(value.of);
+                self.put(slot, Instruction::Load { word, to: slot })?;
+                self.put(slot, Instruction::Declare)
+            }
+            Some(expr) => {
+                self.expression(expr, slot)?;
+                self.put(slot, Instruction::DeclareAndEnd)
+            }
+        }
+    }
+
+    /// Variables, which become the locals from this slot on. How many locals there are then is returned.
+    pub(crate) fn variables(
+        &mut self,
+        values: &[Initialization],
+        locals: usize,
+    ) -> Result<usize, AllocError>
+        ensures emits { IfOk result (λ more. EmitsVariables self.old self.new (map value_of values.now) locals more) }
+    {
+        let mut locals = locals;
+        for value in values {
+            self.variable_begins(value, locals)?;
+            locals = one_more(locals)?;
+        }
+        Ok(locals)
+    }
+
+    /// The head of a `for`. How many locals there are after it is returned.
+    pub(crate) fn head(&mut self, head: &Head, locals: usize) -> Result<usize, AllocError>
+        ensures emits { IfOk result (λ more. EmitsHead self.old self.new (head_of head.now) locals more) }
+    {
+        match head {
+            Head::Empty => Ok(locals),
+            Head::Declare(values) => self.variables(values, locals),
+            Head::Evaluate(expr) => {
+                self.evaluation(expr, locals)?;
+                Ok(locals)
+            }
+        }
+    }
+}
