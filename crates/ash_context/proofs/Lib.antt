@@ -1,10 +1,13 @@
 pub mod ClassSteps
 pub mod Endings
+pub mod Entered
 pub mod Entries
 pub mod Falling
+pub mod Initializing
 pub mod Jumps
 pub mod Lengths
 pub mod Loops
+pub mod Meant
 pub mod Puts
 pub mod Regrouping
 pub mod Returns

@@ -1,19 +1,21 @@
 //! The machine, with the memory that its runs use.
-ghost use Rattle.std.specs.Prelude.{◌≡◌, ◌≤◌, ◌<◌, ◌++◌, ◌∷◌, [], ℕ, List, All, IsTrue, IfOk, IfSome, OnOk, Option, Some, Err, ◌+◌, slice_get, length, map};
+ghost use Rattle.std.specs.Prelude.{◌≡◌, ◌≤◌, ◌++◌, ◌+◌, [], List, All, IsTrue, length, map, slice_get};
+ghost use Rattle.std.specs.Prelude.{Option, Some, Err, IfOk, IfSome, OnOk};
 ghost use Rattle.ash_code.specs.CompiledCode as compiled;
 ghost use Rattle.ash_code.specs.CompiledCode.{IsCodeOf, IsSetFor, env_of};
 ghost use Rattle.ash_code.specs.Performing.{Setting};
 ghost use Rattle.ash_code.specs.Running as running;
 ghost use Rattle.ash_code.specs.Sizes as sizes;
+ghost use Rattle.ash_code.specs.Validity.{is_valid};
 ghost use Rattle.ash_context.specs.Bounds as bounds;
-ghost use Rattle.ash_context.specs.Outcomes.{Compiles, Says, world_in};
+ghost use Rattle.ash_context.specs.Outcomes.{Compiles, Counts, Says, Takes, world_in};
 ghost use Rattle.ash_context.specs.Positions.{control_of};
 ghost use Rattle.ash_host.specs.Objects.{handles};
 ghost use Rattle.ash_host.specs.declared.word.Word.{Word};
 ghost use Rattle.ash_host.specs.declared.word.Word.TheVariants as words;
 ghost use Rattle.ash_meaning.specs.Activity.{World};
 ghost use Rattle.ash_meaning.specs.Classes.{entry_of_function};
-ghost use Rattle.ash_meaning.specs.Ends.{begun, call_entry, load_module, outcome_of};
+ghost use Rattle.ash_meaning.specs.Ends.{begun, call_entry, init_frame, load_module, outcome_of};
 ghost use Rattle.ash_meaning.specs.OperatorMeaning.{zero_of};
 ghost use Rattle.ash_meaning.specs.Runs.{Run};
 ghost use Rattle.ash_run_steps.specs.FrameChanges.{beginning_over};
@@ -104,6 +106,11 @@ fn run_on<B: HostObject>(code: &Code, parts: Parts<B>, stack: Stack, budget: u64
         → Says B.HostObject s.names
         (λ (world : World). outcome_of (run (begun world budget (frame_shown s.names stack.frame)))) parts
         result.ended.outcome result.ended.parts }
+    ensures counted { (s : Setting) (run : Run (Option Word)) → s.code ≡ code.now
+        → Compiles B.HostObject s (control_of 0 stack)
+        (λ (world : World). begun world budget (frame_shown s.names stack.frame)) run parts
+        → IfOk result.ended.outcome (λ _. Takes B.HostObject s (control_of 0 stack)
+        (λ (world : World). begun world budget (frame_shown s.names stack.frame)) parts result.steps) }
     ensures held { HoldsRoots result.ended.parts.table
         (result.ended.parts.outside.items ++ handles result.ended.parts.globals.items) }
     ensures begun { result.ended.outcome ≡ Err RunFault.NotBegun → ⊥ }
@@ -122,9 +129,11 @@ fn begin_on(stack: &mut Stack, code: &Code, function: usize, args: &[Word]) -> R
     ensures begun { OnOk result ((rest : List Word)
         × (stack.new ≡ beginning_over function (running.code_of code.now function).line args.now rest)
         × (sizes.slots_of_frames code.now ≤ length args.now + length rest)) }
+    ensures valid { IsTrue (is_valid code.now) }
 {
+    let parts = code.parts();
     let slots = slots_of_frames(code).ok_or(NoMemory)?;
-    let line = code_of(code.parts(), function).line;
+    let line = code_of(parts, function).line;
     stack.begin(function, line, args, slots)
 }
 
@@ -177,6 +186,21 @@ impl Context {
             (compiled.first_of_load c.program.tree budget (world_in B.HostObject s.names [] parts))
             → Says B.HostObject s.names (λ (world : World). load_module c.program budget world) parts
             result.outcome result.parts }
+        ensures counted { (c : well_formed.Context) (s : Setting) (f : Function) → IsContext c
+            → IsCodeOf code.now c → IsSetFor code.now c s
+            → slice_get c.program.tree.functions function ≡ Some f
+            → IsWellFormed c (env_of c f.parameters) []
+            (compiled.first_of_function f args.now budget (world_in B.HostObject s.names [] parts))
+            → Counts B.HostObject s function args.now
+            (compiled.first_of_function f args.now budget) parts result.outcome self.new }
+        ensures counted_load { (c : well_formed.Context) (s : Setting) → IsContext c
+            → IsCodeOf code.now c → IsSetFor code.now c s
+            → function ≡ length code.now.functions.items → args.now ≡ []
+            → parts.globals.items ≡ map zero_of (types_of_globals c.program.tree.globals)
+            → IsWellFormed c (env_of c []) []
+            (compiled.first_of_load c.program.tree budget (world_in B.HostObject s.names [] parts))
+            → Counts B.HostObject s function [] (λ (world : World). begun world budget init_frame) parts
+            result.outcome self.new }
         ensures unchanged { result.outcome ≡ Err RunFault.NotBegun → result.parts ≡ parts }
         ensures held { HoldsRoots result.parts.table
             (result.parts.outside.items ++ handles result.parts.globals.items) }

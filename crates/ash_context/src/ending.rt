@@ -31,6 +31,7 @@ pub(crate) fn finish<B: HostObject>(
     ensures came { (names : Names) (test : RankTest) (run : Guarded (Option Word)) (start : State B)
         → Comes B.HostObject names run start end state
         → CameTo B.HostObject names test run start result.outcome result.parts }
+    ensures memory { end ≡ Err Stop.NoMemory → result.outcome ≡ Err RunFault.NoMemory }
     ensures begun { result.outcome ≡ Err RunFault.NotBegun → ⊥ }
     ensures held { HoldsRoots result.parts.table (result.parts.outside.items ++ handles result.parts.globals.items) }
 {

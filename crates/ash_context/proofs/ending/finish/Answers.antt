@@ -1,9 +1,11 @@
-use Rattle.std.proofs.Common.{◌≡◌, [], subst, sym}
-use Rattle.std.specs.Prelude.{Result, Err}
+use Rattle.std.proofs.Common.{◌≡◌, ◌∙◌, [], subst, sym, ap}
+use Rattle.std.specs.Prelude.{Option, Result, Err}
+use Rattle.ash_host.specs.declared.word.Word.{Word}
+use Rattle.ash_run_steps.specs.declared.stop.Stop.{Stop}
 use Rattle.ash_context.specs.declared.outcome.Outcome.{Outcome}
 use Rattle.ash_context.specs.declared.outcome.RunFault.{RunFault}
 use Rattle.ash_context.specs.declared.outcome.RunFault.TheVariants as faults
-use Rattle.ash_context.specs.Outcomes.{CameTo}
+use Rattle.ash_context.specs.Outcomes.{said_of, CameTo}
 use Rattle.ash_context.proofs.Endings.{had_begun, came_to}
 use Rattle.ash_context.proofs.ending.finish.Goals as goal
 
@@ -23,6 +25,8 @@ returns g c =
           (λ value becomes. ended.ensures.finished names test run start [] value becomes)
           (λ interrupt becomes. ended.ensures.interrupted names test run start interrupt becomes)
           c.args.end place.result.0 place.result.1 place.ensures.function place.ensures.line comes);
+      memory = λ is.
+          said ∙ ap (λ (end : Result (Option Word) Stop). said_of end place.result.0 place.result.1 ended.result) is;
       begun = λ is.
           had_begun c.args.end place.result.0 place.result.1 ended.result
           (subst (λ (r : Result Outcome RunFault). r ≡ Err faults.NotBegun) said is);
