@@ -89,7 +89,7 @@ module _ {B : Type 0} (G : Ghosts B) (names : Names) where
 
     -- the box that was asked gave the answer
     gave_one : (new : State B) (happened : List Event) → drawn_in happened ≡ [] → new.table ≡ table → new.events ≡ s.events ++ happened
-        → Gave G (answered ∷ []) s new
+        → Gave G (answered ∷ []) s.table s.events new.table new.events
     gave_one new happened none now told = record {
       drawn = [];
       happened = happened;
@@ -104,7 +104,7 @@ module _ {B : Type 0} (G : Ghosts B) (names : Names) where
         }),
         tt,
       );
-      table = subst (λ (t : Table B). Follows G [] s.table t) (sym now) is.follows;
+      follows = subst (λ (t : Table B). Follows G [] s.table t) (sym now) is.follows;
     }
 
     -- a run that comes to this after the answer

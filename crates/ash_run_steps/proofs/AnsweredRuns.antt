@@ -7,6 +7,7 @@ use Rattle.std.specs.List.Sorted.{IsStrictlyIncreasing}
 use Rattle.std.proofs.lemmas.Bool.{eqb-true}
 use Rattle.std.proofs.lemmas.Bool.Decides.{nat_tests}
 use Rattle.std.proofs.lemmas.Map.Made.{keys_of-map_values}
+use Rattle.ash_host.specs.declared.event.Event.{Event}
 use Rattle.ash_host.specs.declared.event.Target.{Target}
 use Rattle.ash_host.specs.declared.event.Target.TheVariants as targets
 use Rattle.ash_host.specs.declared.host_object.HostObject.{Ghosts}
@@ -20,7 +21,7 @@ use Rattle.ash_objects.specs.Table.{Living, Table}
 use Rattle.ash_run_steps.specs.Answered.{Boxes, boxed_entry, boxes_of, box_at, IsValidOf, IsStill, Answered}
 use Rattle.ash_run_steps.specs.Becoming.{Gave}
 use Rattle.ash_run_steps.specs.Following.{box_for}
-use Rattle.ash_run_steps.specs.RunStates.{State, bare, bare_living}
+use Rattle.ash_run_steps.specs.RunStates.{bare, bare_living}
 use Rattle.ash_run_steps.proofs.Bare.{same_lives}
 use Rattle.ash_run_steps.proofs.Followed.{at_append}
 
@@ -116,28 +117,28 @@ module _ {B : Type 0} (G : Ghosts B) where
   all_valid one other same (r ∷ records) h = (subst (λ (o : Option B). IsValidOf G o r) (same r.target) h.0, all_valid one other same records h.1)
 
   -- The boxes gave the answers of a run.
-  pub answered : (records : List HostRecord) (old new : State B) → AreNumbered (old.table).last (old.table).objects
-      → AreNumbered (new.table).last (new.table).objects → (gave : Gave G records old new)
-      → Answered G (boxes_of old.table) gave.happened records (boxes_of new.table)
-  answered records old new before after gave = record {
+  pub answered : (records : List HostRecord) (old : Table B) (before : List Event) (new : Table B) (after : List Event)
+      → AreNumbered old.last old.objects → AreNumbered new.last new.objects → (gave : Gave G records old before new after)
+      → Answered G (boxes_of old) gave.happened records (boxes_of new)
+  answered records old before new after first last gave = record {
     drawn = gave.drawn;
     in_turn = gave.in_turn;
-    first_free = ((gave.table).boxes).first_free;
-    valid = all_valid (box_for old.table gave.drawn) (box_at (boxes_of old.table) gave.drawn) same records gave.valid;
-    objects = λ number box at. still (targets.Object number) box (there new.table number box after at);
+    first_free = ((gave.follows).boxes).first_free;
+    valid = all_valid (box_for old gave.drawn) (box_at (boxes_of old) gave.drawn) same records gave.valid;
+    objects = λ number box at. still (targets.Object number) box (there new number box last at);
     services = λ place box at. still (targets.Service place) box at;
   }
     where
-      same : (target : Target) → box_for old.table gave.drawn target ≡ box_at (boxes_of old.table) gave.drawn target
-      same target = target_is old.table gave.drawn target before (each_above old.table new.table gave.drawn ((gave.table).boxes).given)
+      same : (target : Target) → box_for old gave.drawn target ≡ box_at (boxes_of old) gave.drawn target
+      same target = target_is old gave.drawn target first (each_above old new gave.drawn ((gave.follows).boxes).given)
 
-      still : (target : Target) (box : B) → box_for new.table [] target ≡ Some box → IsStill G (box_at (boxes_of old.table) gave.drawn target) box
-      still target box at = subst (λ (o : Option B). IsStill G o box) (same target) (((gave.table).boxes).still target box at)
+      still : (target : Target) (box : B) → box_for new [] target ≡ Some box → IsStill G (box_at (boxes_of old) gave.drawn target) box
+      still target box at = subst (λ (o : Option B). IsStill G o box) (same target) (((gave.follows).boxes).still target box at)
 
   -- the same of a run that began over a table, in which nothing was held but by globals
-  pub answered_from : (records : List HostRecord) (table : Table B) (start new : State B) → bare start.table ≡ bare table
-      → AreNumbered table.last table.objects → AreNumbered (new.table).last (new.table).objects → (gave : Gave G records start new)
-      → Answered G (boxes_of table) gave.happened records (boxes_of new.table)
-  answered_from records table start new same before after gave =
-      subst (λ (boxes : Boxes B). Answered G boxes gave.happened records (boxes_of new.table)) (boxes_bare table start.table same)
-      (answered records start new (numbered_bare table start.table same before) after gave)
+  pub answered_from : (records : List HostRecord) (table start : Table B) (before : List Event) (new : Table B) (after : List Event)
+      → bare start ≡ bare table → AreNumbered table.last table.objects → AreNumbered new.last new.objects
+      → (gave : Gave G records start before new after) → Answered G (boxes_of table) gave.happened records (boxes_of new)
+  answered_from records table start before new after same first last gave =
+      subst (λ (boxes : Boxes B). Answered G boxes gave.happened records (boxes_of new)) (boxes_bare table start same)
+      (answered records start before new after (numbered_bare table start same first) last gave)

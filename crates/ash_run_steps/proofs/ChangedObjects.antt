@@ -145,7 +145,7 @@ module _ {B : Type 0} (G : Ghosts B) (names : Names) where
       → Becomes G names run old left new
   becomes_kept run old left new follows told says = record {
     records = [];
-    gave = gave_nothing G old new follows told;
+    gave = gave_nothing G old.table old.events new.table new.events follows told;
     same = says;
   }
 

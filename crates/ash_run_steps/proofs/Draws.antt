@@ -281,7 +281,7 @@ module _ {B : Type 0} (G : Ghosts B) (names : Names) where
       told = refl;
       in_turn = refl;
       valid = tt;
-      table = follows_drawn G kind slot place box s.table first at;
+      follows = follows_drawn G kind slot place box s.table first at;
     };
     same = λ rest. sym (ap Some (drawn_same kind place slot box s rest few left first at));
   }

@@ -124,15 +124,16 @@ module _ {B : Type 0} (G : Ghosts B) (names : Names) where
         → Becomes G names run start left now → ComesTo G names test run start end new
     ended_by run start left end says first = record {
       records = first.records ++ released.records;
-      gave = gave_then G first.records released.records start mid new first_gave released.gave;
+      gave = gave_then G first.records released.records start.table start.events mid.table mid.events new.table new.events first_gave released.gave;
       same = λ rest. subst (λ (all : List HostRecord). IfSome (outcome_if test (run (shown G names all start))) (λ outcome. Some (record { end = end; world = world_shown G names rest new }) ≡ outcome)) (sym (append_assoc first.records released.records rest))
           (outcome_same rest end left (run (shown G names (first.records ++ (released.records ++ rest)) start)) (says (released.records ++ rest)) (first.same (released.records ++ rest)));
     }
       where
-        first_gave : Gave G first.records start mid
+        first_gave : Gave G first.records start.table start.events mid.table mid.events
         first_gave =
-            subst (λ (rs : List HostRecord). Gave G rs start mid) (append-nil first.records)
-            (gave_then G first.records [] start now mid first.gave (gave_nothing G now mid (follows_bare G now.table mid.table same) (ap (λ (s : State B). s.events) others)))
+            subst (λ (rs : List HostRecord). Gave G rs start.table start.events mid.table mid.events) (append-nil first.records)
+            (gave_then G first.records [] start.table start.events now.table now.events mid.table mid.events first.gave
+            (gave_nothing G now.table now.events mid.table mid.events (follows_bare G now.table mid.table same) (ap (λ (s : State B). s.events) others)))
 
     pub finishes : (run : Guarded (Option Word)) (start : State B) (counts : List ℕ) (value : Option Word)
         → Becomes G names run start (return_value counts value) now → ComesTo G names test run start (Finished value) new

@@ -235,7 +235,7 @@ module _ {B : Type 0} (G : Ghosts B) where
           told = refl;
           in_turn = sym (drops_draw (keys_of (filter (λ e. is_boxed (e.1).body) (gone_from (s.table).objects table.objects))));
           valid = tt;
-          table = follows_swept s.table table swept.collected;
+          follows = follows_swept s.table table swept.collected;
         };
         same = λ rest. released_if test rest (test.has_ranks (world_shown G names rest s)) refl;
       }

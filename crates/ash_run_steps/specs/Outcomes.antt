@@ -25,6 +25,6 @@ module _ {B : Type 0} (G : Ghosts B) where
   pub record ComesTo (names : Names) (test : RankTest) (run : Guarded (Option Word)) (old : State B) (end : End)
       (new : State B) : Type 0 where
     pub records : List HostRecord
-    pub gave : Gave G records old new
+    pub gave : Gave G records old.table old.events new.table new.events
     pub same : (rest : List HostRecord) → IfSome (outcome_if test (run (shown G names (records ++ rest) old)))
         (λ outcome. Some (record { end = end; world = world_shown G names rest new }) ≡ outcome)
