@@ -1,8 +1,7 @@
 //! The boxes that are handed over: services by the kinds that are registered, and that states are not too long.
 
 ghost use Rattle.std.specs.Prelude.{◌≡◌, ◌≤◌, ℕ, false, map, length, nat_eq, slice_get};
-ghost use Rattle.std.specs.Prelude.{IfOk, OnOk, IsErrOf};
-ghost use Rattle.std.specs.List.{AllByRecursion};
+ghost use Rattle.std.specs.Prelude.{IfOk, OnOk, IsErrOf, All};
 ghost use Rattle.std.specs.Option.{option_map_or};
 ghost use Rattle.ash_registry.specs.RegistryViews.{registered};
 ghost use Rattle.ash_soundness.specs.WellFormed.{IsState};
@@ -72,7 +71,7 @@ pub(crate) fn take_services<B: HostObject>(
 
 /// The states of boxes are no longer than states may be. It asks each box for its kind, which says so, and does nothing.
 pub(crate) fn boxes_fit<B: HostObject>(boxes: &[B])
-    ensures fit { AllByRecursion (λ box. IsState (B.state box)) boxes.now }
+    ensures fit { All (λ box. IsState (B.state box)) boxes.now }
 {
     for object in boxes {
         let _kind = object.kind();

@@ -1,3 +1,5 @@
 pub mod SlotNames
 pub mod Shown
 pub mod Stored
+pub mod Listed
+pub mod Paired

@@ -45,10 +45,10 @@ module _ {B : Type 0} (G : Ghosts B) where
 
   -- if indexes are those of names, what is written is what is shown
   pub written_same : (index : ℕ → ℕ) (names : SlotNames) (by : List ℕ → ℕ) (objects : List (ℕ × Living B)) → ((slot : ℕ) → index slot ≡ by (names slot))
-      → objects_written G index objects ≡ map (entry_indexed by) (objects_shown G names objects)
+      → objects_written G index (bodies_of objects) ≡ map (entry_indexed by) (objects_shown G names objects)
   written_same index names by [] same = refl
   written_same index names by (e ∷ objects) same =
-      ap (λ (o : Plain ℕ). (e.0, o) ∷ objects_written G index objects) (body_same index names by (e.1).body same)
+      ap (λ (o : Plain ℕ). (e.0, o) ∷ objects_written G index (bodies_of objects)) (body_same index names by (e.1).body same)
       ∙ ap (λ (os : LiveObjects ℕ). (e.0, plain_indexed by (body_shown G names (e.1).body)) ∷ os) (written_same index names by objects same)
 
 -- names that are the same for each slot
