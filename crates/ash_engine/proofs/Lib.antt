@@ -5,3 +5,4 @@ pub mod Drawn
 pub mod RestoredHosts
 pub mod RefusedHosts
 pub mod Started
+pub mod Living

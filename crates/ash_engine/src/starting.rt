@@ -122,16 +122,17 @@ pub(crate) fn restored_live<B: HostObject>(
     requires held { IsHeld (registered registry.now) state }
     requires kinds { map B.kind_of services.items ≡ service_kinds (registered registry.now) }
     ensures live { IfOk result (IsLive B.HostObject (registered registry.now)) }
-    ensures restored { (given : List B) → HasServices B.HostObject (registered registry.now) given
+    ensures restored { IfOk result (λ live. (given : List B)
+        → HasServices B.HostObject (registered registry.now) given
         → services.items ≡ services_for (registered registry.now) given
-        → IfOk result (λ live. Restores B.HostObject (held_with (registered registry.now) state)
-        pool.items given (live_seen B.HostObject (registered registry.now) live)) }
-    ensures short { (given : List B) → HasServices B.HostObject (registered registry.now) given
-        → (kind : ℕ) → IsErrOf result (TableFault.PoolShort kind)
+        → Restores B.HostObject (held_with (registered registry.now) state) pool.items given
+        (live_seen B.HostObject (registered registry.now) live)) }
+    ensures short { (kind : ℕ) → IsErrOf result (TableFault.PoolShort kind) → (given : List B)
+        → HasServices B.HostObject (registered registry.now) given
         → IsShort B.HostObject (held_with (registered registry.now) state) pool.items given kind }
-    ensures refused { (given : List B) → HasServices B.HostObject (registered registry.now) given
+    ensures refused { (number : ℕ) → IsErrOf result (TableFault.RestoreRefused number)
+        → (given : List B) → HasServices B.HostObject (registered registry.now) given
         → services.items ≡ services_for (registered registry.now) given
-        → (number : ℕ) → IsErrOf result (TableFault.RestoreRefused number)
         → IsRefused B.HostObject (held_with (registered registry.now) state) pool.items given
         number }
 {
