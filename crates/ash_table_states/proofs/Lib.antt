@@ -3,3 +3,4 @@ pub mod Shown
 pub mod Stored
 pub mod Listed
 pub mod Paired
+pub mod Saved
