@@ -6,3 +6,4 @@ pub mod RestoredHosts
 pub mod RefusedHosts
 pub mod Started
 pub mod Living
+pub mod RestoredState
