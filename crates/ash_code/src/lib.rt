@@ -8,10 +8,10 @@
 //! a machine does. `specs/Running.antt` says what is left of a run at a place in the code. The code of a phrase is
 //! right if what is left at its place is the phrase and then what is left behind it.
 //!
-//! Valid code needs no test at run time of the slots that it reads and writes, nor of the jumps and functions that it
-//! names. It comes to an end: it jumps back only by an instruction that takes a tick, and each function that is called
-//! begins with one. What depends on how many locals there are is tested at run time: that the arguments of a call come
-//! after the locals, and that there is a slot to declare. So are the parameters of a call by an interface.
+//! Valid code comes to an end: it jumps back only by an instruction that takes a tick, and each function that is called
+//! begins with one. It names slots, instructions and functions that are there. A machine still looks: a slot past the
+//! last reads null and is not written, as its line says. What depends on how many locals there are is part of the lines
+//! too: that the arguments of a call come after the locals, and that there is a slot to declare.
 //!
 //! In reading order: `instruction`, `code`, `validity`, `sizes`.
 #![tactic(auto)]

@@ -2,7 +2,7 @@
 //!
 //! Valid code names slots of its frame, jumps to instructions of its function, back only by a tick, and calls functions
 //! that are there. A function begins with the tick of its entry. The initializers of a module, which nothing calls, need
-//! none. So a machine tests none of this while it runs, and its ticks bound its instructions.
+//! none. So ticks bound the instructions of a run.
 ghost use Rattle.std.specs.Prelude.{◌≡◌, ◌<◌, length};
 ghost use Rattle.std.specs.List.{list_all};
 ghost use Rattle.ash_code.specs.Validity as validity;

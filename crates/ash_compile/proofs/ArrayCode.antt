@@ -185,9 +185,9 @@ module _ (s : Scene) (scene : IsScene s) where
       (arguments (calls_of s) (exprs es) >>= construct_array (element_of (s.context).program of)) from (at + 1) slot
   does_sized_array of tag es from at slot under same sound does has =
       by_put s.setting (Good s) s.function s.room (arguments (calls_of s) (exprs es))
-      (construct_array (element_of (s.context).program of)) (λ b. true) (i.ConstructArrayOf tag slot slot) from at slot
+      (construct_array (element_of (s.context).program of)) (i.ConstructArrayOf tag slot slot) from at slot
       (length es) (omega (arith, under, greatest_within s scene)) does has
-      (λ ws. keeps_construct_array (element_of (s.context).program of) ws) (λ ws b never. absurd (cc))
+      (λ ws. keeps_construct_array (element_of (s.context).program of) ws)
       (λ w a b ws good ran are.
       let c = control s.function at w in
       let values = ((argued s es (vars.Integer ints.Uint ∷ []) a b ws scene sound good ran).carried).values in

@@ -94,46 +94,55 @@ module _ (s : Scene) (scene : IsScene s) where
       → SpendsTo (Ready s) (beginning s of value) (Ready (with_types s (of ∷ [])))
   spends_beginning of None begins a b v good is =
       let leaves : Leaves s.context (λ (u : Unit {0}) d. Passes s.context (with_locals s.env (of ∷ [])) s.envs a d)
-          (declare (zero_of of) a)
-          = done (declared_passes of (zero_of of) good.0 (zero_value of)) in
+      (declare (zero_of of) a)
+      = done (declared_passes of (zero_of of) good.0 (zero_value of)) in
       let passes = left_done v b leaves is in
       let same : b.ticks ≡ a.ticks = ap (λ (p : Progress (Unit {0})). ticks_in a.ticks p) (sym is) in
       ((passes.well, omega (arith, same, good.1)), omega (arith, same))
   spends_beginning of (Some e) begins a b v good is = by_fitting (begins_fitting begins)
     where
-    by_fitting : Fits s.env of e → Ready (with_types s (of ∷ [])) b × (b.ticks ≤ a.ticks)
-    by_fitting (fits typed subtype) =
-        let passes : Passes s.context (with_locals s.env (of ∷ [])) s.envs a b
-            = left_done v b (stored_passes scene.sound (body (s.context).program s.depth)
-            (keeps_bodies scene.sound s.depth) s.env scene.declares s.envs (fits typed subtype) good.0
-            (λ w d well value. done (declared_passes of w well value))) is in
-        let fewer = ticks_of_value e _ typed a b v good is in
-        ((passes.well, omega (arith, fewer, good.1)), fewer)
+      by_fitting : Fits s.env of e → Ready (with_types s (of ∷ [])) b × (b.ticks ≤ a.ticks)
+      by_fitting (fits typed subtype) =
+          let passes : Passes s.context (with_locals s.env (of ∷ [])) s.envs a b
+          = left_done v b (stored_passes scene.sound (body (s.context).program s.depth)
+          (keeps_bodies scene.sound s.depth) s.env scene.declares s.envs (fits typed subtype) good.0
+          (λ w d well value. done (declared_passes of w well value))) is in
+          let fewer = ticks_of_value e _ typed a b v good is in
+          ((passes.well, omega (arith, fewer, good.1)), fewer)
 
 pub spends_declarations : (s : Scene) {vs : List Initialization} {types : List VarType} → IsScene s
     → AreSoundDeclarations s.env vs types
     → SpendsTo (Ready s) (declare_all (calls_of s) vs) (Ready (with_types s types))
 spends_declarations s scene none_declared a b v good is =
     let same : b.ticks ≡ a.ticks = ap (λ (p : Progress (Unit {0})). ticks_in a.ticks p) (sym is) in
-    let there : IsWellFormed s.context s.env s.envs b = at_same a b v good.0 is in
-    ((subst (λ (ls : List VarType). IsWellFormed s.context (record s.env { locals = ls }) s.envs b)
-    (sym (append-nil (s.env).locals)) there, omega (arith, same, good.1)), omega (arith, same))
+    let there : IsWellFormed s.context s.env s.envs b = at_same a b v good.0 is in (
+      (
+        subst (λ (ls : List VarType). IsWellFormed s.context (record s.env { locals = ls }) s.envs b)
+            (sym (append-nil (s.env).locals)) there,
+        omega (arith, same, good.1),
+      ),
+      omega (arith, same),
+    )
   where
-  at_same : (a b : Activity) (v : Unit {0}) → IsWellFormed s.context s.env s.envs a → skip a ≡ Done v b
-      → IsWellFormed s.context s.env s.envs b
-  at_same a b v good is = subst (λ (p : Progress (Unit {0})). At p) is good
-    where
-    At : Progress (Unit {0}) → Type 0
-    At (Done u d) = IsWellFormed s.context s.env s.envs d
-    At _ = Unit {0}
+    at_same : (a b : Activity) (v : Unit {0}) → IsWellFormed s.context s.env s.envs a → skip a ≡ Done v b
+        → IsWellFormed s.context s.env s.envs b
+    at_same a b v good is = subst (λ (p : Progress (Unit {0})). At p) is good
+      where
+        At : Progress (Unit {0}) → Type 0
+        At (Done u d) = IsWellFormed s.context s.env s.envs d
+        At _ = Unit {0}
 spends_declarations s scene (and_declared {v = x} {vs = vs} {types = types} begins rest) a b v good is =
     let there = came (declare_one (calls_of s) x a) (λ _. declare_all (calls_of s) vs) v b is in
     let first = spends_beginning s scene x.of x.value begins.value a there.1 there.0 good there.2 in
     let later = spends_declarations (with_types s (x.of ∷ [])) (still_scene s (x.of ∷ []) scene) rest there.1 b v
-        first.0 there.3 in
-    ((subst (λ (ls : List VarType). IsWellFormed s.context (record s.env { locals = ls }) s.envs b)
-    (append_assoc (s.env).locals (x.of ∷ []) types) (later.0).0, omega (arith, later.1, first.1, good.1)),
-    omega (arith, later.1, first.1))
+    first.0 there.3 in (
+      (
+        subst (λ (ls : List VarType). IsWellFormed s.context (record s.env { locals = ls }) s.envs b)
+            (append_assoc (s.env).locals (x.of ∷ []) types) (later.0).0,
+        omega (arith, later.1, first.1, good.1),
+      ),
+      omega (arith, later.1, first.1),
+    )
 
 module _ (s : Scene) (scene : IsScene s) (ranked : IsRanked s) where
   abbrev locals : ℕ
@@ -215,18 +224,18 @@ module _ (s : Scene) (scene : IsScene s) (ranked : IsRanked s) where
       more has (λ a b v good is. (spends_tick s scene line a b v good is).0) acts)
       declared rest
     where
-    declared : (a b : Activity) → Ready s a → statement (calls_of s) s.depth (Declare line vs) a ≡ Done On b
-        → Ready (with_types s types) b
-    declared a b good is =
-        let last = came ((tick line >> declare_all (calls_of s) vs) a) (λ _. give On) On b is in
-        let first = came (tick line a) (λ _. declare_all (calls_of s) vs) last.0 last.1 last.2 in
-        let begun = (spends_tick s scene line a first.1 first.0 good first.2).0 in
-        let there = (spends_declarations s scene is_sound first.1 last.1 last.0 begun first.3).0 in
-        subst (λ (p : Progress Flow). At p) last.3 there
-      where
-      At : Progress Flow → Type 0
-      At (Done u d) = Ready (with_types s types) d
-      At _ = Unit {0}
+      declared : (a b : Activity) → Ready s a → statement (calls_of s) s.depth (Declare line vs) a ≡ Done On b
+          → Ready (with_types s types) b
+      declared a b good is =
+          let last = came ((tick line >> declare_all (calls_of s) vs) a) (λ _. give On) On b is in
+          let first = came (tick line a) (λ _. declare_all (calls_of s) vs) last.0 last.1 last.2 in
+          let begun = (spends_tick s scene line a first.1 first.0 good first.2).0 in
+          let there = (spends_declarations s scene is_sound first.1 last.1 last.0 begun first.3).0 in
+          subst (λ (p : Progress Flow). At p) last.3 there
+        where
+          At : Progress Flow → Type 0
+          At (Done u d) = Ready (with_types s types) d
+          At _ = Unit {0}
 
   -- blocks
 
@@ -243,6 +252,6 @@ module _ (s : Scene) (scene : IsScene s) (ranked : IsRanked s) where
       more fewer also grows performs (leaving.ends_at_once s.setting (Ready s) s.function s.room mid locals more grows has)
       (λ a b good is.
       let on = left_done On b
-          (sound.blocks_keep scene.sound s.depth (scope_of s scene result breaks continues) s.envs xs a scene.declares is_sound
-          good.0) is in
+      (sound.blocks_keep scene.sound s.depth (scope_of s scene result breaks continues) s.envs xs a scene.declares is_sound
+      good.0) is in
       ranked (with_locals s.env on.types) b ((on.leads).passes).well)

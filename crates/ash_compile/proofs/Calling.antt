@@ -175,7 +175,7 @@ module _ (s : Setting) (function callee : ℕ) where
       let left = with_locals locals b in
       let y = back_in b.callers word b in
       let next : Word → Guarded Next
-          = λ v d. Some (Done (GoesOn (control function (at + 1) (back_with slot slots v w))) d) in
+      = λ v d. Some (Done (GoesOn (control function (at + 1) (back_with slot slots v w))) d) in
       ap (λ (t : Bool). guarded_onward (guarded_onward (guarded_onward
       (cond t (Some (Done tt (back_in b.callers word left))) None) (λ _. release s.test)) (λ _. guarded_give word)) next)
       alive
@@ -299,26 +299,26 @@ module _ (s : Setting) (function callee : ℕ) where
     calls_there at start a inside rest does fits alive enough enters good ends go =
         by_room (nat_lt (length a.callers + 1) max_frames) refl
       where
-      demands : (t : Bool) → nat_lt (length a.callers + 1) max_frames ≡ t → demand_frame a ≡ demand t StackOverflow a
-      demands t is = ap (λ (b : Bool). demand b StackOverflow a) is
+        demands : (t : Bool) → nat_lt (length a.callers + 1) max_frames ≡ t → demand_frame a ≡ demand t StackOverflow a
+        demands t is = ap (λ (b : Bool). demand b StackOverflow a) is
 
-      by_room : (t : Bool) → nat_lt (length a.callers + 1) max_frames ≡ t
-          → Arrives s (control function at w) start
-          (continued ((demand_frame >> framed ((s.names).functions callee) f.line this args inside) a) rest)
-      by_room false is =
-          subst (λ (o : Option Outcome). Arrives s (control function at w) start o)
-          (sym (ap (λ (p : Progress (Unit {0})). continued (onward p
-          (λ _. framed ((s.names).functions callee) f.line this args inside)) rest) (demands false is)))
-          (steps_out s (control function at w) start (Raising StackOverflow) a
-          (does ∙ ap (λ (q : Progress (Unit {0})). guarded_onward (Some q)
-          (λ _. enter_at s callee this slot (control function at w))) (demands false is)))
-      by_room true is =
-          let begins : (demand_frame >> framed ((s.names).functions callee) f.line this args inside) a
-              ≡ framed ((s.names).functions callee) f.line this args inside a
-              = ap (λ (p : Progress (Unit {0})). onward p
-              (λ _. framed ((s.names).functions callee) f.line this args inside)) (demands true is) in
-          subst (λ (p : Progress Word). Arrives s (control function at w) start (continued p rest)) (sym begins)
-          (enters_there at start a inside rest
-          (does ∙ ap (λ (q : Progress (Unit {0})). guarded_onward (Some q)
-          (λ _. enter_at s callee this slot (control function at w))) (demands true is))
-          fits alive (enough is) enters (good is) (ends is) (λ d word after ran held. go d word after (begins ∙ ran) held))
+        by_room : (t : Bool) → nat_lt (length a.callers + 1) max_frames ≡ t
+            → Arrives s (control function at w) start
+            (continued ((demand_frame >> framed ((s.names).functions callee) f.line this args inside) a) rest)
+        by_room false is =
+            subst (λ (o : Option Outcome). Arrives s (control function at w) start o)
+            (sym (ap (λ (p : Progress (Unit {0})). continued (onward p
+            (λ _. framed ((s.names).functions callee) f.line this args inside)) rest) (demands false is)))
+            (steps_out s (control function at w) start (Raising StackOverflow) a
+            (does ∙ ap (λ (q : Progress (Unit {0})). guarded_onward (Some q)
+            (λ _. enter_at s callee this slot (control function at w))) (demands false is)))
+        by_room true is =
+            let begins : (demand_frame >> framed ((s.names).functions callee) f.line this args inside) a
+            ≡ framed ((s.names).functions callee) f.line this args inside a
+            = ap (λ (p : Progress (Unit {0})). onward p
+            (λ _. framed ((s.names).functions callee) f.line this args inside)) (demands true is) in
+            subst (λ (p : Progress Word). Arrives s (control function at w) start (continued p rest)) (sym begins)
+            (enters_there at start a inside rest
+            (does ∙ ap (λ (q : Progress (Unit {0})). guarded_onward (Some q)
+            (λ _. enter_at s callee this slot (control function at w))) (demands true is))
+            fits alive (enough is) enters (good is) (ends is) (λ d word after ran held. go d word after (begins ∙ ran) held))

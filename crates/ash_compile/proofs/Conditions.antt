@@ -69,20 +69,20 @@ module _ (s : Setting) (Good : Activity → Type 0) (function room : ℕ) where
       (λ _. if is_true (slice_index_or slots slot Null) then go c else go_to to c)) ranks
       ∙ by_truth t is
     where
-    by_truth : (u : Bool) → is_true (slice_index_or slots slot Null) ≡ u
-        → guarded_onward (Some (releases.release (in_frame let_go a)))
-        (λ _. if is_true (slice_index_or slots slot Null) then go (here function at count slots callers)
-        else go_to to (here function at count slots callers))
-        ≡ guarded_onward (Some (releases.end_expression a))
-        (λ _ b. Some (Done (GoesOn (here function (if u then at + 1 else to) count slots callers)) b))
-    by_truth true sets =
-        ap (λ (u : Bool). guarded_onward (Some (releases.release (in_frame let_go a)))
-        (λ _. if u then go (here function at count slots callers) else go_to to (here function at count slots callers)))
-        sets
-    by_truth false sets =
-        ap (λ (u : Bool). guarded_onward (Some (releases.release (in_frame let_go a)))
-        (λ _. if u then go (here function at count slots callers) else go_to to (here function at count slots callers)))
-        sets
+      by_truth : (u : Bool) → is_true (slice_index_or slots slot Null) ≡ u
+          → guarded_onward (Some (releases.release (in_frame let_go a)))
+          (λ _. if is_true (slice_index_or slots slot Null) then go (here function at count slots callers)
+          else go_to to (here function at count slots callers))
+          ≡ guarded_onward (Some (releases.end_expression a))
+          (λ _ b. Some (Done (GoesOn (here function (if u then at + 1 else to) count slots callers)) b))
+      by_truth true sets =
+          ap (λ (u : Bool). guarded_onward (Some (releases.release (in_frame let_go a)))
+          (λ _. if u then go (here function at count slots callers) else go_to to (here function at count slots callers)))
+          sets
+      by_truth false sets =
+          ap (λ (u : Bool). guarded_onward (Some (releases.release (in_frame let_go a)))
+          (λ _. if u then go (here function at count slots callers) else go_to to (here function at count slots callers)))
+          sets
 
   -- an expression that is evaluated for what it does
 
@@ -127,22 +127,22 @@ module _ (s : Setting) (Good : Activity → Type 0) (function room : ℕ) where
         (λ u d ended.
         let there = ended_stands size count next b d ended (held_there size count count slots next callers v a b stands held) in
         let done : condition p a ≡ Done (is_true v) d
-            = then_is (full p a) v d (λ word. give (is_true word)) _
-            (then_is (p a) v b (λ x. releases.end_expression >> give x) _ ran
-            (ap (λ (x : Progress (Unit {0})). onward x (λ _. give v)) ended)) refl in
+        = then_is (full p a) v d (λ word. give (is_true word)) _
+        (then_is (p a) v b (λ x. releases.end_expression >> give x) _ ran
+        (ap (λ (x : Progress (Unit {0})). onward x (λ _. give v)) ended)) refl in
         pick callers size next a d rest when_true when_false there (is_true v) done)))));
   }
     where
-    pick : (callers : List Caller) (size : ℕ) (next : List Word) (a d : Activity) (rest : Bool → Activity → Option Outcome)
-        → ((b : Activity) (next : List Word) → condition p a ≡ Done true b → HasLocals size count next b
-        → Arrives s (here function (mid + 1) count next callers) b (rest true b))
-        → ((b : Activity) (next : List Word) → condition p a ≡ Done false b → HasLocals size count next b
-        → Arrives s (here function unmet count next callers) b (rest false b))
-        → HasLocals size count next d
-        → (t : Bool) → condition p a ≡ Done t d
-        → Arrives s (here function (if t then mid + 1 else unmet) count next callers) d (rest t d)
-    pick callers size next a d rest when_true when_false there true done = when_true d next done there
-    pick callers size next a d rest when_true when_false there false done = when_false d next done there
+      pick : (callers : List Caller) (size : ℕ) (next : List Word) (a d : Activity) (rest : Bool → Activity → Option Outcome)
+          → ((b : Activity) (next : List Word) → condition p a ≡ Done true b → HasLocals size count next b
+          → Arrives s (here function (mid + 1) count next callers) b (rest true b))
+          → ((b : Activity) (next : List Word) → condition p a ≡ Done false b → HasLocals size count next b
+          → Arrives s (here function unmet count next callers) b (rest false b))
+          → HasLocals size count next d
+          → (t : Bool) → condition p a ≡ Done t d
+          → Arrives s (here function (if t then mid + 1 else unmet) count next callers) d (rest t d)
+      pick callers size next a d rest when_true when_false there true done = when_true d next done there
+      pick callers size next a d rest when_true when_false there false done = when_false d next done there
 
   -- an absent condition
   pub always : (at unmet count : ℕ) → Decides s Good function room (give true) at at unmet count
@@ -172,8 +172,8 @@ module _ (s : Setting) (Good : Activity → Type 0) (function room : ℕ) where
         (ticked_stands line size count slots a b ran stands) (ticked a b tt good ran)
         (λ d next decides there.
         let same : x d ≡ (tick line >> test >>= either x y) a
-            = sym (then_is ((tick line >> test) a) true d (either x y) (x d)
-            (then_is (tick line a) tt b (λ _. test) (Done true d) ran decides) refl) in
+        = sym (then_is ((tick line >> test) a) true d (either x y) (x d)
+        (then_is (tick line a) tt b (λ _. test) (Done true d) ran decides) refl) in
         let outs_d = subst (λ (p : Progress Flow). Outs s function exits to count callers size p rest) (sym same) outs in
         first.comes callers size next d rest long there (decided b d true (ticked a b tt good ran) decides) (record {
           on = λ e last is stays. leads count last callers e (rest On e) (outs_d.on e last is stays);
@@ -183,8 +183,8 @@ module _ (s : Setting) (Good : Activity → Type 0) (function room : ℕ) where
         }))
         (λ d next decides there.
         let same : y d ≡ (tick line >> test >>= either x y) a
-            = sym (then_is ((tick line >> test) a) false d (either x y) (y d)
-            (then_is (tick line a) tt b (λ _. test) (Done false d) ran decides) refl) in
+        = sym (then_is ((tick line >> test) a) false d (either x y) (y d)
+        (then_is (tick line a) tt b (λ _. test) (Done false d) ran decides) refl) in
         second.comes callers size next d rest long there (decided b d false (ticked a b tt good ran) decides)
         (subst (λ (p : Progress Flow). Outs s function exits to count callers size p rest) (sym same) outs))));
   }

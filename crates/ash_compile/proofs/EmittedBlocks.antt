@@ -1,7 +1,7 @@
 -- Emitted code of lists of statements, of blocks and of `if`.
-use Rattle.std.proofs.Common.{◌≡◌, ◌≤◌, ◌<◌, ℕ, zero, suc, ◌+◌, List, [], ◌∷◌, ◌++◌, length, refl, sym, ap, ◌∙◌, subst, arith}
-use Rattle.std.proofs.Common.{true, false, Bool, length-append, rules}
-use Rattle.std.specs.Prelude.{Option, Some, None, slice_get, if◌then◌else◌}
+use Rattle.std.proofs.Common.{◌≡◌, ◌≤◌, ◌<◌, ℕ, ◌+◌, List, ◌++◌, length, refl, sym, ap, ◌∙◌, subst, arith}
+use Rattle.std.proofs.Common.{Bool, length-append, rules}
+use Rattle.std.specs.Prelude.{Option, Some, None, slice_get}
 use Rattle.ash_typed.specs.declared.types.VarType.{VarType}
 use Rattle.ash_typed.specs.declared.tree.statements.StmtKind.{StmtKind}
 use Rattle.ash_typed.specs.declared.tree.statements.StmtKind.TheVariants as kinds
@@ -22,9 +22,9 @@ use Rattle.ash_code.specs.declared.instruction.Instruction.TheVariants as i
 use Rattle.ash_code.specs.Running.{instruction_at}
 use Rattle.ash_compile.specs.declared.builder.CodeBuilder.{CodeBuilder}
 use Rattle.ash_compile.specs.declared.bodies.Scope.{Scope}
-use Rattle.ash_compile.specs.Performances.{Exit, Exits, Acts, Decides, Performs}
-use Rattle.ash_compile.specs.Emission.{code_of, end_of, Keeps, Puts, Leads, Scene, IsScene, Suits, Good, Stands, calls_of}
-use Rattle.ash_compile.specs.EmittedStatements.{waits, AreBelow, AreApart, Draft, with_jumps, end_in, Grows, StandsWith, shown, IsIn, Returns}
+use Rattle.ash_compile.specs.Performances.{Exits, Acts, Decides, Performs}
+use Rattle.ash_compile.specs.Emission.{code_of, end_of, Keeps, Puts, Leads, Scene, IsScene, Suits, Good, calls_of}
+use Rattle.ash_compile.specs.EmittedStatements.{AreBelow, AreApart, Draft, with_jumps, end_in, Grows, StandsWith, shown, IsIn}
 use Rattle.ash_compile.specs.EmittedStatements.{typed_scope, DoesFlow, EmitsStatement, EmitsStatements, EmitsListed, with_count}
 use Rattle.ash_compile.specs.EmittedStatements.{EmitsVariables, Tests}
 use Rattle.ash_compile.proofs.Emission.{HasAt, keeps_on, put_keeps, put_one, put_there, suits_before, stands_before, stands_after, has_put}
@@ -33,8 +33,8 @@ use Rattle.ash_compile.proofs.TypedStatements.{ranked_of}
 use Rattle.ash_compile.proofs.StatementCode.{does_if, does_if_else}
 use Rattle.ash_compile.proofs.Statements as code
 use Rattle.ash_compile.proofs.BlockCode.{with_types, still_scene, does_no_statements, does_statements, does_declare, does_block}
-use Rattle.ash_compile.proofs.Drafts.{grows_code, grows_on, joins_none, joins_wider, with_before, with_after, plainly, plainly_put}
-use Rattle.ash_compile.proofs.Drafts.{shown_code, shown_same, shown_kept, led_before}
+use Rattle.ash_compile.proofs.Drafts.{grows_code, grows_on, joins_none, joins_wider, with_before, with_after, plainly_put}
+use Rattle.ash_compile.proofs.Drafts.{shown_code, shown_kept, led_before}
 use Rattle.ash_compile.proofs.EmittedParts.{keeps_same, put_stays, suits_still, tests_keep, tests_end, tests_later, tests_do}
 
 grows_same : (d : Draft) → Grows d d

@@ -146,10 +146,10 @@ function_is : (s : Scene) (place : ℕ) (result other : Option VarType) (ps : Li
 function_is s place result other ps scene (operations.function {name = name} at) =
     let m = ((s.context).program).tree in
     let listed : slice_get (declared s.context).functions place ≡ Some
-        (record { name = name; result = result; parameters = ps })
+    (record { name = name; result = result; parameters = ps })
     = ap (λ (x : ModuleSignatures). slice_get x.functions place) (sym scene.declares) ∙ at in
     let (f, there, is) = mapped signature_of (slice_get m.functions place) _
-        (sym (slice_get-map signature_of m.functions place) ∙ listed) in
+    (sym (slice_get-map signature_of m.functions place) ∙ listed) in
     record { function = f; there = there; takes = sym (ap (λ (x : Signature). x.parameters) is) }
 
 pub function : (start old new : CodeBuilder) (place : ℕ) (result : Option VarType) (ps : List VarType)
@@ -196,8 +196,14 @@ method_is s o class place result other ps scene (operations.of_class {c = cs} {n
     = ap (λ (x : ClassTypes). slice_get x.methods place) of_k ∙ here in
     let (f, found, is) = mapped signature_of (slice_get k.methods place) signature
     (sym (slice_get-map signature_of k.methods place) ∙ own) in
-    record { source = k; method = f; there = there; here = found; takes = sym
-    (ap (λ (x : Signature). x.parameters) is) }
+    record {
+      source = k;
+      method = f;
+      there = there;
+      here = found;
+      takes = sym
+          (ap (λ (x : Signature). x.parameters) is);
+    }
 
 pub method : (start mid old put new : CodeBuilder) (class place index : ℕ) (result : Option VarType) (e : Expr)
     (ps : List VarType) (es : List Expr) (slot : ℕ)
@@ -408,6 +414,10 @@ array_method start mid old new method e ps es slot first second puts =
 
 -- methods of host objects
 
+host_is : {s : ModuleSignatures} {o : ObjectType} {id : ℕ} {result other : Option VarType} {ps : List VarType}
+    → IsMethod s o (methods.Host id result) ps other → (kind : ℕ) × (o ≡ objects.Host kind)
+host_is (operations.of_host offered) = (_, refl)
+
 pub host_method : (start mid old put new : CodeBuilder) (id : ℕ) (result : Option VarType) (e : Expr)
     (ps : List VarType)
     (es : List Expr) (slot count : ℕ)
@@ -420,7 +430,9 @@ host_method start mid old put new id result e ps es slot count first second long
     (λ s of typed. (_, (typed_invoked typed).typed)) (λ s of typed. (ps, (typed_invoked typed).args))
     (λ s of from between at scene typed suits under object does has moves.
     let invoked = typed_invoked typed in
-    does_host_method s scene invoked.object id result e es ps from between at slot invoked.typed invoked.args under
+    let host = host_is invoked.is in
+    does_host_method s scene host.0 id result e es ps from between at slot
+    (subst (λ (o : ObjectType). IsWellTyped s.env e (value (vars.Handle o))) host.1 invoked.typed) invoked.args under
     object does
     (subst (λ (n : ℕ). HasAt s at (i.CallHost slot id result (slot + 1) n)) (sym long) has) moves)
 

@@ -1,23 +1,19 @@
 -- Jumps that wait are written again.
-use Rattle.std.proofs.Common.{◌≡◌, ◌≤◌, ◌<◌, ℕ, zero, suc, ◌+◌, List, [], ◌∷◌, ◌++◌, length, get_or, take, refl, sym, ap, ◌∙◌, subst, arith}
+use Rattle.std.proofs.Common.{◌≡◌, ◌<◌, ℕ, zero, suc, ◌+◌, List, [], ◌∷◌, ◌++◌, length, get_or, take, refl, sym, ap, ◌∙◌, subst, arith}
 use Rattle.std.proofs.Common.{true, false, Bool}
 use Rattle.std.proofs.Math.Seq.{take-suc}
-use Rattle.std.specs.Prelude.{Option, Some, None, ◌||◌, nat_eq, slice_get, if◌then◌else◌}
+use Rattle.std.specs.Prelude.{Option, Some, ◌||◌, nat_eq, slice_get, if◌then◌else◌}
 use Rattle.std.proofs.lemmas.Bool.Decides.{nat_tests}
-use Rattle.ash_host.specs.declared.word.Word.{Word}
-use Rattle.ash_typed.specs.declared.types.VarType.{VarType}
 use Rattle.ash_typed.specs.StatementTree.{Stmts}
-use Rattle.ash_typed.specs.SoundStatements.{AreSoundStmts}
 use Rattle.ash_meaning.specs.StatementMeaning.{statements}
 use Rattle.ash_code.specs.declared.instruction.Instruction.{Instruction}
 use Rattle.ash_code.specs.declared.instruction.Instruction.TheVariants as i
-use Rattle.ash_code.specs.Running.{instruction_at}
 use Rattle.ash_compile.specs.declared.builder.CodeBuilder.{CodeBuilder}
 use Rattle.ash_compile.specs.declared.layout.Layout.{Layout}
 use Rattle.ash_compile.specs.Layout.{IsLayout}
 use Rattle.ash_compile.specs.Performances.{Exit, Exits}
-use Rattle.ash_compile.specs.Emission.{code_of, end_of, Keeps, Puts, Leads, Scene, IsScene, Suits, Stands, calls_of}
-use Rattle.ash_compile.specs.EmittedStatements.{waits, AreBelow, LeadsAll, Landing, with_jumps, shown, Returns, typed_scope, DoesFlow}
+use Rattle.ash_compile.specs.Emission.{code_of, end_of, Puts, Leads, calls_of}
+use Rattle.ash_compile.specs.EmittedStatements.{waits, AreBelow, LeadsAll, Landing, with_jumps, DoesFlow}
 use Rattle.ash_compile.specs.EmittedStatements.{EmitsStatements, EmitsBody}
 use Rattle.ash_compile.proofs.Emission.{put_one, put_there, put_keeps}
 use Rattle.ash_compile.proofs.EmittedBranches.{leads_end, leads_there, leads_other}

@@ -1,5 +1,5 @@
 -- Emitted code of loops.
-use Rattle.std.proofs.Common.{◌≡◌, ◌≤◌, ◌<◌, ℕ, zero, suc, ◌+◌, List, [], ◌∷◌, ◌++◌, length, refl, sym, ap, ◌∙◌, subst, arith}
+use Rattle.std.proofs.Common.{◌≡◌, ◌≤◌, ◌<◌, ℕ, ◌+◌, List, [], length, refl, sym, ap, ◌∙◌, subst, arith}
 use Rattle.std.proofs.Common.{true, false, Bool, rules, map}
 use Rattle.std.specs.Prelude.{Option, Some, None, IfSome, option_map, slice_get, if◌then◌else◌}
 use Rattle.std.specs.List.{AllByRecursion}
@@ -16,11 +16,10 @@ use Rattle.ash_typed.specs.declared.tree.statements.Stmt as code_stmt
 use Rattle.ash_typed.specs.TypedTreeViews.{expr_of}
 use Rattle.ash_typed.specs.BodyViews.{stmt_of, loop_of}
 use Rattle.ash_typed.specs.TypedTree.{Expr}
-use Rattle.ash_typed.specs.StatementTree.{Stmt, Repeat, Loop, repeated}
+use Rattle.ash_typed.specs.StatementTree.{Stmt, repeated}
 use Rattle.ash_typed.specs.SoundStatements.{TypedScope, IsSoundStmt, IsLoop, IsEvaluated, MayBeSoundCondition}
 use Rattle.ash_typed.specs.SoundStatements as typing
-use Rattle.ash_meaning.specs.Runs.{Run}
-use Rattle.ash_meaning.specs.StatementMeaning.{statement, loop, condition_or_true, evaluate_all, Continued, Broke}
+use Rattle.ash_meaning.specs.StatementMeaning.{statement, loop, condition_or_true, evaluate_all, Continued}
 use Rattle.ash_code.specs.declared.instruction.Instruction.{Instruction}
 use Rattle.ash_code.specs.declared.instruction.Instruction.TheVariants as i
 use Rattle.ash_code.specs.Running.{instruction_at}
@@ -28,19 +27,19 @@ use Rattle.ash_compile.specs.declared.builder.CodeBuilder.{CodeBuilder}
 use Rattle.ash_compile.specs.declared.layout.Layout.{Layout}
 use Rattle.ash_compile.specs.declared.bodies.Scope.{Scope}
 use Rattle.ash_compile.specs.Layout.{IsLayout}
-use Rattle.ash_compile.specs.Performances.{Exit, Exits, Acts, Decides, Performs, Reaches, Lands, by_release}
-use Rattle.ash_compile.specs.Emission.{code_of, end_of, Keeps, Puts, Leads, Scene, IsScene, Suits, Good, Stands, calls_of}
-use Rattle.ash_compile.specs.EmittedStatements.{waits, AreBelow, AreApart, Draft, with_jumps, end_in, Joins, Grows, StandsWith, shown}
-use Rattle.ash_compile.specs.EmittedStatements.{IsIn, Returns, typed_scope, DoesFlow, DoesActs, EmitsStatement, EmitsEvaluations}
+use Rattle.ash_compile.specs.Performances.{Exits, Decides, Reaches, Lands, by_release}
+use Rattle.ash_compile.specs.Emission.{code_of, end_of, Keeps, Puts, Leads, Scene, IsScene, Suits, Good, calls_of}
+use Rattle.ash_compile.specs.EmittedStatements.{waits, AreBelow, AreApart, with_jumps, Joins, StandsWith, shown}
+use Rattle.ash_compile.specs.EmittedStatements.{IsIn, typed_scope, DoesFlow, DoesActs, EmitsStatement, EmitsEvaluations}
 use Rattle.ash_compile.specs.EmittedStatements.{Tests, MayTest, MayLead, Landing, EmitsLoopBody, EmitsLoop, loop_entry}
 use Rattle.ash_compile.proofs.Emission.{HasAt, keeps_on, put_keeps, put_one, put_there, suits_before}
 use Rattle.ash_compile.proofs.EmittedBranches.{leads_end, leads_there, leads_other, leads_keeps, suits_led}
 use Rattle.ash_compile.proofs.TypedStatements.{ranked_of}
 use Rattle.ash_compile.proofs.Statements as code
-use Rattle.ash_compile.proofs.StatementCode.{does_no_condition, does_first_loop, does_last_loop, does_repeat, spends_loop}
-use Rattle.ash_compile.proofs.Drafts.{grows_code, joins_none, joins_wider, apart_breaks, apart_continues}
-use Rattle.ash_compile.proofs.Drafts.{shown_code, shown_same, shown_kept}
-use Rattle.ash_compile.proofs.EmittedParts.{keeps_same, put_stays, tests_keep, tests_end, tests_later, tests_do}
+use Rattle.ash_compile.proofs.StatementCode.{does_no_condition, does_first_loop, does_last_loop}
+use Rattle.ash_compile.proofs.Drafts.{joins_none, joins_wider, apart_breaks}
+use Rattle.ash_compile.proofs.Drafts.{shown_code, shown_same}
+use Rattle.ash_compile.proofs.EmittedParts.{keeps_same, tests_keep, tests_end, tests_later, tests_do}
 
 -- landings
 

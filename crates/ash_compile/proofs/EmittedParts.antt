@@ -1,20 +1,18 @@
 -- Emitted code of full expressions and of variables.
-use Rattle.std.proofs.Common.{◌≡◌, ◌≤◌, ◌<◌, ℕ, zero, suc, ◌+◌, List, [], ◌∷◌, ◌++◌, length, refl, sym, ap, ◌∙◌, subst, arith}
+use Rattle.std.proofs.Common.{◌≡◌, ◌≤◌, ℕ, ◌+◌, List, [], ◌∷◌, ◌++◌, length, refl, sym, ap, ◌∙◌, subst, arith}
 use Rattle.std.proofs.Common.{append_assoc, append-nil, length-append}
 use Rattle.std.specs.Prelude.{Option, Some, None, slice_get}
-use Rattle.std.specs.List.{AllByRecursion}
 use Rattle.ash_host.specs.declared.word.Word.{Word}
 use Rattle.ash_typed.specs.declared.types.VarType.{VarType}
 use Rattle.ash_typed.specs.TypedTree.{Expr}
-use Rattle.ash_typed.specs.StatementTree.{Initialization, Head, no_head, declared_head, evaluated_head}
+use Rattle.ash_typed.specs.StatementTree.{Initialization, no_head, declared_head, evaluated_head}
 use Rattle.ash_typed.specs.SoundExpressions.{Fits, fits}
 use Rattle.ash_typed.specs.SoundStatements.{IsEvaluated, IsSoundCondition, IsSoundBeginning, AreSoundDeclarations, none_declared, and_declared}
 use Rattle.ash_typed.specs.SoundStatements.{IsSoundHead, head_is_empty, head_declares, head_evaluates}
 use Rattle.ash_meaning.specs.OperatorMeaning.{zero_of}
-use Rattle.ash_meaning.specs.StatementMeaning.{evaluate, evaluate_all, condition, declare_all, begin}
+use Rattle.ash_meaning.specs.StatementMeaning.{evaluate, condition, declare_all, begin}
 use Rattle.ash_code.specs.declared.instruction.Instruction.{Instruction}
 use Rattle.ash_code.specs.declared.instruction.Instruction.TheVariants as i
-use Rattle.ash_code.specs.Running.{instruction_at}
 use Rattle.ash_compile.specs.declared.builder.CodeBuilder.{CodeBuilder}
 use Rattle.ash_compile.specs.Performances.{Acts, Decides}
 use Rattle.ash_compile.specs.Emission.{code_of, end_of, Keeps, Puts, Scene, IsScene, Suits, Good, Stands, DoesExpression, Emits, calls_of}

@@ -1,16 +1,15 @@
 -- Emitted code of `while`, `do` and `for`: a loop, and the release point where its `break` leads.
-use Rattle.std.proofs.Common.{◌≡◌, ◌≤◌, ◌<◌, ℕ, zero, suc, ◌+◌, List, [], ◌∷◌, ◌++◌, length, refl, sym, ap, ◌∙◌, subst, arith}
+use Rattle.std.proofs.Common.{◌≡◌, ◌≤◌, ◌<◌, ℕ, ◌+◌, List, [], ◌++◌, length, refl, sym, ap, ◌∙◌, subst, arith}
 use Rattle.std.proofs.Common.{true, false, Bool, append-nil, length-append}
-use Rattle.std.specs.Prelude.{Option, Some, None, slice_get, if◌then◌else◌}
+use Rattle.std.specs.Prelude.{Option, Some, slice_get, if◌then◌else◌}
 use Rattle.ash_typed.specs.declared.types.VarType.{VarType}
-use Rattle.ash_typed.specs.StatementTree.{Stmt, Head, Repeat, For, Loop, repeated}
+use Rattle.ash_typed.specs.StatementTree.{Head, Repeat, For, Loop, repeated}
 use Rattle.ash_typed.specs.SoundStatements.{TypedScope, IsSoundStmt, IsLoop, IsSoundHead, head_is_empty, head_declares, head_evaluates}
 use Rattle.ash_typed.specs.SoundStatements.{declaring, none_declared}
 use Rattle.ash_typed.specs.SoundStatements as typing
 use Rattle.ash_meaning.specs.Activity.{Activity}
-use Rattle.ash_meaning.specs.Runs.{Run, Done, ◌>>◌}
-use Rattle.ash_meaning.specs.Frames.{tick}
-use Rattle.ash_meaning.specs.StatementMeaning.{Flow, On, Broke, statement, loop, begin, condition_or_true, evaluate_all}
+use Rattle.ash_meaning.specs.Runs.{Run}
+use Rattle.ash_meaning.specs.StatementMeaning.{Flow, On, statement, loop, begin, condition_or_true, evaluate_all}
 use Rattle.ash_soundness.specs.WellFormed.{IsWellFormed}
 use Rattle.ash_code.specs.declared.instruction.Instruction.{Instruction}
 use Rattle.ash_code.specs.declared.instruction.Instruction.TheVariants as i
@@ -20,9 +19,9 @@ use Rattle.ash_compile.specs.declared.builder.CodeBuilder.{CodeBuilder}
 use Rattle.ash_compile.specs.declared.bodies.Scope.{Scope}
 use Rattle.ash_compile.specs.declared.layout.Layout.{Layout}
 use Rattle.ash_compile.specs.Layout.{IsLayout}
-use Rattle.ash_compile.specs.Performances.{Exit, Exits, Acts, Performs, Reaches, Lands, by_release}
-use Rattle.ash_compile.specs.Emission.{code_of, end_of, Keeps, Puts, Scene, IsScene, Suits, Good, Stands, calls_of}
-use Rattle.ash_compile.specs.EmittedStatements.{waits, AreBelow, AreApart, Draft, with_jumps, Joins, Grows, StandsWith, shown, LeadsAll, Landing}
+use Rattle.ash_compile.specs.Performances.{Exit, Exits, Performs, Reaches, by_release}
+use Rattle.ash_compile.specs.Emission.{code_of, end_of, Keeps, Puts, Scene, IsScene, Suits, Good, calls_of}
+use Rattle.ash_compile.specs.EmittedStatements.{waits, AreBelow, AreApart, with_jumps, Joins, StandsWith, LeadsAll, Landing}
 use Rattle.ash_compile.specs.EmittedStatements.{IsIn, typed_scope, DoesFlow, DoesActs, EmitsStatement, EmitsHead, EmitsLoop}
 use Rattle.ash_compile.proofs.Emission.{HasAt, keeps_on, put_keeps, put_one, put_there, suits_before}
 use Rattle.ash_compile.proofs.TypedStatements.{Ready, ranked_of, spends_repeat, spends_condition_or_true, spends_evaluate_all}

@@ -1,26 +1,25 @@
 -- Emitted code of statements of no other statements.
-use Rattle.std.proofs.Common.{◌≡◌, ◌≤◌, ◌<◌, ℕ, zero, suc, ◌+◌, List, [], ◌∷◌, ◌++◌, length, refl, sym, ap, ◌∙◌, subst, arith}
+use Rattle.std.proofs.Common.{◌≡◌, ◌≤◌, ℕ, ◌+◌, List, [], ◌∷◌, ◌++◌, length, sym, ap, ◌∙◌, subst, arith}
 use Rattle.std.proofs.Common.{true, false, Bool}
 use Rattle.std.specs.Prelude.{Option, Some, None, slice_get, if◌then◌else◌}
 use Rattle.ash_host.specs.declared.word.Word.{Word}
 use Rattle.ash_typed.specs.declared.types.VarType.{VarType}
 use Rattle.ash_typed.specs.TypedTree.{Expr}
 use Rattle.ash_typed.specs.StatementTree.{Stmt, Empty, Evaluate, Break, Continue, Return}
-use Rattle.ash_typed.specs.SoundExpressions.{Fits, fits}
+use Rattle.ash_typed.specs.SoundExpressions.{fits}
 use Rattle.ash_typed.specs.SoundStatements.{TypedScope, IsSoundStmt, IsEvaluated}
 use Rattle.ash_typed.specs.SoundStatements as typing
 use Rattle.ash_meaning.specs.StatementMeaning.{statement}
 use Rattle.ash_meaning.specs.StatementMeaning as meaning
 use Rattle.ash_code.specs.declared.instruction.Instruction.{Instruction}
 use Rattle.ash_code.specs.declared.instruction.Instruction.TheVariants as i
-use Rattle.ash_code.specs.Running.{instruction_at}
 use Rattle.ash_compile.specs.declared.builder.CodeBuilder.{CodeBuilder}
 use Rattle.ash_compile.specs.declared.bodies.Scope.{Scope}
-use Rattle.ash_compile.specs.Performances.{Exit, Exits}
+use Rattle.ash_compile.specs.Performances.{Exits}
 use Rattle.ash_compile.specs.Emission.{code_of, end_of, Keeps, Puts, Scene, IsScene, Suits, Good, Stands, DoesExpression, Emits, calls_of}
-use Rattle.ash_compile.specs.EmittedStatements.{waits, AreBelow, Draft, with_jumps, Grows, StandsWith, shown, IsIn, Returns, typed_scope}
+use Rattle.ash_compile.specs.EmittedStatements.{with_jumps, shown, IsIn, typed_scope}
 use Rattle.ash_compile.specs.EmittedStatements.{DoesFlow, DoesActs, EmitsStatement, EmitsEvaluation, LeavesBlocks, frame_end}
-use Rattle.ash_compile.proofs.Emission.{HasAt, keeps_on, put_keeps, put_one, put_there, suits_before, stands_before, stands_after, has_put}
+use Rattle.ash_compile.proofs.Emission.{HasAt, keeps_on, put_keeps, put_one, suits_before, stands_before, stands_after, has_put}
 use Rattle.ash_compile.proofs.TypedStatements.{ranked_of}
 use Rattle.ash_compile.proofs.StatementCode.{does_empty, does_evaluate, does_return, does_return_value, does_break, does_continue}
 use Rattle.ash_compile.proofs.Leaving as leaving

@@ -1,6 +1,6 @@
 -- Emitted code of `switch`.
-use Rattle.std.proofs.Common.{◌≡◌, ◌≤◌, ◌<◌, ℕ, zero, suc, ◌+◌, ℤ, List, [], ◌∷◌, ◌++◌, length, refl, sym, ap, ◌∙◌, subst, arith}
-use Rattle.std.proofs.Common.{true, false, Bool, take, drop, map, rules, length-drop}
+use Rattle.std.proofs.Common.{◌≡◌, ◌≤◌, ◌<◌, ℕ, suc, ◌+◌, ℤ, List, [], ◌∷◌, ◌++◌, length, refl, sym, ap, ◌∙◌, subst, arith}
+use Rattle.std.proofs.Common.{true, false, Bool, drop, map, rules, length-drop}
 use Rattle.std.specs.Prelude.{Option, Some, None, is_none, slice_get, option_map, if◌then◌else◌}
 use Rattle.std.proofs.lemmas.List.{length-take-le}
 use Rattle.std.proofs.lemmas.Option.{same_Some}
@@ -11,7 +11,7 @@ use Rattle.ash_tree.specs.declared.tree.statements.Label.{Label}
 use Rattle.ash_tree.specs.declared.tree.statements.Label.TheVariants as labels
 use Rattle.ash_typed.specs.declared.types.VarType.{VarType}
 use Rattle.ash_typed.specs.declared.types.VarType.TheVariants as vars
-use Rattle.ash_typed.specs.TypeOf.{ValueType, value}
+use Rattle.ash_typed.specs.TypeOf.{value}
 use Rattle.std.specs.declared.vec.Vec.{Vec}
 use Rattle.std.specs.declared.alloc.Global.{Global}
 use Rattle.ash_typed.specs.declared.tree.statements.Case as case_code
@@ -21,14 +21,14 @@ use Rattle.ash_typed.specs.BodyViews.{case_of, body_of}
 use Rattle.ash_typed.specs.StatementTree.{cases as case_list}
 use Rattle.ash_typed.proofs.StatementRows.{stmts_of-row}
 use Rattle.ash_typed.specs.TypedTree.{Expr}
-use Rattle.ash_typed.specs.StatementTree.{Stmt, Switch, Stmts, no_stmt, stmt, Case, labelled, Cases, no_case, next_case}
+use Rattle.ash_typed.specs.StatementTree.{Switch, Stmts, labelled, Cases, no_case, next_case}
 use Rattle.ash_typed.specs.SoundExpressions.{IsWellTyped}
 use Rattle.ash_typed.specs.SoundStatements.{TypedScope, IsSoundStmt, AreSoundStmts, AreSoundCases, AreLabelled, IsSoundLabel}
 use Rattle.ash_typed.specs.SoundStatements.{in_switch, constant_of, minus}
 use Rattle.ash_typed.specs.SoundStatements as typing
 use Rattle.ash_meaning.specs.Activity.{Activity}
 use Rattle.ash_meaning.specs.Runs.{Run, Done}
-use Rattle.ash_meaning.specs.StatementMeaning.{Flow, On, Broke, Labelled, statement, statements, cases}
+use Rattle.ash_meaning.specs.StatementMeaning.{Flow, On, Labelled, statements, cases}
 use Rattle.ash_code.specs.declared.instruction.Instruction.{Instruction}
 use Rattle.ash_code.specs.declared.instruction.Instruction.TheVariants as i
 use Rattle.ash_code.specs.Running.{instruction_at}
@@ -37,10 +37,10 @@ use Rattle.ash_compile.specs.declared.bodies.Scope.{Scope}
 use Rattle.ash_compile.specs.declared.layout.Layout.{Layout}
 use Rattle.ash_compile.specs.Layout.{IsLayout}
 use Rattle.ash_compile.specs.Stretches.{Arrives}
-use Rattle.ash_compile.specs.Performances.{here, HasLocals, Exit, Exits, Performs, Reaches, Lands, by_release}
-use Rattle.ash_compile.specs.Emission.{code_of, end_of, Keeps, Puts, Leads, Scene, IsScene, Suits, Good, Stands, DoesExpression, calls_of}
-use Rattle.ash_compile.specs.EmittedStatements.{waits, AreBelow, AreApart, Draft, with_jumps, end_in, Joins, Grows, StandsWith, shown}
-use Rattle.ash_compile.specs.EmittedStatements.{IsIn, typed_scope, DoesFlow, EmitsStatement, EmitsStatements, EmitsEvaluation, Landing}
+use Rattle.ash_compile.specs.Performances.{here, HasLocals, Exit, Exits, Reaches, by_release}
+use Rattle.ash_compile.specs.Emission.{code_of, end_of, Keeps, Puts, Leads, Scene, IsScene, Suits, Good, DoesExpression, calls_of}
+use Rattle.ash_compile.specs.EmittedStatements.{waits, AreBelow, AreApart, Draft, with_jumps, end_in, Joins}
+use Rattle.ash_compile.specs.EmittedStatements.{typed_scope, DoesFlow, EmitsStatement, EmitsStatements, EmitsEvaluation, Landing}
 use Rattle.ash_compile.specs.EmittedStatements.{label_jump, count_cases, AreTests, next_label, DoesLabels, EmitsLabels, EmitsLabel}
 use Rattle.ash_compile.proofs.Typed.{values_long}
 use Rattle.ash_compile.proofs.Emission.{HasAt, keeps_on, put_keeps, put_one, put_there, suits_before}

@@ -26,17 +26,17 @@ broke_inside : (flow : Flow) (count : ℕ) (b d : Activity) → (leave_blocks co
     → d ≡ in_frame (keeping count) b
 broke_inside flow count b d is = by_flow flow is
   where
-  At : Progress Flow → Type 0
-  At (Done Broke x) = x ≡ in_frame (keeping count) b
-  At _ = Unit {0}
+    At : Progress Flow → Type 0
+    At (Done Broke x) = x ≡ in_frame (keeping count) b
+    At _ = Unit {0}
 
-  by_flow : (f : Flow) → (leave_blocks count >> end_block f) b ≡ Done Broke d → d ≡ in_frame (keeping count) b
-  by_flow Broke same = subst (λ (p : Progress Flow). At p) same refl
-  by_flow Continued same = absurd (cc)
-  by_flow (Returned value) same = absurd (cc)
-  by_flow On same =
-      let there = came (releases.release (in_frame (keeping count) b)) (λ _. give On) Broke d same in
-      let last = there.3 in absurd (cc)
+    by_flow : (f : Flow) → (leave_blocks count >> end_block f) b ≡ Done Broke d → d ≡ in_frame (keeping count) b
+    by_flow Broke same = subst (λ (p : Progress Flow). At p) same refl
+    by_flow Continued same = absurd (cc)
+    by_flow (Returned value) same = absurd (cc)
+    by_flow On same =
+        let there = came (releases.release (in_frame (keeping count) b)) (λ _. give On) Broke d same in
+        let last = there.3 in absurd (cc)
 
 module _ (s : Scene) (scene : IsScene s) (ranked : IsRanked s) where
   -- The head and the loop are a block: the code behind the loop leaves it, and a `break` leads to its release point.
@@ -72,26 +72,27 @@ module _ (s : Scene) (scene : IsScene s) (ranked : IsRanked s) where
       (by_release has_release refl)
       broke
     where
-    kept : (a b : Activity) (f : Flow) → Ready s a
-        → (begin (calls_of s) head >> loop (calls_of s) s.depth line inside) a ≡ Done f b → Ready (with_types s types) b
-    kept a b f good is =
-        let there = came (begin (calls_of s) head a) (λ _. loop (calls_of s) s.depth line inside) f b is in
-        (spends there.1 b f ((begins a there.1 there.0 good there.2).0) there.3).0
+      kept : (a b : Activity) (f : Flow) → Ready s a
+          → (begin (calls_of s) head >> loop (calls_of s) s.depth line inside) a ≡ Done f b → Ready (with_types s types) b
+      kept a b f good is =
+          let there = came (begin (calls_of s) head a) (λ _. loop (calls_of s) s.depth line inside) f b is in
+          (spends there.1 b f ((begins a there.1 there.0 good there.2).0) there.3).0
 
-    broke : (a b : Activity) → Ready s a
-        → (tick line >> in_block (begin (calls_of s) head >> loop (calls_of s) s.depth line inside)) a ≡ Done Broke b
-        → (((s.setting).test).has_ranks b.world ≡ true) × Whole (length (s.env).locals) b
-    broke a b good is =
-        let inner = begin (calls_of s) head >> loop (calls_of s) s.depth line inside in
-        let first = came (tick line a) (λ _. in_block inner) Broke b is in
-        let begun = (spends_tick s scene line a first.1 first.0 good first.2).0 in
-        let count = length ((first.1).frame).locals in
-        let last = came (inner first.1) (λ f. leave_blocks count >> end_block f) Broke b first.3 in
-        let end = kept first.1 last.1 last.0 begun last.2 in
-        let same = broke_inside last.0 count last.1 b last.3 in
-        let few : count ≤ length (s.env).locals = omega (arith, values_long ((begun.0).frame).locals) in
-        (ap (λ (x : Activity). ((s.setting).test).has_ranks x.world) same ∙ ranked (with_types s types).env last.1 end.0,
-        ap (λ (x : Activity). (x.frame).locals) same
-        ∙ sym (take_all (length (s.env).locals) (take count ((last.1).frame).locals)
-        (omega (arith, few, length-take count ((last.1).frame).locals)))
-        ∙ ap (λ (x : Activity). take (length (s.env).locals) (x.frame).locals) (sym same))
+      broke : (a b : Activity) → Ready s a
+          → (tick line >> in_block (begin (calls_of s) head >> loop (calls_of s) s.depth line inside)) a ≡ Done Broke b
+          → (((s.setting).test).has_ranks b.world ≡ true) × Whole (length (s.env).locals) b
+      broke a b good is =
+          let inner = begin (calls_of s) head >> loop (calls_of s) s.depth line inside in
+          let first = came (tick line a) (λ _. in_block inner) Broke b is in
+          let begun = (spends_tick s scene line a first.1 first.0 good first.2).0 in
+          let count = length ((first.1).frame).locals in
+          let last = came (inner first.1) (λ f. leave_blocks count >> end_block f) Broke b first.3 in
+          let end = kept first.1 last.1 last.0 begun last.2 in
+          let same = broke_inside last.0 count last.1 b last.3 in
+          let few : count ≤ length (s.env).locals = omega (arith, values_long ((begun.0).frame).locals) in (
+            ap (λ (x : Activity). ((s.setting).test).has_ranks x.world) same ∙ ranked (with_types s types).env last.1 end.0,
+            ap (λ (x : Activity). (x.frame).locals) same
+                ∙ sym (take_all (length (s.env).locals) (take count ((last.1).frame).locals)
+                (omega (arith, few, length-take count ((last.1).frame).locals)))
+                ∙ ap (λ (x : Activity). take (length (s.env).locals) (x.frame).locals) (sym same),
+          )

@@ -133,13 +133,15 @@ module _ (s : Scene) (scene : IsScene s) where
     returns = λ b v is. left_done v b leaves is;
   }
     where
-    leaves : Leaves s.context
-        (λ (v : Option Word) b. (b.callers ≡ a.callers) × (is_alive (value_or_null v) b ≡ true)
-        × (((s.setting).test).has_ranks b.world ≡ true))
-        ((tick e.line >> body (s.context).program (suc s.depth) e) a)
-    leaves =
-        bind (tick_goes e.line good) (λ none d g.
-        weaken (λ v b r.
-        ((r.passes).callers ∙ (g.passes).callers, given_alive (value_or_null v) b r.value,
-        ranked _ b (r.passes).well))
-        ((keeps_bodies scene.sound (suc s.depth)).keeps s.env result e entry s.envs d (g.passes).well))
+      leaves : Leaves s.context
+          (λ (v : Option Word) b. (b.callers ≡ a.callers) × (is_alive (value_or_null v) b ≡ true)
+          × (((s.setting).test).has_ranks b.world ≡ true))
+          ((tick e.line >> body (s.context).program (suc s.depth) e) a)
+      leaves =
+          bind (tick_goes e.line good) (λ none d g.
+          weaken (λ v b r. (
+            (r.passes).callers ∙ (g.passes).callers,
+            given_alive (value_or_null v) b r.value,
+            ranked _ b (r.passes).well,
+          ))
+          ((keeps_bodies scene.sound (suc s.depth)).keeps s.env result e entry s.envs d (g.passes).well))

@@ -77,8 +77,8 @@ module _ (s : Setting) (Good : Activity → Type 0) (function room : ℕ) where
         let last = finish exits.gives in
         ticks_first s Good function room line (inside >>= last) 0 parameters slots callers a rest has (λ b ran.
         let at_once : (f : Flow) (d : Activity) → inside b ≡ Done f d
-            → (tick line >> (inside >>= last)) a ≡ Done (exits.gives (value_of f) (d.frame).this) d
-            = λ f d is. then_is (tick line a) tt b (λ _. inside >>= last) _ ran (then_is (inside b) f d last _ is refl) in
+        → (tick line >> (inside >>= last)) a ≡ Done (exits.gives (value_of f) (d.frame).this) d
+        = λ f d is. then_is (tick line a) tt b (λ _. inside >>= last) _ ran (then_is (inside b) f d last _ is refl) in
         arrives_then s (here function 1 parameters slots callers) b (inside b) last rest
         (performs.comes callers size slots b (λ f d. rest (exits.gives (value_of f) (d.frame).this) d) long
         (ticked_stands line size parameters slots a b ran stands) (ticked a b tt good ran) (record {
@@ -131,7 +131,7 @@ module _ (s : Setting) (Good : Activity → Type 0) (function room : ℕ) where
         let done : (p >>= store) a ≡ Done tt d = then_is (p a) v b store _ ran stored in
         let there = held_there size count count slots next callers v a b stands held in
         let here_still : HasLocals size count next d
-            = record { long = there.long; within = there.within; locals = same b d v stored ∙ there.locals } in
+        = record { long = there.long; within = there.within; locals = same b d v stored ∙ there.locals } in
         arrives_then s (here function (mid + 1) count next callers) d (releases.end_expression d) (λ _. give tt) rest
         (goes_by s (here function (mid + 1) count next callers) d (releases.end_expression d)
         (λ _. here function (mid + 1 + 1) count next callers) rest
@@ -172,15 +172,15 @@ module _ (s : Setting) (Good : Activity → Type 0) (function room : ℕ) where
       (λ c a b v good ran is. does c a b v is (alive a b v good ran).0 (alive a b v good ran).1 (alive a b v good ran).2)
       (λ a b v is. field_locals place v (a.frame).this a b is) ranks
     where
-    does : (c : Control) (a b : Activity) (v : Word) → word_at count c ≡ v → (number : ℕ)
-        → (b.frame).this ≡ words.Object number → has_part number place b && is_alive v b ≡ true
-        → perform s (i.WriteOwnField place count) c b ≡ guarded_onward (Some (write_field place v b)) (λ _. go c)
-    does c a b v is number this fits =
-        ap (λ (t : Word). guarded_onward (guarded_onward (Some (object_of t b)) (λ n. write_part n place (word_at count c)))
-        (λ _. go c)) this
-        ∙ ap (λ (x : Word). guarded_onward (write_part number place x b) (λ _. go c)) is
-        ∙ ap (λ (t : Bool). guarded_onward (cond t (Some (write (Part number place) v b)) None) (λ _. go c)) fits
-        ∙ sym (ap (λ (t : Word). guarded_onward (Some (onward (object_of t b) (λ n. write (Part n place) v))) (λ _. go c)) this)
+      does : (c : Control) (a b : Activity) (v : Word) → word_at count c ≡ v → (number : ℕ)
+          → (b.frame).this ≡ words.Object number → has_part number place b && is_alive v b ≡ true
+          → perform s (i.WriteOwnField place count) c b ≡ guarded_onward (Some (write_field place v b)) (λ _. go c)
+      does c a b v is number this fits =
+          ap (λ (t : Word). guarded_onward (guarded_onward (Some (object_of t b)) (λ n. write_part n place (word_at count c)))
+          (λ _. go c)) this
+          ∙ ap (λ (x : Word). guarded_onward (write_part number place x b) (λ _. go c)) is
+          ∙ ap (λ (t : Bool). guarded_onward (cond t (Some (write (Part number place) v b)) None) (λ _. go c)) fits
+          ∙ sym (ap (λ (t : Word). guarded_onward (Some (onward (object_of t b) (λ n. write (Part n place) v))) (λ _. go c)) this)
 
   -- runs
 

@@ -42,16 +42,6 @@ use Rattle.ash_compile.proofs.CallCode.{by_arguments}
 
 -- runs under guards
 
--- An instruction of which nothing is said leads nowhere.
-nothing_ends : (s : Setting) (c : Control) (a : Activity) → step s c a ≡ None → (n : ℕ) → 1 ≤ n
-    → option_and_then outcome_of (denote s n c a) ≡ None
-nothing_ends s c a is zero more = absurd (omega (arith, more))
-nothing_ends s c a is (suc n) more =
-    ap (λ (o : Option (Progress Next)). option_and_then outcome_of (guarded_onward o (after (denote s n)))) is
-
-steps_never : (s : Setting) (c : Control) (a : Activity) → step s c a ≡ None → Arrives s c a None
-steps_never s c a is = record { fuel = 1; ends = nothing_ends s c a is }
-
 pub grouped_guards : {A B C : Type 0} (p : Progress A) (f : A → Guarded B) (g : B → Guarded C)
     → guarded_onward (guarded_onward (Some p) f) g ≡ guarded_onward (Some p) (λ v b. guarded_onward (f v b) g)
 grouped_guards (Done v b) f g = refl
@@ -67,56 +57,38 @@ null_given (Ended e b) next = refl
 null_given NoStep next = refl
 
 module _ (s : Setting) (Good : Activity → Type 0) (function room : ℕ) where
-  -- An instruction that puts the value of a step into a slot, under a guard: where it does not hold, the meaning has no
-  -- step.
+  -- An instruction that puts the value of a step into a slot, under a guard that holds.
   pub puts_guarded : (w : Window) (at slot : ℕ) (b : Activity) (test : Bool) (p : Progress Word)
       (rest : Word → Activity → Option Outcome)
       → step s (control function at w) b ≡ guarded_onward (cond test (Some p) None) (put slot (control function at w))
-      → (test ≡ false → p ≡ NoStep)
+      → test ≡ true
       → w.count ≤ slot
       → ((v : Word) (e : Activity) → p ≡ Done v e
       → Arrives s (control function (at + 1) (with_slots (slice_set w.slots slot v) w)) e (rest v e))
       → Arrives s (control function at w) b (continued p rest)
-  puts_guarded w at slot b true p rest does fails low go = puts s Good function room w at slot b p rest does low go
-  puts_guarded w at slot b false p rest does fails low go =
-      subst (λ (q : Progress Word). Arrives s (control function at w) b (continued q rest)) (sym (fails refl))
-      (steps_never s (control function at w) b does)
+  puts_guarded w at slot b true p rest does holds low go = puts s Good function room w at slot b p rest does low go
+  puts_guarded w at slot b false p rest does holds low go = absurd (cc)
 
   -- arguments, then an instruction that puts what is done with their values into a slot
-  pub by_put : (p : Run (List Word)) (f : List Word → Run Word) (test : Activity → Bool) (j : Instruction)
+  pub by_put : (p : Run (List Word)) (f : List Word → Run Word) (j : Instruction)
       (from at slot count : ℕ) → slot < room
       → ComputesAll s Good function room p from at slot count
       → Has s Good function room at j
       → ((ws : List Word) → KeepsLocals (f ws))
-      → ((ws : List Word) (b : Activity) → test b ≡ false → f ws b ≡ NoStep)
       → ((w : Window) (a b : Activity) (ws : List Word) → Good a → p a ≡ Done ws b → take count (drop slot w.slots) ≡ ws
       → perform s j (control function at w) b
-      ≡ guarded_onward (cond (test b) (Some (f ws b)) None) (put slot (control function at w)))
+      ≡ guarded_onward (Some (f ws b)) (put slot (control function at w)))
       → Computes s Good function room (p >>= f) from (at + 1) slot
-  by_put p f test j from at slot count within first has kept fails does =
+  by_put p f j from at slot count within first has kept does =
       by_arguments s Good function room p f from at (at + 1) slot count within first
       (λ w a b ws rest low long fits good ran are goes.
-      puts_guarded w at slot b (test b) (f ws b) rest
-      (step_is s Good function room w b at j has ∙ does w a b ws good ran are) (fails ws b) low
+      puts s Good function room w at slot b (f ws b) rest
+      (step_is s Good function room w b at j has ∙ does w a b ws good ran are) low
       (λ v d run. goes v d (slice_set w.slots slot v) run
       (stored s Good function room w slot v b d low (omega (arith, within, long)) fits
       (done_keeps (f ws) b d v (kept ws) run))))
 
 -- hosts
-
-nowhere : (target : Target) (id : ℕ) (result : Option VarType) (args : List Word) (b : Activity) (o : Option (List ℕ))
-    → state_of target b.world ≡ o → is_some o ≡ false → invoke_host target id result args b ≡ NoStep
-nowhere target id result args b (Some state) is none = absurd (cc)
-nowhere target id result args b None is none =
-    ap (λ (o : Option (HostRecord × List HostRecord)). onward (onward (found o b)
-    (λ taken. change (in_world (after_answer target taken.0 taken.1)) >> give (taken.0).answer))
-    (λ answer. note (Called target id) >> accept result answer))
-    (ap (λ (o : Option (List ℕ)). option_and_then
-    (λ before. next_record target (Invoke id args) before (b.world).answers) o) is)
-
-pub not_there : (target : Target) (id : ℕ) (result : Option VarType) (args : List Word) (b : Activity)
-    → is_there target b ≡ false → invoke_host target id result args b ≡ NoStep
-not_there target id result args b none = nowhere target id result args b (state_of target b.world) refl none
 
 module _ (s : Scene) (scene : IsScene s) where
   pub does_service : (service id : ℕ) (result : Option VarType) (es : List Expr) (from at slot : ℕ) → slot < s.greatest
@@ -126,14 +98,13 @@ module _ (s : Scene) (scene : IsScene s) where
       (arguments (calls_of s) (exprs es) >>= invoke_host (hosts.Service service) id result) from (at + 1) slot
   does_service service id result es from at slot under does has =
       by_put s.setting (Good s) s.function s.room (arguments (calls_of s) (exprs es))
-      (invoke_host (hosts.Service service) id result) (is_there (hosts.Service service))
+      (invoke_host (hosts.Service service) id result)
       (i.CallService service id result slot (length es)) from at slot (length es)
       (omega (arith, under, greatest_within s scene)) does has
       (λ ws. keeps_invoke_host (hosts.Service service) id result ws)
-      (λ ws b none. not_there (hosts.Service service) id result ws b none)
       (λ w a b ws good ran are.
-      ap (λ (us : List Word). guarded_onward (cond (is_there (hosts.Service service) b)
-      (Some (invoke_host (hosts.Service service) id result us b)) None) (put slot (control s.function at w))) are)
+      ap (λ (us : List Word). guarded_onward (Some (invoke_host (hosts.Service service) id result us b))
+      (put slot (control s.function at w))) are)
 
   pub does_host_construction : (kind : ℕ) (es : List Expr) (from at slot : ℕ) → slot < s.greatest
       → DoesArguments s es from at slot
@@ -141,10 +112,9 @@ module _ (s : Scene) (scene : IsScene s) where
       → Computes s.setting (Good s) s.function s.room
       (arguments (calls_of s) (exprs es) >>= construct_host kind) from (at + 1) slot
   does_host_construction kind es from at slot under does has =
-      by_put s.setting (Good s) s.function s.room (arguments (calls_of s) (exprs es)) (construct_host kind) (λ b. true)
+      by_put s.setting (Good s) s.function s.room (arguments (calls_of s) (exprs es)) (construct_host kind)
       (i.ConstructHost kind slot (length es)) from at slot (length es)
       (omega (arith, under, greatest_within s scene)) does has (λ ws. keeps_construct_host kind ws)
-      (λ ws b never. absurd (cc))
       (λ w a b ws good ran are.
       ap (λ (us : List Word). guarded_onward (Some (construct_host kind us b)) (put slot (control s.function at w)))
       are)
@@ -159,9 +129,9 @@ module _ (s : Scene) (scene : IsScene s) where
       (arguments (calls_of s) (exprs []) >>= construct_array (element_of (s.context).program of)) from (at + 1) slot
   does_empty_array of tag from at slot under same does has =
       by_put s.setting (Good s) s.function s.room (arguments (calls_of s) (exprs []))
-      (construct_array (element_of (s.context).program of)) (λ b. true) (i.ConstructArray tag slot) from at slot 0
+      (construct_array (element_of (s.context).program of)) (i.ConstructArray tag slot) from at slot 0
       (omega (arith, under, greatest_within s scene)) does has
-      (λ ws. keeps_construct_array (element_of (s.context).program of) ws) (λ ws b never. absurd (cc))
+      (λ ws. keeps_construct_array (element_of (s.context).program of) ws)
       (λ w a b ws good ran are.
       ap (λ (shown : Elements (List ℕ)). guarded_onward (Some (construct_array shown [] b))
       (put slot (control s.function at w))) same

@@ -4,7 +4,7 @@ use Rattle.std.proofs.Common.{cond}
 use Rattle.std.specs.Prelude.{Option, Some, None, slice_set}
 use Rattle.ash_host.specs.declared.word.Word.{Word}
 use Rattle.ash_host.specs.declared.event.Target.TheVariants as hosts
-use Rattle.ash_typed.specs.declared.types.ObjectType.{ObjectType}
+use Rattle.ash_typed.specs.declared.types.ObjectType.TheVariants as objects
 use Rattle.ash_typed.specs.declared.types.VarType.{VarType}
 use Rattle.ash_typed.specs.declared.types.VarType.TheVariants as vars
 use Rattle.ash_typed.specs.TypeOf.{value}
@@ -28,12 +28,13 @@ use Rattle.ash_compile.proofs.Typed.{stays_good}
 use Rattle.ash_compile.proofs.KeptLocals.{done_keeps, keeps_invoke_host}
 use Rattle.ash_compile.proofs.CallCode.{by_object, moves_back}
 use Rattle.ash_compile.proofs.MethodCode.{ready, on_object}
-use Rattle.ash_compile.proofs.HostCode.{grouped_guards, puts_guarded, not_there}
+use Rattle.ash_compile.proofs.HostCode.{grouped_guards, puts_guarded}
+use Rattle.ash_compile.proofs.PlaceGuards.{host_there}
 
 module _ (s : Scene) (scene : IsScene s) where
-  pub does_host_method : (o : ObjectType) (id : ℕ) (result : Option VarType) (e : Expr) (es : List Expr)
+  pub does_host_method : (kind : ℕ) (id : ℕ) (result : Option VarType) (e : Expr) (es : List Expr)
       (types : List VarType) (from mid at slot : ℕ)
-      → IsWellTyped s.env e (value (vars.Handle o))
+      → IsWellTyped s.env e (value (vars.Handle (objects.Host kind)))
       → AreSoundArguments s.env types (exprs es)
       → slot + 1 < s.greatest
       → DoesExpression s e from mid slot
@@ -43,16 +44,16 @@ module _ (s : Scene) (scene : IsScene s) where
       → Computes s.setting (Good s) s.function s.room
       (expression (calls_of s) e >>= (λ handle. arguments (calls_of s) (exprs es) >>= (λ ws. object_of handle
       >>= (λ number. invoke_host (hosts.Object number) id result ws)))) from (at + 1 + 1) slot
-  does_host_method o id result e es types from mid at slot typed sound under object does has moves =
+  does_host_method kind id result e es types from mid at slot typed sound under object does has moves =
       by_object s.setting (Good s) s.function s.room (expression (calls_of s) e) (arguments (calls_of s) (exprs es))
       (λ handle ws. object_of handle >>= (λ number. invoke_host (hosts.Object number) id result ws)) from mid at
       (at + 1 + 1)
       slot (length es) object does
-      (λ a b v good ran. stays_good s e (value (vars.Handle o)) a b v scene typed good ran)
+      (λ a b v good ran. stays_good s e (value (vars.Handle (objects.Host kind))) a b v scene typed good ran)
       (λ w a b d handle ws rest low long fits good ran run held are goes.
       let c = control s.function at w in
       let row = take (length es) (drop (slot + 1) w.slots) in
-      let got = ready s o e es types a b d handle ws scene typed sound good ran run in
+      let got = ready s (objects.Host kind) e es types a b d handle ws scene typed sound good ran run in
       let next : ℕ → Guarded Next
       = λ number b. guarded_onward (invoke_guarded (hosts.Object number) id result row b) (put (slot + 1) c) in
       on_object s scene w slot at d handle next
@@ -68,7 +69,7 @@ module _ (s : Scene) (scene : IsScene s) where
       (stepped ∙ ap (λ (us : List Word). guarded_onward
       (cond (is_there target d) (Some (invoke_host target id result us d)) None)
       (put (slot + 1) c)) are)
-      (λ none. not_there target id result ws d none) (omega (arith, low))
+      (host_there number kind shape d at_shape of_kind) (omega (arith, low))
       (λ v x called.
       moves_back s.setting (Good s) s.function s.room w slot (at + 1) v
       (slice_set w.slots (slot + 1) v) x rest moves low

@@ -113,10 +113,14 @@ module _ (s : Scene) (scene : IsScene s) (interface method : ℕ) (all : List Si
       (words.Object number) ws d
       (entry_there scene.sound (a_method own.there own.here)) in
       let enters = stepped
+      ∙ ap (λ (name : List ℕ).
+      guarded_onward (found_guarded (method_of name (classes_of s.setting) interface method number) d)
+      (λ function. call s.setting function (words.Object number) (slot + 1) c)) scene.owner
       ∙ ap (λ (o : Option ℕ). guarded_onward (option_map_or (λ function. Some (Done function d)) o None)
       (λ function. call s.setting function (words.Object number) (slot + 1) c))
-      (finds_method s.setting (s.context).program scene.owner scene.classes interface method number lists.class own.own
-      own.source d seen own.there own.found) in
+      (finds_method s.setting ((s.context).program).tree scene.classes
+      ((s.context).program).name interface method number
+      lists.class own.own own.source d seen own.there own.found) in
       let types : g.parameters ≡ (own.function).parameters = ap (λ (x : Signature). x.parameters)
       (sym own.as_declared) in
       let count : length es ≡ length (own.function).parameters

@@ -60,7 +60,7 @@ keeps_demand : (t : Bool) (e : Exception) → KeepsLocals (demand t e)
 keeps_demand true e = record { keeps = λ a. refl }
 keeps_demand false e = record { keeps = λ a. refl }
 
-keeps_give : {A : Type 0} (v : A) → KeepsLocals (give v)
+pub keeps_give : {A : Type 0} (v : A) → KeepsLocals (give v)
 keeps_give v = record { keeps = λ a. refl }
 
 pub keeps_give_held : (w : Word) → KeepsLocals (give_held w)
@@ -151,7 +151,7 @@ taken_by : (target : Target) (o : Option (HostRecord × List HostRecord)) (a : A
 taken_by target (Some taken) a = refl
 taken_by target None a = refl
 
-keeps_call_host : (target : Target) (call : HostCall) → KeepsLocals (call_host target call)
+pub keeps_call_host : (target : Target) (call : HostCall) → KeepsLocals (call_host target call)
 keeps_call_host target call = record { keeps = λ a. taken_by target (next_answer target call a.world) a }
 
 keeps_note : (event : Event) → KeepsLocals (note event)
@@ -161,7 +161,7 @@ keeps_word : (t : Bool) (word : Word) → KeepsLocals (if t then give word else 
 keeps_word true word = record { keeps = λ a. refl }
 keeps_word false word = record { keeps = λ a. refl }
 
-keeps_accept : (result : Option VarType) (answer : HostAnswer) → KeepsLocals (accept result answer)
+pub keeps_accept : (result : Option VarType) (answer : HostAnswer) → KeepsLocals (accept result answer)
 keeps_accept None answers.Nothing = record { keeps = λ a. refl }
 keeps_accept (Some of) answers.Nothing = record { keeps = λ a. refl }
 keeps_accept None (answers.Value word) = record { keeps = λ a. refl }

@@ -253,8 +253,8 @@ module _ (s : Setting) (Good : Activity → Type 0) (function room : ℕ) where
     comes = λ callers size slots a rest long stands good outs.
         let runs = block_is inside size count slots a stands in
         let left_by : (f : Flow) (b : Activity) (q : Progress Flow) → inside a ≡ Done f b → ending count f b ≡ q
-            → in_block inside a ≡ q
-            = λ f b q is ended. runs ∙ then_is (inside a) f b (ending count) q is ended in
+        → in_block inside a ≡ q
+        = λ f b q is ended. runs ∙ then_is (inside a) f b (ending count) q is ended in
         subst (λ (p : Progress Flow). Arrives s (here function from count slots callers) a (continued p rest)) (sym runs)
         (arrives_then s (here function from count slots callers) a (inside a) (ending count) rest
         (performs.comes callers size slots a (λ f b. continued (ending count f b) rest) long stands good (record {

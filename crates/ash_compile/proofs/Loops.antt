@@ -86,26 +86,26 @@ module _ (s : Setting) (Good : Activity → Type 0) (function room : ℕ) where
         }));
   }
     where
-    past : (callers : List Caller) (size : ℕ) (a b : Activity) (slots : List Word) (rest : Flow → Activity → Option Outcome)
-        → Good a
-        → Outs s function exits to count callers size ((run >>= after_break) a) rest
-        → run a ≡ Done Broke b → HasLocals size count slots (in_frame (keeping count) b)
-        → Lands s Good function room Broke run broken to
-        → Arrives s (here function broken count slots callers) (in_frame (keeping count) b)
-        (continued (after_break Broke b) rest)
-    past callers size a b slots rest good outs is there (never isnt) = absurd (isnt a b good is)
-    past callers size a b slots rest good outs is there (by_release has to_is) =
-        let facts = broke a b good is in
-        let whole = kept_whole count b facts.1 in
-        subst (λ (x : Activity). Arrives s (here function broken count slots callers) x (continued (after_break Broke b) rest))
-        (sym whole)
-        (arrives_then s (here function broken count slots callers) b (releases.release b) (λ _. give On) rest
-        (releases_at s Good function room broken count slots callers b (λ _ e. rest On e) facts.0 has (λ e freed.
-        subst (λ (n : ℕ). Arrives s (here function n count slots callers) e (rest On e)) to_is
-        (outs.on e slots (then_is (run a) Broke b after_break _ is
-        (ap (λ (p : Progress (Unit {0})). onward p (λ _. give On)) freed))
-        (released_stands size count slots b e freed
-        (subst (λ (x : Activity). HasLocals size count slots x) whole there))))))
+      past : (callers : List Caller) (size : ℕ) (a b : Activity) (slots : List Word) (rest : Flow → Activity → Option Outcome)
+          → Good a
+          → Outs s function exits to count callers size ((run >>= after_break) a) rest
+          → run a ≡ Done Broke b → HasLocals size count slots (in_frame (keeping count) b)
+          → Lands s Good function room Broke run broken to
+          → Arrives s (here function broken count slots callers) (in_frame (keeping count) b)
+          (continued (after_break Broke b) rest)
+      past callers size a b slots rest good outs is there (never isnt) = absurd (isnt a b good is)
+      past callers size a b slots rest good outs is there (by_release has to_is) =
+          let facts = broke a b good is in
+          let whole = kept_whole count b facts.1 in
+          subst (λ (x : Activity). Arrives s (here function broken count slots callers) x (continued (after_break Broke b) rest))
+          (sym whole)
+          (arrives_then s (here function broken count slots callers) b (releases.release b) (λ _. give On) rest
+          (releases_at s Good function room broken count slots callers b (λ _ e. rest On e) facts.0 has (λ e freed.
+          subst (λ (n : ℕ). Arrives s (here function n count slots callers) e (rest On e)) to_is
+          (outs.on e slots (then_is (run a) Broke b after_break _ is
+          (ap (λ (p : Progress (Unit {0})). onward p (λ _. give On)) freed))
+          (released_stands size count slots b e freed
+          (subst (λ (x : Activity). HasLocals size count slots x) whole there))))))
 
   -- The code of a loop. Its condition leads into a turn or out; a turn has its body, its steps, and the tick of the
   -- next turn, by which it leads back.
@@ -124,7 +124,6 @@ module _ (s : Setting) (Good : Activity → Type 0) (function room : ℕ) where
       (tested : Spends Good t.condition)
       (bodied : Spends Good t.body)
       (stepped : Spends Good t.steps) where
-
     -- the next turn, from its tick on
     abbrev Again : ℕ → Type 0
     Again depth =

@@ -45,7 +45,7 @@ use Rattle.ash_compile.proofs.Emission.{HasAt}
 use Rattle.ash_compile.proofs.Typed.{evaluates, stays_good, alive_of, HasNoHandle}
 use Rattle.ash_compile.proofs.PlaceGuards.{Well, well_of, local_within}
 use Rattle.ash_compile.proofs.PlaceSteps.{slots_after, locals_below, reads, writes}
-use Rattle.ash_compile.proofs.PlaceLocals.{done_locals, reads_locals, writes_locals, after_take}
+use Rattle.ash_compile.proofs.PlaceLocals.{reads_locals, writes_locals, after_take}
 
 -- slots
 
@@ -240,9 +240,7 @@ module _ (s : Scene) where
       rest
       (step_is s.setting (Good s) s.function s.room w b at (reading spot to) has
       ∙ reads s w b spot of at to scene well fits bears none) low
-      (λ v d ran. goes v d ran
-      (done_locals (onward (located spot w.slots b) (λ l. read l >>= give_held)) v d (b.frame).locals
-      (reads_locals spot w.slots b) ran))
+      (λ v d ran. goes v d ran (reads_locals spot w.slots b d v ran))
 
   -- What is written is alive, and what was there is held.
   pub writes_on : (w : Window) (b : Activity) (spot : Spot) (of : VarType) (at from : ℕ) (word : Word)
@@ -259,8 +257,7 @@ module _ (s : Scene) where
       (step_is s.setting (Good s) s.function s.room w b at (writing spot from) has
       ∙ writes s w b spot of at from word scene well fits bears is alive)
       (λ v d ran. goes v d ran
-      (done_locals (onward (located spot w.slots b) (λ l. write l word)) v d (slots_after spot word (b.frame).locals)
-      (writes_locals spot w.slots word b) ran
+      (writes_locals spot w.slots word b d v ran
       ∙ ap (slots_after spot word) fits.locals
       ∙ after_take spot word w.slots w.count (λ n same. local_below w b spot of n well fits bears same)))
 

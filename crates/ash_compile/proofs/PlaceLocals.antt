@@ -1,197 +1,159 @@
 -- What reading and writing at a place leaves of the locals of the frame.
-use Rattle.std.proofs.Common.{◌≡◌, ◌<◌, ℕ, List, take, length, refl, sym, ap, ◌∙◌, subst, true, false}
-use Rattle.std.proofs.Common.{Bool, nat_lt}
-use Rattle.std.specs.Prelude.{Option, Some, None, slice_index_or, if◌then◌else◌}
+use Rattle.std.proofs.Common.{◌≡◌, ◌<◌, ℕ, List, take, length, refl, sym, ap, ◌∙◌, true, false, Bool, nat_lt}
+use Rattle.std.specs.Prelude.{Some, None, slice_index_or, slice_set}
 use Rattle.std.proofs.Math.Seq.{take-set-lt}
 use Rattle.ash_host.specs.declared.word.Word.{Word}
 use Rattle.ash_host.specs.declared.word.Word.TheVariants as words
-use Rattle.ash_host.specs.declared.answer.HostAnswer.{HostAnswer}
-use Rattle.ash_host.specs.declared.answer.HostAnswer.TheVariants as answers
-use Rattle.ash_host.specs.declared.event.Target.{Target}
 use Rattle.ash_host.specs.declared.event.Target.TheVariants as targets
-use Rattle.ash_host.specs.Calls.{HostCall, Get, Set}
-use Rattle.ash_host.specs.Records.{HostRecord}
+use Rattle.ash_host.specs.Calls.{Get, Set}
 use Rattle.ash_typed.specs.declared.types.VarType.{VarType}
-use Rattle.ash_meaning.specs.declared.exception.Exception.TheVariants.{IndexOutOfBounds, BadHostAnswer}
-use Rattle.ash_meaning.specs.Activity.{Activity, in_world}
-use Rattle.ash_meaning.specs.Runs.{Run, Progress, Done, Ended, NoStep, onward, give, raise, found, change, demand}
-use Rattle.ash_meaning.specs.Runs.{◌>>=◌, ◌>>◌}
+use Rattle.ash_meaning.specs.declared.exception.Exception.TheVariants.{IndexOutOfBounds}
+use Rattle.ash_meaning.specs.Activity.{Activity}
+use Rattle.ash_meaning.specs.Runs.{Progress, Done, onward, give, demand, ◌>>=◌}
 use Rattle.ash_meaning.specs.Releases.{give_held}
 use Rattle.ash_meaning.specs.ObjectSteps.{object_of, words_in}
 use Rattle.ash_meaning.specs.ArraySteps.{natural_of, index_in}
-use Rattle.ash_meaning.specs.HostSteps.{call_host, next_answer, after_answer, is_of, accept}
+use Rattle.ash_meaning.specs.HostSteps.{call_host, accept}
 use Rattle.ash_meaning.specs.Locations.{Location, Local, Global, Part, Property, read, write}
-use Rattle.ash_meaning.specs.ExpressionMeaning.{element_at}
 use Rattle.ash_compile.specs.declared.places.Spot.{Spot}
 use Rattle.ash_compile.specs.declared.places.Spot.TheVariants as spots
 use Rattle.ash_compile.specs.Places.{located}
+use Rattle.ash_compile.proofs.Phrases.{grouped}
+use Rattle.ash_compile.proofs.KeptLocals.{locals_after, KeepsLocals, done_keeps, keeps_then, keeps_give}
+use Rattle.ash_compile.proofs.KeptLocals.{keeps_give_held, keeps_call_host, keeps_accept}
 use Rattle.ash_compile.proofs.PlaceSteps.{slots_after}
-
--- the locals after a step, or those before where there is none
-abbrev pub locals_in : {A : Type 0} → List Word → Progress A → List Word
-locals_in other (Done v b) = (b.frame).locals
-locals_in other (Ended e b) = (b.frame).locals
-locals_in other NoStep = other
-
-pub done_locals : {A : Type 0} (p : Progress A) (v : A) (b : Activity) (ls : List Word) → locals_in ls p ≡ ls → p
-    ≡ Done v b
-    → (b.frame).locals ≡ ls
-done_locals {A} p v b ls same is = ap (λ (q : Progress A). locals_in ls q) (sym is) ∙ same
-
-bound_locals : {A B : Type 0} (p : Progress A) (g : A → Run B) (ls : List Word) → locals_in ls p ≡ ls
-    → ((v : A) (b : Activity) → locals_in (b.frame).locals (g v b) ≡ (b.frame).locals) → locals_in ls (onward p g) ≡ ls
-bound_locals (Done v b) g ls first next = subst (λ (xs : List Word). locals_in xs (g v b) ≡ xs) first (next v b)
-bound_locals (Ended e b) g ls first next = first
-bound_locals NoStep g ls first next = refl
-
--- hosts
-
-taken_locals : (target : Target) (o : Option (HostRecord × List HostRecord)) (b : Activity)
-    → locals_in (b.frame).locals (onward (found o b)
-    (λ taken. change (in_world (after_answer target taken.0 taken.1)) >> give (taken.0).answer)) ≡ (b.frame).locals
-taken_locals target (Some taken) b = refl
-taken_locals target None b = refl
-
-call_locals : (target : Target) (call : HostCall) (b : Activity)
-    → locals_in (b.frame).locals (call_host target call b) ≡ (b.frame).locals
-call_locals target call b = taken_locals target (next_answer target call b.world) b
-
-word_locals : (t : Bool) (word : Word) (b : Activity)
-    → locals_in (b.frame).locals ((if t then give word else raise BadHostAnswer) b) ≡ (b.frame).locals
-word_locals true word b = refl
-word_locals false word b = refl
-
-accept_locals : (result : Option VarType) (answer : HostAnswer) (b : Activity)
-    → locals_in (b.frame).locals (accept result answer b) ≡ (b.frame).locals
-accept_locals None answers.Nothing b = refl
-accept_locals (Some of) answers.Nothing b = refl
-accept_locals None (answers.Value word) b = refl
-accept_locals (Some of) (answers.Value word) b = word_locals (is_of of word) word b
-accept_locals None (answers.Raise code) b = refl
-accept_locals (Some of) (answers.Raise code) b = refl
-accept_locals None answers.NoMemory b = refl
-accept_locals (Some of) answers.NoMemory b = refl
-
-get_locals : (number id : ℕ) (of : VarType) (b : Activity)
-    → locals_in (b.frame).locals (read (Property number id of) b) ≡ (b.frame).locals
-get_locals number id of b =
-    bound_locals (call_host (targets.Object number) (Get id) b) (accept (Some of)) (b.frame).locals
-    (call_locals (targets.Object number) (Get id) b) (λ answer d. accept_locals (Some of) answer d)
-
-set_locals : (number id : ℕ) (of : VarType) (word : Word) (b : Activity)
-    → locals_in (b.frame).locals (write (Property number id of) word b) ≡ (b.frame).locals
-set_locals number id of word b =
-    bound_locals (onward (call_host (targets.Object number) (Set id word) b) (accept None)) (λ v. give tt)
-    (b.frame).locals
-    (bound_locals (call_host (targets.Object number) (Set id word) b) (accept None) (b.frame).locals
-    (call_locals (targets.Object number) (Set id word) b) (λ answer d. accept_locals None answer d))
-    (λ v d. refl)
 
 -- what is left of a place
 
-object_locals : (x : Word) (b : Activity) → locals_in (b.frame).locals (object_of x b) ≡ (b.frame).locals
-object_locals words.Null b = refl
-object_locals (words.Bool t) b = refl
-object_locals (words.Int n) b = refl
-object_locals (words.Uint n) b = refl
-object_locals (words.Int64 n) b = refl
-object_locals (words.Uint64 n) b = refl
-object_locals (words.Object number) b = refl
+keeps_object : (x : Word) → KeepsLocals (object_of x)
+keeps_object words.Null = record { keeps = λ a. refl }
+keeps_object (words.Bool t) = record { keeps = λ a. refl }
+keeps_object (words.Int n) = record { keeps = λ a. refl }
+keeps_object (words.Uint n) = record { keeps = λ a. refl }
+keeps_object (words.Int64 n) = record { keeps = λ a. refl }
+keeps_object (words.Uint64 n) = record { keeps = λ a. refl }
+keeps_object (words.Object number) = record { keeps = λ a. refl }
 
-index_locals : (t : Bool) (k : ℕ) (b : Activity)
-    → locals_in (b.frame).locals (onward (demand t IndexOutOfBounds b) (λ _. give k)) ≡ (b.frame).locals
-index_locals true k b = refl
-index_locals false k b = refl
+index_by : (t : Bool) (k : ℕ) (a : Activity)
+    → locals_after (a.frame).locals (onward (demand t IndexOutOfBounds a) (λ _. give k)) ≡ (a.frame).locals
+index_by true k a = refl
+index_by false k a = refl
 
-located_locals : (spot : Spot) (ws : List Word) (b : Activity)
-    → locals_in (b.frame).locals (located spot ws b) ≡ (b.frame).locals
-located_locals (spots.Local n) ws b = refl
-located_locals (spots.Global n) ws b = refl
-located_locals (spots.Field object place) ws b =
+keeps_index : (number : ℕ) (i : Word) → KeepsLocals (index_in number i)
+keeps_index number i = record {
+  keeps = λ a. index_by (nat_lt (natural_of i) (length (words_in number a.world))) (natural_of i) a;
+}
+
+keeps_located : (spot : Spot) (ws : List Word) → KeepsLocals (located spot ws)
+keeps_located (spots.Local n) ws = keeps_give (Local n)
+keeps_located (spots.Global n) ws = keeps_give (Global n)
+keeps_located (spots.Field object place) ws =
     let x = slice_index_or ws object words.Null in
-    bound_locals (object_of x b) (λ number. give (Part number place)) (b.frame).locals (object_locals x b)
-    (λ number d. refl)
-located_locals (spots.Property object id of) ws b =
+    keeps_then (object_of x) (λ number. give (Part number place)) (keeps_object x)
+    (λ number. keeps_give (Part number place))
+keeps_located (spots.Property object id of) ws =
     let x = slice_index_or ws object words.Null in
-    bound_locals (object_of x b) (λ number. give (Property number id of)) (b.frame).locals (object_locals x b)
-    (λ number d. refl)
-located_locals (spots.Element array index) ws b =
+    keeps_then (object_of x) (λ number. give (Property number id of)) (keeps_object x)
+    (λ number. keeps_give (Property number id of))
+keeps_located (spots.Element array index) ws =
     let x = slice_index_or ws array words.Null in
     let i = slice_index_or ws index words.Null in
-    bound_locals (object_of x b) (λ number. index_in number i >>= (λ place. give (Part number place))) (b.frame).locals
-    (object_locals x b)
-    (λ number d. bound_locals (index_in number i d) (λ place. give (Part number place)) (d.frame).locals
-    (index_locals (nat_lt (natural_of i) (length (words_in number d.world))) (natural_of i) d) (λ place e. refl))
-
-read_locals : (l : Location) (b : Activity) → locals_in (b.frame).locals (read l b) ≡ (b.frame).locals
-read_locals (Local n) b = refl
-read_locals (Global n) b = refl
-read_locals (Part number place) b = refl
-read_locals (Property number id of) b = get_locals number id of b
+    keeps_then (object_of x) (λ number. index_in number i >>= (λ place. give (Part number place))) (keeps_object x)
+    (λ number. keeps_then (index_in number i) (λ place. give (Part number place)) (keeps_index number i)
+    (λ place. keeps_give (Part number place)))
 
 -- Reading changes no local.
-pub reads_locals : (spot : Spot) (ws : List Word) (b : Activity)
-    → locals_in (b.frame).locals (onward (located spot ws b) (λ l. read l >>= give_held)) ≡ (b.frame).locals
-reads_locals spot ws b =
-    bound_locals (located spot ws b) (λ l. read l >>= give_held) (b.frame).locals (located_locals spot ws b) (λ l d.
-    bound_locals (read l d) give_held (d.frame).locals (read_locals l d) (λ v e. refl))
+
+keeps_read : (l : Location) → KeepsLocals (read l)
+keeps_read (Local n) = record { keeps = λ a. refl }
+keeps_read (Global n) = record { keeps = λ a. refl }
+keeps_read (Part number place) = record { keeps = λ a. refl }
+keeps_read (Property number id of) =
+    keeps_then (call_host (targets.Object number) (Get id)) (accept (Some of))
+    (keeps_call_host (targets.Object number) (Get id)) (λ answer. keeps_accept (Some of) answer)
+
+pub reads_locals : (spot : Spot) (ws : List Word) (b d : Activity) (v : Word)
+    → onward (located spot ws b) (λ l. read l >>= give_held) ≡ Done v d → (d.frame).locals ≡ (b.frame).locals
+reads_locals spot ws b d v ran =
+    done_keeps (located spot ws >>= (λ l. read l >>= give_held)) b d v
+    (keeps_then (located spot ws) (λ l. read l >>= give_held) (keeps_located spot ws)
+    (λ l. keeps_then (read l) give_held (keeps_read l) keeps_give_held)) ran
 
 -- Writing changes the local that is written, and no other.
 
-field_locals : (x : Word) (place : ℕ) (word : Word) (b : Activity)
-    → locals_in (b.frame).locals (onward (onward (object_of x b) (λ number. give (Part number place)))
-    (λ l. write l word))
-    ≡ (b.frame).locals
-field_locals words.Null place word b = refl
-field_locals (words.Bool t) place word b = refl
-field_locals (words.Int n) place word b = refl
-field_locals (words.Uint n) place word b = refl
-field_locals (words.Int64 n) place word b = refl
-field_locals (words.Uint64 n) place word b = refl
-field_locals (words.Object number) place word b = refl
+keeps_part : (number place : ℕ) (word : Word) → KeepsLocals (write (Part number place) word)
+keeps_part number place word = record { keeps = λ a. refl }
 
-property_locals : (x : Word) (id : ℕ) (of : VarType) (word : Word) (b : Activity)
-    → locals_in (b.frame).locals (onward (onward (object_of x b) (λ number. give (Property number id of)))
-    (λ l. write l word))
-    ≡ (b.frame).locals
-property_locals words.Null id of word b = refl
-property_locals (words.Bool t) id of word b = refl
-property_locals (words.Int n) id of word b = refl
-property_locals (words.Uint n) id of word b = refl
-property_locals (words.Int64 n) id of word b = refl
-property_locals (words.Uint64 n) id of word b = refl
-property_locals (words.Object number) id of word b = set_locals number id of word b
+keeps_property : (number id : ℕ) (of : VarType) (word : Word) → KeepsLocals (write (Property number id of) word)
+keeps_property number id of word =
+    keeps_then (call_host (targets.Object number) (Set id word) >>= accept None) (λ _. give tt)
+    (keeps_then (call_host (targets.Object number) (Set id word)) (accept None)
+    (keeps_call_host (targets.Object number) (Set id word)) (λ answer. keeps_accept None answer))
+    (λ _. keeps_give tt)
 
-indexed_locals : (t : Bool) (number k : ℕ) (word : Word) (b : Activity)
-    → locals_in (b.frame).locals (onward (onward (onward (demand t IndexOutOfBounds b) (λ _. give k))
-    (λ place. give (Part number place))) (λ l. write l word)) ≡ (b.frame).locals
-indexed_locals true number k word b = refl
-indexed_locals false number k word b = refl
+field_keeps : (x : Word) (place : ℕ) (word : Word)
+    → KeepsLocals (object_of x >>= (λ number. give (Part number place)) >>= (λ l. write l word))
+field_keeps x place word = record {
+  keeps = λ a.
+      ap (λ (p : Progress (Unit {0})). locals_after (a.frame).locals p)
+      (grouped (object_of x a) (λ number. give (Part number place)) (λ l. write l word))
+      ∙ (keeps_then (object_of x) (λ number. write (Part number place) word) (keeps_object x)
+      (λ number. keeps_part number place word)).keeps a;
+}
 
-element_locals : (x i word : Word) (b : Activity)
-    → locals_in (b.frame).locals (onward (element_at x i b) (λ l. write l word)) ≡ (b.frame).locals
-element_locals words.Null i word b = refl
-element_locals (words.Bool t) i word b = refl
-element_locals (words.Int n) i word b = refl
-element_locals (words.Uint n) i word b = refl
-element_locals (words.Int64 n) i word b = refl
-element_locals (words.Uint64 n) i word b = refl
-element_locals (words.Object number) i word b =
-    indexed_locals (nat_lt (natural_of i) (length (words_in number b.world))) number (natural_of i) word b
+property_keeps : (x : Word) (id : ℕ) (of : VarType) (word : Word)
+    → KeepsLocals (object_of x >>= (λ number. give (Property number id of)) >>= (λ l. write l word))
+property_keeps x id of word = record {
+  keeps = λ a.
+      ap (λ (p : Progress (Unit {0})). locals_after (a.frame).locals p)
+      (grouped (object_of x a) (λ number. give (Property number id of)) (λ l. write l word))
+      ∙ (keeps_then (object_of x) (λ number. write (Property number id of) word) (keeps_object x)
+      (λ number. keeps_property number id of word)).keeps a;
+}
 
-pub writes_locals : (spot : Spot) (ws : List Word) (word : Word) (b : Activity)
-    → locals_in (slots_after spot word (b.frame).locals) (onward (located spot ws b) (λ l. write l word))
-    ≡ slots_after spot word (b.frame).locals
-writes_locals (spots.Local n) ws word b = refl
-writes_locals (spots.Global n) ws word b = refl
-writes_locals (spots.Field object place) ws word b = field_locals (slice_index_or ws object words.Null) place word b
-writes_locals (spots.Property object id of) ws word b = property_locals (slice_index_or ws object words.Null) id of
-    word b
-writes_locals (spots.Element array index) ws word b =
-    element_locals (slice_index_or ws array words.Null) (slice_index_or ws index words.Null) word b
+indexed_keeps : (number : ℕ) (i word : Word)
+    → KeepsLocals (index_in number i >>= (λ place. give (Part number place)) >>= (λ l. write l word))
+indexed_keeps number i word = record {
+  keeps = λ a.
+      ap (λ (p : Progress (Unit {0})). locals_after (a.frame).locals p)
+      (grouped (index_in number i a) (λ place. give (Part number place)) (λ l. write l word))
+      ∙ (keeps_then (index_in number i) (λ place. write (Part number place) word) (keeps_index number i)
+      (λ place. keeps_part number place word)).keeps a;
+}
+
+element_keeps : (x i word : Word)
+    → KeepsLocals (object_of x >>= (λ number. index_in number i >>= (λ place. give (Part number place)))
+    >>= (λ l. write l word))
+element_keeps x i word = record {
+  keeps = λ a.
+      ap (λ (p : Progress (Unit {0})). locals_after (a.frame).locals p)
+      (grouped (object_of x a) (λ number. index_in number i >>= (λ place. give (Part number place)))
+      (λ l. write l word))
+      ∙ (keeps_then (object_of x)
+      (λ number. index_in number i >>= (λ place. give (Part number place)) >>= (λ l. write l word)) (keeps_object x)
+      (λ number. indexed_keeps number i word)).keeps a;
+}
+
+pub writes_locals : (spot : Spot) (ws : List Word) (word : Word) (b d : Activity) (v : Unit {0})
+    → onward (located spot ws b) (λ l. write l word) ≡ Done v d
+    → (d.frame).locals ≡ slots_after spot word (b.frame).locals
+writes_locals (spots.Local n) ws word b d v ran =
+    ap (λ (p : Progress (Unit {0})). locals_after (slice_set (b.frame).locals n word) p) (sym ran)
+writes_locals (spots.Global n) ws word b d v ran =
+    ap (λ (p : Progress (Unit {0})). locals_after (b.frame).locals p) (sym ran)
+writes_locals (spots.Field object place) ws word b d v ran =
+    done_keeps (located (spots.Field object place) ws >>= (λ l. write l word)) b d v
+    (field_keeps (slice_index_or ws object words.Null) place word) ran
+writes_locals (spots.Property object id of) ws word b d v ran =
+    done_keeps (located (spots.Property object id of) ws >>= (λ l. write l word)) b d v
+    (property_keeps (slice_index_or ws object words.Null) id of word) ran
+writes_locals (spots.Element array index) ws word b d v ran =
+    done_keeps (located (spots.Element array index) ws >>= (λ l. write l word)) b d v
+    (element_keeps (slice_index_or ws array words.Null) (slice_index_or ws index words.Null) word) ran
 
 -- The locals stay the first slots.
-pub after_take : (spot : Spot) (word : Word) (ws : List Word) (count : ℕ) → ((n : ℕ) → spot ≡ spots.Local n → n < count)
+pub after_take : (spot : Spot) (word : Word) (ws : List Word) (count : ℕ)
+    → ((n : ℕ) → spot ≡ spots.Local n → n < count)
     → slots_after spot word (take count ws) ≡ take count (slots_after spot word ws)
 after_take (spots.Local n) word ws count low = sym (take-set-lt count ws n word (low n refl))
 after_take (spots.Global n) word ws count low = refl

@@ -201,7 +201,6 @@ module _ (s : Scene) (scene : IsScene s) (ranked : IsRanked s) where
       (lands : Lands s.setting (Ready s) s.function s.room Continued (statement (calls_of s) s.depth x) again steps)
       (acts : DoesParts (evaluate_all (calls_of s) es) steps back)
       (has_loop : HasAt back (i.Loop line head)) where
-
     tested : Spends (Ready s) (condition_or_true (calls_of s) c)
     tested = spends_condition_or_true s scene c sound_condition
 
@@ -240,7 +239,7 @@ module _ (s : Scene) (scene : IsScene s) (ranked : IsRanked s) where
   does_repeat exits line inside from broken to has does spends lands =
       let run = tick line >> loop (calls_of s) s.depth line inside in
       let keeps = spends_then (tick line) (λ _. loop (calls_of s) s.depth line inside) (spends_tick s scene line)
-          (λ _. spends) in
+      (λ _. spends) in
       loops.after_breaks s.setting (Ready s) s.function s.room exits run from broken to locals
       (loops.ticks_then s.setting (Ready s) s.function s.room (record exits { broken = record { at = broken; outer = locals } })
       (Ready s) (loop (calls_of s) s.depth line inside) line from to locals locals has (ticked line) does)

@@ -64,9 +64,9 @@ module _ (s : Scene) (scene : IsScene s) where
   each_from test [] each = tt
   each_from test (l ∷ ls) each = pick (each_from test ls each.1) (test l.constant)
     where
-    pick : EachSpends (from_label test ls) → (t : Bool) → EachSpends (if t then l ∷ ls else from_label test ls)
-    pick later true = each
-    pick later false = later
+      pick : EachSpends (from_label test ls) → (t : Bool) → EachSpends (if t then l ∷ ls else from_label test ls)
+      pick later true = each
+      pick later false = later
 
   each_or : (ls others : List Labelled) → EachSpends ls → EachSpends others → EachSpends (or_else ls others)
   each_or [] others each other = other
@@ -105,9 +105,9 @@ module _ (s : Scene) (scene : IsScene s) where
       let p = expression (calls_of s) e in
       let run : Run Flow = tick line >> full p >>= switch all in
       let keeps : Spends (Ready s) run
-          = spends_then (tick line >> full p) (switch all)
-          (spends_then (tick line) (λ _. full p) (spends_tick s scene line) (λ _. spends_full s scene e of typed))
-          (λ v. spends_switch all v each) in
+      = spends_then (tick line >> full p) (switch all)
+      (spends_then (tick line) (λ _. full p) (spends_tick s scene line) (λ _. spends_full s scene e of typed))
+      (λ v. spends_switch all v each) in
       loops.after_breaks s.setting (Ready s) s.function s.room exits run from broken to (length (s.env).locals)
       (switches.switches s.setting (Ready s) s.function s.room
       (record exits { broken = record { at = broken; outer = length (s.env).locals } }) (Ready s) p all ats line from mid to

@@ -72,15 +72,15 @@ module _ (s : Setting) (Good : Activity → Type 0) (function room : ℕ) where
       → Falls exits ls ats to count
       → Performs s Good function room exits (fall_through (from_label test ls)) (place_of test ls ats to) to count count
   falls_from exits test [] [] to count falls = performs_none s Good function room exits to count
-  falls_from exits test (l ∷ ls) (at ∷ ats) to count falls = 
+  falls_from exits test (l ∷ ls) (at ∷ ats) to count falls =
       pick (falls_from exits test ls ats to count falls.2) (test l.constant)
     where
-    pick : Performs s Good function room exits (fall_through (from_label test ls)) (place_of test ls ats to) to count count
-        → (t : Bool)
-        → Performs s Good function room exits (fall_through (if t then l ∷ ls else from_label test ls))
-        (if t then at else place_of test ls ats to) to count count
-    pick later true = falls_through exits (l ∷ ls) (at ∷ ats) to count falls
-    pick later false = later
+      pick : Performs s Good function room exits (fall_through (from_label test ls)) (place_of test ls ats to) to count count
+          → (t : Bool)
+          → Performs s Good function room exits (fall_through (if t then l ∷ ls else from_label test ls))
+          (if t then at else place_of test ls ats to) to count count
+      pick later true = falls_through exits (l ∷ ls) (at ∷ ats) to count falls
+      pick later false = later
   falls_from exits test [] (at ∷ ats) to count falls = absurd falls
   falls_from exits test (l ∷ ls) [] to count falls = absurd falls
 
@@ -101,11 +101,11 @@ module _ (s : Setting) (Good : Activity → Type 0) (function room : ℕ) where
       ∙ ap (λ (u : Bool). (if u then go_to to c else go c) a) tested
       ∙ by_truth t
     where
-    by_truth : (u : Bool)
-        → (if u then go_to to (here function at count slots callers) else go (here function at count slots callers)) a
-        ≡ Some (Done (GoesOn (here function (if u then to else at + 1) count slots callers)) a)
-    by_truth true = refl
-    by_truth false = refl
+      by_truth : (u : Bool)
+          → (if u then go_to to (here function at count slots callers) else go (here function at count slots callers)) a
+          ≡ Some (Done (GoesOn (here function (if u then to else at + 1) count slots callers)) a)
+      by_truth true = refl
+      by_truth false = refl
 
   -- all tests
 
@@ -130,35 +130,35 @@ module _ (s : Setting) (Good : Activity → Type 0) (function room : ℕ) where
       by_constant l.constant tests
       (λ here_at more. chooses exits here_at ls others ats other to count number more falls.2 performs)
     where
-    by_truth : (constant : ℤ) (word : Word) → number_of word ≡ constant
-        → Has s Good function room at (i.JumpIfNumber count word place) → Tests (at + 1) ls ats other count
-        → ((here_at : ℕ) → Tests here_at ls ats other count
-        → Chooses exits here_at to count number (fall_through (or_else (from_label (is_constant number) ls) others)))
-        → (t : Bool) → int_eq number constant ≡ t
-        → Chooses exits at to count number
-        (fall_through (or_else (if t then l ∷ ls else from_label (is_constant number) ls) others))
-    by_truth constant word same has more later true tested callers size slots a rest is long stands good outs =
-        let run = fall_through (l ∷ ls) in
-        steps_on s (here function at count slots callers) a (here function place count slots callers) a
-        (continued (run a) rest)
-        (tests_at at place count count slots callers a number constant word true has is same tested)
-        ((falls_through exits (l ∷ ls) (place ∷ ats) to count falls).comes callers size slots a rest long stands good outs)
-    by_truth constant word same has more later false tested callers size slots a rest is long stands good outs =
-        let run = fall_through (or_else (from_label (is_constant number) ls) others) in
-        steps_on s (here function at count slots callers) a (here function (at + 1) count slots callers) a
-        (continued (run a) rest)
-        (tests_at at place count count slots callers a number constant word false has is same tested)
-        (later (at + 1) more callers size slots a rest is long stands good outs)
+      by_truth : (constant : ℤ) (word : Word) → number_of word ≡ constant
+          → Has s Good function room at (i.JumpIfNumber count word place) → Tests (at + 1) ls ats other count
+          → ((here_at : ℕ) → Tests here_at ls ats other count
+          → Chooses exits here_at to count number (fall_through (or_else (from_label (is_constant number) ls) others)))
+          → (t : Bool) → int_eq number constant ≡ t
+          → Chooses exits at to count number
+          (fall_through (or_else (if t then l ∷ ls else from_label (is_constant number) ls) others))
+      by_truth constant word same has more later true tested callers size slots a rest is long stands good outs =
+          let run = fall_through (l ∷ ls) in
+          steps_on s (here function at count slots callers) a (here function place count slots callers) a
+          (continued (run a) rest)
+          (tests_at at place count count slots callers a number constant word true has is same tested)
+          ((falls_through exits (l ∷ ls) (place ∷ ats) to count falls).comes callers size slots a rest long stands good outs)
+      by_truth constant word same has more later false tested callers size slots a rest is long stands good outs =
+          let run = fall_through (or_else (from_label (is_constant number) ls) others) in
+          steps_on s (here function at count slots callers) a (here function (at + 1) count slots callers) a
+          (continued (run a) rest)
+          (tests_at at place count count slots callers a number constant word false has is same tested)
+          (later (at + 1) more callers size slots a rest is long stands good outs)
 
-    by_constant : (constant : Option ℤ) → TestsOne at place count constant (Tests at ls ats other count)
-        (Tests (at + 1) ls ats other count)
-        → ((here_at : ℕ) → Tests here_at ls ats other count
-        → Chooses exits here_at to count number (fall_through (or_else (from_label (is_constant number) ls) others)))
-        → Chooses exits at to count number
-        (fall_through (or_else (if is_constant number constant then l ∷ ls else from_label (is_constant number) ls) others))
-    by_constant None more later = later at more
-    by_constant (Some constant) more later =
-        by_truth constant more.0 more.1 more.2 more.3 later (int_eq number constant) refl
+      by_constant : (constant : Option ℤ) → TestsOne at place count constant (Tests at ls ats other count)
+          (Tests (at + 1) ls ats other count)
+          → ((here_at : ℕ) → Tests here_at ls ats other count
+          → Chooses exits here_at to count number (fall_through (or_else (from_label (is_constant number) ls) others)))
+          → Chooses exits at to count number
+          (fall_through (or_else (if is_constant number constant then l ∷ ls else from_label (is_constant number) ls) others))
+      by_constant None more later = later at more
+      by_constant (Some constant) more later =
+          by_truth constant more.0 more.1 more.2 more.3 later (int_eq number constant) refl
   chooses exits at [] others (place ∷ ats) other to count number tests falls performs = absurd tests
   chooses exits at (l ∷ ls) others [] other to count number tests falls performs = absurd tests
 
@@ -195,8 +195,8 @@ module _ (s : Setting) (Good : Activity → Type 0) (function room : ℕ) where
         (ends_full s Begun function room mid count next callers d (ranks b d v (ticked a b tt good ran) computed) ends)
         (λ u e ended.
         let done : full p b ≡ Done v e
-            = then_is (p b) v d (λ x. releases.end_expression >> give x) _ computed
-            (ap (λ (x : Progress (Unit {0})). onward x (λ _. give v)) ended) in
+        = then_is (p b) v d (λ x. releases.end_expression >> give x) _ computed
+        (ap (λ (x : Progress (Unit {0})). onward x (λ _. give v)) ended) in
         choose callers size next v e rest (ap number_of held.value) long
         (ended_stands size count next d e ended (held_there size count count slots next callers v b d begun held))
         (keeps b e v (ticked a b tt good ran) done)
@@ -205,12 +205,12 @@ module _ (s : Setting) (Good : Activity → Type 0) (function room : ℕ) where
         outs)))))));
   }
     where
-    choose : (callers : List Caller) (size : ℕ) (slots : List Word) (v : Word) (a : Activity)
-        (rest : Flow → Activity → Option Outcome)
-        → number_of (slice_index_or slots count Null) ≡ number_of v
-        → room ≤ size → HasLocals size count slots a → Good a
-        → Outs s function exits to count callers size (switch all v a) rest
-        → Arrives s (here function (mid + 1) count slots callers) a (continued (switch all v a) rest)
-    choose callers size slots v a rest =
-        chooses exits (mid + 1) all (from_label is_none all) ats (place_of is_none all ats to) to count (number_of v) tests
-        falls (falls_from exits is_none all ats to count falls) callers size slots a rest
+      choose : (callers : List Caller) (size : ℕ) (slots : List Word) (v : Word) (a : Activity)
+          (rest : Flow → Activity → Option Outcome)
+          → number_of (slice_index_or slots count Null) ≡ number_of v
+          → room ≤ size → HasLocals size count slots a → Good a
+          → Outs s function exits to count callers size (switch all v a) rest
+          → Arrives s (here function (mid + 1) count slots callers) a (continued (switch all v a) rest)
+      choose callers size slots v a rest =
+          chooses exits (mid + 1) all (from_label is_none all) ats (place_of is_none all ats to) to count (number_of v) tests
+          falls (falls_from exits is_none all ats to count falls) callers size slots a rest

@@ -64,9 +64,10 @@ fewer_ticks s e a b v good ran =
 
 pub stays_good : (s : Scene) (e : Expr) (of : ValueType) (a b : Activity) (v : Word) → IsScene s → IsWellTyped s.env e of
     → Good s a → expression (calls_of s) e a ≡ Done v b → Good s b
-stays_good s e of a b v scene typed good ran =
-    (((evaluates s e of a b v scene typed good ran).goes).passes.well,
-    omega (arith, fewer_ticks s e a b v good ran, good.1))
+stays_good s e of a b v scene typed good ran = (
+  ((evaluates s e of a b v scene typed good ran).goes).passes.well,
+  omega (arith, fewer_ticks s e a b v good ran, good.1),
+)
 
 -- words of a type
 

@@ -65,9 +65,9 @@ pub spends_give : {A : Type 0} (Good : Activity → Type 0) (v : A) → Spends G
 spends_give {A} Good v a b w good is =
     subst (λ (p : Progress A). At p) is (good, omega arith)
   where
-  At : Progress A → Type 0
-  At (Done u d) = Good d × (d.ticks ≤ a.ticks)
-  At _ = Unit {0}
+    At : Progress A → Type 0
+    At (Done u d) = Good d × (d.ticks ≤ a.ticks)
+    At _ = Unit {0}
 
 module _ (s : Scene) (scene : IsScene s) where
   -- the law of ticks, and those of expressions and of statements
@@ -143,7 +143,7 @@ module _ (s : Scene) (scene : IsScene s) where
       → IsSoundStmt (scope_of result breaks continues) x → Spends (Ready s) (statement (calls_of s) s.depth x)
   spends_statement result breaks continues x is_sound a b f good is =
       let fewer = most_left (statement (calls_of s) s.depth x a) a.ticks f b
-          (((ticks_fall (s.context).program s.depth).phrases).statements x a good.1) is in
+      (((ticks_fall (s.context).program s.depth).phrases).statements x a good.1) is in
       ((((leads result breaks continues x a b f is_sound good is).passes).well, omega (arith, fewer, good.1)), fewer)
 
   -- a statement that may not jump does not

@@ -25,7 +25,7 @@ use Rattle.ash_code.specs.Running.{instruction_at}
 use Rattle.ash_compile.specs.declared.builder.CodeBuilder.{CodeBuilder}
 use Rattle.ash_compile.specs.declared.bodies.Scope.{Scope}
 use Rattle.ash_compile.specs.declared.bodies.Jumps.{Jumps}
-use Rattle.ash_compile.specs.Performances.{Exit, Exits, Acts, Performs, Reaches, Lands}
+use Rattle.ash_compile.specs.Performances.{Exits, Acts, Performs, Reaches, Lands}
 use Rattle.ash_compile.specs.Emission.{code_of, end_of, Keeps, Puts, Leads, Scene, IsScene, Suits, calls_of}
 use Rattle.ash_compile.specs.Emission.{Good, Stands, Emits}
 

@@ -1,13 +1,15 @@
-//! The code of expressions. Operands and arguments go from left to right.
+//! The code of expressions. Operands and arguments go from left to right, and the right side of an assignment comes
+//! before its place.
 //!
 //! An expression leaves its value in a slot of no local, and uses no slot below that. Its parts use the slots from
 //! there on.
 
 ghost use Rattle.std.specs.Prelude.{◌≡◌, ◌+◌, List, map, IfOk, pos};
 ghost use Rattle.ash_typed.specs.declared.types.VarType.{VarType as VarTypeData};
-ghost use Rattle.ash_typed.specs.TypedTree.{Expr as ExprData, Read, Stored, Alter, Operate, Lazily, Conditional, converted};
-ghost use Rattle.ash_typed.specs.TypedTree.{Invoke, exprs};
-ghost use Rattle.ash_typed.specs.TypedTreeViews.{expr_of, place_of, linked, all_linked, chained, all_chained, all_lazies};
+ghost use Rattle.ash_typed.specs.TypedTree.{Expr as ExprData, Read, Stored, Alter, Operate, Lazily, Conditional};
+ghost use Rattle.ash_typed.specs.TypedTree.{Invoke, exprs, converted};
+ghost use Rattle.ash_typed.specs.TypedTreeViews.{expr_of, place_of, linked, all_linked, chained, all_chained};
+ghost use Rattle.ash_typed.specs.TypedTreeViews.{all_lazies};
 ghost use Rattle.ash_meaning.specs.OperatorMeaning.{word_at};
 ghost use Rattle.ash_compile.specs.Emission.{Emits, lazy_jump, read_local};
 ghost use Rattle.ash_compile.specs.Places.{EmitsPlace};

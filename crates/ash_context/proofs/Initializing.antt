@@ -1,5 +1,5 @@
 -- The initializers of a sound module run safely, from any well-formed activity on.
-use Rattle.std.proofs.Common.{◌≡◌, ◌+◌, ℕ, suc, List, [], ◌∷◌, ◌++◌, length, map, refl, ap, ◌∙◌, subst, slice_get, arith}
+use Rattle.std.proofs.Common.{◌≡◌, ◌+◌, ℕ, suc, List, [], ◌∷◌, ◌++◌, length, map, refl, subst, slice_get, arith}
 use Rattle.std.specs.Prelude.{Option, Some, None}
 use Rattle.std.specs.List.{AllByRecursion}
 use Rattle.std.specs.Option.{option_map_or}
@@ -13,7 +13,7 @@ use Rattle.ash_typed.specs.SoundExpressions.{TypedEnvironment}
 use Rattle.ash_typed.specs.SoundStatements.{IsInitialized, IsSoundBeginning}
 use Rattle.ash_typed.specs.SoundModules.{outside, AreSoundVariables}
 use Rattle.ash_meaning.specs.Activity.{Activity}
-use Rattle.ash_meaning.specs.Runs.{skip, give, ◌>>◌, ◌>>=◌}
+use Rattle.ash_meaning.specs.Runs.{skip, ◌>>=◌}
 use Rattle.ash_meaning.specs.Releases.{full}
 use Rattle.ash_meaning.specs.Locations.{Global, write}
 use Rattle.ash_meaning.specs.ExpressionMeaning.{expression}

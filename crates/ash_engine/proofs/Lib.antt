@@ -1,7 +1,6 @@
 pub mod Untouched
 pub mod Admitted
 pub mod Served
-pub mod Started
 pub mod Drawn
 pub mod NamedSlots
 pub mod ShownAlike
@@ -16,3 +15,8 @@ pub mod TableReleases
 pub mod RanksExist
 pub mod ReadRanks
 pub mod Invoked
+pub mod RestoredHosts
+pub mod RefusedHosts
+pub mod Started
+pub mod Living
+pub mod RestoredState

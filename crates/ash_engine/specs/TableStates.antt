@@ -5,7 +5,7 @@ use Rattle.std.specs.List.{AllByRecursion, AllZip, IsDistinct}
 use Rattle.ash_host.specs.declared.host_object.HostObject.{Ghosts}
 use Rattle.ash_host.specs.Objects.{handles}
 use Rattle.ash_registry.specs.AcceptedRegistrations.{Registration}
-use Rattle.ash_typed.specs.Modules.{module_of}
+use Rattle.ash_typed.specs.Modules.{Module, module_of}
 use Rattle.ash_meaning.specs.Activity.{FreeBox}
 use Rattle.ash_soundness.specs.WellFormed.{Context, IsContext, IsState}
 use Rattle.ash_object_ranks.specs.ShownTables.{SlotNames}
@@ -26,9 +26,12 @@ use Rattle.ash_engine.specs.LiveStates.{LiveState, plain_box}
 abbrev pub slots_of : List Compiled → List ℕ
 slots_of cs = map (λ (c : Compiled). c.code.module) cs
 
--- the code is that of the module's tree, whatever else is known
+-- the code is that of a tree, whatever else is known
+abbrev pub IsCodeOfTree : Module → Compiled → Type 0
+IsCodeOfTree tree c = (x : Context) → IsContext x → (x.program).tree ≡ tree → IsCodeOf c.code x
+
 abbrev pub IsCompiledFrom : LoadedModule → Compiled → Type 0
-IsCompiledFrom m c = (x : Context) → IsContext x → (x.program).tree ≡ module_of m.tree → IsCodeOf c.code x
+IsCompiledFrom m c = IsCodeOfTree (module_of m.tree) c
 
 -- The modules have code, each in its place, and slots that differ.
 pub record AreCompiled (ms : List LoadedModule) (cs : List Compiled) : Type 0 where

@@ -189,6 +189,23 @@ module _ {B : Type 0} (G : Ghosts B) (names : Names) where
     invoke_comes (Err stops.Unsound) made = absurd (made (noted []))
     invoke_comes (Err stops.NoMemory) made = tt
 
+    -- and so it does without a guard
+    pub call_comes : (r : Result Word Stop) → ((a : Activity) → IsMade (hosts.accept result answer a) r a)
+        → Comes G names (plain (hosts.invoke_host target id result args)) s r (with_call target id answer table s)
+    call_comes (Ok w) made =
+        becomes_after target (Invoke id args) answer s table is (hosts.invoke_host target id result args) (give w) (with_call target id answer table s) (called target id answer) (call_draws target id answer) refl refl
+        (λ rest.
+        let here = noted_is rest (Done w (noted rest)) (made (noted rest)) (λ e. cc) in
+        sym (ap Some (invoked_same rest ∙ made (noted rest) ∙ ap (Done w) here)))
+    call_comes (Err (stops.Raised exception)) made =
+        becomes_after target (Invoke id args) answer s table is (hosts.invoke_host target id result args) (stop (Raising exception)) (with_call target id answer table s) (called target id answer) (call_draws target id answer) refl refl
+        (λ rest.
+        let here = noted_is rest (Ended (Raising exception) (noted rest)) (made (noted rest)) (λ e. cc) in
+        sym (ap Some (invoked_same rest ∙ made (noted rest) ∙ ap (Ended (Raising exception)) here)))
+    call_comes (Err stops.OutOfTicks) made = absurd (made (noted []))
+    call_comes (Err stops.Unsound) made = absurd (made (noted []))
+    call_comes (Err stops.NoMemory) made = tt
+
   -- properties
 
   module _ (number id : ℕ) where

@@ -7,7 +7,7 @@ use Rattle.ash_host.specs.Objects.{Elements, Bools, Ints, Uints, Int64s, Uint64s
 use Rattle.ash_host.specs.Objects.{Plain, Script, Array, Host, LiveObjects}
 use Rattle.ash_slots.specs.declared.body.Body.{Body}
 use Rattle.ash_slots.specs.declared.body.Body.TheVariants as bodies
-use Rattle.ash_objects.specs.Table.{Living}
+use Rattle.ash_table_states.specs.declared.parts.ListedObject.{ListedObject}
 
 -- the index of the module in a slot, if these are the slots of modules; 0 if it is the slot of none
 abbrev pub index_at : List ℕ → ℕ → ℕ
@@ -30,16 +30,20 @@ module _ {B : Type 0} (G : Ghosts B) where
   state_in (bodies.Array array) = []
   state_in (bodies.Host box) = G.state box
 
-  -- the states of objects, in their order
-  abbrev pub states_in : List (ℕ × Living B) → List (List ℕ)
-  states_in objects = map (λ (e : ℕ × Living B). state_in (e.1).body) objects
-
   -- what an object is
   abbrev pub body_written : (ℕ → ℕ) → Body B → Plain ℕ
   body_written index (bodies.Script script) = Script (index script.module) script.class script.fields
   body_written index (bodies.Array array) = Array (element_written index array.element) array.elements
   body_written index (bodies.Host box) = Host (G.kind_of box) (G.state box)
 
-  -- the objects by their numbers
-  abbrev pub objects_written : (ℕ → ℕ) → List (ℕ × Living B) → LiveObjects ℕ
-  objects_written index objects = map (λ (e : ℕ × Living B). (e.0, body_written index (e.1).body)) objects
+  -- objects by their numbers
+  abbrev pub objects_written : (ℕ → ℕ) → List (ℕ × Body B) → LiveObjects ℕ
+  objects_written index objects = map (λ (e : ℕ × Body B). (e.0, body_written index e.1)) objects
+
+module _ {B : Type 0} where
+  -- an object that is listed
+  abbrev pub listed_entry : ListedObject B → ℕ × Body B
+  listed_entry o = (o.number, o.body.now)
+
+  abbrev pub listed_entries : List (ListedObject B) → List (ℕ × Body B)
+  listed_entries objects = map listed_entry objects

@@ -10,7 +10,7 @@ ghost use Rattle.ash_states.specs.Indexes.{snapshot_for};
 ghost use Rattle.ash_states.specs.Writing.{AreWrittenIn};
 ghost use Rattle.ash_table_states.specs.WrittenStates.{state_in, IsWritable};
 
-use crate::parts::{object_parts, states_in, states_of};
+use crate::parts::{listed, object_parts, object_states, states_of};
 use ash_host::HostObject;
 use ash_image::image::{write_body, write_image};
 use ash_image::parts::{HostParts, ModuleParts, ObjectParts, StateParts};
@@ -77,8 +77,9 @@ pub fn image_of<B: HostObject>(
     let saved = states_of(alloc, state.table.services())?;
     let services = service_parts(alloc, &kinds, &saved)?;
     let modules = module_parts(alloc, state.modules)?;
-    let states = states_in(alloc, state.table)?;
-    let objects = object_parts(alloc, state.slots, state.table, &states)?;
+    let listed = listed(alloc, state.table)?;
+    let states = object_states(alloc, &listed)?;
+    let objects = object_parts(alloc, state.slots, &listed, &states)?;
     let parts = state_parts(registry, state, &services, &modules, &objects);
     write_image(alloc, parts)
 }
@@ -99,8 +100,9 @@ pub fn body_of<B: HostObject>(
     let saved = states_of(alloc, state.table.services())?;
     let services = service_parts(alloc, &kinds, &saved)?;
     let modules = module_parts(alloc, state.modules)?;
-    let states = states_in(alloc, state.table)?;
-    let objects = object_parts(alloc, state.slots, state.table, &states)?;
+    let listed = listed(alloc, state.table)?;
+    let states = object_states(alloc, &listed)?;
+    let objects = object_parts(alloc, state.slots, &listed, &states)?;
     let parts = state_parts(registry, state, &services, &modules, &objects);
     write_body(alloc, parts)
 }

@@ -1,4 +1,4 @@
-use Rattle.std.proofs.Common.{◌≡◌, ◌<◌, ◌+◌, ◌∙◌, ℕ, List, [], subst, sym, ap, true, arith}
+use Rattle.std.proofs.Common.{◌≡◌, ◌<◌, ◌+◌, ◌∙◌, ℕ, [], subst, sym, ap, true, arith}
 use Rattle.ash_meaning.specs.Activity.{World, Activity}
 use Rattle.ash_meaning.specs.Ends.{begun}
 use Rattle.ash_run_steps.specs.RunStates.{Names, frame_shown}

@@ -15,20 +15,23 @@ use Rattle.ash_compile.specs.Places.{EmitsPlace}
 use Rattle.ash_compile.proofs.Emitted.{if_ok, of_kind}
 use Rattle.ash_compile.proofs.Emitted as emitted
 use Rattle.ash_compile.proofs.EmittedBranches as branches
-use Rattle.ash_compile.proofs.EmittedRows.{chain_step, chain_end, lazy_step, lazy_end, link_step, link_end, argument_step, argument_end}
-use Rattle.ash_compile.specs.Arguments.{EmitsArguments}
-use Rattle.ash_compile.proofs.Arguments.{no_code, one_argument}
 use Rattle.ash_compile.proofs.EmittedPlaces as places
 use Rattle.ash_compile.proofs.CastCode as casts
+use Rattle.ash_compile.proofs.EmittedRows.{chain_step, chain_end, lazy_step, lazy_end, link_step, link_end}
+use Rattle.ash_compile.proofs.EmittedRows.{argument_step, argument_end}
+use Rattle.ash_compile.specs.Arguments.{EmitsArguments}
+use Rattle.ash_compile.proofs.Arguments.{no_code, one_argument}
 use Rattle.ash_compile.proofs.builder.CodeBuilder.+expressions.Goals as goal
 
 pub chain-loop-operand-init : goal.chain-loop-operand-init
 chain-loop-operand-init t c = (expr_of c.args.first.now, c.in_ok-expression.ensures.emits, refl)
 
 pub chain-loop-operand-preserved : goal.chain-loop-operand-preserved
-chain-loop-operand-preserved t c = (chained c.loop-operand.invariant.0 c.operand-item.result,
-    c.in_ok-operand.ensures.emits c.args.self.now c.loop-operand.invariant.0 c.loop-operand.invariant.1,
-    chain_step c.loop-operand.invariant.0 c.args.operands.now c.loop-operand.operand-index c.operand-item.result c.loop-operand-test.true c.operand-item.is ∙ c.loop-operand.invariant.2)
+chain-loop-operand-preserved t c = (
+  chained c.loop-operand.invariant.0 c.operand-item.result,
+  c.in_ok-operand.ensures.emits c.args.self.now c.loop-operand.invariant.0 c.loop-operand.invariant.1,
+  chain_step c.loop-operand.invariant.0 c.args.operands.now c.loop-operand.operand-index c.operand-item.result c.loop-operand-test.true c.operand-item.is ∙ c.loop-operand.invariant.2,
+)
 
 pub chain-returns : goal.chain-returns
 chain-returns t c = record {
@@ -40,9 +43,11 @@ pub lazy_row-loop-other-init : goal.lazy_row-loop-other-init
 lazy_row-loop-other-init t c = (expr_of c.args.first.now, c.in_ok-expression.ensures.emits, refl)
 
 pub lazy_row-loop-other-preserved : goal.lazy_row-loop-other-preserved
-lazy_row-loop-other-preserved t c = (Lazily c.args.operator c.loop-other.invariant.0 (expr_of c.other-item.result),
-    c.in_ok-lazily.ensures.emits c.args.self.now c.loop-other.invariant.0 c.loop-other.invariant.1,
-    lazy_step c.args.operator c.loop-other.invariant.0 c.args.others.now c.loop-other.other-index c.other-item.result c.loop-other-test.true c.other-item.is ∙ c.loop-other.invariant.2)
+lazy_row-loop-other-preserved t c = (
+  Lazily c.args.operator c.loop-other.invariant.0 (expr_of c.other-item.result),
+  c.in_ok-lazily.ensures.emits c.args.self.now c.loop-other.invariant.0 c.loop-other.invariant.1,
+  lazy_step c.args.operator c.loop-other.invariant.0 c.args.others.now c.loop-other.other-index c.other-item.result c.loop-other-test.true c.other-item.is ∙ c.loop-other.invariant.2,
+)
 
 pub lazy_row-returns : goal.lazy_row-returns
 lazy_row-returns t c = record {
@@ -166,9 +171,11 @@ pub path-loop-link-init : goal.path-loop-link-init
 path-loop-link-init t c = (expr_of c.args.base.now, c.in_ok-expression.ensures.emits, refl)
 
 pub path-loop-link-preserved : goal.path-loop-link-preserved
-path-loop-link-preserved t c = (linked c.loop-link.invariant.0 c.link-item.result,
-    c.in_ok-link.ensures.emits c.args.self.now c.loop-link.invariant.0 c.loop-link.invariant.1,
-    link_step c.loop-link.invariant.0 c.args.links.now c.loop-link.link-index c.link-item.result c.loop-link-test.true c.link-item.is ∙ c.loop-link.invariant.2)
+path-loop-link-preserved t c = (
+  linked c.loop-link.invariant.0 c.link-item.result,
+  c.in_ok-link.ensures.emits c.args.self.now c.loop-link.invariant.0 c.loop-link.invariant.1,
+  link_step c.loop-link.invariant.0 c.args.links.now c.loop-link.link-index c.link-item.result c.loop-link-test.true c.link-item.is ∙ c.loop-link.invariant.2,
+)
 
 pub path-returns : goal.path-returns
 path-returns t c = record {
@@ -186,12 +193,13 @@ arguments-loop-argument-preserved t c =
     let item = c.argument-item.result in
     let longer = length-append es (expr_of item ∷ []) in
     let next = c.in_ok-next.ensures.next in
-    let before = here.invariant.2 in
-    (es ++ expr_of item ∷ [],
-    one_argument c.args.self.now here.self c.expression.new.self es (expr_of item) c.args.slot here.next before here.invariant.1
-    c.in_ok-expression.ensures.emits,
-    omega (arith, longer, next, before),
-    argument_step es c.args.arguments.now here.argument-index item c.loop-argument-test.true c.argument-item.is ∙ here.invariant.3)
+    let before = here.invariant.2 in (
+      es ++ expr_of item ∷ [],
+      one_argument c.args.self.now here.self c.expression.new.self es (expr_of item) c.args.slot here.next before here.invariant.1
+          c.in_ok-expression.ensures.emits,
+      omega (arith, longer, next, before),
+      argument_step es c.args.arguments.now here.argument-index item c.loop-argument-test.true c.argument-item.is ∙ here.invariant.3,
+    )
 
 pub arguments-returns : goal.arguments-returns
 arguments-returns t c = record {
@@ -229,16 +237,6 @@ expression-returns-in-Path t c = record {
       c.path.ensures.emits;
 }
 
-pub expression-returns-in_ok-arguments-in-Call : goal.expression-returns-in_ok-arguments-in-Call
-expression-returns-in_ok-arguments-in-Call t c = record {
-  emits = if_ok c.call.result
-      (λ u next. of_kind c.args.self.now c.call.new.self c.args.expr.now.kind.value _ _ c.args.slot (sym c.deref.ensures ∙ c.in-Call.is) (call_is c.in-Call.target c.in-Call.parameters c.in-Call.arguments)
-      (next c.args.self.now (c.in-Call.parameters).items (map expr_of (c.in-Call.arguments).items)
-      (subst (λ (xs : List expr_code.Expr). EmitsArguments c.args.self.now c.arguments.new.self (map expr_of xs) c.args.slot) c.deref-in-Call.ensures.value c.in_ok-arguments-in-Call.ensures.emits)
-      (length-map (c.in-Call.arguments).items expr_of ∙ ap (λ (xs : List expr_code.Expr). length xs) (sym c.deref-in-Call.ensures.value) ∙ c.deref-in-Call.ensures.len ∙ sym c.len.ensures)))
-      c.call.ensures.emits;
-}
-
 pub expression-returns-in_ok-expression-in-Cast : goal.expression-returns-in_ok-expression-in-Cast
 expression-returns-in_ok-expression-in-Cast t c = record {
   emits = if_ok c.put-in-Cast.result
@@ -261,7 +259,7 @@ expression-returns-in_ok-spot-in-Assign t c = record {
 pub expression-returns-in_ok-spot-in-Update : goal.expression-returns-in_ok-spot-in-Update
 expression-returns-in_ok-spot-in-Update t c =
     let two : c.in_ok-next-in-Update.next ≡ c.args.slot + 2 =
-        omega (arith, c.in_ok-next-in-Update.ensures.next, c.in_ok-left-in-Update.ensures.next) in
+    omega (arith, c.in_ok-next-in-Update.ensures.next, c.in_ok-left-in-Update.ensures.next) in
     record {
       emits = if_ok c.update.result
           (λ u then. of_kind c.args.self.now c.update.new.self c.args.expr.now.kind.value _ _ c.args.slot (sym c.deref.ensures ∙ c.in-Update.is) (refl)
@@ -275,7 +273,7 @@ expression-returns-in_ok-spot-in-Update t c =
 pub expression-returns-in_ok-spot-in-Step : goal.expression-returns-in_ok-spot-in-Step
 expression-returns-in_ok-spot-in-Step t c =
     let two : c.in_ok-next-in-Step.next ≡ c.args.slot + 2 =
-        omega (arith, c.in_ok-next-in-Step.ensures.next, c.in_ok-other-in-Step.ensures.next) in
+    omega (arith, c.in_ok-next-in-Step.ensures.next, c.in_ok-other-in-Step.ensures.next) in
     record {
       emits = if_ok c.step.result
           (λ u then. of_kind c.args.self.now c.step.new.self c.args.expr.now.kind.value _ _ c.args.slot (sym c.deref.ensures ∙ c.in-Step.is) (refl)
@@ -319,4 +317,14 @@ place-returns-in_ok-expression-in-Element-2 t c = record {
       (expr_of c.in-Element.index) c.in-Element.of c.args.slot c.in_ok-expression-in-Element.ensures.emits
       (subst (λ (r : ℕ). Emits c.expression-in-Element.new.self c.expression-in-Element-2.new.self (expr_of c.in-Element.index) r)
       c.in_ok-next-in-Element.ensures.next c.in_ok-expression-in-Element-2.ensures.emits));
+}
+
+pub expression-returns-in_ok-arguments-in-Call : goal.expression-returns-in_ok-arguments-in-Call
+expression-returns-in_ok-arguments-in-Call t c = record {
+  emits = if_ok c.call.result
+      (λ u next. of_kind c.args.self.now c.call.new.self c.args.expr.now.kind.value _ _ c.args.slot (sym c.deref.ensures ∙ c.in-Call.is) (call_is c.in-Call.target c.in-Call.parameters c.in-Call.arguments)
+      (next c.args.self.now (c.in-Call.parameters).items (map expr_of (c.in-Call.arguments).items)
+      (subst (λ (xs : List expr_code.Expr). EmitsArguments c.args.self.now c.arguments.new.self (map expr_of xs) c.args.slot) c.deref-in-Call.ensures.value c.in_ok-arguments-in-Call.ensures.emits)
+      (length-map (c.in-Call.arguments).items expr_of ∙ ap (λ (xs : List expr_code.Expr). length xs) (sym c.deref-in-Call.ensures.value) ∙ c.deref-in-Call.ensures.len ∙ sym c.len.ensures)))
+      c.call.ensures.emits;
 }

@@ -37,14 +37,14 @@ decreases-path l = 4 * max (size-Expr l.base.now) (most size-Link l.links.now) +
 abbrev pub decreases-link : goal.decreases-link
 decreases-link l = 4 * size-Link l.link.now
 
+abbrev pub decreases-place : goal.decreases-place
+decreases-place l = 4 * size-Place l.place.now
+
 abbrev pub decreases-invoke : goal.decreases-invoke
 decreases-invoke l = 4 * most size-Expr l.arguments.now + 2
 
 abbrev pub decreases-arguments : goal.decreases-arguments
 decreases-arguments l = 4 * most size-Expr l.arguments.now + 1
-
-abbrev pub decreases-place : goal.decreases-place
-decreases-place l = 4 * size-Place l.place.now
 
 -- What is emitted is some expression; with what is left of the row it is the whole.
 

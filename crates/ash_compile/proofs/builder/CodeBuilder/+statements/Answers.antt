@@ -1,4 +1,4 @@
-use Rattle.std.proofs.Common.{rules, ◌≡◌, IfOk, ℕ, ◌+◌, List, [], map, drop, refl, sym, ap, ◌∙◌, subst, arith}
+use Rattle.std.proofs.Common.{◌≡◌, ℕ, ◌+◌, List, [], map, drop, refl, sym, ap, ◌∙◌, subst, arith}
 use Rattle.std.specs.Prelude.{Option, option_map}
 use Rattle.ash_typed.specs.TypedTree.{Expr}
 use Rattle.ash_typed.specs.declared.tree.expressions.Expr as expr_code
@@ -11,14 +11,14 @@ use Rattle.ash_code.specs.declared.instruction.Instruction.{Instruction}
 use Rattle.ash_code.specs.declared.instruction.Instruction.TheVariants as i
 use Rattle.ash_typed.specs.declared.tree.statements.Stmt as stmt_code
 use Rattle.ash_typed.specs.declared.tree.statements.Initialization as initialization_code
-use Rattle.ash_typed.specs.StatementTree.{Stmt, Declare, Block, If, no_branch, branch, Repeat, For, Loop, repeated, Break, Continue, Return}
+use Rattle.ash_typed.specs.StatementTree.{Stmt, Declare, Block, If, no_branch, branch, Repeat, For, Loop, repeated}
 use Rattle.ash_typed.specs.TypedTreeViews.{expr_of}
 use Rattle.ash_typed.specs.BodyViews.{stmt_of, stmt_at, body_of, value_of, loop_of, head_of}
 use Rattle.ash_typed.proofs.StatementRows.{block_is, switch_is}
 use Rattle.std.specs.declared.vec.Vec.{Vec}
 use Rattle.std.specs.declared.alloc.Global.{Global}
 use Rattle.ash_compile.specs.Emission.{Puts, Leads, end_of}
-use Rattle.ash_compile.specs.EmittedStatements.{Draft, draft, with_jumps, EmitsStatement, EmitsStatements, EmitsListed, with_count}
+use Rattle.ash_compile.specs.EmittedStatements.{draft, with_jumps, EmitsStatement, EmitsStatements, EmitsListed, with_count}
 use Rattle.ash_compile.specs.EmittedStatements.{AreBelow, LeadsAll, Landing, EmitsLoopBody, EmitsLoop, EmitsEvaluations}
 use Rattle.ash_compile.proofs.Emission.{put_one}
 use Rattle.ash_compile.proofs.EmittedBranches.{leads_end}
@@ -30,7 +30,6 @@ use Rattle.ash_compile.proofs.EmittedParts as parts
 use Rattle.ash_compile.proofs.EmittedLoops as loops
 use Rattle.ash_compile.proofs.EmittedSwitches as switches
 use Rattle.ash_compile.proofs.EmittedRepeats as repeats
-use Rattle.ash_compile.proofs.EmittedLandings as landings
 use Rattle.ash_compile.proofs.builder.CodeBuilder.+statements.Goals as goal
 
 -- lists

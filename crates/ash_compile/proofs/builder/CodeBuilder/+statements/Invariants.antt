@@ -1,4 +1,4 @@
-use Rattle.std.proofs.Common.{◌≡◌, ◌≤◌, ℕ, ◌+◌, ◌*◌, drop, map, max}
+use Rattle.std.proofs.Common.{◌≡◌, ◌≤◌, ◌+◌, ◌*◌, drop, map, max}
 use denote.Param.Weighed.{most}
 use Rattle.ash_typed.specs.declared.tree.statements.Stmt.{size-Stmt}
 use Rattle.ash_typed.specs.declared.tree.statements.Loop.{size-Loop}

@@ -1,4 +1,4 @@
-use Rattle.std.proofs.Common.{List, ℕ, ◌≡◌, [], subst, sym, refl, arith}
+use Rattle.std.proofs.Common.{List, ℕ, [], subst, sym, refl, arith}
 use Rattle.ash_typed.specs.BodyViews.{body_of}
 use Rattle.ash_compile.specs.declared.bodies.Scope.{Scope}
 use Rattle.ash_compile.specs.Emission.{end_of}

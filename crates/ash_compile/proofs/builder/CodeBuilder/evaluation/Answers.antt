@@ -1,5 +1,4 @@
 use Rattle.ash_compile.proofs.Emitted.{if_ok}
-use Rattle.ash_compile.proofs.EmittedParts as parts
 use Rattle.ash_compile.proofs.builder.CodeBuilder.evaluation.Goals as goal
 
 pub returns : goal.returns

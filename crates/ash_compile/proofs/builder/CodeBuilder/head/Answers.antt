@@ -1,4 +1,4 @@
-use Rattle.std.proofs.Common.{List, sym, ap, refl, ◌∙◌, map, subst}
+use Rattle.std.proofs.Common.{List, sym, ap, map, subst}
 use Rattle.ash_typed.specs.declared.tree.statements.Initialization as initialization_code
 use Rattle.ash_typed.specs.StatementTree.{Head}
 use Rattle.ash_typed.specs.TypedTreeViews.{expr_of}

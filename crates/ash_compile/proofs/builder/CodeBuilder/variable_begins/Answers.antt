@@ -1,4 +1,4 @@
-use Rattle.std.proofs.Common.{sym, ap, refl, ◌∙◌}
+use Rattle.std.proofs.Common.{ap}
 use Rattle.std.specs.Prelude.{Option, option_map}
 use Rattle.ash_typed.specs.declared.tree.expressions.Expr as expr_code
 use Rattle.ash_typed.specs.TypedTreeViews.{expr_of}

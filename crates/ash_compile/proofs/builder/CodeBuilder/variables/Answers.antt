@@ -1,4 +1,4 @@
-use Rattle.std.proofs.Common.{List, ℕ, ◌+◌, drop, map, subst, sym}
+use Rattle.std.proofs.Common.{List, ℕ, ◌+◌, drop, map, subst}
 use Rattle.ash_typed.specs.declared.tree.statements.Initialization as initialization_code
 use Rattle.ash_typed.specs.BodyViews.{value_of}
 use Rattle.ash_compile.specs.EmittedStatements.{EmitsVariables}

@@ -1,12 +1,12 @@
-use Rattle.std.proofs.Common.{◌≡◌, ◌≤◌, ◌+◌, ◌∙◌, ℕ, List, [], length, subst, sym, ap, true, arith}
+use Rattle.std.proofs.Common.{◌≡◌, ◌≤◌, ◌+◌, ◌∙◌, ℕ, List, [], length, subst, sym, ap, arith}
 use Rattle.std.specs.Prelude.{All, IsTrue, IfOk}
 use Rattle.ash_host.specs.declared.word.Word.{Word}
 use Rattle.ash_meaning.specs.Activity.{World, Frame, Activity}
 use Rattle.ash_meaning.specs.Classes.{entry_of_function}
-use Rattle.ash_meaning.specs.Ends.{begun, init_frame, outcome_of, call_entry, load_module}
+use Rattle.ash_meaning.specs.Ends.{begun, init_frame, outcome_of, load_module}
 use Rattle.ash_run_steps.specs.FrameChanges.{beginning_over}
 use Rattle.ash_run_steps.specs.RunStates.{is_alive_in, frame_shown}
-use Rattle.ash_run_steps.specs.Stacks.{Frames, locals_of}
+use Rattle.ash_run_steps.specs.Stacks.{Frames}
 use Rattle.ash_code.specs.CompiledCode.{run_of_call, run_of_load, first_of_function}
 use Rattle.ash_code.specs.Running.{code_of}
 use Rattle.ash_code.specs.Sizes.{slots_of_frames}

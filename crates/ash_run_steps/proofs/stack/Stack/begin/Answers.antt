@@ -1,4 +1,4 @@
-use Rattle.std.proofs.Common.{◌≡◌, ◌++◌, List, [], drop, length, arith, ap}
+use Rattle.std.proofs.Common.{List, [], drop, length, arith, ap}
 use Rattle.std.proofs.lemmas.List.{length-drop}
 use Rattle.ash_host.specs.declared.word.Word.{Word}
 use Rattle.ash_host.specs.declared.word.Word.TheVariants.{Null}
