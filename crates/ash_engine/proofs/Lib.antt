@@ -14,6 +14,8 @@ pub mod InsertedSlots
 pub mod TableReleases
 pub mod RanksExist
 pub mod ReadRanks
+pub mod Unanswered
+pub mod Looked
 pub mod Invoked
 pub mod RestoredHosts
 pub mod RefusedHosts

@@ -6,8 +6,10 @@
 //! The definitions are in `specs/`: `LiveStates` (boxes, and whose they are), `Drawing` (boxes taken from a pool),
 //! `SavedDrawing` (the same as tables take them), `LiveSteps` (what a request does), `RestoredBoxes` (what is restored,
 //! and what is refused), `RestoredTables` (the table of a state), `TableStates` (the live state that the code has),
-//! `TableSteps` (what the code does for it). In reading order: `engine`; `live`; `boxes`, `compiling` and `starting` (the
-//! boxes that are handed over, and the states with which engines start); `steps`; `writing`; `laws`.
+//! `TableSteps`, `TableTasks` and `TableRuns` (what the code does for it), `RankedSources`. In reading order: `engine`;
+//! `live`; `boxes`, `compiling` and `starting` (the boxes that are handed over, and the states with which engines start);
+//! `steps`; `runs`, `loading` and `discarding` (what changes the state), `names` (of functions), `showing` (objects);
+//! `writing`; `laws`.
 #![tactic(auto)]
 
 mod boxes;

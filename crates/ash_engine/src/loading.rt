@@ -27,13 +27,13 @@ ghost use Rattle.ash_engine.specs.TableStates.{slots_of};
 ghost use Rattle.ash_engine.specs.TableSteps.{IsStepOf};
 ghost use Rattle.ash_engine.specs.TableTasks.{entry_name, IsAsked};
 
+use crate::compiling::compiled_for;
 use crate::discarding::release;
 use crate::live::{Compiled, Live, Rest};
 use crate::names::outcome_of;
 use crate::runs::{answered, handles_of, without_memory};
 use crate::steps::LiveStep;
-use ash_compile::module::compile;
-use ash_context::context::{Context, Left};
+use ash_context::context::Left;
 use ash_context::outcome::{Outcome as RunOutcome, RunFault};
 use ash_host::{Event, HostObject, NoMemory, Word};
 use ash_plain_data::operators::zero_of;
@@ -106,8 +106,7 @@ fn prepare<B: HostObject>(new: NewModule<'_>, live: &Live<B>) -> Result<Prepared
 {
     let alloc = live.loaded.alloc;
     let slot = free_slot(&live.compiled).ok_or(NoMemory)?;
-    let code = compile(alloc, &new.tree, slot)?;
-    let context = Context::new(alloc, &code)?;
+    let compiled = compiled_for(alloc, &new.tree, slot)?;
     let globals = zeros(alloc, &new.tree.globals)?;
     let outside = handles_of(alloc, &live.loaded.modules)?;
     let new_module = LoadedModule {
@@ -118,7 +117,7 @@ fn prepare<B: HostObject>(new: NewModule<'_>, live: &Live<B>) -> Result<Prepared
     };
     Ok(Prepared {
         new_module,
-        compiled: Compiled { code, context },
+        compiled,
         outside,
     })
 }
