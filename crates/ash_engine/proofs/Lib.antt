@@ -16,6 +16,7 @@ pub mod RanksExist
 pub mod ReadRanks
 pub mod Unanswered
 pub mod Looked
+pub mod TableLoads
 pub mod Invoked
 pub mod RestoredHosts
 pub mod RefusedHosts

@@ -83,7 +83,7 @@ slot_of_name (m ∷ ms) (s ∷ slots) slot some = go (nat_eq slot s) refl (slot_
         record { place = suc later.place; module_there = later.module_there; at = later.at; in_slot = later.in_slot; named = step ∙ later.named }
 
 -- no module has the empty name
-not_empty : (name : List ℕ) → is_module_name name ≡ true → name ≡ [] → ⊥
+pub not_empty : (name : List ℕ) → is_module_name name ≡ true → name ≡ [] → ⊥
 not_empty [] valid e = cc
 not_empty (c ∷ cs) valid e = cc
 
