@@ -24,6 +24,9 @@ get_last (x ∷ xs) i = get_last xs i
 
 -- code that grows
 
+pub keeps_itself : (old : CodeBuilder) → Keeps old old
+keeps_itself old = record { longer = omega arith; same = λ k low. refl; slots = omega arith; layout = refl }
+
 pub keeps_on : (old mid new : CodeBuilder) → Keeps old mid → Keeps mid new → Keeps old new
 keeps_on old mid new first second = record {
   longer = omega (arith, first.longer, second.longer);

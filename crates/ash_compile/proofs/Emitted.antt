@@ -32,7 +32,9 @@ use Rattle.ash_compile.specs.declared.builder.CodeBuilder.{CodeBuilder}
 use Rattle.ash_compile.specs.Emission.{code_of, end_of, Keeps, Puts, Scene, IsScene, Good, Stands, DoesExpression, Emits, calls_of, read_local}
 use Rattle.ash_compile.proofs.Phrases as run
 use Rattle.ash_compile.proofs.Emission.{HasAt, emits_one, emits_then, emits_both}
-use Rattle.ash_compile.proofs.Typed.{stays_good, value_alive, local_there, local_value, this_alive, global_alive, HasNoHandle, no_handle_in_bool, no_handle_in_integer}
+use Rattle.ash_compile.specs.Conversions.{Converts, needless, converts}
+use Rattle.ash_compile.proofs.Conversions.{unconverted, integer_in}
+use Rattle.ash_compile.proofs.Typed.{evaluates, stays_good, value_alive, local_there, local_value, this_alive, global_alive, HasNoHandle, no_handle_in_bool, no_handle_in_integer}
 
 -- what is Ok stays so
 
@@ -74,7 +76,7 @@ own old new class slot puts =
     (λ s of from scene typed within has.
     run.own s.setting (Good s) s.function s.room from slot within has (λ a good. this_alive s a good))
 
-typed_local : {env : TypedEnvironment} {n : ℕ} {of : VarType} {t : ValueType}
+pub typed_local : {env : TypedEnvironment} {n : ℕ} {of : VarType} {t : ValueType}
     → IsWellTyped env (Read (Stored (variables.Local n of))) t → slice_get env.locals n ≡ Some of
 typed_local (typing.read (typing.local is)) = is
 
@@ -122,7 +124,7 @@ global old new n slot of puts =
 
 -- operators of one operand
 
-typed_converted : {env : TypedEnvironment} {conversion : Conversion} {e : Expr} {t : ValueType}
+pub typed_converted : {env : TypedEnvironment} {conversion : Conversion} {e : Expr} {t : ValueType}
     → IsWellTyped env (Convert conversion e) t → (inner : ValueType) × IsWellTyped env e inner
 typed_converted (typing.convert typed) = (_, typed)
 
@@ -133,6 +135,34 @@ convert start old new conversion e slot first puts =
     (λ s of typed. typed_converted typed)
     (λ s of from at scene typed does has.
     run.converts s.setting (Good s) s.function s.room conversion.to (expression (calls_of s) e) from at slot does has)
+
+unconverted_here : (s : Scene) (conversion : Conversion) (e : Expr) (t : ValueType) (from to slot : ℕ) → IsScene s
+    → conversion.from ≡ conversion.to → IsWellTyped s.env (Convert conversion e) t → DoesExpression s e from to slot
+    → DoesExpression s (Convert conversion e) from to slot
+unconverted_here s conversion e _ from to slot scene same (typing.convert {from = f} {to = t} typed) does =
+    run.computes_here s.setting (Good s) s.function s.room (expression (calls_of s) e)
+    (expression (calls_of s) (Convert conversion e)) from to slot
+    (λ a good. unconverted f t (expression (calls_of s) e a) same
+    (λ v b ran. integer_in v (((evaluates s e _ a b v scene typed good ran).carried).value)))
+    does
+
+pub unconverted_so : (start old : CodeBuilder) (conversion : Conversion) (e : Expr) (slot : ℕ)
+    → conversion.from ≡ conversion.to → Emits start old e slot → Emits start old (Convert conversion e) slot
+unconverted_so start old conversion e slot same first = record {
+  keeps = first.keeps;
+  does = λ s of scene typed stands within.
+      unconverted_here s conversion e of (end_of start) (end_of old) slot scene same typed
+      (first.does s (typed_converted typed).0 scene (typed_converted typed).1 stands within);
+}
+
+pub converted_by : (start old new : CodeBuilder) (conversion : Conversion) (e : Expr) (slot : ℕ)
+    → Converts old new conversion.from conversion.to slot → Emits start old e slot
+    → Emits start new (Convert conversion e) slot
+converted_by start old new conversion e slot (needless same is) first =
+    subst (λ (c : CodeBuilder). Emits start c (Convert conversion e) slot) (sym is)
+    (unconverted_so start old conversion e slot same first)
+converted_by start old new conversion e slot (converts puts) first =
+    convert start old new conversion e slot first puts
 
 typed_altered : {env : TypedEnvironment} {change : Change} {e : Expr} {t : ValueType}
     → IsWellTyped env (Alter change e) t → (inner : ValueType) × IsWellTyped env e inner
@@ -148,13 +178,13 @@ alter start old new change e slot first puts =
 
 -- operators of two operands
 
-typed_left : {env : TypedEnvironment} {operation : Operation} {a b : Expr} {t : ValueType}
+pub typed_left : {env : TypedEnvironment} {operation : Operation} {a b : Expr} {t : ValueType}
     → IsWellTyped env (Operate operation a b) t → (inner : ValueType) × IsWellTyped env a inner
 typed_left (typing.calculate x y) = (_, x)
 typed_left (typing.shift is x y) = (_, x)
 typed_left (typing.compare is x left y right) = (_, x)
 
-typed_right : {env : TypedEnvironment} {operation : Operation} {a b : Expr} {t : ValueType}
+pub typed_right : {env : TypedEnvironment} {operation : Operation} {a b : Expr} {t : ValueType}
     → IsWellTyped env (Operate operation a b) t → (inner : ValueType) × IsWellTyped env b inner
 typed_right (typing.calculate x y) = (_, y)
 typed_right (typing.shift is x y) = (_, y)

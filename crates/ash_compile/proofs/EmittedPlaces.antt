@@ -14,7 +14,7 @@ use Rattle.ash_compile.specs.declared.places.Spot.{Spot}
 use Rattle.ash_compile.specs.declared.places.Spot.TheVariants as spots
 use Rattle.ash_compile.specs.Emission.{code_of, end_of, Keeps, Puts, DoesExpression, Emits}
 use Rattle.ash_compile.specs.Places.{spot_of_variable, spot_of_member, reading, writing, EmitsPlace}
-use Rattle.ash_compile.proofs.Emission.{keeps_on, put_keeps, put_one, suits_before, stands_before, stands_after}
+use Rattle.ash_compile.proofs.Emission.{keeps_itself, keeps_on, put_keeps, put_one, suits_before, stands_before, stands_after}
 use Rattle.ash_compile.proofs.Emission.{has_put, emits_then, emits_both}
 use Rattle.ash_compile.proofs.PlaceCode.{variable_place, member_place, element_place, does_read, does_assign}
 
@@ -46,14 +46,11 @@ fitting : {env : TypedEnvironment} {of : VarType} {e : Expr} → typing.Fits env
     → (inner : ValueType) × IsWellTyped env e inner
 fitting (typing.fits typed is) = (_, typed)
 
-typed_given : {env : TypedEnvironment} {place : Place} {e : Expr} {t : ValueType} → IsWellTyped env (Assign place e) t
+pub typed_given : {env : TypedEnvironment} {place : Place} {e : Expr} {t : ValueType} → IsWellTyped env (Assign place e) t
     → (inner : ValueType) × IsWellTyped env e inner
 typed_given (typing.assign at is fitted) = fitting fitted
 
 -- places
-
-keeps_itself : (old : CodeBuilder) → Keeps old old
-keeps_itself old = record { longer = omega arith; same = λ k low. refl; slots = omega arith; layout = refl }
 
 pub variable : (old : CodeBuilder) (v : Variable) (slot : ℕ) → EmitsPlace old old (Stored v) (spot_of_variable v) slot
 variable old v slot = record {

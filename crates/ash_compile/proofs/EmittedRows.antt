@@ -1,6 +1,6 @@
 -- Rows of operands, one after the other.
 use Rattle.std.proofs.Common.{◌≡◌, ◌<◌, ◌≤◌, ℕ, ◌+◌, List, [], ◌∷◌, ◌++◌, length, map, get_or, drop, refl, sym, ap, ◌∙◌}
-use Rattle.std.proofs.Common.{append_assoc, append-nil}
+use Rattle.std.proofs.Common.{append_assoc, append-nil, arith}
 use Rattle.std.proofs.lemmas.List.{drop_more, drop_all}
 use Rattle.ash_typed.specs.declared.tree.expressions.Expr as expr_code
 use Rattle.ash_typed.specs.declared.tree.expressions.Operand as operand_code
@@ -8,6 +8,15 @@ use Rattle.ash_typed.specs.declared.tree.expressions.Link as link_code
 use Rattle.ash_typed.specs.declared.tree.operations.Lazy.{Lazy}
 use Rattle.ash_typed.specs.TypedTree.{Expr, Lazily}
 use Rattle.ash_typed.specs.TypedTreeViews.{expr_of, linked, all_linked, chained, all_chained, all_lazies}
+
+pub empty_is : (os : List operand_code.Operand) → length os ≡ 0 → [] ≡ os
+empty_is [] none = refl
+empty_is (o ∷ os) none = absurd (omega (arith, none))
+
+pub chained_after : (e : Expr) (os : List operand_code.Operand) (o : operand_code.Operand)
+    → all_chained e (os ++ o ∷ []) ≡ chained (all_chained e os) o
+chained_after e [] o = refl
+chained_after e (x ∷ os) o = chained_after (chained e x) os o
 
 pub chain_step : (e : Expr) (os : List operand_code.Operand) (k : ℕ) (o : operand_code.Operand) → k < length os
     → o ≡ get_or os k o → all_chained (chained e o) (drop (k + 1) os) ≡ all_chained e (drop k os)

@@ -11,6 +11,7 @@ pub mod Phrases
 pub mod Branches
 pub mod Emission
 pub mod Typed
+pub mod Conversions
 pub mod Emitted
 pub mod TypedStatements
 pub mod StatementCode
@@ -39,7 +40,10 @@ pub mod PlaceGuards
 pub mod PlaceSteps
 pub mod PlaceLocals
 pub mod PlaceCode
+pub mod OperandCode
 pub mod EmittedPlaces
+pub mod Operands
+pub mod EffectCode
 pub mod Moves
 pub mod UpdateCode
 pub mod EmittedUpdates

@@ -28,7 +28,8 @@ use Rattle.ash_soundness.proofs.Fits.{kept_value}
 use Rattle.ash_soundness.proofs.Hosts.{well_after}
 use Rattle.ash_soundness.proofs.Locations.{read_gives}
 use Rattle.ash_soundness.proofs.Triples.{bind, weaken, goes_more, carry, given_held}
-use Rattle.ash_soundness.specs.WellFormed.{gives}
+use Rattle.ash_soundness.specs.WellFormed.{IsGiven, gives}
+use Rattle.ash_typed.specs.TypeOf.{value, as_value}
 use Rattle.ash_compile.specs.declared.places.Spot.{Spot}
 use Rattle.ash_compile.specs.declared.places.Spot.TheVariants as spots
 use Rattle.ash_compile.specs.Emission.{Scene, IsScene}
@@ -100,6 +101,20 @@ reads_go s spot of ws b d v scene well bears ran =
     bind_here (λ l. read l >>= give_held) (located_gives s spot of ws b scene well bears) (λ l at.
     bind (read_gives scene.sound l well at) (λ x e r.
     weaken (λ y f more. goes_more r.goes more.goes) (given_held x (well_after r.goes) (gives (kept_value r.value))))) in
+    left_done v d gives_so ran
+
+-- and is of the type of the place
+pub reads_value : (s : Scene) (spot : Spot) (of : VarType) (ws : List Word) (b d : Activity) (v : Word) → IsScene s
+    → Well s b
+    → Bears s b ws spot of → onward (located spot ws b) (λ l. read l >>= give_held) ≡ Done v d
+    → IsGiven (s.context).program (d.world).objects (value (as_value of)) v
+reads_value s spot of ws b d v scene well bears ran =
+    let gives_so : Leaves s.context (λ (x : Word) e. IsGiven (s.context).program (e.world).objects (value (as_value of)) x)
+    (onward (located spot ws b) (λ l. read l >>= give_held)) =
+    bind_here (λ l. read l >>= give_held) (located_gives s spot of ws b scene well bears) (λ l at.
+    bind (read_gives scene.sound l well at) (λ x e r.
+    weaken (λ y f more. (more.carried).value)
+    (given_held x (well_after r.goes) (gives (kept_value r.value))))) in
     left_done v d gives_so ran
 
 -- a place that is tested again is the same

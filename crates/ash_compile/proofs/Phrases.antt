@@ -108,6 +108,17 @@ module _ (s : Setting) (Good : Activity → Type 0) (function room : ℕ) where
         (computes.comes w a rest low long fits good (λ word b slots ran held. goes word b slots (sym (same a) ∙ ran) held));
   }
 
+  -- one that is another one in activities that are good
+  pub computes_here : (p q : Run Word) (from to slot : ℕ) → ((a : Activity) → Good a → p a ≡ q a)
+      → Computes s Good function room p from to slot → Computes s Good function room q from to slot
+  computes_here p q from to slot same computes = record {
+    within = computes.within;
+    comes = λ w a rest low long fits good goes.
+        subst (λ (x : Progress Word). Arrives s (control function from w) a (continued x rest)) (same a good)
+        (computes.comes w a rest low long fits good
+        (λ word b slots ran held. goes word b slots (sym (same a good) ∙ ran) held));
+  }
+
   -- numbers, truth values and null
   pub loads : (word : Word) (from slot : ℕ) → slot < room → Has s Good function room from (i.Load word slot)
       → Computes s Good function room (give word) from (from + 1) slot

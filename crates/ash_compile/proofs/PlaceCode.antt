@@ -49,7 +49,7 @@ use Rattle.ash_compile.proofs.PlaceLocals.{reads_locals, writes_locals, after_ta
 
 -- slots
 
-below : (w : Window) (slot : ℕ) (word : Word) (slots : List Word) (b : Activity) → Holds w slot word slots b
+pub below : (w : Window) (slot : ℕ) (word : Word) (slots : List Word) (b : Activity) → Holds w slot word slots b
     → HoldsBelow w slot slots b
 below w slot word slots b held = record { long = held.long; kept = held.kept; locals = held.locals }
 
@@ -102,7 +102,7 @@ member_located_is (members.Property id of) slot ws b = refl
 
 -- two phrases, then a third one
 
-continued_twice : {A B C : Type 0} (p : Progress A) (f : A → Run B) (g : B → Run C)
+pub continued_twice : {A B C : Type 0} (p : Progress A) (f : A → Run B) (g : B → Run C)
     (rest : C → Activity → Option Outcome)
     → continued (onward (onward p f) g) rest ≡ continued p (λ v b. continued (onward (f v b) g) rest)
 continued_twice (Done v b) f g rest = refl

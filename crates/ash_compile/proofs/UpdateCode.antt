@@ -1,7 +1,7 @@
 -- The code of compound assignments, of `++` and of `--`.
-use Rattle.std.proofs.Common.{◌≡◌, ◌≤◌, ◌<◌, ℕ, ◌+◌, List, take, length, sym, ap, ◌∙◌, subst, arith, true}
+use Rattle.std.proofs.Common.{◌≡◌, ◌≤◌, ◌<◌, ◌⊎◌, inl, inr, ℕ, ◌+◌, List, take, length, sym, ap, ◌∙◌, subst, arith, true}
 use Rattle.std.specs.Prelude.{Option, Some, None, Result, Ok, Err, slice_index_or, slice_set}
-use Rattle.std.proofs.lemmas.List.{length-set, get_or-set_same, get_or-set_other}
+use Rattle.std.proofs.lemmas.List.{length-set, get_or-set_same, get_or-set_other, set-get_or}
 use Rattle.ash_host.specs.declared.word.Word.{Word}
 use Rattle.ash_host.specs.declared.word.Word.TheVariants as words
 use Rattle.ash_integers.specs.declared.int_type.IntType.{IntType}
@@ -11,7 +11,10 @@ use Rattle.ash_typed.specs.declared.types.VarType.TheVariants as vars
 use Rattle.ash_typed.specs.declared.tree.operations.Calculation.{Calculation}
 use Rattle.ash_typed.specs.declared.tree.operations.IncrementOp.{IncrementOp}
 use Rattle.ash_typed.specs.declared.tree.operations.IncrementOp.TheVariants as steps
-use Rattle.ash_typed.specs.TypeOf.{ValueType}
+use Rattle.ash_typed.specs.TypeOf.{ValueType, value}
+use Rattle.ash_typed.specs.SoundOperations.{IsShift}
+use Rattle.ash_host.specs.Objects.{LiveObjects}
+use Rattle.ash_meaning.specs.Classes.{Program}
 use Rattle.ash_typed.specs.TypedTree.{Expr, Update, Count, Place}
 use Rattle.ash_typed.specs.SoundExpressions.{IsWellTyped}
 use Rattle.ash_meaning.specs.Activity.{Activity}
@@ -22,10 +25,11 @@ use Rattle.ash_meaning.specs.OperatorMeaning.{given_by}
 use Rattle.ash_meaning.specs.Locations.{Location, read, write}
 use Rattle.ash_meaning.specs.ExpressionMeaning.{expression, location, store, update, count_at}
 use Rattle.ash_meaning.specs.Ends.{Outcome}
-use Rattle.ash_soundness.specs.WellFormed.{is_integer, IsInteger}
+use Rattle.ash_soundness.specs.WellFormed.{is_integer, IsInteger, IsGiven}
 use Rattle.ash_soundness.specs.WellFormedLaws.{Goes}
 use Rattle.ash_soundness.proofs.Hosts.{well_after}
-use Rattle.ash_soundness.proofs.Integers.{integer_word, counted_integer}
+use Rattle.ash_soundness.proofs.Integers.{integer_word, counted_integer, calculate_gives}
+use Rattle.ash_soundness.proofs.Triples.{safe}
 use Rattle.ash_run_steps.specs.Guarded.{onward as guarded_onward}
 use Rattle.ash_run_steps.specs.GuardedSteps.{is_alive}
 use Rattle.ash_code.specs.declared.instruction.Instruction.{Instruction}
@@ -41,12 +45,13 @@ use Rattle.ash_compile.specs.Places.{DoesPlace}
 use Rattle.ash_compile.proofs.Simulation.{continued_then, then_is, step_is, puts, refits}
 use Rattle.ash_compile.proofs.Phrases.{grouped}
 use Rattle.ash_compile.proofs.Emission.{HasAt}
-use Rattle.ash_compile.proofs.Typed.{stays_good, alive_of, no_handle_in_integer}
+use Rattle.ash_compile.proofs.Typed.{evaluates, stays_good, alive_of, no_handle_in_integer, left_done}
+use Rattle.ash_compile.proofs.Conversions.{converted_same, integer_in}
 use Rattle.ash_compile.proofs.PlaceGuards.{Well}
 use Rattle.ash_compile.proofs.PlaceSteps.{slots_after}
 use Rattle.ash_compile.proofs.PlaceCode.{refits_below, after_long, after_kept, stored_is, local_below, reads_on}
 use Rattle.ash_compile.proofs.PlaceCode.{writes_on}
-use Rattle.ash_compile.proofs.Moves.{Moved, moved_itself, moved_set, located_moved, bears_moved, reads_go}
+use Rattle.ash_compile.proofs.Moves.{Moved, moved_itself, moved_set, located_moved, bears_moved, reads_go, reads_value}
 use Rattle.ash_compile.proofs.Moves.{calculating, counting, update_again, count_again}
 
 calculated_here : (r : Result Word DivisionFault) (b d : Activity) (v : Word) → give_or_raise r b ≡ Done v d → b ≡ d
@@ -54,7 +59,23 @@ calculated_here (Ok word) b d v is = cc
 calculated_here (Err faults.ByZero) b d v is = absurd (cc)
 calculated_here (Err faults.Overflow) b d v is = absurd (cc)
 
-integer_alive : (s : Scene) (int_type : IntType) (v : Word) (b : Activity) → IsInteger int_type v → is_alive v b ≡ true
+-- where the code converts the value of a slot, or goes on
+pub data ConvertsAt (s : Scene) (from to : IntType) (slot at next : ℕ) : Type 0 where
+  needless : from ≡ to → next ≡ at → ConvertsAt s from to slot at next
+  converts : HasAt s at (i.Convert to slot slot) → next ≡ at + 1 → ConvertsAt s from to slot at next
+
+-- The right operand of a calculation is of its type, or counts a shift.
+abbrev pub IsRight : Calculation → Word → Type 0
+IsRight calculation right = IsShift calculation.operator ⊎ IsInteger calculation.of right
+
+pub right_operand : {p : Program} {all : LiveObjects (List ℕ)} (calculation : Calculation) (given : ValueType) (right : Word)
+    → IsShift calculation.operator ⊎ (given ≡ value (vars.Integer calculation.of)) → IsGiven p all given right
+    → IsRight calculation right
+right_operand calculation given right (inl shift) given_so = inl shift
+right_operand {p} {all} calculation given right (inr same) given_so =
+    inr (integer_in right (subst (λ (t : ValueType). IsGiven p all t right) same given_so))
+
+pub integer_alive : (s : Scene) (int_type : IntType) (v : Word) (b : Activity) → IsInteger int_type v → is_alive v b ≡ true
 integer_alive s int_type v b is =
     alive_of v None b (no_handle_in_integer int_type (s.context).program (b.world).objects v (is_integer is))
     (λ n there. absurd (cc))
@@ -109,6 +130,22 @@ module _ (s : Scene) where
       subst (λ (y : Activity). At (at + 1) (with_slots (slice_set w.slots to x) w) y o) here
       (subst (λ (y : Word). At (at + 1) (with_slots (slice_set w.slots to y) w) b o) same later))
 
+  -- a conversion, or none
+  convert_on : (from to : IntType) (w : Window) (b : Activity) (at next slot : ℕ) (v : Word) (o : Option Outcome)
+      → ConvertsAt s from to slot at next → w.count ≤ slot → slice_index_or w.slots slot words.Null ≡ v
+      → IsInteger from v
+      → At next (with_slots (slice_set w.slots slot (converted_to to v)) w) b o → At at w b o
+  convert_on from to w b at next slot v o (needless same here) low is integer later =
+      subst (λ (n : ℕ). At n w b o) here
+      (subst (λ (ws : List Word). At next (with_slots ws w) b o)
+      (ap (λ (x : Word). slice_set w.slots slot x)
+      (ap (λ (t : IntType). converted_to t v) (sym same) ∙ converted_same from v integer ∙ sym is)
+      ∙ set-get_or w.slots slot words.Null) later)
+  convert_on from to w b at next slot v o (converts has here) low is integer later =
+      value_on (i.Convert to slot slot) w b at slot (converted_to to v) o has low
+      (ap (λ (x : Word). put slot (control s.function at w) (converted_to to x) b) is)
+      (subst (λ (n : ℕ). At n (with_slots (slice_set w.slots slot (converted_to to v)) w) b o) here later)
+
   calculate_on : (w : Window) (b : Activity) (calculation : Calculation) (left right to at : ℕ) (l r : Word)
       (rest : Word → Activity → Option Outcome) → HasAt s at (i.Calculate calculation left right to) → w.count ≤ to
       → slice_index_or w.slots left words.Null ≡ l → slice_index_or w.slots right words.Null ≡ r
@@ -151,21 +188,22 @@ module _ (s : Scene) where
   -- after what was read for `op=`
   update_after : (w : Window) (d e : Activity) (spot : Spot) (int_type : IntType) (calculation : Calculation)
       (left right : Word)
-      (at slot : ℕ) (rest : Word → Activity → Option Outcome)
+      (at a1 a2 slot : ℕ) (rest : Word → Activity → Option Outcome)
       → IsScene s → Well s d → Fits w d → Bears s d w.slots spot (vars.Integer int_type) → LiesIn (slot + 2) s.room spot
       → s.room ≤ length w.slots → w.count ≤ slot → slot + 1 < s.room → slice_index_or w.slots slot words.Null ≡ right
+      → IsInteger int_type left → IsRight calculation right
       → Goes s.context s.env s.envs d e → (e.frame).locals ≡ (d.frame).locals
-      → HasAt s at (i.Convert calculation.of (slot + 1) (slot + 1))
-      → HasAt s (at + 1) (i.Calculate calculation (slot + 1) slot slot)
-      → HasAt s (at + 1 + 1) (i.Convert int_type slot slot)
-      → HasAt s (at + 1 + 1 + 1) (writing spot slot)
+      → ConvertsAt s int_type calculation.of (slot + 1) at a1
+      → HasAt s a1 (i.Calculate calculation (slot + 1) slot slot)
+      → ConvertsAt s calculation.of int_type slot (a1 + 1) a2
+      → HasAt s a2 (writing spot slot)
       → ((word : Word) (f : Activity) (slots : List Word)
       → calculating spot w.slots int_type calculation right left e ≡ Done word f
-      → Holds w slot word slots f → At (at + 1 + 1 + 1 + 1) (with_slots slots w) f (rest word f))
+      → Holds w slot word slots f → At (a2 + 1) (with_slots slots w) f (rest word f))
       → At at (with_slots (slice_set w.slots (slot + 1) left) w) e
       (continued (calculating spot w.slots int_type calculation right left e) rest)
-  update_after w d e spot int_type calculation left right at slot rest scene well fits bears lies long low within is
-      went same
+  update_after w d e spot int_type calculation left right at a1 a2 slot rest scene well fits bears lies long low within
+      is left_is right_is went same
       first second third fourth goes =
       let converted = converted_to calculation.of left in
       let ws1 = slice_set w.slots (slot + 1) left in
@@ -173,14 +211,12 @@ module _ (s : Scene) where
       let m1 = moved_set w.count slot (slot + 1) left w.slots w.slots low (omega arith) (omega arith)
       (moved_itself w.count slot w.slots) in
       let m2 = moved_set w.count slot (slot + 1) converted w.slots ws1 low (omega arith) (omega arith) m1 in
-      value_on (i.Convert calculation.of (slot + 1) (slot + 1)) (with_slots ws1 w) e at (slot + 1) converted _ first
-      (omega (arith, low))
-      (ap (λ (x : Word). put (slot + 1) (control s.function at (with_slots ws1 w)) (converted_to calculation.of x) e)
-      (get_or-set_same w.slots (slot + 1) left words.Null (omega (arith, long, within))))
-      (subst (λ (o : Option Outcome). At (at + 1) (with_slots ws2 w) e o)
+      convert_on int_type calculation.of (with_slots ws1 w) e at a1 (slot + 1) left _ first (omega (arith, low))
+      (get_or-set_same w.slots (slot + 1) left words.Null (omega (arith, long, within))) left_is
+      (subst (λ (o : Option Outcome). At a1 (with_slots ws2 w) e o)
       (sym (continued_then (calculate calculation converted right e)
       (λ word. located spot w.slots >>= store (converted_to int_type word)) rest))
-      (calculate_on (with_slots ws2 w) e calculation (slot + 1) slot slot (at + 1) converted right
+      (calculate_on (with_slots ws2 w) e calculation (slot + 1) slot slot a1 converted right
       (λ word f. continued (onward (located spot w.slots f) (store (converted_to int_type word))) rest) second low
       (get_or-set_same ws1 (slot + 1) converted words.Null (omega (arith, long, within, m1.long)))
       (get_or-set_other ws1 (slot + 1) slot converted words.Null (omega arith)
@@ -195,14 +231,16 @@ module _ (s : Scene) where
       let still = fits_moved w slot ws4 d e fits m4 same in
       let there = bears_moved s spot (vars.Integer int_type) w.count slot s.room w.slots ws4 d e lies m4 well went
       bears in
-      value_on (i.Convert int_type slot slot) (with_slots ws3 w) e (at + 1 + 1) slot given _ third low
-      (ap (λ (x : Word). put slot (control s.function (at + 1 + 1) (with_slots ws3 w)) (converted_to int_type x) e)
-      (get_or-set_same ws2 slot word words.Null (omega (arith, long, within, m2.long))))
-      (subst (λ (p : Progress Location). At (at + 1 + 1 + 1) (with_slots ws4 w) e
+      convert_on calculation.of int_type (with_slots ws3 w) e (a1 + 1) a2 slot word _ third low
+      (get_or-set_same ws2 slot word words.Null (omega (arith, long, within, m2.long)))
+      (left_done word e
+      (calculate_gives e (safe (well_after went)) calculation converted right (integer_word calculation.of _) right_is)
+      made).1
+      (subst (λ (p : Progress Location). At a2 (with_slots ws4 w) e
       (continued (onward p (store given)) rest)) place
-      (subst (λ (o : Option Outcome). At (at + 1 + 1 + 1) (with_slots ws4 w) e o)
+      (subst (λ (o : Option Outcome). At a2 (with_slots ws4 w) e o)
       (stored_is (located spot ws4 e) given rest ∙ sym (continued_then (located spot ws4 e) (store given) rest))
-      (writes_on s (with_slots ws4 w) e spot (vars.Integer int_type) (at + 1 + 1 + 1) slot given (λ _ f. rest given f)
+      (writes_on s (with_slots ws4 w) e spot (vars.Integer int_type) a2 slot given (λ _ f. rest given f)
       scene
       (well_after went) still there fourth (get_or-set_same ws3 slot given words.Null
       (omega (arith, long, within, m3.long)))
@@ -220,19 +258,20 @@ module _ (s : Scene) where
       (get_or-set_same ws3 slot given words.Null (omega (arith, long, within, m3.long))) locals))))))))
 
   update_on : (w : Window) (d : Activity) (spot : Spot) (int_type : IntType) (calculation : Calculation) (right : Word)
-      (at slot : ℕ) (rest : Word → Activity → Option Outcome)
+      (at a1 a2 slot : ℕ) (rest : Word → Activity → Option Outcome)
       → IsScene s → Well s d → Fits w d → Bears s d w.slots spot (vars.Integer int_type) → LiesIn (slot + 2) s.room spot
       → s.room ≤ length w.slots → w.count ≤ slot → slot + 1 < s.room → slice_index_or w.slots slot words.Null ≡ right
+      → IsRight calculation right
       → HasAt s at (reading spot (slot + 1))
-      → HasAt s (at + 1) (i.Convert calculation.of (slot + 1) (slot + 1))
-      → HasAt s (at + 1 + 1) (i.Calculate calculation (slot + 1) slot slot)
-      → HasAt s (at + 1 + 1 + 1) (i.Convert int_type slot slot)
-      → HasAt s (at + 1 + 1 + 1 + 1) (writing spot slot)
+      → ConvertsAt s int_type calculation.of (slot + 1) (at + 1) a1
+      → HasAt s a1 (i.Calculate calculation (slot + 1) slot slot)
+      → ConvertsAt s calculation.of int_type slot (a1 + 1) a2
+      → HasAt s a2 (writing spot slot)
       → ((word : Word) (f : Activity) (slots : List Word)
       → onward (located spot w.slots d) (update int_type calculation right) ≡ Done word f
-      → Holds w slot word slots f → At (at + 1 + 1 + 1 + 1 + 1) (with_slots slots w) f (rest word f))
+      → Holds w slot word slots f → At (a2 + 1) (with_slots slots w) f (rest word f))
       → At at w d (continued (onward (located spot w.slots d) (update int_type calculation right)) rest)
-  update_on w d spot int_type calculation right at slot rest scene well fits bears lies long low within is
+  update_on w d spot int_type calculation right at a1 a2 slot rest scene well fits bears lies long low within is right_is
       read_first first second third fourth goes =
       let again = update_again spot w.slots int_type s d scene well bears calculation right in
       subst (λ (p : Progress Word). At at w d (continued p rest)) (sym again)
@@ -243,8 +282,9 @@ module _ (s : Scene) where
       (λ left e. continued (calculating spot w.slots int_type calculation right left e) rest) scene well fits bears
       (λ n at_local. no_handle_in_integer int_type) read_first (omega (arith, low))
       (λ left e ran same.
-      update_after w d e spot int_type calculation left right (at + 1) slot rest scene well fits bears lies long low
-      within is
+      update_after w d e spot int_type calculation left right (at + 1) a1 a2 slot rest scene well fits bears lies long low
+      within is (integer_in left (reads_value s spot (vars.Integer int_type) w.slots d e left scene well bears ran))
+      right_is
       (reads_go s spot (vars.Integer int_type) w.slots d e left scene well bears ran) same first second third fourth
       (λ word f slots made held.
       goes word f slots
@@ -254,15 +294,17 @@ module _ (s : Scene) where
   -- The right side comes before the place, which is read, then written.
   pub does_update : (place : Place) (int_type : IntType) (calculation : Calculation) (e : Expr) (given : ValueType)
       (spot : Spot)
-      (from mid at slot : ℕ) → IsScene s → IsWellTyped s.env e given → DoesExpression s e from mid slot
+      (from mid at a1 a2 slot : ℕ) → IsScene s → IsWellTyped s.env e given
+      → IsShift calculation.operator ⊎ (given ≡ value (vars.Integer calculation.of))
+      → DoesExpression s e from mid slot
       → DoesPlace s place (vars.Integer int_type) spot mid at (slot + 2) → slot + 1 < s.room
       → HasAt s at (reading spot (slot + 1))
-      → HasAt s (at + 1) (i.Convert calculation.of (slot + 1) (slot + 1))
-      → HasAt s (at + 1 + 1) (i.Calculate calculation (slot + 1) slot slot)
-      → HasAt s (at + 1 + 1 + 1) (i.Convert int_type slot slot)
-      → HasAt s (at + 1 + 1 + 1 + 1) (writing spot slot)
-      → DoesExpression s (Update place int_type calculation e) from (at + 1 + 1 + 1 + 1 + 1) slot
-  does_update place int_type calculation e given spot from mid at slot scene typed operand second within
+      → ConvertsAt s int_type calculation.of (slot + 1) (at + 1) a1
+      → HasAt s a1 (i.Calculate calculation (slot + 1) slot slot)
+      → ConvertsAt s calculation.of int_type slot (a1 + 1) a2
+      → HasAt s a2 (writing spot slot)
+      → DoesExpression s (Update place int_type calculation e) from (a2 + 1) slot
+  does_update place int_type calculation e given spot from mid at a1 a2 slot scene typed given_is operand second within
       read_first first convert_next third fourth = record {
         within = operand.within;
         comes = λ w a rest low long fits good goes.
@@ -282,10 +324,12 @@ module _ (s : Scene) where
             (λ d more was also went bears.
             subst (λ (o : Option Outcome). At at (with_slots more w) d o)
             (continued_then (located spot more d) (update int_type calculation right) rest)
-            (update_on (with_slots more w) d spot int_type calculation right at slot rest scene (well_after went)
+            (update_on (with_slots more w) d spot int_type calculation right at a1 a2 slot rest scene (well_after went)
             (refits_below (with_slots slots w) (slot + 2) more b d (refits w slot right slots a b fits held) also)
             bears second.lies
             (omega (arith, long, held.long, also.long)) low within (also.kept slot low (omega arith) ∙ held.value)
+            (right_operand calculation given right given_is
+            ((evaluates s e given a b right scene typed good ran).carried).value)
             read_first first convert_next third fourth
             (λ word f xs made kept.
             goes word f xs

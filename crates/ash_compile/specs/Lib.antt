@@ -6,5 +6,8 @@ pub mod Emission
 pub mod EmittedFrames
 pub mod EmittedParts
 pub mod EmittedStatements
+pub mod Conversions
 pub mod Places
+pub mod Operands
+pub mod Effects
 pub mod Arguments

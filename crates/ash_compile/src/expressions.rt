@@ -4,25 +4,27 @@
 //! An expression leaves its value in a slot of no local, and uses no slot below that. Its parts use the slots from
 //! there on.
 
-ghost use Rattle.std.specs.Prelude.{◌≡◌, ◌+◌, List, map, IfOk, pos};
+ghost use Rattle.std.specs.Prelude.{◌≡◌, ◌⊎◌, ◌+◌, List, map, IfOk, pos};
 ghost use Rattle.ash_typed.specs.declared.types.VarType.{VarType as VarTypeData};
-ghost use Rattle.ash_typed.specs.TypedTree.{Expr as ExprData, Read, Stored, Alter, Operate, Lazily, Conditional};
+ghost use Rattle.ash_typed.specs.TypedTree.{Expr as ExprData, Read, Stored, Lazily, Conditional};
 ghost use Rattle.ash_typed.specs.TypedTree.{Invoke, exprs, converted};
 ghost use Rattle.ash_typed.specs.TypedTreeViews.{expr_of, place_of, linked, all_linked, chained, all_chained};
 ghost use Rattle.ash_typed.specs.TypedTreeViews.{all_lazies};
 ghost use Rattle.ash_meaning.specs.OperatorMeaning.{word_at};
 ghost use Rattle.ash_compile.specs.Emission.{Emits, lazy_jump, read_local};
 ghost use Rattle.ash_compile.specs.Places.{EmitsPlace};
+ghost use Rattle.ash_compile.specs.Operands.{IsSimple, EmitsIn, EmitsInto};
 ghost use Rattle.ash_compile.specs.Arguments.{EmitsArguments};
 ghost use Rattle.ash_compile.specs.declared.builder.CodeBuilder.{CodeBuilder as Written};
 
 use crate::builder::CodeBuilder;
+use crate::operators::{addend_of, is_simple, local_read, operating};
 use crate::places::{Spot, spot_of_member, spot_of_variable};
 use ash_code::instruction::Instruction;
 use ash_host::Word;
 use ash_integers::{IntType, word_from};
 use ash_typed::{
-    Conversion, Expr, ExprKind, Lazy, Link, Method, Operand, Operation, Place, VarType, Variable,
+    Conversion, Expr, ExprKind, Lazy, Link, Method, Operand, Place, VarType, Variable,
 };
 use std::alloc::AllocError;
 
@@ -106,7 +108,7 @@ impl CodeBuilder {
                     },
                 )
             }
-            ExprKind::Chain { first, operands } => self.chain(first, operands, slot),
+            ExprKind::Chain { first, operands } => self.chain(first, operands, slot, slot),
             ExprKind::Lazy {
                 operator,
                 first,
@@ -181,88 +183,153 @@ impl CodeBuilder {
         ensures emits { IfOk result (λ u. (start : Written) (e : ExprData) → Emits start self.old e slot
             → Emits start self.new (converted (Some conversion) e) slot) }
     {
+        self.convert(conversion.from, conversion.to, slot)
+    }
+
+    /// Converts an operand. Its value is in the slot that is given back.
+    fn converted(
+        &mut self,
+        conversion: Conversion,
+        left: usize,
+        slot: usize,
+    ) -> Result<usize, AllocError>
+        ensures emits { IfOk result (λ at. (start : Written) (e : ExprData) → EmitsIn start self.old e slot left
+            → EmitsIn start self.new (converted (Some conversion) e) slot at) }
+        ensures there { IfOk result (λ at. (at ≡ left) ⊎ (at ≡ slot)) }
+    {
+        if conversion.from == conversion.to {
+            return Ok(left);
+        }
         self.put(
             slot,
             Instruction::Convert {
                 int_type: conversion.to,
-                from: slot,
+                from: left,
                 to: slot,
             },
-        )
+        )?;
+        Ok(slot)
     }
 
-    /// Converts the value of a slot where a conversion is named.
+    /// Converts an operand where a conversion is named. Its value is in the slot that is given back.
     fn conversion_before(
         &mut self,
         before: Option<Conversion>,
+        left: usize,
         slot: usize,
-    ) -> Result<(), AllocError>
-        ensures emits { IfOk result (λ u. (start : Written) (e : ExprData) → Emits start self.old e slot
-            → Emits start self.new (converted before e) slot) }
+    ) -> Result<usize, AllocError>
+        ensures emits { IfOk result (λ at. (start : Written) (e : ExprData) → EmitsIn start self.old e slot left
+            → EmitsIn start self.new (converted before e) slot at) }
+        ensures there { IfOk result (λ at. (at ≡ left) ⊎ (at ≡ slot)) }
     {
         match before {
-            None => Ok(()),
-            Some(conversion) => self.conversion(conversion, slot),
+            None => Ok(left),
+            Some(conversion) => self.converted(conversion, left, slot),
         }
     }
 
-    /// What an operator makes of the values of a slot and the next one.
-    fn operation(
+    /// Computes an operand. Its value is in the slot that is given back: a local stays in its own.
+    #[cycle(expressions)]
+    pub fn value(&mut self, expr: &Expr, slot: usize) -> Result<usize, AllocError>
+        ensures emits { IfOk result (λ at. EmitsIn self.old self.new (expr_of expr.now) slot at) }
+    {
+        match local_read(expr) {
+            Some(local) => Ok(local),
+            None => {
+                self.expression(expr, slot)?;
+                Ok(slot)
+            }
+        }
+    }
+
+    /// Computes an operand before another one. A local stays in its own slot only if the other one is simple.
+    #[cycle(expressions)]
+    fn left(&mut self, expr: &Expr, other: &Expr, slot: usize) -> Result<usize, AllocError>
+        ensures emits { IfOk result (λ at. EmitsIn self.old self.new (expr_of expr.now) slot at) }
+        ensures stays { IfOk result (λ at. (at ≡ slot) ⊎ IsSimple (expr_of other.now)) }
+    {
+        if is_simple(other) {
+            return self.value(expr, slot);
+        }
+        self.expression(expr, slot)?;
+        Ok(slot)
+    }
+
+    /// What an operator with its right operand makes of the value of a slot, into another one: that of the expression,
+    /// or that of a local.
+    #[cycle(expressions)]
+    fn operand(
         &mut self,
-        operation: Operation,
+        operand: &Operand,
+        left: usize,
         slot: usize,
-        right: usize,
+        to: usize,
     ) -> Result<(), AllocError>
-        requires next { right ≡ slot + 1 }
-        ensures emits { IfOk result (λ u. (start mid : Written) (a b : ExprData) → Emits start mid a slot
-            → Emits mid self.old b (slot + 1) → Emits start self.new (Operate operation a b) slot) }
+        ensures emits { IfOk result (λ u. (start : Written) (e : ExprData)
+            → (left ≡ slot) ⊎ IsSimple (expr_of operand.now.value)
+            → EmitsIn start self.old e slot left
+            → EmitsInto start self.new (chained e operand.now) slot to) }
     {
-        match operation {
-            Operation::Calculate(calculation) => self.put(
-                slot,
-                Instruction::Calculate {
-                    calculation,
-                    left: slot,
-                    right,
-                    to: slot,
-                },
-            ),
-            Operation::Compare(comparator, operands) => self.put(
-                slot,
-                Instruction::Compare {
-                    comparator,
-                    operands,
-                    left: slot,
-                    right,
-                    to: slot,
-                },
-            ),
+        let left = self.conversion_before(operand.before, left, slot)?;
+        match addend_of(operand.operation, &operand.value) {
+            Some(number) => self.put(slot, Instruction::AddNumber { left, number, to }),
+            None => {
+                let next = after(slot)?;
+                let right = self.value(&operand.value, next)?;
+                self.put(slot, operating(operand.operation, left, right, to))
+            }
         }
     }
 
-    /// What an operator with its right operand makes of the value of a slot.
+    /// What operators make of the value of an expression, one after the other, into a slot: that of the expression, or
+    /// that of a local.
     #[cycle(expressions)]
-    fn operand(&mut self, operand: &Operand, slot: usize) -> Result<(), AllocError>
-        ensures emits { IfOk result (λ u. (start : Written) (e : ExprData) → Emits start self.old e slot
-            → Emits start self.new (chained e operand.now) slot) }
+    pub fn chain(
+        &mut self,
+        first: &Expr,
+        operands: &[Operand],
+        slot: usize,
+        to: usize,
+    ) -> Result<(), AllocError>
+        ensures emits { IfOk result (λ u. EmitsInto self.old self.new
+            (all_chained (expr_of first.now) operands.now) slot to) }
     {
-        self.conversion_before(operand.before, slot)?;
-        let right = after(slot)?;
-        self.expression(&operand.value, right)?;
-        self.operation(operand.operation, slot, right)
+        match operands.split_last() {
+            None => {
+                let from = self.value(first, slot)?;
+                self.put(slot, Instruction::Move { from, to })
+            }
+            Some((last, before)) => {
+                let left = self.row(first, before, &last.value, slot)?;
+                self.operand(last, left, slot, to)
+            }
+        }
     }
 
-    /// What operators make of the value of an expression, one after the other.
+    /// What operators make of the value of an expression, one after the other, before another operand.
     #[cycle(expressions)]
-    fn chain(&mut self, first: &Expr, operands: &[Operand], slot: usize) -> Result<(), AllocError>
-        ensures emits { IfOk result (λ u. Emits self.old self.new
-            (all_chained (expr_of first.now) operands.now) slot) }
+    fn row(
+        &mut self,
+        first: &Expr,
+        operands: &[Operand],
+        other: &Expr,
+        slot: usize,
+    ) -> Result<usize, AllocError>
+        ensures emits { IfOk result (λ at. EmitsIn self.old self.new
+            (all_chained (expr_of first.now) operands.now) slot at) }
+        ensures stays { IfOk result (λ at. (at ≡ slot) ⊎ IsSimple (expr_of other.now)) }
     {
-        self.expression(first, slot)?;
-        for operand in operands {
-            self.operand(operand, slot)?;
+        match operands.split_first() {
+            None => self.left(first, other, slot),
+            Some((next, rest)) => {
+                let left = self.left(first, &next.value, slot)?;
+                self.operand(next, left, slot, slot)?;
+                for operand in rest {
+                    self.operand(operand, slot, slot, slot)?;
+                }
+                Ok(slot)
+            }
         }
-        Ok(())
     }
 
     /// What a lazy operator with its right operand makes of the value of a slot.

@@ -3,8 +3,8 @@
 //! `specs/Stretches.antt` says when a stretch of code does what a phrase does, and `specs/Emission.antt` what emitted
 //! code does, wherever it stands.
 //!
-//! In reading order: `layout`, `builder`, `expressions`, `places`, `calls`, `blocks`, `bodies`, `looping`, `switching`,
-//! `initializers`, `frames`, `classes`, `module`.
+//! In reading order: `layout`, `builder`, `operators`, `expressions`, `places`, `calls`, `effects`, `blocks`, `bodies`,
+//! `looping`, `switching`, `initializers`, `frames`, `classes`, `module`.
 #![tactic(auto)]
 
 mod blocks;
@@ -12,11 +12,13 @@ pub mod bodies;
 pub mod builder;
 mod calls;
 mod classes;
+mod effects;
 pub mod expressions;
 mod frames;
 mod initializers;
 pub mod layout;
 mod looping;
 pub mod module;
+pub mod operators;
 pub mod places;
 mod switching;

@@ -7,6 +7,7 @@ ghost use Rattle.ash_typed.specs.declared.types.Element.{Element as ElementType}
 ghost use Rattle.ash_typed.specs.TypedTree.{Expr as ExprData, Place as PlaceData, Read, Held, Indexed, Assign};
 ghost use Rattle.ash_typed.specs.TypedTree.{Update, Count};
 ghost use Rattle.ash_compile.specs.Emission.{Emits};
+ghost use Rattle.ash_compile.specs.Conversions.{Converts};
 ghost use Rattle.ash_compile.specs.Places.{spot_of_variable, spot_of_member, reading, writing, slot_of_old};
 ghost use Rattle.ash_compile.specs.Places.{slot_of_new, EmitsPlace};
 ghost use Rattle.ash_compile.specs.declared.builder.CodeBuilder.{CodeBuilder as Written};
@@ -103,6 +104,23 @@ fn slot_of_new(step: IncrementOp, given: usize, other: usize) -> usize
 }
 
 impl CodeBuilder {
+    /// Converts the integer of a slot, unless the types are equal.
+    pub fn convert(&mut self, from: IntType, to: IntType, slot: usize) -> Result<(), AllocError>
+        ensures converts { IfOk result (λ u. Converts self.old self.new from to slot) }
+    {
+        if from == to {
+            return Ok(());
+        }
+        self.put(
+            slot,
+            Instruction::Convert {
+                int_type: to,
+                from: slot,
+                to: slot,
+            },
+        )
+    }
+
     /// Reads a member of the object in a slot.
     pub fn read_member(&mut self, member: ObjectMember, slot: usize) -> Result<(), AllocError>
         ensures emits { IfOk result (λ u. (start : Written) (e : ExprData) → Emits start self.old e slot
@@ -147,14 +165,7 @@ impl CodeBuilder {
             slot) }
     {
         self.put(left, reading(spot, left))?;
-        self.put(
-            left,
-            Instruction::Convert {
-                int_type: calculation.of,
-                from: left,
-                to: left,
-            },
-        )?;
+        self.convert(of, calculation.of, left)?;
         self.put(
             slot,
             Instruction::Calculate {
@@ -164,14 +175,7 @@ impl CodeBuilder {
                 to: slot,
             },
         )?;
-        self.put(
-            slot,
-            Instruction::Convert {
-                int_type: of,
-                from: slot,
-                to: slot,
-            },
-        )?;
+        self.convert(calculation.of, of, slot)?;
         self.put(slot, writing(spot, slot))
     }
 

@@ -15,9 +15,9 @@ use ash_run_steps::stop::Stop;
 
 /// What a call knows of a function: the line of its entry, and how many parameters it has.
 #[derive(Clone, Copy)]
-pub struct Entry {
-    pub line: u32,
-    pub parameters: usize,
+pub(crate) struct Entry {
+    pub(crate) line: u32,
+    pub(crate) parameters: usize,
 }
 
 // The entry of a function, if there is one.

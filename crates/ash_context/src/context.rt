@@ -8,14 +8,14 @@ ghost use Rattle.ash_code.specs.Running as running;
 ghost use Rattle.ash_code.specs.Sizes as sizes;
 ghost use Rattle.ash_code.specs.Validity.{is_valid};
 ghost use Rattle.ash_context.specs.Bounds as bounds;
-ghost use Rattle.ash_context.specs.Outcomes.{Compiles, Counts, Says, Takes, world_in};
+ghost use Rattle.ash_context.specs.Outcomes.{Compiles, Says, Takes, TakesFromEntry, world_in};
 ghost use Rattle.ash_context.specs.Positions.{control_of};
 ghost use Rattle.ash_host.specs.Objects.{handles};
 ghost use Rattle.ash_host.specs.declared.word.Word.{Word};
 ghost use Rattle.ash_host.specs.declared.word.Word.TheVariants as words;
 ghost use Rattle.ash_meaning.specs.Activity.{World};
 ghost use Rattle.ash_meaning.specs.Classes.{entry_of_function};
-ghost use Rattle.ash_meaning.specs.Ends.{begun, call_entry, init_frame, load_module, outcome_of};
+ghost use Rattle.ash_meaning.specs.Ends.{begun, call_entry, load_module, outcome_of};
 ghost use Rattle.ash_meaning.specs.OperatorMeaning.{zero_of};
 ghost use Rattle.ash_meaning.specs.Runs.{Run};
 ghost use Rattle.ash_run_steps.specs.FrameChanges.{beginning_over};
@@ -104,13 +104,10 @@ fn run_on<B: HostObject>(code: &Code, parts: Parts<B>, stack: Stack, budget: u64
         → Compiles B.HostObject s (control_of 0 stack)
         (λ (world : World). begun world budget (frame_shown s.names stack.frame)) run parts
         → Says B.HostObject s.names
-        (λ (world : World). outcome_of (run (begun world budget (frame_shown s.names stack.frame)))) parts
+        (λ (world : World). outcome_of (run (begun world budget (frame_shown s.names stack.frame))))
+        (λ (world : World). Takes s (control_of 0 stack)
+        (begun world budget (frame_shown s.names stack.frame)) result.steps) parts
         result.ended.outcome result.ended.parts }
-    ensures counted { (s : Setting) (run : Run (Option Word)) → s.code ≡ code.now
-        → Compiles B.HostObject s (control_of 0 stack)
-        (λ (world : World). begun world budget (frame_shown s.names stack.frame)) run parts
-        → IfOk result.ended.outcome (λ _. Takes B.HostObject s (control_of 0 stack)
-        (λ (world : World). begun world budget (frame_shown s.names stack.frame)) parts result.steps) }
     ensures held { HoldsRoots result.ended.parts.table
         (result.ended.parts.outside.items ++ handles result.ended.parts.globals.items) }
     ensures begun { result.ended.outcome ≡ Err RunFault.NotBegun → ⊥ }
@@ -139,7 +136,7 @@ fn begin_on(stack: &mut Stack, code: &Code, function: usize, args: &[Word]) -> R
 
 impl Context {
     /// A machine with memory for the deepest run of the code: for as many frames as there may be, each as wide as the
-    /// widest.
+    /// widest. Objects that frames hold may still take memory while it runs.
     pub fn new(alloc: Global, code: &Code) -> Result<Context, NoMemory>
         ensures none { IfOk result (λ context. context ≡ 0) }
     {
@@ -160,7 +157,7 @@ impl Context {
 
     /// Runs a function of the code with these arguments and so many ticks; the place behind the last function is that
     /// of the initializers. If the code is that of a sound module, the outcome is the one that its meaning says, and so
-    /// is the world that is left.
+    /// is the world that is left, and the code comes to them in as many instructions as are counted.
     pub fn run<B: HostObject>(
         &mut self,
         code: &Code,
@@ -177,31 +174,20 @@ impl Context {
             → IsWellFormed c (env_of c f.parameters) []
             (compiled.first_of_function f args.now budget (world_in B.HostObject s.names [] parts))
             → Says B.HostObject s.names
-            (λ (world : World). call_entry c.program args.now budget world (entry_of_function f)) parts
+            (λ (world : World). call_entry c.program args.now budget world (entry_of_function f))
+            (λ (world : World). TakesFromEntry s function args.now
+            (compiled.first_of_function f args.now budget world) self.new) parts
             result.outcome result.parts }
         ensures loaded { (c : well_formed.Context) (s : Setting) → IsContext c → IsCodeOf code.now c
             → IsSetFor code.now c s → function ≡ length code.now.functions.items → args.now ≡ []
             → parts.globals.items ≡ map zero_of (types_of_globals c.program.tree.globals)
             → IsWellFormed c (env_of c []) []
             (compiled.first_of_load c.program.tree budget (world_in B.HostObject s.names [] parts))
-            → Says B.HostObject s.names (λ (world : World). load_module c.program budget world) parts
+            → Says B.HostObject s.names (λ (world : World). load_module c.program budget world)
+            (λ (world : World). TakesFromEntry s function []
+            (compiled.first_of_load c.program.tree budget world) self.new) parts
             result.outcome result.parts }
-        ensures counted { (c : well_formed.Context) (s : Setting) (f : Function) → IsContext c
-            → IsCodeOf code.now c → IsSetFor code.now c s
-            → slice_get c.program.tree.functions function ≡ Some f
-            → IsWellFormed c (env_of c f.parameters) []
-            (compiled.first_of_function f args.now budget (world_in B.HostObject s.names [] parts))
-            → Counts B.HostObject s function args.now
-            (compiled.first_of_function f args.now budget) parts result.outcome self.new }
-        ensures counted_load { (c : well_formed.Context) (s : Setting) → IsContext c
-            → IsCodeOf code.now c → IsSetFor code.now c s
-            → function ≡ length code.now.functions.items → args.now ≡ []
-            → parts.globals.items ≡ map zero_of (types_of_globals c.program.tree.globals)
-            → IsWellFormed c (env_of c []) []
-            (compiled.first_of_load c.program.tree budget (world_in B.HostObject s.names [] parts))
-            → Counts B.HostObject s function [] (λ (world : World). begun world budget init_frame) parts
-            result.outcome self.new }
-        ensures unchanged { result.outcome ≡ Err RunFault.NotBegun → result.parts ≡ parts }
+        ensures unchanged { result.outcome ≡ Err RunFault.NotBegun → (result.parts ≡ parts) × (self.new ≡ 0) }
         ensures held { HoldsRoots result.parts.table
             (result.parts.outside.items ++ handles result.parts.globals.items) }
         ensures bounded { self.new ≤ bounds.bound code.now budget }

@@ -20,7 +20,7 @@
 
 mod arrays;
 mod calculating;
-pub mod calling;
+mod calling;
 mod casting;
 mod classes;
 mod constructing;
@@ -29,7 +29,7 @@ mod elements;
 mod ending;
 mod hosts;
 mod jumping;
-pub mod looping;
+mod looping;
 mod members;
 mod operators;
 pub mod outcome;
@@ -37,4 +37,4 @@ mod returning;
 mod running;
 mod stepping;
 mod storing;
-pub mod turning;
+mod turning;

@@ -7,7 +7,7 @@ use ash_run_steps::stop::Stop;
 
 /// What is left after an instruction.
 #[derive(Clone, Copy)]
-pub enum Turn {
+pub(crate) enum Turn {
     /// The run goes on from an instruction of the function that runs.
     GoesOn(usize),
     /// The run ends with a value, or without one.

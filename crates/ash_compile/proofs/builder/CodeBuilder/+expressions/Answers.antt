@@ -1,4 +1,4 @@
-use Rattle.std.proofs.Common.{rules, ◌≡◌, IfOk, ℕ, ◌+◌, [], ◌∷◌, ◌++◌, length, map, refl, sym, ap, ◌∙◌, subst, arith, length-append}
+use Rattle.std.proofs.Common.{rules, ◌≡◌, IfOk, ℕ, ◌+◌, [], ◌∷◌, ◌++◌, length, map, inl, refl, sym, ap, ◌∙◌, subst, arith, length-append}
 use Rattle.std.proofs.lemmas.List.{length-map}
 use Rattle.ash_host.specs.declared.word.Word.{Word}
 use Rattle.ash_code.specs.declared.instruction.Instruction.TheVariants as i
@@ -17,27 +17,17 @@ use Rattle.ash_compile.proofs.Emitted as emitted
 use Rattle.ash_compile.proofs.EmittedBranches as branches
 use Rattle.ash_compile.proofs.EmittedPlaces as places
 use Rattle.ash_compile.proofs.CastCode as casts
-use Rattle.ash_compile.proofs.EmittedRows.{chain_step, chain_end, lazy_step, lazy_end, link_step, link_end}
+use Rattle.ash_compile.proofs.Operands as operands
+use Rattle.ash_compile.specs.Operands.{EmitsIn, EmitsInto, IsAddition}
+use Rattle.std.proofs.Common.{ℤ, to_z, of_z}
+use Rattle.std.specs.Int.{w32}
+use Rattle.std.proofs.lemmas.Int.{to_z-of_z}
+use mir.Val.{SFits}
+use Rattle.ash_compile.proofs.EmittedRows.{empty_is, chained_after, chain_step, chain_end, lazy_step, lazy_end, link_step, link_end}
 use Rattle.ash_compile.proofs.EmittedRows.{argument_step, argument_end}
 use Rattle.ash_compile.specs.Arguments.{EmitsArguments}
 use Rattle.ash_compile.proofs.Arguments.{no_code, one_argument}
 use Rattle.ash_compile.proofs.builder.CodeBuilder.+expressions.Goals as goal
-
-pub chain-loop-operand-init : goal.chain-loop-operand-init
-chain-loop-operand-init t c = (expr_of c.args.first.now, c.in_ok-expression.ensures.emits, refl)
-
-pub chain-loop-operand-preserved : goal.chain-loop-operand-preserved
-chain-loop-operand-preserved t c = (
-  chained c.loop-operand.invariant.0 c.operand-item.result,
-  c.in_ok-operand.ensures.emits c.args.self.now c.loop-operand.invariant.0 c.loop-operand.invariant.1,
-  chain_step c.loop-operand.invariant.0 c.args.operands.now c.loop-operand.operand-index c.operand-item.result c.loop-operand-test.true c.operand-item.is ∙ c.loop-operand.invariant.2,
-)
-
-pub chain-returns : goal.chain-returns
-chain-returns t c = record {
-  emits = subst (λ (x : Expr). Emits c.args.self.now c.loop-operand.self x c.args.slot)
-      (chain_end c.loop-operand.invariant.0 _ c.args.operands.now c.loop-operand.operand-index c.loop-operand-test.false c.loop-operand.invariant.2) c.loop-operand.invariant.1;
-}
 
 pub lazy_row-loop-other-init : goal.lazy_row-loop-other-init
 lazy_row-loop-other-init t c = (expr_of c.args.first.now, c.in_ok-expression.ensures.emits, refl)
@@ -65,15 +55,109 @@ lazily-returns t c = record {
       (subst (λ (j : Instruction). Leads c.expression.new.self c.lead.new.self c.here-branch.result j) c.jump_over-2.ensures.jump c.lead.ensures.leads));
 }
 
-pub operand-returns : goal.operand-returns
-operand-returns t c = record {
-  emits = if_ok c.operation.result
-      (λ u then start e first.
-      then start c.conversion_before.new.self (converted c.args.operand.now.before e) (expr_of c.args.operand.now.value)
-      (c.in_ok-conversion_before.ensures.emits start e first)
-      (subst (λ (r : ℕ). Emits c.conversion_before.new.self c.expression.new.self (expr_of c.args.operand.now.value) r) c.in_ok-right.ensures.next c.in_ok-expression.ensures.emits))
-      c.operation.ensures.emits;
+pub value-returns-in-Some : goal.value-returns-in-Some
+value-returns-in-Some t c = record {
+  emits = operands.local_there_in c.args.self.now (expr_of c.args.expr.now) c.in-Some.local c.args.slot
+      c.in-Some.ensures.reads;
 }
+
+pub value-returns-in_ok-expression-in-None : goal.value-returns-in_ok-expression-in-None
+value-returns-in_ok-expression-in-None t c = record {
+  emits = operands.emits_in c.args.self.now c.expression.new.self (expr_of c.args.expr.now) c.args.slot
+      c.in_ok-expression-in-None.ensures.emits;
+}
+
+pub left-returns-clause-emits : goal.left-returns-clause-emits
+left-returns-clause-emits t c =
+    operands.emits_in c.args.self.now c.expression.new.self (expr_of c.args.expr.now) c.args.slot
+    c.in_ok-expression.ensures.emits
+
+pub operand-returns-in-Some : goal.operand-returns-in-Some
+operand-returns-in-Some t c =
+    let right = expr_of c.args.operand.now.value in
+    let operation = c.args.operand.now.operation in
+    let number = to_z w32 (of_z w32 c.in-Some.number) in
+    let f : SFits w32 c.in-Some.number = search rules in
+    let adds : IsAddition operation right number
+    = subst (λ (z : ℤ). IsAddition operation right z) (sym (to_z-of_z w32 c.in-Some.number f)) c.in-Some.ensures.adds in
+    record {
+      emits = if_ok c.put.result
+          (λ u puts start e stays first.
+          operands.add_into start c.conversion_before.new.self c.put.new.self operation
+          (converted c.args.operand.now.before e) right number c.args.slot c.in_ok-left.left c.args.to
+          (c.in_ok-left.ensures.emits start e first) puts adds)
+          c.put.ensures.puts;
+    }
+
+pub operand-returns-in_ok-right-in-None : goal.operand-returns-in_ok-right-in-None
+operand-returns-in_ok-right-in-None t c = record {
+  emits = if_ok c.put-in-None.result
+      (λ u puts start e stays first.
+      operands.operate_into start c.conversion_before.new.self c.value.new.self c.put-in-None.new.self
+      c.args.operand.now.operation (converted c.args.operand.now.before e) (expr_of c.args.operand.now.value)
+      c.args.slot c.in_ok-left.left c.in_ok-right-in-None.right c.args.to c.operating.result
+      (c.in_ok-left.ensures.emits start e first)
+      (subst (λ (n : ℕ). EmitsIn c.conversion_before.new.self c.value.new.self (expr_of c.args.operand.now.value) n
+      c.in_ok-right-in-None.right) c.in_ok-next-in-None.ensures.next c.in_ok-right-in-None.ensures.emits)
+      puts c.operating.ensures.operates (operands.stays_on c.in_ok-left.ensures.there stays))
+      c.put-in-None.ensures.puts;
+}
+
+pub row-loop-operand-init : goal.row-loop-operand-init
+row-loop-operand-init t c =
+    let first = expr_of c.args.first.now in (
+      chained first c.in-Some.next.now,
+      (c.in_ok-operand-in-Some.ensures.emits c.args.self.now first c.in_ok-left-in-Some.ensures.stays
+          c.in_ok-left-in-Some.ensures.emits).in_slot refl,
+      sym (ap (all_chained first) (c.in-Some.ensures.cases).0),
+    )
+
+pub row-loop-operand-preserved : goal.row-loop-operand-preserved
+row-loop-operand-preserved t c =
+    let here = c.loop-operand in
+    let e = here.invariant.0 in (
+      chained e c.operand-item.result,
+      (c.in_ok-operand-in-Some-2.ensures.emits c.args.self.now e (inl refl)
+          (operands.emits_in c.args.self.now here.self e c.args.slot here.invariant.1)).in_slot refl,
+      chain_step e c.in-Some.rest.now here.operand-index c.operand-item.result c.loop-operand-test.true c.operand-item.is
+          ∙ here.invariant.2,
+    )
+
+pub row-returns-after-loop-operand-clause-emits : goal.row-returns-after-loop-operand-clause-emits
+row-returns-after-loop-operand-clause-emits t c =
+    let here = c.loop-operand in
+    let all = all_chained (expr_of c.args.first.now) c.args.operands.now in
+    operands.emits_in c.args.self.now here.self all c.args.slot
+    (subst (λ (x : Expr). Emits c.args.self.now here.self x c.args.slot)
+    (chain_end here.invariant.0 all c.in-Some.rest.now here.operand-index c.loop-operand-test.false here.invariant.2)
+    here.invariant.1)
+
+pub chain-returns-in_ok-from-in-None : goal.chain-returns-in_ok-from-in-None
+chain-returns-in_ok-from-in-None t c =
+    let first = expr_of c.args.first.now in
+    record {
+      emits = if_ok c.put.result
+          (λ u puts.
+          subst (λ (os : List operand_code.Operand). EmitsInto c.args.self.now c.put.new.self (all_chained first os)
+          c.args.slot c.args.to) (empty_is c.args.operands.now c.in-None.ensures.cases)
+          (operands.move_into c.args.self.now c.value.new.self c.put.new.self first c.args.slot c.in_ok-from-in-None.from
+          c.args.to c.in_ok-from-in-None.ensures.emits puts))
+          c.put.ensures.puts;
+    }
+
+pub chain-returns-in_ok-left-in-Some : goal.chain-returns-in_ok-left-in-Some
+chain-returns-in_ok-left-in-Some t c =
+    let first = expr_of c.args.first.now in
+    record {
+      emits = if_ok c.operand.result
+          (λ u next.
+          subst (λ (x : Expr). EmitsInto c.args.self.now c.operand.new.self x c.args.slot c.args.to)
+          (sym (ap (all_chained first) (c.in-Some.ensures.cases).0
+          ∙ chained_after first c.in-Some.before.now c.in-Some.last.now))
+          (next c.args.self.now (all_chained first c.in-Some.before.now) c.in_ok-left-in-Some.ensures.stays
+          c.in_ok-left-in-Some.ensures.emits))
+          c.operand.ensures.emits;
+    }
 
 pub conditional-returns : goal.conditional-returns
 conditional-returns t c = record {
@@ -131,7 +215,7 @@ pub expression-returns-in-Chain : goal.expression-returns-in-Chain
 expression-returns-in-Chain t c = record {
   emits = if_ok c.chain.result
       (λ u emits. of_kind c.args.self.now c.chain.new.self c.args.expr.now.kind.value _ _ c.args.slot (sym c.deref.ensures ∙ c.in-Chain.is) (chain_is c.in-Chain.first c.in-Chain.operands)
-      (subst (λ (os : List operand_code.Operand). Emits c.args.self.now c.chain.new.self (all_chained (expr_of c.in-Chain.first) os) c.args.slot) c.deref-in-Chain.ensures.value emits))
+      ((subst (λ (os : List operand_code.Operand). EmitsInto c.args.self.now c.chain.new.self (all_chained (expr_of c.in-Chain.first) os) c.args.slot c.args.slot) c.deref-in-Chain.ensures.value emits).in_slot refl))
       c.chain.ensures.emits;
 }
 

@@ -13,44 +13,53 @@ use Rattle.ash_compile.proofs.builder.CodeBuilder.+expressions.Given as goal
 -- the depth of what a function goes down, and how near it is to the next expression
 
 abbrev pub decreases-expression : goal.decreases-expression
-decreases-expression l = 4 * size-Expr l.expr.now
+decreases-expression l = 8 * size-Expr l.expr.now
 
 abbrev pub decreases-conditional : goal.decreases-conditional
 decreases-conditional l =
-    4 * max (size-Expr l.condition.now) (max (size-Expr l.then.now) (size-Expr l.otherwise.now)) + 1
+    8 * max (size-Expr l.condition.now) (max (size-Expr l.then.now) (size-Expr l.otherwise.now)) + 1
 
 abbrev pub decreases-chain : goal.decreases-chain
-decreases-chain l = 4 * max (size-Expr l.first.now) (most size-Operand l.operands.now) + 2
+decreases-chain l = 8 * max (size-Expr l.first.now) (most size-Operand l.operands.now) + 4
+
+abbrev pub decreases-row : goal.decreases-row
+decreases-row l = 8 * max (size-Expr l.first.now) (most size-Operand l.operands.now) + 3
+
+abbrev pub decreases-left : goal.decreases-left
+decreases-left l = 8 * size-Expr l.expr.now + 2
+
+abbrev pub decreases-value : goal.decreases-value
+decreases-value l = 8 * size-Expr l.expr.now + 1
 
 abbrev pub decreases-lazy_row : goal.decreases-lazy_row
-decreases-lazy_row l = 4 * max (size-Expr l.first.now) (most size-Expr l.others.now) + 3
+decreases-lazy_row l = 8 * max (size-Expr l.first.now) (most size-Expr l.others.now) + 3
 
 abbrev pub decreases-operand : goal.decreases-operand
-decreases-operand l = 4 * size-Operand l.operand.now
+decreases-operand l = 8 * size-Operand l.operand.now
 
 abbrev pub decreases-lazily : goal.decreases-lazily
-decreases-lazily l = 4 * size-Expr l.right.now + 1
+decreases-lazily l = 8 * size-Expr l.right.now + 1
 
 abbrev pub decreases-path : goal.decreases-path
-decreases-path l = 4 * max (size-Expr l.base.now) (most size-Link l.links.now) + 2
+decreases-path l = 8 * max (size-Expr l.base.now) (most size-Link l.links.now) + 2
 
 abbrev pub decreases-link : goal.decreases-link
-decreases-link l = 4 * size-Link l.link.now
+decreases-link l = 8 * size-Link l.link.now
 
 abbrev pub decreases-place : goal.decreases-place
-decreases-place l = 4 * size-Place l.place.now
+decreases-place l = 8 * size-Place l.place.now
 
 abbrev pub decreases-invoke : goal.decreases-invoke
-decreases-invoke l = 4 * most size-Expr l.arguments.now + 2
+decreases-invoke l = 8 * most size-Expr l.arguments.now + 2
 
 abbrev pub decreases-arguments : goal.decreases-arguments
-decreases-arguments l = 4 * most size-Expr l.arguments.now + 1
+decreases-arguments l = 8 * most size-Expr l.arguments.now + 1
 
 -- What is emitted is some expression; with what is left of the row it is the whole.
 
-abbrev pub invariant-chain-loop-operand : goal.invariant-chain-loop-operand
-invariant-chain-loop-operand l =
-    (e : Expr) × (Emits l.fn.self l.self e l.slot) × (all_chained e (drop l.operand-index l.operands) ≡ all_chained (expr_of l.first) l.operands)
+abbrev pub invariant-row-loop-operand : goal.invariant-row-loop-operand
+invariant-row-loop-operand l =
+    (e : Expr) × (Emits l.fn.self l.self e l.slot) × (all_chained e (drop l.operand-index l.rest) ≡ all_chained (expr_of l.first) l.operands)
 
 abbrev pub invariant-lazy_row-loop-other : goal.invariant-lazy_row-loop-other
 invariant-lazy_row-loop-other l =

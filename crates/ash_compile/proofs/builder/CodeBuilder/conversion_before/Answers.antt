@@ -1,9 +1,8 @@
-use Rattle.std.proofs.Common.{rules, ◌≡◌, IfOk, ℕ, ◌+◌, refl, sym, ap, ◌∙◌, subst}
-use Rattle.ash_code.specs.declared.instruction.Instruction.TheVariants as i
-use Rattle.ash_compile.specs.Emission.{Puts}
-use Rattle.ash_compile.proofs.Emitted.{if_ok}
-use Rattle.ash_compile.proofs.Emitted as emitted
+use Rattle.std.proofs.Common.{inl, refl}
 use Rattle.ash_compile.proofs.builder.CodeBuilder.conversion_before.Goals as goal
 
+pub returns-in-None : goal.returns-in-None
+returns-in-None c = record { emits = rw c.in-None.is (λ start e first. first); there = inl refl }
+
 pub returns-in-Some : goal.returns-in-Some
-returns-in-Some c = record { emits = rw c.in-Some.is c.conversion.ensures.emits }
+returns-in-Some c = record { emits = rw c.in-Some.is c.converted.ensures.emits; there = c.converted.ensures.there }
