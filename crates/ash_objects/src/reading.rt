@@ -21,6 +21,13 @@ impl<B> Objects<B> {
         self.store.numbers()
     }
 
+    /// The last number that was given to an object; 0 before the first.
+    pub fn last(&self) -> u64
+        ensures last { result ≡ self.now.last }
+    {
+        self.last
+    }
+
     /// The services, in order.
     pub fn services(&self) -> &[B]
         ensures services { result.now ≡ self.now.services }

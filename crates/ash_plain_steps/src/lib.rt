@@ -17,12 +17,12 @@
 mod arguments;
 mod calls;
 mod functions;
-mod modules;
+pub mod modules;
 mod name;
-mod refusals;
+pub mod refusals;
 mod runs;
-mod shown;
+pub mod shown;
 pub mod state;
 pub mod step;
 pub mod steps;
-mod task;
+pub mod task;

@@ -13,7 +13,7 @@ use ash_host::Word;
 use std::alloc::{AllocError, Global};
 
 /// The most modules that a state has.
-pub(crate) const MAX_MODULES: usize = 16;
+pub const MAX_MODULES: usize = 16;
 
 /// The place of the module of this name.
 pub(crate) fn place_of(modules: &[LoadedModule], name: &str) -> Option<usize>
@@ -23,7 +23,7 @@ pub(crate) fn place_of(modules: &[LoadedModule], name: &str) -> Option<usize>
 }
 
 /// The place of the first module whose name comes after this one.
-fn place_after(modules: &[LoadedModule], name: &str) -> Option<usize>
+pub fn place_after(modules: &[LoadedModule], name: &str) -> Option<usize>
     ensures value { result ≡ position (λ m. is_lt (compare_names name.now (loaded_seen m).name))
         modules.now }
 {
@@ -45,7 +45,7 @@ pub(crate) fn insert(
 }
 
 /// Appends the objects that words are handles to.
-fn push_handles(words: &[Word], numbers: &mut Vec<u64>) -> Result<(), AllocError>
+pub fn push_handles(words: &[Word], numbers: &mut Vec<u64>) -> Result<(), AllocError>
     ensures value { OnOk result (numbers.new.items ≡ numbers.old.items ++ handles words.now) }
 {
     for word in words {

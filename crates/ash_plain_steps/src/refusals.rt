@@ -161,7 +161,7 @@ fn showing<S: SourceReader>(
 }
 
 /// The task of a request, or the first cause for which it is refused. `NoMemory` says that memory was refused.
-pub(crate) fn task_of<'a, S: SourceReader>(
+pub fn task_of<'a, S: SourceReader>(
     sources: &S,
     request: &Request<'a>,
     state: &PlainState,

@@ -70,7 +70,7 @@ fn fields_shown(
 }
 
 /// `m.C`
-fn dotted(alloc: Global, owner: &str, class: &str) -> Result<String, AllocError>
+pub fn dotted(alloc: Global, owner: &str, class: &str) -> Result<String, AllocError>
     ensures value { IfOk result (λ name. string_bytes name ≡ dotted owner.now class.now) }
 {
     let mut name = String::from_str(alloc, owner)?;
@@ -164,7 +164,7 @@ fn host_shown<S: SourceReader>(
 
 /// The name of the type of an object, and what is in it. `None` where the class of the object is in no module, which is
 /// tested before memory is taken: an `Err` means that memory was refused to an object that can be shown.
-pub(crate) fn described<S: SourceReader>(
+pub fn described<S: SourceReader>(
     sources: &S,
     state: &PlainState,
     object: &Object,

@@ -6,23 +6,23 @@ use ash_typed::Module;
 
 /// A module that is to be loaded, with the typed tree of its source.
 #[derive(Drop)]
-pub(crate) struct NewModule<'a> {
-    pub(crate) name: &'a str,
-    pub(crate) source: &'a [u8],
-    pub(crate) tree: Module,
+pub struct NewModule<'a> {
+    pub name: &'a str,
+    pub source: &'a [u8],
+    pub tree: Module,
 }
 
 /// A call of a function of a module, each by its place, with the words of its arguments.
 #[derive(Drop)]
-pub(crate) struct Invocation {
-    pub(crate) module: usize,
-    pub(crate) function: usize,
-    pub(crate) args: Vec<Word>,
+pub struct Invocation {
+    pub module: usize,
+    pub function: usize,
+    pub args: Vec<Word>,
 }
 
 /// What a request asks for.
 #[derive(Drop)]
-pub(crate) enum Task<'a> {
+pub enum Task<'a> {
     Initialize(NewModule<'a>),
     Invoke(Invocation),
     /// Remove the module at a place.

@@ -1,5 +1,6 @@
 -- These definitions say what the accepted registrations are, and which names, kinds and numbers they take.
-use Rattle.std.specs.Prelude.{ℕ, Bool, true, false, List, Option, None, Some, string_bytes, nat_eq, ◌&&◌}
+use Rattle.std.specs.Prelude.{ℕ, Bool, true, false, List, Option, None, Some, string_bytes, nat_eq, ◌&&◌, if◌then◌else◌}
+use Rattle.std.specs.List.{list_any}
 use Rattle.std.specs.Str.{bytes_eq}
 use Rattle.ash_tree.specs.declared.tree.types.Primitive.{Primitive}
 use Rattle.ash_registrations.specs.declared.registration.Registration as code
@@ -98,6 +99,12 @@ is_service _ = false
 abbrev pub is_function : Registration → Bool
 is_function (FunctionRegistration _ _ _) = true
 is_function _ = false
+
+-- The kind of a type, if it has a factory among these registrations.
+abbrev pub constructed_kind : List Registration → Registration → Option ℕ
+constructed_kind registrations (TypeRegistration name kind) =
+    if list_any (is_factory_of name) registrations then Some kind else None
+constructed_kind registrations _ = None
 
 -- `service_kind r` is the kind of a service.
 unfoldable pub service_kind : Registration → Option ℕ

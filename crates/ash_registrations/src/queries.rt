@@ -10,7 +10,7 @@ ghost use Rattle.ash_registrations.specs.Text.{text_of, max_registered_text_byte
 use crate::searches::{
     any_is_factory_of, any_names_type, any_takes_function, any_takes_kind, any_takes_member,
     any_takes_method, any_takes_property, find_factory, find_kind, find_member, kinds_of_services,
-    registration_at,
+    kinds_of_types, registration_at,
 };
 use crate::{Registration, Registrations};
 use indexmap::IndexMap;
@@ -80,6 +80,15 @@ impl Registrations {
             ≡ filter_map spec.service_kind (registered self.now)) }
     {
         kinds_of_services(self.alloc, &self.registrations)
+    }
+
+    /// The kinds of the types that have a factory, in order of registration.
+    #[tactic(auto, using(crate::proofs::Mapped::filter_mapped))]
+    pub fn object_kinds(&self) -> Result<Vec<u16>, AllocError>
+        ensures in_order { IfOk result (λ kinds. kinds.items
+            ≡ filter_map (spec.constructed_kind (registered self.now)) (registered self.now)) }
+    {
+        kinds_of_types(self.alloc, &self.registrations)
     }
 
     /// Whether a type of this name is registered.

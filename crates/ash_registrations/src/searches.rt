@@ -1,5 +1,5 @@
 //! Tests and searches over accepted registrations.
-ghost use Rattle.std.specs.Prelude.{◌≡◌, find, slice_get, IfOk};
+ghost use Rattle.std.specs.Prelude.{◌≡◌, find, map, slice_get, IfOk};
 ghost use Rattle.std.specs.List.{list_any, filter_map};
 ghost use Rattle.std.specs.Option.{option_copied};
 ghost use Rattle.ash_registrations.specs.Registrations.{registration_of};
@@ -114,6 +114,37 @@ pub(crate) fn find_kind(registrations: &[Registration], kind: u16) -> Option<&Re
     registrations
         .iter()
         .find(|registration| registration.takes_kind(kind))
+}
+
+#[tactic(auto, using(crate::proofs::Mapped::any_mapped))]
+fn constructed_kind(registrations: &[Registration], registration: &Registration) -> Option<u16>
+    ensures value { result ≡ spec.constructed_kind (map registration_of registrations.now)
+        (registration_of registration.now) }
+{
+    let Registration::Type { name, kind } = registration else {
+        return None;
+    };
+    if any_is_factory_of(registrations, name) {
+        Some(*kind)
+    } else {
+        None
+    }
+}
+
+pub(crate) fn kinds_of_types(
+    alloc: Global,
+    registrations: &[Registration],
+) -> Result<Vec<u16>, AllocError>
+    ensures value { IfOk result (λ kinds. kinds.items ≡ filter_map (λ r. spec.constructed_kind
+        (map registration_of registrations.now) (registration_of r)) registrations.now) }
+{
+    let mut kinds = Vec::new(alloc);
+    for registration in registrations {
+        if let Some(constructed) = constructed_kind(registrations, registration) {
+            kinds.push(constructed)?;
+        }
+    }
+    Ok(kinds)
 }
 
 pub(crate) fn kinds_of_services(

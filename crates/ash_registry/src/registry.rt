@@ -77,6 +77,14 @@ impl Registry {
         self.table.of_kind(kind)
     }
 
+    /// The kinds of the types that have a factory, in order of registration.
+    pub fn object_kinds(&self) -> Result<Vec<u16>, AllocError>
+        ensures in_order { IfOk result (λ kinds. kinds.items
+            ≡ filter_map (spec.constructed_kind (registered self.now)) (registered self.now)) }
+    {
+        self.table.object_kinds()
+    }
+
     /// The kinds of the services, in order of registration.
     pub fn service_kinds(&self) -> Result<Vec<u16>, AllocError>
         ensures in_order { IfOk result (λ kinds. kinds.items

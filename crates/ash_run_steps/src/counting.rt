@@ -52,7 +52,7 @@ pub(crate) fn hold_word<B: HostObject>(table: &mut Objects<B>, word: Word)
 }
 
 /// Holds what these words are handles to once more for each of them.
-pub(crate) fn hold_words<B: HostObject>(table: &mut Objects<B>, words: &[Word])
+pub fn hold_words<B: HostObject>(table: &mut Objects<B>, words: &[Word])
     requires alive { All (λ word. IsTrue (is_alive_in word table.old)) words.now }
     requires few { (number : ℕ) → holds_of number table.old + length words.now < 2 ^ 127 }
     ensures held { HoldsMore (handles words.now) table.old table.new }
@@ -63,7 +63,7 @@ pub(crate) fn hold_words<B: HostObject>(table: &mut Objects<B>, words: &[Word])
 }
 
 /// Undoes a hold of an object for each time that it is among these.
-pub(crate) fn unhold_numbers<B: HostObject>(table: &mut Objects<B>, numbers: &[u64])
+pub fn unhold_numbers<B: HostObject>(table: &mut Objects<B>, numbers: &[u64])
     requires held { (number : ℕ) → times number numbers.now ≤ holds_of number table.old }
     ensures unheld { HoldsLess numbers.now table.old table.new }
 {
@@ -83,7 +83,7 @@ pub(crate) fn unhold_word<B: HostObject>(table: &mut Objects<B>, word: Word)
 }
 
 /// Undoes a hold for each of these words that is a handle.
-pub(crate) fn unhold_words<B: HostObject>(table: &mut Objects<B>, words: &[Word])
+pub fn unhold_words<B: HostObject>(table: &mut Objects<B>, words: &[Word])
     requires held { (number : ℕ) → times number (handles words.now) ≤ holds_of number table.old }
     ensures unheld { HoldsLess (handles words.now) table.old table.new }
 {

@@ -19,7 +19,7 @@ pub mod beginning;
 pub mod calling;
 pub mod classes;
 pub mod constructing;
-mod counting;
+pub mod counting;
 pub mod declaring;
 pub mod drawing;
 pub mod ending;
