@@ -1,5 +1,7 @@
 pub mod Untouched
 pub mod EntryNames
+pub mod SlotSearches
+pub mod RemovedModules
 pub mod Admitted
 pub mod Served
 pub mod Drawn
