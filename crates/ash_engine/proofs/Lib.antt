@@ -10,6 +10,7 @@ pub mod ShownAlike
 pub mod KnownRanks
 pub mod RunSettings
 pub mod GivenAnswers
+pub mod Uncounted
 pub mod TableCalls
 pub mod ChangedModules
 pub mod CallEnds
@@ -20,6 +21,11 @@ pub mod ReadRanks
 pub mod Unanswered
 pub mod Looked
 pub mod TableLoads
+pub mod ReleasedGlobals
+pub mod InsertedModules
+pub mod LoadEnds
+pub mod AnsweredSteps
+pub mod Loaded
 pub mod Invoked
 pub mod RestoredHosts
 pub mod RefusedHosts

@@ -31,7 +31,7 @@ use Rattle.ash_requests.specs.Steps.{after_load, perform}
 use Rattle.ash_requests.specs.Tasks.{Initialize, is_module_name, tree_in, tree_of}
 use Rattle.ash_requests.specs.Premises.{ReadsSound}
 use Rattle.ash_soundness.specs.WellFormed.{Context, IsContext, AreValues, no_values, and_value, AreAnswers, IsWorld, IsWellFormed, no_this, no_frames}
-use Rattle.ash_soundness.specs.WellFormedLaws.{KnowsAll}
+use Rattle.ash_soundness.specs.WellFormedLaws.{IsBetweenRequests, KnowsAll}
 use Rattle.ash_soundness.specs.WellFormedStates.{AreHosts, IsWellFormedState, known_of}
 use Rattle.ash_soundness.proofs.Ascending.{found_by_name}
 use Rattle.ash_soundness.proofs.Ends.{loads_keep}
@@ -45,7 +45,7 @@ use Rattle.ash_context.specs.declared.context.Left.{Left}
 use Rattle.ash_context.specs.declared.outcome.Outcome as run_outcome
 use Rattle.ash_context.specs.declared.outcome.RunFault.{RunFault}
 use Rattle.ash_context.specs.Outcomes.{Leads, Says, end_said, world_in}
-use Rattle.ash_engine.specs.TableRuns.{SaysOfLoad}
+use Rattle.ash_engine.specs.TableRuns.{SaysOfLoad, uncounted}
 use Rattle.ash_engine.specs.RankedSources.{ReadsRanked}
 use Rattle.ash_table_states.specs.TableStates.{names_in, state_shown}
 use Rattle.ash_engine.proofs.GivenAnswers.{answers_fit}
@@ -71,7 +71,7 @@ module _ {Fault : Type 0} (embedding : Embedding Fault) (host : HostSignatures) 
     new = record { name = name; source = source; globals = [] }
 
     -- the names of modules while it runs
-    abbrev modules : SlotNames
+    abbrev pub modules : SlotNames
     modules = names_in (new ∷ ms) (code.module ∷ slots)
 
     abbrev names : Names
@@ -108,7 +108,7 @@ module _ {Fault : Type 0} (embedding : Embedding Fault) (host : HostSignatures) 
     abbrev before : List HostRecord → World
     before records = with_globals tree (world_of [] ms state (hosts_of G table records))
 
-    abbrev context : List HostRecord → Context
+    abbrev pub context : List HostRecord → Context
     context records = record { host = host; program = record { name = name; tree = tree }; modules = known_of embedding after; began = before records }
 
     is_context : (records : List HostRecord) → IsContext (context records)
@@ -150,6 +150,7 @@ module _ {Fault : Type 0} (embedding : Embedding Fault) (host : HostSignatures) 
       pub stepped : perform {Fault = Fault} budget (Initialize name source tree) state (hosts_of G table records)
           ≡ Some (after_load name source state (record { end = end_said names outcome; world = world_in G names [] left }))
       pub outside : left.outside.items ≡ handles (globals_of ms)
+      pub settled : IsBetweenRequests (context records) (world_in G names [] left)
 
     module _ (budget : ℕ) (parts : Parts B) (left : Left B) (takes : Takes table (map zero_of (types_of_globals tree.globals)) (handles (globals_of ms)) parts)
         (says : SaysOfLoad G code parts budget left) where
@@ -161,7 +162,7 @@ module _ {Fault : Type 0} (embedding : Embedding Fault) (host : HostSignatures) 
       abbrev run : World → Option Outcome
       run world = load_module (context []).program budget world
 
-      said : Says G names run parts left.outcome left.parts
+      said : Says G names run uncounted parts left.outcome left.parts
       said = says (context []) the_setting (is_context []) (compiled (context []) (is_context []) refl) (set_for []) takes.same_globals
           (subst (λ (w : World). IsWellFormed (context []) (env_of (context []) []) [] (first_of_load tree budget w)) (sym (world_is [])) (record {
             world = begins_in [] tt;
@@ -173,7 +174,7 @@ module _ {Fault : Type 0} (embedding : Embedding Fault) (host : HostSignatures) 
 
       pub load_steps : (o : run_outcome.Outcome) → left.outcome ≡ Ok o → LoadSteps budget o left.parts
       load_steps o e =
-          let l : Leads G names run parts (end_said names o) left.parts = subst (λ (r : Result run_outcome.Outcome RunFault). Says G names run parts r left.parts) e said in
+          let l : Leads G names run uncounted parts (end_said names o) left.parts = subst (λ (r : Result run_outcome.Outcome RunFault). Says G names run uncounted parts r left.parts) e said in
           let end : Outcome = record { end = end_said names o; world = world_in G names [] left.parts } in
           let gave : Gave G l.records table [] left.parts.table left.parts.events.items =
           subst (λ (t : Table B). Gave G l.records t [] left.parts.table left.parts.events.items) takes.same_table
@@ -181,4 +182,4 @@ module _ {Fault : Type 0} (embedding : Embedding Fault) (host : HostSignatures) 
           let ran : run (world_of [] ms state (hosts_of G table l.records)) ≡ Some end = ap run (sym (world_is l.records)) ∙ l.same in
           let fits = answers_fit G l.records table left.parts.table [] left.parts.events.items gave in
           let kept = loads_keep (is_context l.records) budget (world_of [] ms state (hosts_of G table l.records)) end (begins_in l.records fits) (follows_itself (before l.records)) ran in
-          record { records = l.records; gave = gave; stepped = ap (option_map (after_load name source state)) ran; outside = (kept.since).outside }
+          record { records = l.records; gave = gave; stepped = ap (option_map (after_load name source state)) ran; outside = (kept.since).outside; settled = kept }
