@@ -26,6 +26,8 @@ pub mod InsertedModules
 pub mod LoadEnds
 pub mod AnsweredSteps
 pub mod Loaded
+pub mod Discarded
+pub mod ObjectsAsked
 pub mod Invoked
 pub mod RestoredHosts
 pub mod RefusedHosts
