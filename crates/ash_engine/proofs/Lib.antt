@@ -29,6 +29,10 @@ pub mod Loaded
 pub mod Discarded
 pub mod ObjectsAsked
 pub mod Invoked
+pub mod Beside
+pub mod ArgumentsAlive
+pub mod Lent
+pub mod Tasks
 pub mod RestoredHosts
 pub mod RefusedHosts
 pub mod Started
