@@ -21,6 +21,7 @@ pub mod ReadRanks
 pub mod Unanswered
 pub mod Looked
 pub mod TableLoads
+pub mod FreeSlots
 pub mod ReleasedGlobals
 pub mod InsertedModules
 pub mod LoadEnds
