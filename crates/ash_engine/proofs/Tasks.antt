@@ -55,20 +55,6 @@ module _ (embedding : Embedding SourceFault) where
   takes_found Seq state h = h
   takes_found Snapshot state h = tt
 
-  -- A request that looks at no object asks of the modules, and of how many requests were answered, alone.
-  pub asks_of_modules : (request : Request) (one other : State) → ((number : ℕ) → request ≡ Object number → ⊥) → one.modules ≡ other.modules → one.seq ≡ other.seq
-      → tasks.task_of embedding request one ≡ tasks.task_of embedding request other
-  asks_of_modules (Load name source) one other no_object modules seq =
-      (λ i. tasks.numbered (record one { modules = modules i; seq = seq i }) (tasks.loading embedding name source (record one { modules = modules i; seq = seq i })))
-  asks_of_modules (Call name function args) one other no_object modules seq =
-      (λ i. tasks.numbered (record one { modules = modules i; seq = seq i }) (tasks.calling embedding name function args (record one { modules = modules i; seq = seq i })))
-  asks_of_modules (Discard name) one other no_object modules seq =
-      (λ i. tasks.numbered (record one { modules = modules i; seq = seq i }) (tasks.discarding name (record one { modules = modules i; seq = seq i })))
-  asks_of_modules (Get name global) one other no_object modules seq = (λ i. tasks.reading embedding name global (record one { modules = modules i; seq = seq i }))
-  asks_of_modules (Object number) one other no_object modules seq = absurd (no_object number refl)
-  asks_of_modules Seq one other no_object modules seq = refl
-  asks_of_modules Snapshot one other no_object modules seq = refl
-
 module _ {B : Type 0} (G : Ghosts B) (registered : List Registration) (live : Live B) where
   abbrev ms : List code_module.LoadedModule
   ms = live.loaded.modules.items

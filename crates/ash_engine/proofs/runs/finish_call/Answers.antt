@@ -17,7 +17,7 @@ answered-requires g c =
     let ms : List LoadedModule = c.args.rest.loaded.modules.items in
     let m = get_or ms c.args.place c.index.result.now in
     let given = c.give_back-live.ensures.given m (slice_get-get_or ms c.args.place c.index.result.now c.requires.within) in
-    record { numbered = subst (λ (n : ℕ). n < max_seq) (sym (ap (λ (s : PlainState). s.seq) given.loaded)) c.requires.numbered }
+    record { numbered = subst (λ (s : PlainState). s.seq < max_seq) (sym given.loaded) c.requires.numbered }
 
 pub returns-in_ok-outcome-in-Ok-clause-answered : goal.returns-in_ok-outcome-in-Ok-clause-answered
 returns-in_ok-outcome-in-Ok-clause-answered g c m outcome at is =
