@@ -49,3 +49,10 @@ holds "a counter that is found" "$(printf '%s\n' 'ok object 1 Counter count 1 st
 asks 'object 1\nseq\n'
 ends "serve without a counter" 0 "" serve "$store" --budget 1000 --counters 0
 holds "no box is needed then" $'refused 407 NoObject\nok 4'
+
+# The last number was given: that is found before an empty pool.
+empty_store "$scratch/spent"
+overwrite '\377\377\377\377\377\377\377\377' 226 "$scratch/spent/ash.a"
+asks 'load m 26\nvoid f() { Counter c(1); }\ncall m f\n'
+ends "serve a store whose last number was given" 0 "" serve "$scratch/spent" --budget 1000 --counters 0
+holds "the last number was given" $'ok seq 1\nexception NumbersSpent f 1 seq 2'
