@@ -7,6 +7,7 @@ pub mod ShownAlike
 pub mod KnownRanks
 pub mod RunSettings
 pub mod GivenAnswers
+pub mod Uncounted
 pub mod TableCalls
 pub mod ChangedModules
 pub mod CallEnds
