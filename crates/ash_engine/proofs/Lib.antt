@@ -7,6 +7,7 @@ pub mod ShownAlike
 pub mod KnownRanks
 pub mod RunSettings
 pub mod GivenAnswers
+pub mod Uncounted
 pub mod TableCalls
 pub mod ChangedModules
 pub mod CallEnds
@@ -23,3 +24,10 @@ pub mod RefusedHosts
 pub mod Started
 pub mod Living
 pub mod RestoredState
+pub mod HeldGlobals
+pub mod CompiledModules
+pub mod SavedTables
+pub mod StartedGlobals
+pub mod FirstLives
+pub mod RestoredLives
+pub mod LiveFacts
