@@ -69,7 +69,7 @@ module _ {B : Type 0} (G : Ghosts B) where
 
 module _ {B : Type 0} where
   -- The module at a place has lent its globals to a run, with the table. All else rests.
-  pub record IsLent (old : Live B) (place : ℕ) (m : LoadedModule) (outside : List ℕ) (rest : Rest) (parts : Parts B)
+  pub record IsLent (old : Live B) (place : ℕ) (m : LoadedModule) (others : List ℕ) (rest : Rest) (parts : Parts B)
       : Type 0 where
     pub lending : LoadedModule
     pub same : lending ≡ record m { globals = lending.globals }
@@ -79,7 +79,7 @@ module _ {B : Type 0} where
     pub compiled : rest.compiled ≡ old.compiled
     pub table : parts.table ≡ old.table
     pub globals : parts.globals.items ≡ m.globals.items
-    pub outside : parts.outside.items ≡ outside
+    pub outside : parts.outside.items ≡ others
     pub events : parts.events.items ≡ []
 
   -- The module at a place has globals again, those that a run left, as it left the table.
