@@ -1,4 +1,7 @@
 pub mod Untouched
+pub mod EntryNames
+pub mod SlotSearches
+pub mod RemovedModules
 pub mod Admitted
 pub mod Served
 pub mod Drawn
@@ -24,6 +27,8 @@ pub mod InsertedModules
 pub mod LoadEnds
 pub mod AnsweredSteps
 pub mod Loaded
+pub mod Discarded
+pub mod ObjectsAsked
 pub mod Invoked
 pub mod Beside
 pub mod ArgumentsAlive
