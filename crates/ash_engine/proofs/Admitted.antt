@@ -1,6 +1,6 @@
 -- A host may be in what a request leaves, where it may be in what the request finds.
 use Rattle.std.proofs.Common.{◌≡◌, ◌≤◌, ℕ, List, [], ◌∷◌, Some, sym, subst, ◌∙◌, length, inl, inr}
-use Rattle.std.specs.Prelude.{IsSome, Option, None}
+use Rattle.std.specs.Prelude.{Option, None}
 use Rattle.std.specs.List.{AllByRecursion}
 use Rattle.ash_host.specs.declared.host_object.HostObject.{Ghosts}
 use Rattle.ash_host.specs.Records.{HostRecord}
@@ -11,35 +11,20 @@ use Rattle.ash_requests.specs.States.{Hosts}
 use Rattle.ash_requests.specs.Requests.{Request}
 use Rattle.ash_requests.specs.Steps.{Step, performed}
 use Rattle.ash_requests.specs.Steps as steps
-use Rattle.ash_soundness.specs.WellFormedLaws.{OffersNothing, a_function, a_construction, a_method, a_property}
-use Rattle.ash_soundness.proofs.Values.{none_in}
 use Rattle.ash_soundness.specs.WellFormedStates.{AreHosts}
 use Rattle.ash_soundness.proofs.Stepped.{steps_keep}
-use Rattle.ash_soundness.proofs.Ended as ended
 use Rattle.ash_sources.specs.SourceFaults.{SourceFault}
-use Rattle.ash_sources.specs.Sources.{admitting_unregistered}
 use Rattle.ash_sources.proofs.SourceLaws.{read_sound}
 use Rattle.ash_image.specs.Image.{max_services}
-use Rattle.ash_states.specs.HostStates.{HostState, IsAdmitted, embedding_for, offered_to}
+use Rattle.ash_states.specs.HostStates.{HostState, IsAdmitted, rules_for, embedding_for, offered_to}
 use Rattle.ash_engine.specs.LiveStates.{Boxes, LiveState}
 use Rattle.ash_engine.specs.LiveSteps.{IsReached, StepsKeepReached, reached_by, box_at, IsValidOf, LiveStepsKeepReached}
 use Rattle.ash_engine.proofs.Untouched.{steps_keep_hosts}
 
--- nothing is offered to the scripts that are admitted
-nothing_offered : (registered : List Registration) → OffersNothing (offered_to registered)
-nothing_offered registered (a_function service id offered within) = none_in offered within
-nothing_offered registered (a_construction kind parameters within) = none_in parameters within
-nothing_offered registered (a_method kind id offered within) = none_in offered within
-nothing_offered registered (a_property kind id of within) = none_in of within
-
--- there is a step of the definitions
-pub has_step : (budget : ℕ) (request : Request) (s : HostState) (hosts : Hosts) → IsAdmitted s → AreHosts hosts → IsSome (steps.step (embedding_for s.registered) budget request s.state hosts)
-has_step budget request s hosts h fit = ended.have_steps (embedding_for s.registered) (offered_to s.registered) budget request s.state hosts (nothing_offered s.registered) (read_sound (admitting_unregistered s.registered)) h.formed fit
-
 -- after a step of the definitions
 pub step_admitted : (budget : ℕ) (request : Request) (old : HostState) (hosts : Hosts) (one : Step SourceFault) → IsAdmitted old → AreHosts hosts → steps.Steps (embedding_for old.registered) budget request old.state hosts one → IsAdmitted (record { registered = old.registered; state = one.state }) × AreHosts one.hosts
 step_admitted budget request old hosts one h fit stepped =
-    let kept = steps_keep (embedding_for old.registered) (offered_to old.registered) budget request old.state hosts one (read_sound (admitting_unregistered old.registered)) h.formed fit stepped in
+    let kept = steps_keep (embedding_for old.registered) (offered_to old.registered) budget request old.state hosts one (read_sound (rules_for old.registered)) h.formed fit stepped in
     let served : length (one.state).services ≡ length (old.state).services = (steps_keep_hosts SourceFault old.state hosts ((h.formed).numbered) (embedding_for old.registered) budget request one stepped).served in (
       record { formed = kept.0; served = served ∙ h.served; few = subst (λ (n : ℕ). n ≤ max_services) (sym served) h.few },
       kept.1,

@@ -1,90 +1,112 @@
--- The live states with which engines start. No host object lives in them.
-use Rattle.std.proofs.Common.{◌≡◌, ◌≤◌, ℕ, List, [], length, map, sym, ap, ◌∙◌, subst}
-use Rattle.std.specs.List.{AllByRecursion}
-use Rattle.std.proofs.lemmas.List.{length-map}
+-- The live states with which engines start from stored ones, and why there is none.
+use Rattle.std.proofs.Common.{◌≡◌, ◌≤◌, ℕ, List, [], ◌∷◌, length, map, filter_map, Option, Some, None, refl, sym, ap, ◌∙◌, subst, inl, inr}
+use Rattle.std.specs.List.{AllByRecursion, AllZip}
 use Rattle.ash_host.specs.declared.host_object.HostObject.{Ghosts}
-use Rattle.ash_registry.specs.AcceptedRegistrations.{Registration}
+use Rattle.ash_host.specs.Objects.{LiveObjects, object_at, IsInOrder}
 use Rattle.ash_meaning.specs.Activity.{FreeBox}
-use Rattle.ash_objects.specs.Restoring.{RestoresServices, ServiceRefused}
-use Rattle.ash_plain_world.specs.ActivityViews.{box_seen}
+use Rattle.ash_objects.specs.declared.restoring.SavedObject.{SavedObject}
+use Rattle.ash_objects.specs.Restoring.{Drawn, draw_boxes, stored_in, RestoresServices, IsRestored}
+use Rattle.ash_objects.specs.Restoring as restoring
+use Rattle.ash_objects.specs.Table.{Living, Table}
+use Rattle.ash_object_ranks.specs.ShownTables.{SlotNames, objects_shown}
 use Rattle.ash_requests.specs.States.{State}
-use Rattle.ash_requests.specs.States as states
-use Rattle.ash_plain_steps.specs.StateViews.{state_seen}
-use Rattle.ash_soundness.specs.WellFormed.{IsState}
-use Rattle.ash_image.specs.Image.{max_services}
-use Rattle.ash_states.specs.HostStates.{HostState, IsAdmitted, service_kinds}
-use Rattle.ash_states.specs.Holding.{held_with, IsHeld}
-use Rattle.ash_states.proofs.Admitted.{first_admitted, first_held}
-use Rattle.ash_engine.specs.declared.live.Live.{Live}
-use Rattle.ash_engine.specs.LiveStates.{Boxes, LiveState, AreOf, hosts_in, services_for, plain_box}
-use Rattle.ash_engine.specs.Drawing.{Enough, draw_all}
-use Rattle.ash_engine.specs.RestoredBoxes.{kinds_wanted, HasServices, Restores, IsRefused, Service}
-use Rattle.ash_engine.specs.PlainSteps.{BoxesFit, IsLive}
-use Rattle.ash_engine.proofs.Alive.{no_hosts}
-use Rattle.ash_engine.proofs.Served.{services_restored}
+use Rattle.ash_run_steps.specs.Answered.{boxes_of}
+use Rattle.ash_states.specs.HostStates.{HostState, service_kinds}
+use Rattle.ash_states.specs.Images.{name_at, entry_named}
+use Rattle.ash_states.specs.Indexes.{index_in, entry_indexed}
+use Rattle.ash_table_states.specs.SavedObjects.{entry_saved, AreSavedOf}
+use Rattle.ash_table_states.specs.TableStates.{names_in, places_from}
+use Rattle.ash_table_states.proofs.Shown.{IsTaken, kinds_drawn, bodies_named}
+use Rattle.ash_table_states.proofs.SlotNames.{names_of_places}
+use Rattle.ash_engine.specs.LiveStates.{LiveState, AreOf, hosts_in, services_for, plain_box}
+use Rattle.ash_engine.specs.Drawing.{Drawing, Enough, Short, draw_all}
+use Rattle.ash_engine.specs.SavedDrawing.{wanted_by, by_number, drawing_of}
+use Rattle.ash_engine.specs.RestoredBoxes.{kinds_wanted, HasServices, IsShort, BoxRefused, IsRefused, Service, Object, Restores}
+use Rattle.ash_engine.specs.RestoredTables.{IsTableOf, IsShortOf, IsRefusedOf}
+use Rattle.ash_engine.proofs.Drawn.{agree}
+use Rattle.ash_engine.proofs.RestoredHosts.{hosts_saved, hosts_are_saved, kinds_saved, boxes_shown, took, all_left}
+use Rattle.ash_engine.proofs.RefusedHosts.{refused_by}
 
 module _ {B : Type 0} (G : Ghosts B) where
-  -- before any request
-
-  pub first_lives : (registered : List Registration) (l : Live B) → state_seen l.state ≡ states.empty (map G.state l.services.items) → l.state.modules.items ≡ []
-      → map G.kind_of l.services.items ≡ service_kinds registered → length l.services.items ≤ max_services
-      → AllByRecursion IsState (map G.state l.services.items)
-      → map box_seen l.free.items ≡ map (plain_box G) l.pool.items → BoxesFit (map box_seen l.free.items) → IsLive G registered l
-  first_lives registered l is none kinds few fit seen free = record {
-    held = first_held registered saved l.state (first_admitted registered saved served (subst (λ (n : ℕ). n ≤ max_services) (sym many) few) fit) is none;
-    boxes = record {
-      objects = ap (λ (s : State). hosts_in s.objects) is;
-      services = ap (λ (s : State). s.services) is;
-      kinds = kinds;
-      pool = seen;
-    };
-    fit = free;
+  -- the boxes of a table are those of the state that it shows
+  pub are_of : (names : SlotNames) (live : LiveState B) (table : Table B) → live.boxes ≡ boxes_of table → live.pool ≡ map (plain_box G) table.pool
+      → ((live.durable).state).objects ≡ objects_shown G names table.objects → ((live.durable).state).services ≡ map G.state table.services
+      → map G.kind_of table.services ≡ service_kinds (live.durable).registered → AreOf G live
+  are_of names live table boxes pool objects services kinds = record {
+    objects = ap hosts_in objects ∙ boxes_shown G names table.objects ∙ ap (λ (b : _). map (Rattle.ash_engine.specs.LiveStates.plain_entry G) b.objects) (sym boxes);
+    services = services ∙ ap (λ (b : _). map G.state b.services) (sym boxes);
+    kinds = ap (λ (b : _). map G.kind_of b.services) boxes ∙ kinds;
+    pool = pool ∙ ap (λ (b : _). map (plain_box G) b.pool) (sym boxes);
   }
-    where
-      saved : List (List ℕ)
-      saved = map G.state l.services.items
 
-      many : length saved ≡ length l.services.items
-      many = length-map l.services.items G.state
+  module _ (s : State) (saved : List SavedObject) (are : AreSavedOf s saved) where
+    hosts : hosts_in s.objects ≡ hosts_saved saved
+    hosts = hosts_are_saved (index_in s.modules) s.objects saved are
 
-      served : length saved ≡ length (service_kinds registered)
-      served = many ∙ sym (length-map l.services.items G.kind_of) ∙ ap (length {A = ℕ}) kinds
+    -- the host objects of the state take what the table takes for all objects
+    draws : (pool : List B) → draw_all G (map (λ (e : ℕ × FreeBox). (e.0, (e.1).kind)) (hosts_in s.objects)) pool ≡ drawing_of saved (draw_boxes G saved pool)
+    draws pool =
+        ap (λ (hs : List (ℕ × FreeBox)). draw_all G (map (λ (e : ℕ × FreeBox). (e.0, (e.1).kind)) hs) pool) hosts
+        ∙ ap (λ (ks : List (ℕ × ℕ)). draw_all G ks pool) (kinds_saved saved)
+        ∙ agree G saved pool
 
-  -- from a state that was stored
+    -- the table shows the objects of the state, where modules have their indexes for slots
+    pub shown : (pool : List B) (table : Table B) → IsRestored G saved pool table
+        → map (entry_named (name_at s.modules)) (map (entry_indexed (index_in s.modules)) s.objects) ≡ s.objects
+        → objects_shown G (names_in s.modules (places_from 0 s.modules)) table.objects ≡ s.objects
+    shown pool table r back =
+        bodies_named G (names_in s.modules (places_from 0 s.modules)) (name_at s.modules) (names_of_places s.modules) saved r.boxes table.objects
+        (kinds_drawn G saved pool r.boxes table.pool r.drawn) r.bodies
+        ∙ ap (λ (es : LiveObjects ℕ). map (entry_named (name_at s.modules)) es) are
+        ∙ back
 
-  pub restored_lives : (registered : List Registration) (l : Live B) (before : List B) → IsHeld registered l.state
-      → map G.kind_of before ≡ service_kinds registered
-      → RestoresServices G before (map (λ s. s.items) l.state.services.items) l.services.items
-      → map box_seen l.free.items ≡ map (plain_box G) l.pool.items → BoxesFit (map box_seen l.free.items) → IsLive G registered l
-  restored_lives registered l before held kinds restored seen free =
-      let many : length before ≡ length (state_seen l.state).services = sym (length-map before G.kind_of) ∙ ap (length {A = ℕ}) kinds ∙ sym (held.admitted).served in
-      let both = services_restored G (state_seen l.state).services before l.services.items many restored in
-      record {
-        held = held;
-        boxes = record {
-          objects = no_hosts (held_with registered l.state) held.admitted;
-          services = both.0;
-          kinds = both.1 ∙ kinds;
-          pool = seen;
-        };
-        fit = free;
-      }
+  module _ (s : HostState) (pool given : List B) (has : HasServices G s.registered given) where
+    -- a stored state lives, with the boxes of its table
+    pub restores : (before : Table B) (live : LiveState B) → IsTableOf G s.state pool before
+        → live.durable ≡ s → AreOf G live → live.boxes ≡ boxes_of before
+        → RestoresServices G (services_for s.registered given) (s.state).services before.services → Restores G s pool given live
+    restores before live t durable of boxes served =
+        let r = t.restored in
+        let drawn = by_number t.saved r.boxes in
+        let kinds = kinds_drawn G t.saved pool r.boxes before.pool r.drawn in
+        let same = hosts s.state t.saved t.are in
+        record {
+          durable = durable;
+          boxes = of;
+          has = has;
+          drawn = drawn;
+          first_free = draws s.state t.saved t.are pool ∙ ap (drawing_of t.saved) r.drawn ∙ ap (λ (b : _). Enough drawn b.pool) (sym boxes);
+          served = subst (λ (b : _). RestoresServices G (services_for s.registered given) (s.state).services b.services) (sym boxes) served;
+          took = λ number host box after there drew now.
+              took G number host box after t.saved r.boxes before.objects kinds r.bodies
+              (subst (λ (hs : List (ℕ × FreeBox)). object_at number hs ≡ Some host) same there) drew
+              (subst (λ (b : _). object_at number b.objects ≡ Some after) boxes now);
+        }
 
-  module _ (s : HostState) (h : IsAdmitted s) (pool services : List B) (has : HasServices G s.registered services) where
-    draws_none : draw_all G (kinds_wanted s) pool ≡ Enough [] pool
-    draws_none = ap (λ (hosts : List (ℕ × FreeBox)). draw_all G (map (λ (e : ℕ × FreeBox). (e.0, (e.1).kind)) hosts) pool) (no_hosts s h)
+    pub falls_short : (kind : ℕ) → IsShortOf G s.state pool kind → IsShort G s pool given kind
+    falls_short kind t = inr (has, draws s.state t.saved t.are pool ∙ ap (drawing_of t.saved) t.short)
 
-    pub restores : (after : List B) (live : LiveState B) → live.durable ≡ s → AreOf G live → live.boxes ≡ record { objects = []; pool = pool; services = after }
-        → RestoresServices G (services_for s.registered services) (s.state).services after → Restores G s pool services live
-    restores after live durable of_state boxes restored = record {
-      durable = durable;
-      boxes = of_state;
-      has = has;
-      drawn = [];
-      first_free = draws_none ∙ ap (λ (b : Boxes B). Enough [] b.pool) (sym boxes);
-      served = subst (λ (b : Boxes B). RestoresServices G (services_for s.registered services) (s.state).services b.services) (sym boxes) restored;
-      took = λ number host box given there took at. absurd (cc);
-    }
+    box_refused : (saved : List SavedObject) (are : AreSavedOf s.state saved) (boxes : List (Option B)) (left : List B) (number : ℕ) → IsInOrder (stored_in saved)
+        → draw_boxes G saved pool ≡ restoring.Enough boxes left → restoring.BoxRefused G saved boxes number → BoxRefused G s (by_number saved boxes) number
+    box_refused saved are boxes left number order drawn refused =
+        let same = hosts s.state saved are in
+        let by = refused_by G saved boxes number order (kinds_drawn G saved pool boxes left drawn) refused in
+        record {
+          host = by.host;
+          box = by.box;
+          there = ap (λ (hs : List (ℕ × FreeBox)). object_at number hs) same ∙ by.there;
+          took = by.took;
+          before = λ m other its low there took. by.before m other its low (ap (λ (hs : List (ℕ × FreeBox)). object_at m hs) (sym same) ∙ there) took;
+          refused = by.refused;
+        }
 
-    pub refuses : (number : ℕ) → number ≡ 0 → ServiceRefused G (services_for s.registered services) (s.state).services → IsRefused G s pool services number
-    refuses number zero refused = subst (λ (n : ℕ). IsRefused G s pool services n) (sym zero) (Service [] pool has draws_none refused)
+    by_cause : (saved : List SavedObject) (are : AreSavedOf s.state saved) (order : IsInOrder (stored_in saved)) (number : ℕ)
+        → restoring.IsRefused G saved (s.state).services pool (services_for s.registered given) number → IsRefused G s pool given number
+    by_cause saved are order _ (restoring.Service boxes left drawn refused) =
+        Service (by_number saved boxes) left has (draws s.state saved are pool ∙ ap (drawing_of saved) drawn) refused
+    by_cause saved are order _ (restoring.Object number boxes left back drawn served refused) =
+        Object number (by_number saved boxes) left back has (draws s.state saved are pool ∙ ap (drawing_of saved) drawn) served
+        (box_refused saved are boxes left number order drawn refused)
+
+    pub refuses : (number : ℕ) (t : IsRefusedOf G s.state pool (services_for s.registered given) number) → IsInOrder (stored_in t.saved) → IsRefused G s pool given number
+    refuses number t order = by_cause t.saved t.are order number t.refused

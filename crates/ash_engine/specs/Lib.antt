@@ -3,4 +3,9 @@ pub mod Drawing
 pub mod SavedDrawing
 pub mod LiveSteps
 pub mod RestoredBoxes
-pub mod PlainSteps
+pub mod RestoredTables
+pub mod TableStates
+pub mod TableSteps
+pub mod TableTasks
+pub mod TableRuns
+pub mod RankedSources

@@ -6,12 +6,7 @@ use Rattle.ash_host.specs.Objects.{Plain, Script, Array, Host, LiveObjects}
 use Rattle.ash_registry.specs.AcceptedRegistrations.{Registration}
 use Rattle.ash_meaning.specs.Activity.{FreeBox}
 use Rattle.ash_states.specs.HostStates.{HostState, service_kinds, empty}
-
--- The host objects themselves: those that live by their numbers, those that are free, and the services, in order.
-pub record Boxes (B : Type 0) : Type 0 where
-  pub objects : List (ℕ × B)
-  pub pool : List B
-  pub services : List B
+pub use Rattle.ash_run_steps.specs.Answered.{Boxes}
 
 -- What outlives a request; the kind and the state of each free box, in the order of the pool; and the boxes.
 pub record LiveState (B : Type 0) : Type 0 where

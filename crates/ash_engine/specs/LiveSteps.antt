@@ -1,14 +1,8 @@
 -- What a request does to a live state. It is a relation: host objects may answer otherwise another time.
-use Rattle.std.specs.Prelude.{◌≡◌, ◌⊎◌, ℕ, List, [], ◌++◌, filter_map, slice_get, Option, Some, None, Result, Ok, Err}
+use Rattle.std.specs.Prelude.{◌≡◌, ◌⊎◌, ℕ, List, [], Option, Some, None, Result, Ok, Err}
 use Rattle.std.specs.List.{AllByRecursion}
-use Rattle.ash_host.specs.declared.event.Event.{Event}
-use Rattle.ash_host.specs.declared.event.Event.TheVariants as events
-use Rattle.ash_host.specs.declared.event.Target.{Target}
-use Rattle.ash_host.specs.declared.event.Target.TheVariants as targets
 use Rattle.ash_host.specs.declared.host_object.HostObject.{Ghosts}
-use Rattle.ash_host.specs.Calls.{SameRelation}
-use Rattle.ash_host.specs.Objects.{object_at, numbers}
-use Rattle.ash_host.specs.Records.{HostRecord, IsValidRecord}
+use Rattle.ash_host.specs.Records.{HostRecord}
 use Rattle.ash_meaning.specs.Activity.{FreeBox}
 use Rattle.ash_requests.specs.Requests.{Request, NoMemory, Reply, Answered as AnsweredWith, Refused}
 use Rattle.ash_requests.specs.Steps.{TakesMemory}
@@ -24,8 +18,8 @@ use Rattle.ash_sources.specs.SourceFaults as faults
 use Rattle.ash_soundness.specs.WellFormed.{IsState, AreAnswers}
 use Rattle.ash_states.specs.HostStates.{HostState, IsAdmitted, embedding_for}
 use Rattle.ash_states.specs.StateSteps.{task_of, FailsInChange}
-use Rattle.ash_engine.specs.LiveStates.{Boxes, LiveState}
-use Rattle.ash_engine.specs.Drawing.{Enough, draw_all, kinds_of}
+use Rattle.ash_engine.specs.LiveStates.{LiveState}
+pub use Rattle.ash_run_steps.specs.Answered.{number_drawn, drawn_in, box_at, IsValidOf, IsStill, Answered}
 
 -- ---- the step, by the answers of host objects
 
@@ -68,46 +62,7 @@ abbrev pub IsNoAnswer : {Fault : Type 0} → Reply Fault → Type 0
 IsNoAnswer (AnsweredWith end seq happened) = ⊥
 IsNoAnswer _ = Unit {0}
 
--- ---- who answered
-
--- the number of an object that was taken from the pool
-abbrev pub number_drawn : Event → Option ℕ
-number_drawn (events.Drew number) = Some number
-number_drawn _ = None
-
--- the numbers of the objects that were taken from the pool, in order
-abbrev pub drawn_in : List Event → List ℕ
-drawn_in happened = filter_map number_drawn happened
-
 module _ {B : Type 0} where
-  -- The box that a call goes to: that of a service, of an object that lived, or of one that was drawn since.
-  abbrev pub box_at : Boxes B → List (ℕ × B) → Target → Option B
-  box_at old drawn (targets.Object number) = object_at number (old.objects ++ drawn)
-  box_at old drawn (targets.Service place) = slice_get old.services place
-
-  -- a record is valid for the very box that its call went to
-  abbrev pub IsValidOf : Ghosts B → Option B → HostRecord → Type 0
-  IsValidOf G None r = ⊥
-  IsValidOf G (Some box) r = IsValidRecord G box r
-
-  -- a box is what it was: its kind and its relation are as before, whatever it has answered
-  abbrev pub IsStill : Ghosts B → Option B → B → Type 0
-  IsStill G None after = ⊥
-  IsStill G (Some before) after = (G.kind_of after ≡ G.kind_of before) × SameRelation (G.allows before) (G.allows after)
-
-  -- The boxes gave these answers: each object that was drawn got the first free box of its kind, each record is valid
-  -- for the very box that its call went to, and each box is afterwards what it was.
-  pub record Answered (G : Ghosts B) (old : Boxes B) (happened : List Event) (answers : List HostRecord)
-      (new : Boxes B) : Type 0 where
-    pub drawn : List (ℕ × B)
-    pub in_turn : numbers drawn ≡ drawn_in happened
-    pub first_free : draw_all G (kinds_of G drawn) old.pool ≡ Enough drawn new.pool
-    pub valid : AllByRecursion (λ (r : HostRecord). IsValidOf G (box_at old drawn r.target) r) answers
-    pub objects : (number : ℕ) (box : B) → object_at number new.objects ≡ Some box
-        → IsStill G (box_at old drawn (targets.Object number)) box
-    pub services : (place : ℕ) (box : B) → slice_get new.services place ≡ Some box
-        → IsStill G (box_at old drawn (targets.Service place)) box
-
   -- ---- the step of a live state
 
   -- The step of a request was taken: there are answers, each of the very box that gave it, for which it is the written

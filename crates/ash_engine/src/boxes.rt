@@ -1,24 +1,19 @@
-//! The boxes that are handed over: services by the kinds that are registered, and what boxes are as plain data.
+//! The boxes that are handed over: services by the kinds that are registered, and that states are not too long.
 
 ghost use Rattle.std.specs.Prelude.{◌≡◌, ◌≤◌, ℕ, false, map, length, nat_eq, slice_get};
-ghost use Rattle.std.specs.Prelude.{IfOk, OnOk, IsErrOf};
-ghost use Rattle.std.specs.List.{AllByRecursion};
+ghost use Rattle.std.specs.Prelude.{IfOk, OnOk, IsErrOf, All};
 ghost use Rattle.std.specs.Option.{option_map_or};
 ghost use Rattle.ash_registry.specs.RegistryViews.{registered};
-ghost use Rattle.ash_plain_world.specs.ActivityViews.{box_seen};
 ghost use Rattle.ash_soundness.specs.WellFormed.{IsState};
 ghost use Rattle.ash_image.specs.Image.{max_services};
 ghost use Rattle.ash_states.specs.HostStates.{service_kinds};
 ghost use Rattle.ash_objects.specs.declared.restoring.TableFault.{TableFault};
-ghost use Rattle.ash_engine.specs.LiveStates.{plain_box, services_for};
+ghost use Rattle.ash_engine.specs.LiveStates.{services_for};
 ghost use Rattle.ash_engine.specs.RestoredBoxes.{kind_missing, HasServices, LacksService};
-ghost use Rattle.ash_engine.specs.PlainSteps.{BoxesFit};
 
-use ash_host::{HostObject, NoMemory};
+use ash_host::HostObject;
 use ash_objects::TableFault;
-use ash_plain_world::activity::FreeBox;
 use ash_registry::Registry;
-use std::alloc::Global;
 
 /// The most services.
 const MAX_SERVICES: usize = 16;
@@ -74,44 +69,11 @@ pub(crate) fn take_services<B: HostObject>(
     Ok(services)
 }
 
-/// The state of a box.
-fn state_of<B: HostObject>(alloc: Global, object: &B) -> Result<Vec<u8>, NoMemory>
-    ensures state { IfOk result (λ state. state.items ≡ B.state object.now) }
-    ensures fits { IfOk result (λ state. IsState state.items) }
+/// The states of boxes are no longer than states may be. It asks each box for its kind, which says so, and does nothing.
+pub(crate) fn boxes_fit<B: HostObject>(boxes: &[B])
+    ensures fit { All (λ box. IsState (B.state box)) boxes.now }
 {
-    let mut state = Vec::new(alloc);
-    object.save(&mut state)?;
-    Ok(state)
-}
-
-/// The states of boxes, in order.
-pub(crate) fn states_of<B: HostObject>(alloc: Global, boxes: &[B]) -> Result<Vec<Vec<u8>>, NoMemory>
-    ensures states { IfOk result (λ states. map (λ state. state.items) states.items
-        ≡ map B.state boxes.now) }
-    ensures fit { IfOk result (λ states. AllByRecursion IsState
-        (map (λ state. state.items) states.items)) }
-{
-    let mut states = Vec::with_capacity(alloc, boxes.len())?;
     for object in boxes {
-        let state = state_of(alloc, object)?;
-        states.push(state)?;
+        let _kind = object.kind();
     }
-    Ok(states)
-}
-
-/// The kinds and the states of boxes, in order.
-pub(crate) fn free_boxes<B: HostObject>(alloc: Global, pool: &[B]) -> Result<Vec<FreeBox>, NoMemory>
-    ensures seen { IfOk result (λ free. map box_seen free.items
-        ≡ map (plain_box B.HostObject) pool.now) }
-    ensures fit { IfOk result (λ free. BoxesFit (map box_seen free.items)) }
-{
-    let mut free = Vec::with_capacity(alloc, pool.len())?;
-    for object in pool {
-        let state = state_of(alloc, object)?;
-        free.push(FreeBox {
-            kind: object.kind(),
-            state,
-        })?;
-    }
-    Ok(free)
 }

@@ -15,12 +15,12 @@ use crate::boxes::take_services;
 use crate::live::Live;
 use crate::starting::{first_live, restored_live};
 use crate::steps::step_of;
+use crate::writing::{body_of, image_of};
 use ash_host::HostObject;
 use ash_objects::TableFault;
 use ash_registry::Registry;
 use ash_requests::{Request, StepError};
 use ash_states::state::{HostReply, HostState};
-use ash_states::writing::{body_of, image_of};
 use std::alloc::{AllocError, Global};
 use std::marker::Model;
 
@@ -36,13 +36,13 @@ impl<B: HostObject> Model for Engine<B> {
     ghost use Rattle.std.specs.Prelude.{option_map, IfSome};
     ghost use Rattle.ash_registry.specs.RegistryViews.{registered};
     ghost use Rattle.ash_engine.specs.LiveStates.{EngineState};
-    ghost use Rattle.ash_engine.specs.PlainSteps.{live_seen, IsLive};
+    ghost use Rattle.ash_engine.specs.TableStates.{live_seen, IsLive};
 
     ghost Value = { EngineState B };
 
     ghost view = { λ e. record {
       registered = registered e.registry;
-      live = option_map (live_seen (registered e.registry)) e.live;
+      live = option_map (live_seen B.HostObject (registered e.registry)) e.live;
     } };
 
     // A host may be in the live state, and the boxes are those of the state.
@@ -75,9 +75,7 @@ impl<B: HostObject> Engine<B> {
             → ⊥ }
     {
         let taken = take_services(&registry, services)?;
-        let Ok(live) = first_live(alloc, &registry, pool, taken) else {
-            return Err(TableFault::NoMemory);
-        };
+        let live = first_live(alloc, &registry, pool, taken);
         Ok(Engine {
             registry,
             live: Some(live),
@@ -148,7 +146,7 @@ impl<B: HostObject> Engine<B> {
         let Some(live) = &self.live else {
             unreachable!()
         };
-        live.state.seq
+        live.loaded.seq
     }
 
     /// The image of the state, in version 2. An `Err` means that memory was refused.
@@ -162,7 +160,7 @@ impl<B: HostObject> Engine<B> {
         let Some(live) = &self.live else {
             unreachable!()
         };
-        image_of(&self.registry, &live.state)
+        image_of(&self.registry, live)
     }
 
     /// The body of a record that has the image of the state, in version 2. An `Err` means that memory was refused.
@@ -176,7 +174,7 @@ impl<B: HostObject> Engine<B> {
         let Some(live) = &self.live else {
             unreachable!()
         };
-        body_of(&self.registry, &live.state)
+        body_of(&self.registry, live)
     }
 
     /// One request, with so many ticks. If memory is refused before anything changes, the reply is the refusal

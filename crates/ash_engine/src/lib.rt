@@ -5,14 +5,23 @@
 //!
 //! The definitions are in `specs/`: `LiveStates` (boxes, and whose they are), `Drawing` (boxes taken from a pool),
 //! `SavedDrawing` (the same as tables take them), `LiveSteps` (what a request does), `RestoredBoxes` (what is restored,
-//! and what is refused), `PlainSteps` (what the plain evaluator does for a live state). In reading order: `engine`;
-//! `boxes` and `starting` (the boxes that are handed over); `live` and `steps` (the plain evaluator, at work for a live
-//! state); `laws`.
+//! and what is refused), `RestoredTables` (the table of a state), `TableStates` (the live state that the code has),
+//! `TableSteps`, `TableTasks` and `TableRuns` (what the code does for it), `RankedSources`. In reading order: `engine`;
+//! `live`; `boxes`, `compiling` and `starting` (the boxes that are handed over, and the states with which engines start);
+//! `steps`; `runs`, `loading` and `discarding` (what changes the state), `names` (of functions), `showing` (objects);
+//! `writing`; `laws`.
 #![tactic(auto)]
 
 mod boxes;
+mod compiling;
+mod discarding;
 pub mod engine;
 pub mod laws;
 mod live;
+mod loading;
+mod names;
+mod runs;
+mod showing;
 mod starting;
 mod steps;
+mod writing;

@@ -68,7 +68,7 @@ class_at s start k [] c h at = absurd (cc)
 class_at s start zero (x ∷ cs) c h at = (start, subst (IsSoundClass s start) (same_Some x c at) h.0)
 class_at s start (suc k) (x ∷ cs) c h at = class_at s (start + 1) k cs c h.1 at
 
-few_fields : {host : signatures.HostSignatures} {tree : Module} → IsSound host tree → (class : ℕ) (c : Class) → slice_get tree.classes class ≡ Some c → length c.fields ≤ 32
+pub few_fields : {host : signatures.HostSignatures} {tree : Module} → IsSound host tree → (class : ℕ) (c : Class) → slice_get tree.classes class ≡ Some c → length c.fields ≤ 32
 few_fields {host} {tree} sound class c at =
     let (place, is) = class_at (signatures_of host tree) 0 class tree.classes c sound.classes at in
     omega (arith, is.few)

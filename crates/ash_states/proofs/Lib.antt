@@ -11,4 +11,5 @@ pub mod Admitted
 pub mod Depicted
 pub mod OneImage
 pub mod Placed
+pub mod OfferedKinds
 pub mod Typed

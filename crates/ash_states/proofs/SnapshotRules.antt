@@ -40,7 +40,7 @@ module _ {Fault : Type 0} (embedding : Embedding Fault) (host : signatures.HostS
       let (m, among, there) = from_globals s.modules n i in
       values_live n (rec_of (IsLoaded embedding s.objects) s.modules h.loaded m among).values there
 
-  part_lives : {o : Plain (List ℕ)} (n : ℕ) → IsObject (known_of embedding s.modules) s.objects o → Contains (handles (fields_of o)) n → Lives s.objects n
+  pub part_lives : {o : Plain (List ℕ)} (n : ℕ) → IsObject (known_of embedding s.modules) s.objects o → Contains (handles (fields_of o)) n → Lives s.objects n
   part_lives n (is_script script) i = values_live n script.values i
   part_lives n (is_array array) i = all_live n array.values i
   part_lives n (is_host state) i = absurd (none_in n i)
@@ -111,7 +111,7 @@ module _ {Fault : Type 0} (embedding : Embedding Fault) (host : signatures.HostS
   back : (e : ℕ × Plain (List ℕ)) → IsWritten s.modules e → entry_named (name_at s.modules) (entry_indexed index e) ≡ e
   back e w = ap (λ (o : Plain (List ℕ)). (e.0, o)) (w.place).back
 
-  same_objects : (ms : List LoadedModule) → ms ≡ s.modules → map (entry_named (name_at ms)) entries ≡ s.objects
+  pub same_objects : (ms : List LoadedModule) → ms ≡ s.modules → map (entry_named (name_at ms)) entries ≡ s.objects
   same_objects ms same =
       ap (λ (all : List LoadedModule). map (entry_named (name_at all)) entries) same
       ∙ map_twice (entry_named (name_at s.modules)) (entry_indexed index) s.objects

@@ -11,8 +11,8 @@
 pub mod laws;
 mod modules;
 mod objects;
-mod parts;
+pub mod parts;
 pub mod restoring;
-mod services;
+pub mod services;
 pub mod state;
 pub mod writing;

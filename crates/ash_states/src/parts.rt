@@ -29,14 +29,14 @@ fn place_of(modules: &[LoadedModule], name: &str) -> Option<usize>
 }
 
 /// The index of the module of a name.
-fn index_of(modules: &[LoadedModule], name: &str) -> usize
+pub fn index_of(modules: &[LoadedModule], name: &str) -> usize
     ensures value { result ≡ index_in (modules_seen modules.now) name.now }
 {
     place_of(modules, name).unwrap_or(0)
 }
 
 /// What the elements of an array are.
-fn element_type(modules: &[LoadedModule], of: &Elements) -> ElementTag
+pub fn element_type(modules: &[LoadedModule], of: &Elements) -> ElementTag
     requires indexed { IsElementIndexed (modules_seen modules.now) (element_seen of.now) }
     ensures indexed { element_of result
         ≡ element_indexed (index_in (modules_seen modules.now)) (element_seen of.now) }
@@ -107,7 +107,7 @@ pub(crate) fn object_parts<'a>(
 }
 
 /// The modules by ascending name.
-pub(crate) fn module_parts(
+pub fn module_parts(
     alloc: Global,
     modules: &[LoadedModule],
 ) -> Result<Vec<ModuleParts<'_>>, AllocError>

@@ -2,10 +2,10 @@
 
 ghost use Rattle.std.specs.Prelude.{◌≡◌, ◌↔◌, IfOk, IsTrue};
 ghost use Rattle.ash_registry.specs.RegistryViews.{registered};
-ghost use Rattle.ash_sources.specs.Sources.{rules_of, admitting_unregistered};
+ghost use Rattle.ash_sources.specs.Sources.{rules_of};
 ghost use Rattle.ash_image.specs.Rules.{IsShaped};
 ghost use Rattle.ash_image.specs.SnapshotViews.{services_of, snapshot_of};
-ghost use Rattle.ash_states.specs.HostStates.{service_kinds};
+ghost use Rattle.ash_states.specs.HostStates.{rules_for, service_kinds};
 ghost use Rattle.ash_states.specs.Images.{kinds_in};
 ghost use Rattle.ash_states.specs.StateRestoring.{RestoresHostState};
 
@@ -19,13 +19,13 @@ use ash_registry::Registry;
 use ash_sources::sources::{AdmittedScripts, Sources};
 use std::alloc::{AllocError, Global};
 
-/// How a host with this registry reads sources: scripts are admitted that use nothing registered.
+/// How a host with this registry reads sources.
 pub fn sources_for(registry: &Registry) -> Sources<'_>
-    ensures value { rules_of result ≡ admitting_unregistered (registered registry.now) }
+    ensures value { rules_of result ≡ rules_for (registered registry.now) }
 {
     Sources {
         registry,
-        admitted: AdmittedScripts::UsingNothingRegistered,
+        admitted: AdmittedScripts::All,
     }
 }
 
@@ -61,7 +61,8 @@ pub(crate) fn restore_state(
         return Ok(None);
     };
     let objects = objects_of(alloc, &modules, stored.objects)?;
-    if !is_well_typed(&[], &modules, &objects) {
+    let kinds = registry.object_kinds()?;
+    if !is_well_typed(&kinds, &modules, &objects) {
         return Ok(None);
     }
     let services = stored_states(alloc, stored.services)?;

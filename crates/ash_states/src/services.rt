@@ -36,7 +36,7 @@ pub(crate) fn stored_states(
 }
 
 /// Services as they are written, by their kinds and their states.
-pub(crate) fn service_parts<'a>(
+pub fn service_parts<'a>(
     alloc: Global,
     kinds: &[u16],
     states: &'a [Vec<u8>],

@@ -42,9 +42,9 @@ returns-then-not-is_well_typed c =
     c.in_ok-objects.ensures.named
     ∙ ap (λ (all : List code_module.LoadedModule). map (entry_named (name_at (modules_seen all))) (objects_of c.args.stored.objects.items)) c.deref-2.ensures.value
     ∙ ap (λ (all : List LoadedModule). map (entry_named (name_at all)) (objects_of c.args.stored.objects.items)) some.0 in
-    let test = typed_if registrations ms c.in_ok-objects.objects c.is_well_typed.result
-    (read_consistent registrations snapshot c.requires.shaped ms some)
-    (subst (λ (all : List code_module.LoadedModule). (host : HostSignatures) → Constructs host [] → ((c.is_well_typed.result ≡ true) ↔ AreWellTypedObjects host all c.in_ok-objects.objects)) c.deref-3.ensures.value c.is_well_typed.ensures.exact) in
+    let test = typed_if registrations ms c.in_ok-objects.objects c.in_ok-kinds.items c.is_well_typed.result
+    (read_consistent registrations snapshot c.requires.shaped ms some) c.in_ok-kinds.ensures.in_order
+    (subst (λ (all : List code_module.LoadedModule). (host : HostSignatures) → Constructs host c.in_ok-kinds.items → ((c.is_well_typed.result ≡ true) ↔ AreWellTypedObjects host all c.in_ok-objects.objects)) c.deref-3.ensures.value c.is_well_typed.ensures.exact) in
     let fails : c.is_well_typed.result ≡ false = search rules in
     record {
       exact = mistyped_read registrations snapshot (modules_seen ms) c.in_ok-objects.objects some.0 objects
@@ -64,9 +64,9 @@ returns c =
     c.in_ok-objects.ensures.named
     ∙ ap (λ (all : List code_module.LoadedModule). map (entry_named (name_at (modules_seen all))) (objects_of c.args.stored.objects.items)) c.deref-2.ensures.value
     ∙ ap (λ (all : List LoadedModule). map (entry_named (name_at all)) (objects_of c.args.stored.objects.items)) some.0 in
-    let test = typed_if registrations ms c.in_ok-objects.objects c.is_well_typed.result
-    (read_consistent registrations snapshot c.requires.shaped ms some)
-    (subst (λ (all : List code_module.LoadedModule). (host : HostSignatures) → Constructs host [] → ((c.is_well_typed.result ≡ true) ↔ AreWellTypedObjects host all c.in_ok-objects.objects)) c.deref-3.ensures.value c.is_well_typed.ensures.exact) in
+    let test = typed_if registrations ms c.in_ok-objects.objects c.in_ok-kinds.items c.is_well_typed.result
+    (read_consistent registrations snapshot c.requires.shaped ms some) c.in_ok-kinds.ensures.in_order
+    (subst (λ (all : List code_module.LoadedModule). (host : HostSignatures) → Constructs host c.in_ok-kinds.items → ((c.is_well_typed.result ≡ true) ↔ AreWellTypedObjects host all c.in_ok-objects.objects)) c.deref-3.ensures.value c.is_well_typed.ensures.exact) in
     let holds : c.is_well_typed.result ≡ true = search rules in
     let has : HasServices registrations snapshot =
     subst (λ (services : List StoredHost). kinds_in (services_of services) ≡ service_kinds registrations) c.deref.ensures.value

@@ -1,0 +1,4 @@
+pub mod TableStates
+pub mod SavedObjects
+pub mod WrittenObjects
+pub mod WrittenStates
