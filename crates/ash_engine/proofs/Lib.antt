@@ -23,3 +23,10 @@ pub mod RefusedHosts
 pub mod Started
 pub mod Living
 pub mod RestoredState
+pub mod HeldGlobals
+pub mod CompiledModules
+pub mod SavedTables
+pub mod StartedGlobals
+pub mod FirstLives
+pub mod RestoredLives
+pub mod LiveFacts
