@@ -7,6 +7,7 @@ pub mod ShownAlike
 pub mod KnownRanks
 pub mod RunSettings
 pub mod GivenAnswers
+pub mod Uncounted
 pub mod TableCalls
 pub mod ChangedModules
 pub mod CallEnds
@@ -18,6 +19,10 @@ pub mod Unanswered
 pub mod Looked
 pub mod TableLoads
 pub mod Invoked
+pub mod Beside
+pub mod ArgumentsAlive
+pub mod Lent
+pub mod Tasks
 pub mod RestoredHosts
 pub mod RefusedHosts
 pub mod Started

@@ -41,7 +41,7 @@ use Rattle.ash_context.specs.declared.outcome.Outcome as run_outcome
 use Rattle.ash_context.specs.declared.outcome.RunFault.{RunFault}
 use Rattle.ash_context.specs.declared.outcome.RunFault.TheVariants as faults
 use Rattle.ash_context.specs.Outcomes.{Leads, Says, end_said, world_in}
-use Rattle.ash_engine.specs.TableRuns.{SaysOfCall}
+use Rattle.ash_engine.specs.TableRuns.{SaysOfCall, uncounted}
 use Rattle.ash_engine.specs.RankedSources.{ReadsRanked}
 use Rattle.ash_table_states.specs.TableStates.{names_in, state_shown}
 use Rattle.ash_engine.proofs.GivenAnswers.{answers_fit}
@@ -138,15 +138,15 @@ module _ {Fault : Type 0} (embedding : Embedding Fault) (host : HostSignatures) 
       abbrev run : World → Option Outcome
       run world = call_entry (context []).program args budget world (entry_of_function f)
 
-      said : Says G names run parts left.outcome left.parts
+      said : Says G names run uncounted parts left.outcome left.parts
       said = says (context []) the_setting f (is_context []) (compiled (context []) (is_context []) refl) (set_for []) there
           (subst (λ (w : World). IsWellFormed (context []) (env_of (context []) f.parameters) [] (first_of_function f args budget w)) (sym (world_is [])) (begins_well budget f args (values [])))
 
-      led : (o : run_outcome.Outcome) → left.outcome ≡ Ok o → Leads G names run parts (end_said names o) left.parts
-      led o e = subst (λ (r : Result run_outcome.Outcome RunFault). Says G names run parts r left.parts) e said
+      led : (o : run_outcome.Outcome) → left.outcome ≡ Ok o → Leads G names run uncounted parts (end_said names o) left.parts
+      led o e = subst (λ (r : Result run_outcome.Outcome RunFault). Says G names run uncounted parts r left.parts) e said
 
       pub never_unsound : left.outcome ≡ Err faults.Unsound → ⊥
-      never_unsound e = subst (λ (r : Result run_outcome.Outcome RunFault). Says G names run parts r left.parts) e said
+      never_unsound e = subst (λ (r : Result run_outcome.Outcome RunFault). Says G names run uncounted parts r left.parts) e said
 
       pub call_steps : (o : run_outcome.Outcome) → left.outcome ≡ Ok o → CallSteps budget m tree function args o left.parts
       call_steps o e =

@@ -45,7 +45,7 @@ use Rattle.ash_context.specs.declared.context.Left.{Left}
 use Rattle.ash_context.specs.declared.outcome.Outcome as run_outcome
 use Rattle.ash_context.specs.declared.outcome.RunFault.{RunFault}
 use Rattle.ash_context.specs.Outcomes.{Leads, Says, end_said, world_in}
-use Rattle.ash_engine.specs.TableRuns.{SaysOfLoad}
+use Rattle.ash_engine.specs.TableRuns.{SaysOfLoad, uncounted}
 use Rattle.ash_engine.specs.RankedSources.{ReadsRanked}
 use Rattle.ash_table_states.specs.TableStates.{names_in, state_shown}
 use Rattle.ash_engine.proofs.GivenAnswers.{answers_fit}
@@ -161,7 +161,7 @@ module _ {Fault : Type 0} (embedding : Embedding Fault) (host : HostSignatures) 
       abbrev run : World → Option Outcome
       run world = load_module (context []).program budget world
 
-      said : Says G names run parts left.outcome left.parts
+      said : Says G names run uncounted parts left.outcome left.parts
       said = says (context []) the_setting (is_context []) (compiled (context []) (is_context []) refl) (set_for []) takes.same_globals
           (subst (λ (w : World). IsWellFormed (context []) (env_of (context []) []) [] (first_of_load tree budget w)) (sym (world_is [])) (record {
             world = begins_in [] tt;
@@ -173,7 +173,7 @@ module _ {Fault : Type 0} (embedding : Embedding Fault) (host : HostSignatures) 
 
       pub load_steps : (o : run_outcome.Outcome) → left.outcome ≡ Ok o → LoadSteps budget o left.parts
       load_steps o e =
-          let l : Leads G names run parts (end_said names o) left.parts = subst (λ (r : Result run_outcome.Outcome RunFault). Says G names run parts r left.parts) e said in
+          let l : Leads G names run uncounted parts (end_said names o) left.parts = subst (λ (r : Result run_outcome.Outcome RunFault). Says G names run uncounted parts r left.parts) e said in
           let end : Outcome = record { end = end_said names o; world = world_in G names [] left.parts } in
           let gave : Gave G l.records table [] left.parts.table left.parts.events.items =
           subst (λ (t : Table B). Gave G l.records t [] left.parts.table left.parts.events.items) takes.same_table

@@ -9,7 +9,7 @@ use Rattle.ash_typed.specs.Modules.{Function, module_of}
 use Rattle.ash_typed.specs.Signatures.{types_of_globals}
 use Rattle.ash_meaning.specs.Activity.{World}
 use Rattle.ash_meaning.specs.Classes.{entry_of_function}
-use Rattle.ash_meaning.specs.Ends.{End, Finished, Threw, Aborted, call_entry, load_module}
+use Rattle.ash_meaning.specs.Ends.{End, Finished, Threw, Aborted, Outcome, call_entry, load_module}
 use Rattle.ash_meaning.specs.OperatorMeaning.{zero_of}
 use Rattle.ash_soundness.specs.WellFormed.{Context, IsContext, IsWellFormed}
 use Rattle.ash_objects.specs.Table.{Table}
@@ -44,6 +44,10 @@ end_named name (outcomes.Finished value) = Finished value
 end_named name (outcomes.Exception code function line) = Threw code (name function) line
 end_named name (outcomes.Aborted function line) = Aborted (name function) line
 
+-- a run, however many instructions it did
+abbrev pub uncounted : World → Outcome → Type 0
+uncounted world outcome = Unit {0}
+
 module _ {B : Type 0} (G : Ghosts B) where
   -- what the machine says of a call of a function of code
   abbrev pub SaysOfCall : CodeParts → Parts B → ℕ → List Word → ℕ → Left B → Type 0
@@ -51,7 +55,7 @@ module _ {B : Type 0} (G : Ghosts B) where
       (c : Context) (s : Setting) (f : Function) → IsContext c → IsCodeOf code c → IsSetFor code c s
       → slice_get ((c.program).tree).functions function ≡ Some f
       → IsWellFormed c (env_of c f.parameters) [] (first_of_function f args budget (world_in G s.names [] parts))
-      → Says G s.names (λ (world : World). call_entry c.program args budget world (entry_of_function f)) parts
+      → Says G s.names (λ (world : World). call_entry c.program args budget world (entry_of_function f)) uncounted parts
       left.outcome left.parts
 
   -- what it says of the initializers
@@ -61,7 +65,7 @@ module _ {B : Type 0} (G : Ghosts B) where
       → (parts.globals).items ≡ map zero_of (types_of_globals ((c.program).tree).globals)
       → IsWellFormed c (env_of c []) []
       (first_of_load (c.program).tree budget (world_in G s.names [] parts))
-      → Says G s.names (λ (world : World). load_module c.program budget world) parts left.outcome left.parts
+      → Says G s.names (λ (world : World). load_module c.program budget world) uncounted parts left.outcome left.parts
 
 module _ {B : Type 0} where
   -- The module at a place has lent its globals to a run, with the table. All else rests.
