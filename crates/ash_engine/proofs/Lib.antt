@@ -18,6 +18,11 @@ pub mod ReadRanks
 pub mod Unanswered
 pub mod Looked
 pub mod TableLoads
+pub mod ReleasedGlobals
+pub mod InsertedModules
+pub mod LoadEnds
+pub mod AnsweredSteps
+pub mod Loaded
 pub mod Invoked
 pub mod Beside
 pub mod ArgumentsAlive

@@ -201,6 +201,7 @@ fn abandon<B: HostObject>(rest: Rest, parts: Parts<B>) -> Result<(Live<B>, Vec<E
         ..
     } = parts;
     release(&mut table, &globals, &mut events)?;
+    table.facts();
     let live = Live {
         loaded,
         compiled,
