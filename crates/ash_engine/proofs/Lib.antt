@@ -1,4 +1,5 @@
 pub mod Untouched
+pub mod EntryNames
 pub mod Admitted
 pub mod Served
 pub mod Drawn
