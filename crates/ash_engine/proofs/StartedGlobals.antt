@@ -26,7 +26,7 @@ use Rattle.ash_sources.proofs.SourceLaws.{read_sound}
 use Rattle.ash_plain_steps.specs.declared.state.LoadedModule.{LoadedModule}
 use Rattle.ash_plain_steps.specs.declared.state.PlainState.{PlainState}
 use Rattle.ash_plain_steps.specs.StateViews.{loaded_seen, modules_seen, state_seen}
-use Rattle.ash_states.specs.HostStates.{IsAdmitted, rules_for, embedding_for, offered_to}
+use Rattle.ash_states.specs.HostStates.{IsAdmitted, embedding_for, offered_to}
 use Rattle.ash_states.specs.Holding.{held_with}
 
 each_alive : (lives : ℕ → Bool) (ws : List Word) → ((n : ℕ) → Contains (handles ws) n → lives n ≡ true) → AllByRecursion (λ (w : Word). option_map_or lives (handle w) true ≡ true) ws
@@ -58,7 +58,7 @@ module _ (registered : List Registration) (s : PlainState) (h : IsAdmitted (held
   pub few_globals : All (λ (m : LoadedModule). length m.globals.items ≤ 256) s.modules.items
   few_globals =
       All-from_recursion (λ (m : LoadedModule). length m.globals.items ≤ 256) s.modules.items
-      (all_short (embedding_for registered) (offered_to registered) (read_sound (rules_for registered)) s.objects s.modules.items (h.formed).loaded)
+      (all_short (embedding_for registered) (offered_to registered) (read_sound registered) s.objects s.modules.items (h.formed).loaded)
 
   pub globals_live : {B : Type 0} (G : Ghosts B) (names : SlotNames) (table : Table B) → objects_shown G names table.objects ≡ s.objects
       → All (λ (word : Word). IsTrue (is_alive_in word table)) (globals_of (modules_seen s.modules.items))

@@ -8,7 +8,7 @@ use Rattle.ash_requests.specs.States.{LoadedModule}
 use Rattle.ash_plain_steps.specs.declared.state.LoadedModule as code_module
 use Rattle.ash_plain_steps.specs.declared.state.PlainState.{PlainState}
 use Rattle.ash_plain_steps.specs.StateViews.{modules_seen}
-use Rattle.ash_sources.specs.Sources.{SourceRules, embedding_of}
+use Rattle.ash_sources.specs.Sources.{embedding_of}
 use Rattle.ash_admission.specs.Admission.{Constructs, AreWellTypedObjects}
 use Rattle.ash_image.specs.Snapshots.{Snapshot}
 use Rattle.ash_image.specs.declared.stored.StoredHost.{StoredHost}
@@ -24,7 +24,7 @@ pub returns-in_default : goal.returns-in_default
 returns-in_default c =
     let registrations : List Registration = registered c.args.registry.now in
     let read : ReadsModules (embedding_for registrations) (modules_of c.args.stored.modules.items) (option_map vec_items c.in_ok-modules.field-0) =
-    subst (λ (rules : SourceRules). ReadsModules (embedding_of rules) (modules_of c.args.stored.modules.items) (option_map vec_items c.in_ok-modules.field-0))
+    subst (λ (registered : List Registration). ReadsModules (embedding_of registered) (modules_of c.args.stored.modules.items) (option_map vec_items c.in_ok-modules.field-0))
     c.sources_for-sources.ensures.value c.in_ok-modules.ensures.exact in
     let none = rw c.in_default.is at read in
     record { exact = unread registrations (snapshot_of c.args.stored) none }
@@ -35,7 +35,7 @@ returns-then-not-is_well_typed c =
     let snapshot : Snapshot = snapshot_of c.args.stored in
     let ms : List code_module.LoadedModule = c.in-Some.modules.items in
     let read : ReadsModules (embedding_for registrations) (modules_of c.args.stored.modules.items) (option_map vec_items c.in_ok-modules.field-0) =
-    subst (λ (rules : SourceRules). ReadsModules (embedding_of rules) (modules_of c.args.stored.modules.items) (option_map vec_items c.in_ok-modules.field-0))
+    subst (λ (registered : List Registration). ReadsModules (embedding_of registered) (modules_of c.args.stored.modules.items) (option_map vec_items c.in_ok-modules.field-0))
     c.sources_for-sources.ensures.value c.in_ok-modules.ensures.exact in
     let some = rw c.in-Some.is at read in
     let objects : c.in_ok-objects.objects ≡ (state_of snapshot).objects =
@@ -57,7 +57,7 @@ returns c =
     let snapshot : Snapshot = snapshot_of c.args.stored in
     let ms : List code_module.LoadedModule = c.in-Some.modules.items in
     let read : ReadsModules (embedding_for registrations) (modules_of c.args.stored.modules.items) (option_map vec_items c.in_ok-modules.field-0) =
-    subst (λ (rules : SourceRules). ReadsModules (embedding_of rules) (modules_of c.args.stored.modules.items) (option_map vec_items c.in_ok-modules.field-0))
+    subst (λ (registered : List Registration). ReadsModules (embedding_of registered) (modules_of c.args.stored.modules.items) (option_map vec_items c.in_ok-modules.field-0))
     c.sources_for-sources.ensures.value c.in_ok-modules.ensures.exact in
     let some = rw c.in-Some.is at read in
     let objects : c.in_ok-objects.objects ≡ (state_of snapshot).objects =
