@@ -1,9 +1,9 @@
 -- The objects of a state that a host may be in are such as a table takes.
-use Rattle.std.proofs.Common.{◌≡◌, ◌≤◌, ℕ, List, [], map, length, Some, refl, ◌∙◌, arith}
+use Rattle.std.proofs.Common.{◌≡◌, ◌≤◌, ℕ, List, map, length, Some, refl, arith}
 use Rattle.std.specs.Prelude.{Contains}
 use Rattle.std.proofs.lemmas.List.{length-map}
 use Rattle.ash_host.specs.Limits.{max_elements}
-use Rattle.ash_host.specs.Objects.{Plain, LiveObjects, object_at, handles, fields_of, Lives}
+use Rattle.ash_host.specs.Objects.{Plain, object_at, handles, fields_of, Lives}
 use Rattle.ash_typed.specs.Signatures.{type_declared}
 use Rattle.ash_soundness.specs.WellFormed.{IsObject, is_script, is_array, is_host}
 use Rattle.ash_soundness.specs.WellFormedStates.{known_of}

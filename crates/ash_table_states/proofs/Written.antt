@@ -22,7 +22,8 @@ use Rattle.ash_table_states.specs.declared.writing.TableState.{TableState}
 use Rattle.ash_table_states.proofs.Shown.{written_same}
 use Rattle.ash_table_states.proofs.SlotNames.{index_same}
 
-module _ {B : Type 0} (G : Ghosts B) (registered : List Registration) (s : TableState B) (h : IsWritable G registered s) where
+module _ {B : Type 0} (G : Ghosts B) (registered : List Registration) (s : TableState B)
+    (h : IsWritable G registered s) where
   abbrev ms : List LoadedModule
   ms = modules_seen s.modules.now
 
@@ -40,7 +41,8 @@ module _ {B : Type 0} (G : Ghosts B) (registered : List Registration) (s : Table
       → entries ≡ bodies_of (s.table.now).objects
       → HavePartKinds objects
       → AreWrittenIn (state_in G registered s) services modules objects
-  written services modules objects kinds states entries same_services kinds_are states_are have same_modules same_objects entries_are object_kinds = record {
+  written services modules objects kinds states entries same_services kinds_are states_are have same_modules
+      same_objects entries_are object_kinds = record {
     same_services = same_services
         ∙ ap (λ (all : List ℕ). zip all states) kinds_are
         ∙ ap (λ (all : List (List ℕ)). zip (service_kinds registered) all) states_are;

@@ -15,5 +15,6 @@ returns-clause-body g c =
     (λ body written. (
       image_of (snapshot_in c.state_parts.result),
       written,
-      image_by_parts s c.requires.writable.admitted _ c.state_parts.ensures.same c.state_parts.ensures.fits (image_of (snapshot_in c.state_parts.result)) refl,
+      image_by_parts s c.requires.writable.admitted _ c.state_parts.ensures.same c.state_parts.ensures.fits
+          (image_of (snapshot_in c.state_parts.result)) refl,
     )) c.write_body.ensures.written

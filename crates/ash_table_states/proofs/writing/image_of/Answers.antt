@@ -12,7 +12,9 @@ image_by-requires-clause-listed g c =
     c.deref.result.now (map (λ state. state.items) c.deref-2.result.now) (listed_entries c.deref-4.result.now)
     (ap services_in c.deref-6.ensures.value ∙ c.in_ok-services.ensures.written)
     (c.deref.ensures.value ∙ c.in_ok-kinds.ensures.in_order)
-    (ap (λ saved. map (λ state. state.items) saved) c.deref-2.ensures.value ∙ c.in_ok-saved.ensures.states ∙ ap (map g.B.HostObject.state) c.services.ensures.services)
+    (ap (λ saved. map (λ state. state.items) saved) c.deref-2.ensures.value
+    ∙ c.in_ok-saved.ensures.states
+    ∙ ap (map g.B.HostObject.state) c.services.ensures.services)
     c.in_ok-services.ensures.kinds
     (ap modules_in c.deref-7.ensures.value ∙ c.in_ok-modules.ensures.stored)
     (ap objects_in c.deref-8.ensures.value ∙ c.in_ok-objects.ensures.written)
