@@ -8,7 +8,7 @@ use Rattle.ash_requests.specs.Tasks.{TaskResult, Show}
 use Rattle.ash_requests.specs.RequestViews.{named_seen, shown_seen}
 use Rattle.ash_plain_steps.specs.TaskViews.{described_in}
 use Rattle.ash_registry.specs.RegistryViews.{registered}
-use Rattle.ash_registry.specs.RegistryViews.{registered}
+use Rattle.ash_sources.specs.SourceFaults.{SourceFault, MayTakeMemory}
 use Rattle.ash_registry.specs.AcceptedRegistrations.{Registration}
 use Rattle.ash_sources.specs.Sources.{embedding_of}
 use Rattle.ash_states.specs.HostStates.{embedding_for}
