@@ -290,15 +290,17 @@ module _ {B : Type 0} (G : Ghosts B) (registered : List Registration) (request :
         ended (outcomes.Exception x function line) came =
             let other : (value : Option Word) → outcomes.Exception x function line ≡ outcomes.Finished value → ⊥ = λ value e. cc in
             let (before, events, gone, answered) = l.abandoned (outcomes.Exception x function line) came other in
-            let run = loads good is free few numbered (outcomes.Exception x function line) came in
-            (inl (gone_taken good is free few numbered (outcomes.Exception x function line) run other before events gone one answered),
-            gone_live good is free few numbered (outcomes.Exception x function line) run other before events gone one answered)
+            let run = loads good is free few numbered (outcomes.Exception x function line) came in (
+              inl (gone_taken good is free few numbered (outcomes.Exception x function line) run other before events gone one answered),
+              gone_live good is free few numbered (outcomes.Exception x function line) run other before events gone one answered,
+            )
         ended (outcomes.Aborted function line) came =
             let other : (value : Option Word) → outcomes.Aborted function line ≡ outcomes.Finished value → ⊥ = λ value e. cc in
             let (before, events, gone, answered) = l.abandoned (outcomes.Aborted function line) came other in
-            let run = loads good is free few numbered (outcomes.Aborted function line) came in
-            (inl (gone_taken good is free few numbered (outcomes.Aborted function line) run other before events gone one answered),
-            gone_live good is free few numbered (outcomes.Aborted function line) run other before events gone one answered)
+            let run = loads good is free few numbered (outcomes.Aborted function line) came in (
+              inl (gone_taken good is free few numbered (outcomes.Aborted function line) run other before events gone one answered),
+              gone_live good is free few numbered (outcomes.Aborted function line) run other before events gone one answered,
+            )
 
         by : (r : Result run_outcome.Outcome RunFault) → left.outcome ≡ r → IsStepOf G registered budget request live (Ok one)
         by (Ok o) came = ended o came

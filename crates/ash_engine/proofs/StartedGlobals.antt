@@ -66,6 +66,6 @@ module _ (registered : List Registration) (s : PlainState) (h : IsAdmitted (held
       All-from_recursion (λ (word : Word). IsTrue (is_alive_in word table)) (globals_of (modules_seen s.modules.items))
       (each_alive (λ (n : ℕ). is_some (object_at n table.objects)) (globals_of (modules_seen s.modules.items))
       (λ n among.
-          sym (lives_shown G names n table.objects)
-          ∙ ap (λ (os : LiveObjects (List ℕ)). is_some (object_at n os)) shown
-          ∙ held_lives (embedding_for registered) (offered_to registered) (state_seen s) h.formed n among))
+      sym (lives_shown G names n table.objects)
+      ∙ ap (λ (os : LiveObjects (List ℕ)). is_some (object_at n os)) shown
+      ∙ held_lives (embedding_for registered) (offered_to registered) (state_seen s) h.formed n among))

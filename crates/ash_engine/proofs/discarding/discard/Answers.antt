@@ -26,8 +26,10 @@ answered-requires g c =
     let asked = c.requires.asked in
     let found = there g.B.HostObject live c.args.place asked in
     let gone = c.in-Ok.ensures.removed found.module_there found.at in
-    record { numbered = subst (λ (s : PlainState). s.seq < max_seq) (sym gone.loaded)
-        (numbered g.B.HostObject asked.registered live asked.live c.args.place found.module_there found.at asked.request found.task) }
+    record {
+      numbered = subst (λ (s : PlainState). s.seq < max_seq) (sym gone.loaded)
+          (numbered g.B.HostObject asked.registered live asked.live c.args.place found.module_there found.at asked.request found.task);
+    }
 
 pub returns-in-Ok : goal.returns-in-Ok
 returns-in-Ok g c = record {
