@@ -23,3 +23,4 @@ pub mod RefusedHosts
 pub mod Started
 pub mod Living
 pub mod RestoredState
+pub mod WrittenLives
