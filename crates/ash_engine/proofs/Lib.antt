@@ -46,3 +46,4 @@ pub mod StartedGlobals
 pub mod FirstLives
 pub mod RestoredLives
 pub mod LiveFacts
+pub mod WrittenLives
