@@ -146,6 +146,9 @@ module _ {B : Type 0} (G : Ghosts B) (registered : List Registration) (live : Li
     numbered = numbered_by (task_is embedding durable.state request (Remove name) asked)
 
     module _ (budget : ℕ) (before : Live B) (events : List Event) (gone : IsRemoved live place m before events) (order : IsInOrder before.table.objects) where
+      pub still_numbered : before.loaded.seq < max_seq
+      still_numbered = subst (λ (n : ℕ). n < max_seq) (sym (ap (λ (s : PlainState). s.seq) gone.loaded)) numbered
+
       abbrev hosts : Hosts
       hosts = hosts_of G live.table []
 
