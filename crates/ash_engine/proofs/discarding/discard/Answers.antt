@@ -23,18 +23,10 @@ remove_module-requires g c =
 pub answered-requires : goal.answered-requires
 answered-requires g c =
     let asked = c.requires.asked in
-<<<<<<< HEAD
-    let found = there g.B.HostObject live c.args.place asked in
-    let gone = c.in-Ok.ensures.removed found.module_there found.at in
-    record {
-      numbered = subst (λ (s : PlainState). s.seq < max_seq) (sym gone.loaded)
-          (numbered g.B.HostObject asked.registered live asked.live c.args.place found.module_there found.at asked.request found.task);
-=======
     let found = there g.B.HostObject c.args.live c.args.place asked in
     record {
       numbered = still_numbered g.B.HostObject asked.registered c.args.live asked.live c.args.place found.module_there found.at asked.request found.task 0
           c.in-Ok.live c.in-Ok.events.items (c.in-Ok.ensures.removed found.module_there found.at) c.in-Ok.ensures.in_order;
->>>>>>> f93288f34a53c162b1734d04b64478763c24efe8
     }
 
 pub returns-in-Ok : goal.returns-in-Ok
