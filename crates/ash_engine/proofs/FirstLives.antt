@@ -61,7 +61,10 @@ module _ {B : Type 0} (G : Ghosts B) where
           fit = subst (λ (boxes : List B). BoxesFit (map (plain_box G) boxes)) (sym pooled) (boxes_fit pool pool_fits);
         }
 
-    boxes_are : boxes_of l.table ≡ (record { objects = []; pool = pool; services = services } : Boxes B)
+    abbrev boxes_first : Boxes B
+    boxes_first = record { objects = []; pool = pool; services = services }
+
+    boxes_are : boxes_of l.table ≡ boxes_first
     boxes_are = rw (objects, pooled, served) refl
 
     pub begun : (given : List B) → services ≡ services_for registered given → live_seen G registered l ≡ begin G registered pool given

@@ -34,13 +34,36 @@ restored-requires g c =
     }
 
 pub returns-clause-table : goal.returns-clause-table
-returns-clause-table g c = ?
+returns-clause-table g c =
+    let s = c.args.state.now in
+    let saved = c.in-Ok.objects.items in
+    table_made g.B.HostObject (state_seen s) c.args.pool.items s.last saved c.restored.result
+    (saved_of s c.deref.result.now saved c.deref.ensures.value c.in-Ok.ensures.saved) refl c.restored.ensures.objects c.restored.ensures.last
 
 pub returns-clause-services : goal.returns-clause-services
-returns-clause-services g c = ?
+returns-clause-services g c =
+    IfOk-weaker c.restored.result _ _
+    (λ table back.
+        subst (λ (states : List (Vec ℕ Global)). RestoresServices g.B.HostObject c.args.services.items (map (λ (state : Vec ℕ Global). state.items) states) table.services)
+        c.deref-2.ensures.value back) c.restored.ensures.services
 
 pub returns-clause-short : goal.returns-clause-short
-returns-clause-short g c = ?
+returns-clause-short g c = λ kind is.
+    let s = c.args.state.now in
+    let saved = c.in-Ok.objects.items in
+    record {
+      saved = saved;
+      are = saved_of s c.deref.result.now saved c.deref.ensures.value c.in-Ok.ensures.saved;
+      short = c.restored.ensures.short kind is;
+    }
 
 pub returns-clause-refused : goal.returns-clause-refused
-returns-clause-refused g c = ?
+returns-clause-refused g c = λ number is.
+    let s = c.args.state.now in
+    let saved = c.in-Ok.objects.items in
+    record {
+      saved = saved;
+      are = saved_of s c.deref.result.now saved c.deref.ensures.value c.in-Ok.ensures.saved;
+      refused = subst (λ (states : List (Vec ℕ Global)). IsRefused g.B.HostObject saved (map (λ (state : Vec ℕ Global). state.items) states) c.args.pool.items c.args.services.items number)
+          c.deref-2.ensures.value (c.restored.ensures.refused number is);
+    }
