@@ -6,7 +6,7 @@ use Rattle.ash_run_steps.specs.RunStates.{times}
 use Rattle.ash_requests.specs.Tasks.{max_seq}
 use Rattle.ash_plain_steps.specs.declared.state.LoadedModule.{LoadedModule}
 use Rattle.ash_plain_steps.specs.declared.state.PlainState.{PlainState}
-use Rattle.ash_engine.proofs.Discarded.{within, within_codes, holds_enough, fails, numbered, discarded, there}
+use Rattle.ash_engine.proofs.Discarded.{within, within_codes, holds_enough, fails, still_numbered, discarded, there}
 use Rattle.ash_engine.proofs.discarding.discard.Goals as goal
 
 pub remove_module-requires : goal.remove_module-requires
@@ -22,12 +22,12 @@ remove_module-requires g c =
 
 pub answered-requires : goal.answered-requires
 answered-requires g c =
-    let live = c.args.live in
     let asked = c.requires.asked in
-    let found = there g.B.HostObject live c.args.place asked in
-    let gone = c.in-Ok.ensures.removed found.module_there found.at in
-    record { numbered = subst (λ (s : PlainState). s.seq < max_seq) (sym gone.loaded)
-        (numbered g.B.HostObject asked.registered live asked.live c.args.place found.module_there found.at asked.request found.task) }
+    let found = there g.B.HostObject c.args.live c.args.place asked in
+    record {
+      numbered = still_numbered g.B.HostObject asked.registered c.args.live asked.live c.args.place found.module_there found.at asked.request found.task 0
+          c.in-Ok.live c.in-Ok.events.items (c.in-Ok.ensures.removed found.module_there found.at) c.in-Ok.ensures.in_order;
+    }
 
 pub returns-in-Ok : goal.returns-in-Ok
 returns-in-Ok g c = record {
