@@ -18,7 +18,8 @@ returns-in-Initialize g c = record {
 
 pub returns-in-Invoke : goal.returns-in-Invoke
 returns-in-Invoke g c = record {
-  stepped = λ asked. c.invoke.ensures.stepped (asked_as g.B.HostObject c.args.live c.args.task (tasks.Invoke c.in-Invoke.call) c.in-Invoke.is asked);
+  stepped = λ asked. c.invoke.ensures.stepped (asked_as g.B.HostObject c.args.live c.args.task
+      (tasks.Invoke c.in-Invoke.call) c.in-Invoke.is asked);
 }
 
 pub returns-in-Remove : goal.returns-in-Remove
@@ -33,7 +34,8 @@ returns-in-Read g c = record {
   stepped =
       λ asked. let G = g.B.HostObject in
       let step : LiveStep g.row.B.Denot = record { reply = replies.Value c.in-Read.word; live = c.args.live } in
-      subst (λ (s : LiveStep g.row.B.Denot). IsStepOf G asked.registered c.args.budget asked.request c.args.live (Ok s)) (sym c.replied.ensures.value)
+      subst (λ (s : LiveStep g.row.B.Denot). IsStepOf G asked.registered c.args.budget asked.request c.args.live (Ok s))
+          (sym c.replied.ensures.value)
       (looked_at G c.args.live c.args.task asked c.args.budget (Read c.in-Read.word) step
       (ap (task_seen c.args.live.loaded.modules.items) c.in-Read.is) refl refl refl);
 }
@@ -43,7 +45,8 @@ returns-in-Show g c = record {
   stepped =
       λ asked. let G = g.B.HostObject in
       let step : LiveStep g.row.B.Denot = record { reply = replies.Shown c.in-Show.shown; live = c.args.live } in
-      subst (λ (s : LiveStep g.row.B.Denot). IsStepOf G asked.registered c.args.budget asked.request c.args.live (Ok s)) (sym c.replied-in-Show.ensures.value)
+      subst (λ (s : LiveStep g.row.B.Denot). IsStepOf G asked.registered c.args.budget asked.request c.args.live (Ok s))
+          (sym c.replied-in-Show.ensures.value)
       (looked_at G c.args.live c.args.task asked c.args.budget (Show (shown_seen c.in-Show.shown)) step
       (ap (task_seen c.args.live.loaded.modules.items) c.in-Show.is) refl refl refl);
 }
@@ -53,7 +56,8 @@ returns-in-Count g c = record {
   stepped =
       λ asked. let G = g.B.HostObject in
       let step : LiveStep g.row.B.Denot = record { reply = replies.Seq c.args.live.loaded.seq; live = c.args.live } in
-      subst (λ (s : LiveStep g.row.B.Denot). IsStepOf G asked.registered c.args.budget asked.request c.args.live (Ok s)) (sym c.replied-in-Count.ensures.value)
+      subst (λ (s : LiveStep g.row.B.Denot). IsStepOf G asked.registered c.args.budget asked.request c.args.live (Ok s))
+          (sym c.replied-in-Count.ensures.value)
       (looked_at G c.args.live c.args.task asked c.args.budget Count step
       (ap (task_seen c.args.live.loaded.modules.items) c.in-Count.is) refl refl refl);
 }
@@ -63,7 +67,8 @@ returns-in-Rewrite g c = record {
   stepped =
       λ asked. let G = g.B.HostObject in
       let step : LiveStep g.row.B.Denot = record { reply = replies.Done; live = c.args.live } in
-      subst (λ (s : LiveStep g.row.B.Denot). IsStepOf G asked.registered c.args.budget asked.request c.args.live (Ok s)) (sym c.replied-in-Rewrite.ensures.value)
+      subst (λ (s : LiveStep g.row.B.Denot). IsStepOf G asked.registered c.args.budget asked.request c.args.live (Ok s))
+          (sym c.replied-in-Rewrite.ensures.value)
       (looked_at G c.args.live c.args.task asked c.args.budget Rewrite step
       (ap (task_seen c.args.live.loaded.modules.items) c.in-Rewrite.is) refl refl refl);
 }

@@ -9,14 +9,16 @@ use Rattle.ash_engine.proofs.steps.step_of.Goals as goal
 
 pub perform-requires : goal.perform-requires
 perform-requires g c = record {
-  asked = asked_from g.B.HostObject (registered c.args.registry.now) c.args.live (request_seen c.args.request.now) c.in-Ok.task c.requires.live c.in-Ok.ensures.task;
+  asked = asked_from g.B.HostObject (registered c.args.registry.now) c.args.live
+      (request_seen c.args.request.now) c.in-Ok.task c.requires.live c.in-Ok.ensures.task;
 }
 
 pub returns-in-Ok : goal.returns-in-Ok
 returns-in-Ok g c = record {
   stepped =
       c.perform.ensures.stepped
-      (asked_from g.B.HostObject (registered c.args.registry.now) c.args.live (request_seen c.args.request.now) c.in-Ok.task c.requires.live c.in-Ok.ensures.task);
+      (asked_from g.B.HostObject (registered c.args.registry.now) c.args.live
+          (request_seen c.args.request.now) c.in-Ok.task c.requires.live c.in-Ok.ensures.task);
 }
 
 pub returns-in-Err : goal.returns-in-Err
@@ -27,6 +29,8 @@ returns-in-Err g c =
     let step : LiveStep g.row.B.Denot = record { reply = replies.Refused c.in-Err.refusal; live = c.args.live } in
     record {
       stepped =
-          subst (λ (s : LiveStep g.row.B.Denot). IsStepOf G registrations c.args.budget request c.args.live (Ok s)) (sym c.replied.ensures.value)
-          (refused G registrations c.args.live c.args.budget request c.in-Err.refusal step c.requires.live c.in-Err.ensures.task refl refl);
+          subst (λ (s : LiveStep g.row.B.Denot). IsStepOf G registrations c.args.budget request c.args.live (Ok s))
+              (sym c.replied.ensures.value)
+          (refused G registrations c.args.live c.args.budget request c.in-Err.refusal step c.requires.live
+              c.in-Err.ensures.task refl refl);
     }
