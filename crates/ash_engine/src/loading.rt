@@ -1,6 +1,6 @@
 //! Modules that are loaded: their code, and the run of their initializers.
 
-ghost use Rattle.std.specs.Prelude.{◌≡◌, ◌<◌, ◌≤◌, ◌++◌, ℕ, [], Contains, Ok, Err, map, length};
+ghost use Rattle.std.specs.Prelude.{◌≡◌, ◌<◌, ◌≤◌, ◌++◌, ℕ, List, [], Contains, Option, Ok, Err, map, length};
 ghost use Rattle.std.specs.Prelude.{IfErr, IfOk, IfSome, OnOk, nat_eq};
 ghost use Rattle.std.specs.List.{insert, list_any};
 ghost use Rattle.ash_host.specs.Objects.{handles};
@@ -263,7 +263,22 @@ fn finish_load<B: HostObject>(
             let (live, events) = keep(rest, new_module, compiled, parts)?;
             Ok(answered(live, Outcome::Finished(value), events))
         }
-        Ok(outcome) => finish_abandoned(rest, new_module, outcome, parts),
+        Ok(RunOutcome::Exception {
+            code,
+            function,
+            line,
+        }) => {
+            let outcome = RunOutcome::Exception {
+                code,
+                function,
+                line,
+            };
+            finish_abandoned(rest, new_module, outcome, parts)
+        }
+        Ok(RunOutcome::Aborted { function, line }) => {
+            let outcome = RunOutcome::Aborted { function, line };
+            finish_abandoned(rest, new_module, outcome, parts)
+        }
         Err(RunFault::NotBegun) => {
             let Rest { loaded, compiled } = rest;
             Ok(without_memory(Live {
