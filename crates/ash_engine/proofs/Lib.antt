@@ -24,6 +24,7 @@ pub mod InsertedModules
 pub mod LoadEnds
 pub mod AnsweredSteps
 pub mod Loaded
+pub mod LoadOutcomes
 pub mod Invoked
 pub mod RestoredHosts
 pub mod RefusedHosts
