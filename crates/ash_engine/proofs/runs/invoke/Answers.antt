@@ -33,7 +33,8 @@ run_at-left-requires-clause-within g c =
     let asked = c.requires.asked in
     let found = asked_module G c.args.live c.args.call asked (read_ranked asked.registered) in
     within_rest_codes G c.args.live c.args.call asked found.0 found.1 found.2 c.in-Ok.outside.items
-    (c.in-Ok.ensures.value ∙ ap (λ (l : List LoadedModule). held_by (remove l c.args.call.module)) c.deref.ensures.value)
+    (c.in-Ok.ensures.value ∙ ap (λ (l : List LoadedModule). held_by (remove l c.args.call.module))
+        c.deref.ensures.value)
     c.lend-rest.result.0 c.lend-rest.result.1 (c.lend-rest.ensures.lent found.0 found.1)
 
 pub run_at-left-requires-clause-held : goal.run_at-left-requires-clause-held
@@ -42,7 +43,8 @@ run_at-left-requires-clause-held g c =
     let asked = c.requires.asked in
     let found = asked_module G c.args.live c.args.call asked (read_ranked asked.registered) in
     roots_held G c.args.live c.args.call asked found.0 found.1 found.2 c.in-Ok.outside.items
-    (c.in-Ok.ensures.value ∙ ap (λ (l : List LoadedModule). held_by (remove l c.args.call.module)) c.deref.ensures.value)
+    (c.in-Ok.ensures.value ∙ ap (λ (l : List LoadedModule). held_by (remove l c.args.call.module))
+        c.deref.ensures.value)
     c.lend-rest.result.0 c.lend-rest.result.1 (c.lend-rest.ensures.lent found.0 found.1)
 
 pub run_at-left-requires-clause-alive : goal.run_at-left-requires-clause-alive
@@ -60,7 +62,8 @@ finish_call-requires-clause-numbered g c =
     let asked = c.requires.asked in
     let found = asked_module G c.args.live c.args.call asked (read_ranked asked.registered) in
     rest_numbered G c.args.live c.args.call asked found.0 found.1 found.2 c.in-Ok.outside.items
-    (c.in-Ok.ensures.value ∙ ap (λ (l : List LoadedModule). held_by (remove l c.args.call.module)) c.deref.ensures.value)
+    (c.in-Ok.ensures.value ∙ ap (λ (l : List LoadedModule). held_by (remove l c.args.call.module))
+        c.deref.ensures.value)
     c.lend-rest.result.0 c.lend-rest.result.1 (c.lend-rest.ensures.lent found.0 found.1)
 
 pub finish_call-requires-clause-within : goal.finish_call-requires-clause-within
@@ -69,7 +72,8 @@ finish_call-requires-clause-within g c =
     let asked = c.requires.asked in
     let found = asked_module G c.args.live c.args.call asked (read_ranked asked.registered) in
     within_rest G c.args.live c.args.call asked found.0 found.1 found.2 c.in-Ok.outside.items
-    (c.in-Ok.ensures.value ∙ ap (λ (l : List LoadedModule). held_by (remove l c.args.call.module)) c.deref.ensures.value)
+    (c.in-Ok.ensures.value ∙ ap (λ (l : List LoadedModule). held_by (remove l c.args.call.module))
+        c.deref.ensures.value)
     c.lend-rest.result.0 c.lend-rest.result.1 (c.lend-rest.ensures.lent found.0 found.1)
 
 pub returns : goal.returns
@@ -77,7 +81,8 @@ returns g c = record {
   stepped =
       λ asked. let G = g.B.HostObject in
       let found = asked_module G c.args.live c.args.call asked (read_ranked asked.registered) in
-      let beside = c.in-Ok.ensures.value ∙ ap (λ (l : List LoadedModule). held_by (remove l c.args.call.module)) c.deref.ensures.value in
+      let beside = c.in-Ok.ensures.value ∙ ap (λ (l : List LoadedModule). held_by (remove l c.args.call.module))
+          c.deref.ensures.value in
       let rest = c.lend-rest.result.0 in
       let parts = c.lend-rest.result.1 in
       let lent = c.lend-rest.ensures.lent found.0 found.1 in
