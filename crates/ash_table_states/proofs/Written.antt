@@ -43,14 +43,14 @@ module _ {B : Type 0} (G : Ghosts B) (registered : List Registration) (s : Table
       → AreWrittenIn (state_in G registered s) services modules objects
   written services modules objects kinds states entries same_services kinds_are states_are have same_modules
       same_objects entries_are object_kinds = record {
-    same_services = same_services
-        ∙ ap (λ (all : List ℕ). zip all states) kinds_are
-        ∙ ap (λ (all : List (List ℕ)). zip (service_kinds registered) all) states_are;
-    service_kinds = subst HaveServiceKinds kinds_are have;
-    same_modules = same_modules;
-    same_objects = same_objects
-        ∙ ap (objects_written G (index_at s.slots.now)) entries_are
-        ∙ written_same G (index_at s.slots.now) (names_in ms s.slots.now) (index_in ms) (s.table.now).objects
-        (λ slot. index_same ms s.slots.now slot (h.admitted.formed).ascending (h.admitted.formed).valid many);
-    kinds = object_kinds;
-  }
+        same_services = same_services
+            ∙ ap (λ (all : List ℕ). zip all states) kinds_are
+            ∙ ap (λ (all : List (List ℕ)). zip (service_kinds registered) all) states_are;
+        service_kinds = subst HaveServiceKinds kinds_are have;
+        same_modules = same_modules;
+        same_objects = same_objects
+            ∙ ap (objects_written G (index_at s.slots.now)) entries_are
+            ∙ written_same G (index_at s.slots.now) (names_in ms s.slots.now) (index_in ms) (s.table.now).objects
+            (λ slot. index_same ms s.slots.now slot (h.admitted.formed).ascending (h.admitted.formed).valid many);
+        kinds = object_kinds;
+      }
