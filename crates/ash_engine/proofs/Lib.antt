@@ -25,6 +25,7 @@ pub mod LoadEnds
 pub mod AnsweredSteps
 pub mod Loaded
 pub mod LoadOutcomes
+pub mod LoadAsked
 pub mod Invoked
 pub mod RestoredHosts
 pub mod RefusedHosts
