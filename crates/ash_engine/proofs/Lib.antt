@@ -1,4 +1,7 @@
 pub mod Untouched
+pub mod EntryNames
+pub mod SlotSearches
+pub mod RemovedModules
 pub mod Admitted
 pub mod Served
 pub mod Drawn
@@ -18,7 +21,19 @@ pub mod ReadRanks
 pub mod Unanswered
 pub mod Looked
 pub mod TableLoads
+pub mod FreeSlots
+pub mod ReleasedGlobals
+pub mod InsertedModules
+pub mod LoadEnds
+pub mod AnsweredSteps
+pub mod Loaded
+pub mod Discarded
+pub mod ObjectsAsked
 pub mod Invoked
+pub mod Beside
+pub mod ArgumentsAlive
+pub mod Lent
+pub mod Tasks
 pub mod RestoredHosts
 pub mod RefusedHosts
 pub mod Started
@@ -31,3 +46,4 @@ pub mod StartedGlobals
 pub mod FirstLives
 pub mod RestoredLives
 pub mod LiveFacts
+pub mod WrittenLives

@@ -25,7 +25,7 @@ use Rattle.ash_sources.proofs.SourceLaws.{read_sound}
 use Rattle.ash_plain_steps.specs.declared.state.LoadedModule.{LoadedModule}
 use Rattle.ash_plain_steps.specs.declared.state.PlainState.{PlainState}
 use Rattle.ash_plain_steps.specs.StateViews.{loaded_seen, modules_seen, state_seen}
-use Rattle.ash_states.specs.HostStates.{IsAdmitted, rules_for, embedding_for, offered_to}
+use Rattle.ash_states.specs.HostStates.{IsAdmitted, embedding_for, offered_to}
 use Rattle.ash_states.specs.Holding.{held_with}
 
 each_alive : (lives : ℕ → Bool) (ws : List Word) → ((n : ℕ) → Contains (handles ws) n → lives n ≡ true) → AllByRecursion (λ (w : Word). option_map_or lives (handle w) true ≡ true) ws
@@ -57,7 +57,7 @@ module _ (registered : List Registration) (s : PlainState) (h : IsAdmitted (held
   pub few_globals : All (λ (m : LoadedModule). length m.globals.items ≤ 256) s.modules.items
   few_globals =
       All-from_recursion (λ (m : LoadedModule). length m.globals.items ≤ 256) s.modules.items
-      (all_short (embedding_for registered) (offered_to registered) (read_sound (rules_for registered)) s.objects s.modules.items (h.formed).loaded)
+      (all_short (embedding_for registered) (offered_to registered) (read_sound registered) s.objects s.modules.items (h.formed).loaded)
 
   pub globals_live : {B : Type 0} (G : Ghosts B) (names : SlotNames) (table : Table B) → objects_shown G names table.objects ≡ s.objects
       → All (λ (word : Word). IsTrue (is_alive_in word table)) (globals_of (modules_seen s.modules.items))
@@ -65,6 +65,6 @@ module _ (registered : List Registration) (s : PlainState) (h : IsAdmitted (held
       All-from_recursion (λ (word : Word). IsTrue (is_alive_in word table)) (globals_of (modules_seen s.modules.items))
       (each_alive (λ (n : ℕ). is_some (object_at n table.objects)) (globals_of (modules_seen s.modules.items))
       (λ n among.
-          sym (lives_shown G names n table.objects)
-          ∙ ap (λ (os : LiveObjects (List ℕ)). is_some (object_at n os)) shown
-          ∙ held_lives (embedding_for registered) (offered_to registered) (state_seen s) h.formed n among))
+      sym (lives_shown G names n table.objects)
+      ∙ ap (λ (os : LiveObjects (List ℕ)). is_some (object_at n os)) shown
+      ∙ held_lives (embedding_for registered) (offered_to registered) (state_seen s) h.formed n among))

@@ -31,7 +31,7 @@ use Rattle.ash_requests.specs.Steps.{after_load, perform}
 use Rattle.ash_requests.specs.Tasks.{Initialize, is_module_name, tree_in, tree_of}
 use Rattle.ash_requests.specs.Premises.{ReadsSound}
 use Rattle.ash_soundness.specs.WellFormed.{Context, IsContext, AreValues, no_values, and_value, AreAnswers, IsWorld, IsWellFormed, no_this, no_frames}
-use Rattle.ash_soundness.specs.WellFormedLaws.{KnowsAll}
+use Rattle.ash_soundness.specs.WellFormedLaws.{IsBetweenRequests, KnowsAll}
 use Rattle.ash_soundness.specs.WellFormedStates.{AreHosts, IsWellFormedState, known_of}
 use Rattle.ash_soundness.proofs.Ascending.{found_by_name}
 use Rattle.ash_soundness.proofs.Ends.{loads_keep}
@@ -71,7 +71,7 @@ module _ {Fault : Type 0} (embedding : Embedding Fault) (host : HostSignatures) 
     new = record { name = name; source = source; globals = [] }
 
     -- the names of modules while it runs
-    abbrev modules : SlotNames
+    abbrev pub modules : SlotNames
     modules = names_in (new ∷ ms) (code.module ∷ slots)
 
     abbrev names : Names
@@ -108,7 +108,7 @@ module _ {Fault : Type 0} (embedding : Embedding Fault) (host : HostSignatures) 
     abbrev before : List HostRecord → World
     before records = with_globals tree (world_of [] ms state (hosts_of G table records))
 
-    abbrev context : List HostRecord → Context
+    abbrev pub context : List HostRecord → Context
     context records = record { host = host; program = record { name = name; tree = tree }; modules = known_of embedding after; began = before records }
 
     is_context : (records : List HostRecord) → IsContext (context records)
@@ -150,6 +150,7 @@ module _ {Fault : Type 0} (embedding : Embedding Fault) (host : HostSignatures) 
       pub stepped : perform {Fault = Fault} budget (Initialize name source tree) state (hosts_of G table records)
           ≡ Some (after_load name source state (record { end = end_said names outcome; world = world_in G names [] left }))
       pub outside : left.outside.items ≡ handles (globals_of ms)
+      pub settled : IsBetweenRequests (context records) (world_in G names [] left)
 
     module _ (budget : ℕ) (parts : Parts B) (left : Left B) (takes : Takes table (map zero_of (types_of_globals tree.globals)) (handles (globals_of ms)) parts)
         (says : SaysOfLoad G code parts budget left) where
@@ -181,4 +182,4 @@ module _ {Fault : Type 0} (embedding : Embedding Fault) (host : HostSignatures) 
           let ran : run (world_of [] ms state (hosts_of G table l.records)) ≡ Some end = ap run (sym (world_is l.records)) ∙ l.same in
           let fits = answers_fit G l.records table left.parts.table [] left.parts.events.items gave in
           let kept = loads_keep (is_context l.records) budget (world_of [] ms state (hosts_of G table l.records)) end (begins_in l.records fits) (follows_itself (before l.records)) ran in
-          record { records = l.records; gave = gave; stepped = ap (option_map (after_load name source state)) ran; outside = (kept.since).outside }
+          record { records = l.records; gave = gave; stepped = ap (option_map (after_load name source state)) ran; outside = (kept.since).outside; settled = kept }

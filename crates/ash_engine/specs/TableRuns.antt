@@ -4,7 +4,7 @@ use Rattle.std.specs.List.{insert, remove}
 use Rattle.ash_host.specs.declared.host_object.HostObject.{Ghosts}
 use Rattle.ash_host.specs.declared.word.Word.{Word}
 use Rattle.ash_host.specs.declared.event.Event.{Event}
-use Rattle.ash_host.specs.Objects.{handles}
+use Rattle.ash_host.specs.Objects.{handles, IsInOrder}
 use Rattle.ash_typed.specs.Modules.{Function, module_of}
 use Rattle.ash_typed.specs.Signatures.{types_of_globals}
 use Rattle.ash_meaning.specs.Activity.{World}
@@ -69,7 +69,7 @@ module _ {B : Type 0} (G : Ghosts B) where
 
 module _ {B : Type 0} where
   -- The module at a place has lent its globals to a run, with the table. All else rests.
-  pub record IsLent (old : Live B) (place : ℕ) (m : LoadedModule) (outside : List ℕ) (rest : Rest) (parts : Parts B)
+  pub record IsLent (old : Live B) (place : ℕ) (m : LoadedModule) (others : List ℕ) (rest : Rest) (parts : Parts B)
       : Type 0 where
     pub lending : LoadedModule
     pub same : lending ≡ record m { globals = lending.globals }
@@ -79,7 +79,7 @@ module _ {B : Type 0} where
     pub compiled : rest.compiled ≡ old.compiled
     pub table : parts.table ≡ old.table
     pub globals : parts.globals.items ≡ m.globals.items
-    pub outside : parts.outside.items ≡ outside
+    pub outside : parts.outside.items ≡ others
     pub events : parts.events.items ≡ []
 
   -- The module at a place has globals again, those that a run left, as it left the table.
@@ -126,6 +126,7 @@ module _ {B : Type 0} where
     pub loaded : new.loaded ≡ rest.loaded
     pub compiled : new.compiled ≡ rest.compiled
     pub released : Released parts.globals.items parts.table new.table parts.events.items events
+    pub in_order : IsInOrder new.table.objects
 
   -- The module at a place is gone, with what its globals held.
   pub record IsRemoved (old : Live B) (place : ℕ) (m : LoadedModule) (new : Live B) (events : List Event) : Type 0 where

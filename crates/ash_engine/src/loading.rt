@@ -1,8 +1,8 @@
 //! Modules that are loaded: their code, and the run of their initializers.
 
 ghost use Rattle.std.specs.Prelude.{◌≡◌, ◌<◌, ◌≤◌, ◌++◌, ℕ, [], Contains, Ok, Err, map, length};
-ghost use Rattle.std.specs.Prelude.{IfErr, IfOk, IfSome, OnOk, string_bytes};
-ghost use Rattle.std.specs.List.{insert};
+ghost use Rattle.std.specs.Prelude.{IfErr, IfOk, IfSome, OnOk, nat_eq};
+ghost use Rattle.std.specs.List.{insert, list_any};
 ghost use Rattle.ash_host.specs.Objects.{handles};
 ghost use Rattle.ash_meaning.specs.Ends.{Finished};
 ghost use Rattle.ash_meaning.specs.OperatorMeaning.{zero_of};
@@ -58,7 +58,7 @@ pub(crate) struct Prepared {
 
 /// Whether a slot is that of a module.
 fn is_used(compiled: &[Compiled], slot: u8) -> bool
-    ensures used { Contains (slots_of compiled.now) slot → result ≡ true }
+    ensures used { result ≡ list_any (λ other. nat_eq other.code.module slot) compiled.now }
 {
     compiled
         .iter()
@@ -201,6 +201,7 @@ fn abandon<B: HostObject>(rest: Rest, parts: Parts<B>) -> Result<(Live<B>, Vec<E
         ..
     } = parts;
     release(&mut table, &globals, &mut events)?;
+    table.facts();
     let live = Live {
         loaded,
         compiled,

@@ -44,8 +44,8 @@ pub returns-clause-services : goal.returns-clause-services
 returns-clause-services g c =
     IfOk-weaker c.restored.result _ _
     (λ table back.
-        subst (λ (states : List (Vec ℕ Global)). RestoresServices g.B.HostObject c.args.services.items (map (λ (state : Vec ℕ Global). state.items) states) table.services)
-        c.deref-2.ensures.value back) c.restored.ensures.services
+    subst (λ (states : List (Vec ℕ Global)). RestoresServices g.B.HostObject c.args.services.items (map (λ (state : Vec ℕ Global). state.items) states) table.services)
+    c.deref-2.ensures.value back) c.restored.ensures.services
 
 pub returns-clause-short : goal.returns-clause-short
 returns-clause-short g c = λ kind is.
