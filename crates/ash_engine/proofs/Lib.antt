@@ -29,6 +29,7 @@ pub mod AnsweredSteps
 pub mod Loaded
 pub mod Discarded
 pub mod ObjectsAsked
+pub mod LoadOutcomes
 pub mod Invoked
 pub mod Beside
 pub mod ArgumentsAlive

@@ -1,5 +1,5 @@
 -- A load that the code ran is a step of the live state.
-use Rattle.std.proofs.Common.{◌≡◌, ◌<◌, ◌+◌, ℕ, List, [], ◌∷◌, ◌++◌, length, map, find, refl, sym, ap, ◌∙◌, subst, nat_eq, inl, inr, arith}
+use Rattle.std.proofs.Common.{◌≡◌, ◌<◌, ◌+◌, ℕ, true, List, [], ◌∷◌, ◌++◌, length, map, find, refl, sym, ap, ◌∙◌, subst, nat_eq, inl, inr, arith}
 use Rattle.std.specs.Prelude.{Option, Some, None, Result, Ok, Err, Contains, IfOk, IfErr, string_bytes}
 use Rattle.std.specs.List.{AllZip, IsDistinct, insert}
 use Rattle.std.proofs.lemmas.List.{length-map}
