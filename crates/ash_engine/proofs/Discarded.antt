@@ -40,7 +40,7 @@ use Rattle.ash_plain_steps.specs.StateViews.{loaded_seen, modules_seen}
 use Rattle.ash_plain_steps.specs.Consistency.{AreConsistent}
 use Rattle.ash_plain_steps.proofs.Changed.{globals_set, removed_there, consistent_remove}
 use Rattle.ash_plain_steps.proofs.Places.{map-remove}
-use Rattle.ash_states.specs.HostStates.{HostState, IsAdmitted, embedding_for, offered_to, rules_for}
+use Rattle.ash_states.specs.HostStates.{HostState, IsAdmitted, embedding_for, offered_to}
 use Rattle.ash_states.specs.StateSteps.{task_of}
 use Rattle.ash_table_states.specs.TableStates.{names_in}
 use Rattle.ash_engine.specs.declared.live.Compiled.{Compiled}
@@ -163,7 +163,7 @@ module _ {B : Type 0} (G : Ghosts B) (registered : List Registration) (live : Li
 
       releases : ReleasesAs G (names_of live) world live.table before.table events
       releases = releases_as G (names_of live) (offered_to registered) (known_of embedding seen) ranks world m.globals.items live.table before.table events
-          (known_sound embedding (offered_to registered) (read_sound (rules_for registered)) seen) (known_ranked embedding (offered_to registered) (read_ranked registered) seen)
+          (known_sound embedding (offered_to registered) (read_sound registered) seen) (known_ranked embedding (offered_to registered) (read_ranked registered) seen)
           formed.living (formed.numbered).in_order order refl
           (subst (λ (l : List ℕ). HoldsRoots live.table (l ++ handles m.globals.items)) (sym roots_are) held_apart) gone.released
 

@@ -42,7 +42,7 @@ use Rattle.ash_plain_steps.specs.declared.task.Task.TheVariants as tasks
 use Rattle.ash_plain_steps.specs.StateViews.{loaded_seen, modules_seen}
 use Rattle.ash_plain_steps.specs.Consistency.{AreConsistent}
 use Rattle.ash_plain_steps.proofs.Changed.{seen_set, consistent_set}
-use Rattle.ash_states.specs.HostStates.{HostState, IsAdmitted, embedding_for, offered_to, rules_for, service_kinds}
+use Rattle.ash_states.specs.HostStates.{HostState, IsAdmitted, embedding_for, offered_to, service_kinds}
 use Rattle.ash_states.specs.StateSteps.{task_of}
 use Rattle.ash_table_states.specs.TableStates.{names_in, state_shown}
 use Rattle.ash_engine.specs.declared.live.Compiled.{Compiled}
@@ -154,16 +154,16 @@ module _ {B : Type 0} (G : Ghosts B) (live : Live B) (call : Invocation) (asked 
       reached_is : durable_seen G registered new ≡ reached
       reached_is = (λ i. record { registered = registered; state = state_shown G (modules_are i) (slots_are i) (after.seq i) (after.table i) })
 
-      module _ (ran : CallSteps embedding (offered_to registered) (read_sound (rules_for registered)) ranked G (modules_seen ms) slots live.loaded.seq live.table
+      module _ (ran : CallSteps embedding (offered_to registered) (read_sound registered) ranked G (modules_seen ms) slots live.loaded.seq live.table
           budget (loaded_seen m) (module_of m.tree) call.function call.args.items o left.parts) where
         hosts_fit : AreHosts (hosts_of G live.table ran.records)
         hosts_fit = record { pool = (asked.live).fit; answers = answers_fit G ran.records live.table left.parts.table [] left.parts.events.items ran.gave }
 
         step_is : steps.step embedding budget asked.request durable.state (hosts_of G live.table ran.records)
-            ≡ Some (called embedding (offered_to registered) (read_sound (rules_for registered)) ranked G (modules_seen ms) slots live.loaded.seq live.table (loaded_seen m) end left.parts)
+            ≡ Some (called embedding (offered_to registered) (read_sound registered) ranked G (modules_seen ms) slots live.loaded.seq live.table (loaded_seen m) end left.parts)
         step_is = ap (λ (d : TaskResult SourceFault). unless_refused budget d durable.state (hosts_of G live.table ran.records))
             (asked.is ∙ ap (λ (t : Task). Ok t) (sym one))
-            ∙ called_so embedding (offered_to registered) (read_sound (rules_for registered)) ranked G (modules_seen ms) slots live.loaded.seq live.table budget (loaded_seen m) (module_of m.tree) call.function call.args.items o left.parts ran
+            ∙ called_so embedding (offered_to registered) (read_sound registered) ranked G (modules_seen ms) slots live.loaded.seq live.table budget (loaded_seen m) (module_of m.tree) call.function call.args.items o left.parts ran
 
         kept : IsAdmitted reached × AreHosts (hosts_of G left.parts.table [])
         kept = step_admitted budget asked.request durable (hosts_of G live.table ran.records) _ (asked.live).admitted hosts_fit (performed step_is)
@@ -225,7 +225,7 @@ module _ {B : Type 0} (G : Ghosts B) (live : Live B) (call : Invocation) (asked 
             (replies.Answered (end_said (names_for (names_of live) (module_of m.tree)) o) (live.loaded.seq + 1) left.parts.events.items) (live_seen G registered new)
             × IsLive G registered new
         from (calls {f = f} given_args found is there given numbered) =
-            let ran = call_steps embedding (offered_to registered) (read_sound (rules_for registered)) ranked G (modules_seen ms) slots live.loaded.seq live.table
+            let ran = call_steps embedding (offered_to registered) (read_sound registered) ranked G (modules_seen ms) slots live.loaded.seq live.table
             ((asked.live).admitted).formed (asked.live).fit ((asked.live).compiled).apart call.module (loaded_seen m) (module_of m.tree) code (seen_at ms call.module m at) in_slot
             compiled found is budget call.function f given_args call.args.items there given parts left takes says o e in
             (call_taken o new after held ran, call_live o new after held ran)

@@ -192,7 +192,7 @@ module _ {B : Type 0} (G : Ghosts B) (live : Live B) (call : Invocation) (asked 
 
     module _ (outside : List ℕ) (beside : outside ≡ handles (globals_of (modules_seen (remove ms call.module))))
         (rest : Rest) (parts : Parts B) (lent : IsLent live call.module m outside rest parts) where
-      abbrev lending : code_module.LoadedModule
+      abbrev pub lending : code_module.LoadedModule
       lending = lent.lending
 
       outside_is : parts.outside.items ≡ handles (globals_of (without_module (loaded_seen m).name (modules_seen ms)))
@@ -208,6 +208,9 @@ module _ {B : Type 0} (G : Ghosts B) (live : Live B) (call : Invocation) (asked 
           (held_before live.table parts.outside.items (modules_seen ms) call.module (loaded_seen m) asked.live.admitted.formed.ascending (seen_at ms call.module m at)
           outside_is unchanged_globals asked.live.held))
 
+      pub there : slice_get rest.loaded.modules.items call.module ≡ Some lending
+      there = ap (λ (l : List code_module.LoadedModule). slice_get l call.module) lent.modules ∙ got_set ms call.module m lending at
+
       pub within_rest : call.module < length rest.loaded.modules.items
       within_rest = omega (arith, within, ap (length {A = code_module.LoadedModule}) lent.modules, length-set ms call.module lending)
 
@@ -221,10 +224,6 @@ module _ {B : Type 0} (G : Ghosts B) (live : Live B) (call : Invocation) (asked 
           (says : (c : Compiled) → slice_get rest.compiled.items call.module ≡ Some c → SaysOfCall G c.code parts call.function call.args.items budget left)
           (unchanged : left.outcome ≡ Err faults.NotBegun → left.parts ≡ parts)
           (held : HoldsRoots left.parts.table (left.parts.outside.items ++ handles left.parts.globals.items)) where
-        pub there : slice_get after.loaded.modules.items call.module ≡ Some lending
-        there = ap (λ (s : PlainState). slice_get s.modules.items call.module) same_loaded ∙ ap (λ (l : List code_module.LoadedModule). slice_get l call.module) lent.modules
-            ∙ got_set ms call.module m lending at
-
         code_there : slice_get rest.compiled.items call.module ≡ Some has_code.0
         code_there = ap (λ (v : _). slice_get v.items call.module) lent.compiled ∙ has_code.1
 

@@ -39,3 +39,11 @@ pub mod RefusedHosts
 pub mod Started
 pub mod Living
 pub mod RestoredState
+pub mod HeldGlobals
+pub mod CompiledModules
+pub mod SavedTables
+pub mod StartedGlobals
+pub mod FirstLives
+pub mod RestoredLives
+pub mod LiveFacts
+pub mod WrittenLives

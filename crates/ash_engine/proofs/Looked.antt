@@ -1,6 +1,6 @@
 -- Steps that change nothing: looks, refusals, and want of memory.
 use Rattle.std.proofs.Common.{◌≡◌, ◌⊎◌, ℕ, List, [], ◌∙◌, refl, sym, ap, subst, inl, inr}
-use Rattle.std.specs.Prelude.{Option, Some, Result, Ok, Err}
+use Rattle.std.specs.Prelude.{Option, Some, None, Result, Ok, Err}
 use Rattle.ash_host.specs.declared.host_object.HostObject.{Ghosts}
 use Rattle.ash_host.specs.declared.event.Event.{Event}
 use Rattle.ash_registry.specs.AcceptedRegistrations.{Registration}

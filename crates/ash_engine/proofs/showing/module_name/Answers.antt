@@ -24,9 +24,9 @@ returns-in-Some g c =
     let same : nat_eq c.args.slot one.code.module ≡ true = grind (arith, nat_tests, own, c.if-parts-slot.true) in
     let m = c.in-Some.m.now in
     let there : slice_get (modules_seen live.loaded.modules.items) i ≡ Some (loaded_seen m) =
-        ap (λ (l : List LoadedModule). slice_get (modules_seen l) i) (sym c.deref.ensures.value)
-        ∙ sym (got_seen loaded_seen c.deref.result.now i c.get.result c.get.ensures.lookup)
-        ∙ ap (option_map (λ (x : Bor LoadedModule). loaded_seen x.now)) c.in-Some.is in
+    ap (λ (l : List LoadedModule). slice_get (modules_seen l) i) (sym c.deref.ensures.value)
+    ∙ sym (got_seen loaded_seen c.deref.result.now i c.get.result c.get.ensures.lookup)
+    ∙ ap (option_map (λ (x : Bor LoadedModule). loaded_seen x.now)) c.in-Some.is in
     let is = c.as_str.ensures.value ∙ reached c.args.slot (modules_seen live.loaded.modules.items) (slots_of cs) i one.code.module (loaded_seen m) in_slot same there ∙ c.loop-place.invariant in
     record { name = subst (λ (x : List ℕ). IfOk c.from_str.result (λ name. string_bytes name ≡ x)) is c.from_str.ensures.ok }
 
@@ -35,9 +35,9 @@ returns-in-None g c =
     let live = c.args.live.now in
     let i = c.loop-place.place in
     let there : slice_get (modules_seen live.loaded.modules.items) i ≡ None =
-        ap (λ (l : List LoadedModule). slice_get (modules_seen l) i) (sym c.deref.ensures.value)
-        ∙ sym (got_seen loaded_seen c.deref.result.now i c.get.result c.get.ensures.lookup)
-        ∙ ap (option_map (λ (x : Bor LoadedModule). loaded_seen x.now)) c.in-None.is in
+    ap (λ (l : List LoadedModule). slice_get (modules_seen l) i) (sym c.deref.ensures.value)
+    ∙ sym (got_seen loaded_seen c.deref.result.now i c.get.result c.get.ensures.lookup)
+    ∙ ap (option_map (λ (x : Bor LoadedModule). loaded_seen x.now)) c.in-None.is in
     record { name = c.new.ensures.bytes ∙ missed c.args.slot (modules_seen live.loaded.modules.items) (slots_of live.compiled.items) i there ∙ c.loop-place.invariant }
 
 pub returns : goal.returns

@@ -9,7 +9,8 @@ use Rattle.ash_requests.specs.RequestViews.{named_seen, shown_seen}
 use Rattle.ash_plain_steps.specs.TaskViews.{described_in}
 use Rattle.ash_registry.specs.RegistryViews.{registered}
 use Rattle.ash_sources.specs.SourceFaults.{SourceFault, MayTakeMemory}
-use Rattle.ash_sources.specs.Sources.{SourceRules, embedding_of}
+use Rattle.ash_registry.specs.AcceptedRegistrations.{Registration}
+use Rattle.ash_sources.specs.Sources.{embedding_of}
 use Rattle.ash_states.specs.HostStates.{embedding_for}
 use Rattle.ash_engine.specs.TableStates.{names_of}
 use Rattle.ash_engine.proofs.ObjectsAsked.{no_object, no_class, shown_there, takes_memory}
@@ -45,9 +46,9 @@ returns-in_default-2 g c =
     let ms = live.loaded.modules.items in
     let body = c.in-Some.body.now in
     let none : described_in embedding.name_of_kind ms (body_shown g.B.HostObject (names_of live) body) ≡ None =
-        ap (described_in embedding.name_of_kind ms) (sym c.in_ok-object.ensures.object)
-        ∙ ap (λ (r : SourceRules). described_in (embedding_of r).name_of_kind ms (object_seen c.in_ok-object.object)) (sym c.sources_for-sources.ensures.value)
-        ∙ sym c.in_ok-type_name.ensures.described ∙ ap (option_map named_seen) c.in_default-2.is in
+    ap (described_in embedding.name_of_kind ms) (sym c.in_ok-object.ensures.object)
+    ∙ ap (λ (r : List Registration). described_in (embedding_of r).name_of_kind ms (object_seen c.in_ok-object.object)) (sym c.sources_for-sources.ensures.value)
+    ∙ sym c.in_ok-type_name.ensures.described ∙ ap (option_map named_seen) c.in_default-2.is in
     record { task = no_class embedding ms c.requires.live.consistent g.B.HostObject (names_of live) live.loaded.seq live.table c.args.number body (sym c.in-Some.ensures.body) none }
 
 pub returns-in_default-try_from : goal.returns-in_default-try_from
@@ -66,9 +67,9 @@ returns g c =
     let body = c.in-Some.body.now in
     let shown = named_seen (c.in-Some-2.type_name, c.in-Some-2.contents) in
     let found : described_in embedding.name_of_kind ms (body_shown g.B.HostObject (names_of live) body) ≡ Some shown =
-        ap (described_in embedding.name_of_kind ms) (sym c.in_ok-object.ensures.object)
-        ∙ ap (λ (r : SourceRules). described_in (embedding_of r).name_of_kind ms (object_seen c.in_ok-object.object)) (sym c.sources_for-sources.ensures.value)
-        ∙ sym c.in_ok-type_name.ensures.described ∙ ap (option_map named_seen) c.in-Some-2.is in
+    ap (described_in embedding.name_of_kind ms) (sym c.in_ok-object.ensures.object)
+    ∙ ap (λ (r : List Registration). described_in (embedding_of r).name_of_kind ms (object_seen c.in_ok-object.object)) (sym c.sources_for-sources.ensures.value)
+    ∙ sym c.in_ok-type_name.ensures.described ∙ ap (option_map named_seen) c.in-Some-2.is in
     let count : c.in-Ok.count ≡ count_of c.args.number live.table = c.in-Ok.ensures.1 ∙ c.count.ensures.count in
     record {
       task =
