@@ -48,6 +48,27 @@ holds "the objects that are found after a kill" "$(printf '%s\n' 'refused 407 No
     'ok object 3 k.A count 3 v 2' 'ok object 4 array count 1 object 3 object 3' 'refused 401 NoModule' 'ok object 3' \
     'ok seq 6' 'ok object 3 k.A count 4 v 3')"
 
+# The same of a counter and the tally.
+store=$scratch/counted
+empty_store "$store"
+coproc killed { exec "$ashd" serve "$store" --budget 1000 --counters 2; }
+killed_id=$killed_PID
+exec {replies}<&"${killed[0]}" {requests}>&"${killed[1]}"
+source='int n = 0; Counter@ g = Counter(7); int f(int d) { n = 1; tally(4); g.add(1); return 10 / d; } int t() { return total(); }'
+printf 'load m %s\n%s\ncall m f 0\ncall m f 5\ncall m' ${#source} "$source" >&"$requests"
+for wanted in 'ok seq 1' 'exception DivideByZero f 1 seq 2' 'ok 2 seq 3'; do
+    read -r -t 10 called <&"$replies"
+    [ "$called" = "$wanted" ]
+    verdict $? "a reply before the kill of a host with a counter: $called"
+done
+kill -KILL "$killed_id"
+{ wait "$killed_id"; } 2> /dev/null
+exec {replies}<&- {requests}>&-
+asks 'get m n\ncall m t\nobject 1\nseq\n'
+ends "serve a host with a counter after a kill" 0 "" serve "$store" --budget 1000 --counters 1
+holds "the counter and the tally that are found after a kill" \
+    $'ok 1\nok 8 seq 4\nok object 1 Counter count 1 state 09000000\nok 4'
+
 # Kills at random times: within requests and snapshots, between them, and in openings. A call adds 1 to `n`, which was 7 after
 # the second request of the first example.
 SEED=${SEED:-$RANDOM}

@@ -103,21 +103,20 @@ registered_text() {
     printf 'property Counter 1 int value\nservice 2\nfunction 0 1 int tally(int)\nfunction 0 2 int total()\n'
 }
 
-# image NUMBER MODULES [SERVICES]: the image in version 2 of a host with that text, after fewer than 256 requests, with a tally of 0
-# as its service, and with these modules, which are how many there are and each of them, and which printf writes, and so are
-# other services: 228 bytes without any module
+# image NUMBER MODULES [SERVICES [LAST OBJECTS]]: the image in version 2 of a host with that text, after fewer than 256 requests,
+# with a tally of 0 as its service, and with these modules, which are how many there are and each of them, and which printf writes,
+# and so are other services, the last number of an object, below 256, and objects: 228 bytes without any module
 image() {
     printf '\002\0\277\0\0\0'
     registered_text
-    printf "\\$(printf %o "$1")"
-    printf '\0\0\0\0\0\0\0\0\0\0\0\0\0\0\0'
+    printf "\\$(printf %o "$1")\\0\\0\\0\\0\\0\\0\\0\\$(printf %o "${4:-0}")\\0\\0\\0\\0\\0\\0\\0"
     printf "${3:-\\001\\0\\002\\0\\004\\0\\0\\0\\0\\0}"
     printf "$2"
-    printf '\0\0\0\0'
+    printf "${5:-\\0\\0\\0\\0}"
 }
 
-# generation NUMBER LENGTH NUMBER MODULES [SERVICES]: the file of a generation below 256, with an image of this length, which is
-# below 65,536, and no records
+# generation NUMBER LENGTH NUMBER MODULES [..]: the file of a generation below 256, with an image of this length, which is below
+# 65,536, and no records
 generation() {
     printf '\001ASHOST01'
     printf "\\$(printf %o "$1")\\0\\0\\0\\0\\0\\0\\0\\$(printf %o "$(($2 % 256))")\\$(printf %o "$(($2 / 256))")\\0\\0"
@@ -125,10 +124,10 @@ generation() {
     printf '\0'
 }
 
-# record LENGTH NUMBER MODULES: a record whose body is a tag and an image of this length, and the gate after it
+# record LENGTH NUMBER MODULES [..]: a record whose body is a tag and an image of this length, and the gate after it
 record() {
     printf "\\$(printf %o "$((($1 + 1) % 256))")\\$(printf %o "$((($1 + 1) / 256))")\\0\\0\\001"
-    image "$2" "$3"
+    image "${@:2}"
     printf '\0'
 }
 

@@ -1,10 +1,10 @@
-# Sources, each with what a load of it is answered and what a check of it prints. In a row of tests/rows/load a source `runs`,
-# is checked well but uses something `registered`, which can't be run so far, or is refused for this fault.
+# Sources, each with what a load of it is answered and what a check of it prints. In a row of tests/rows/load a source `runs`
+# or is refused for this fault.
 
 # reply PLACE WANTED SOURCE: a load of this source, over what the program registers, is replied to with this line
 reply() {
     printf 'load m %s\n%s\n' ${#3} "$3" > "$scratch/input"
-    ends "$1: a run" 0 "" try --budget 1000 --counters 0
+    ends "$1: a run" 0 "" try --budget 1000 --counters 2
     printf '%s\n' "$2" | cmp -s - "$scratch/output"
     verdict $? "$1: a load: $2 | $3 ($(cat "$scratch/output"))"
 }
@@ -13,7 +13,6 @@ reply() {
 loaded() {
     case $2 in
         runs) row "$1" ok "$3"; reply "$1" "ok seq 1" "$3" ;;
-        registered) row "$1" ok "$3"; reply "$1" "refused 199 NotYet" "$3" ;;
         *) row "$1" "$2" "$3"; reply "$1" "refused $2" "$3" ;;
     esac
 }

@@ -185,3 +185,79 @@ for number in $(seq 1 2000); do
     finds 0 'seq\nobject 2\n' "$wanted" " over objects"
 done
 verdict $untouched "a run over objects that no refusal meets"
+
+# Scripts with host objects and a service. Whichever allocation is refused, the replies but 509 and 508 are those of a run that no
+# refusal meets over the requests that got them, and so is the store that is left; and a host that must be opened again says so
+# from then on.
+
+# run_over FOLDER REQUEST..: serves a store, and leaves the replies in $lines
+run_over() {
+    local folder=$1
+    shift
+    lines=$({ [ $# -eq 0 ] || printf '%s\n' "$@"; } | "$ashd" serve "$folder" --budget 1000 --counters 2 2>&1)
+}
+
+# wanted_of REQUEST..: what a run over a new store replies to these requests, and a second one to $looks, in $wanted
+wanted_of() {
+    keep "$scratch/empty" "$scratch/clean"
+    run_over "$scratch/clean" "$@"
+    wanted=${lines:+$lines$'\n'}
+    run_over "$scratch/clean" "${looks[@]}"
+    wanted+=$lines
+}
+
+# refuse_each NAME REQUEST..: refuses each allocation of a run over these requests; $looks are what is asked of the store then
+refuse_each() {
+    local name=$1 found key lines lost number place replies untouched=1 wanted
+    local -A known=()
+    shift
+    for number in $(seq 1 3000); do
+        printf '%s\n' "$@" > "$scratch/input"
+        keep "$scratch/empty" "$scratch/other"
+        refused "$number" serve "$scratch/other" --budget 1000 --counters 2
+        mapfile -t replies < "$scratch/output"
+        local kept=()
+        found= key= lost=
+        for ((place = 1; place <= $#; place++)); do
+            case ${replies[place - 1]-none} in
+                'refused 509 NoMemory') ;;
+                'refused 508 Reopen') lost=1 ;;
+                none) ;;
+                *)
+                    kept+=("${!place}")
+                    found+=${replies[place - 1]}$'\n'
+                    key+="$place "
+                    [ -z "$lost" ] || found+="after a 508"$'\n'
+                    ;;
+            esac
+        done
+        [ -n "${known[$key.]-}" ] || { wanted_of "${kept[@]}"; known[$key.]=$wanted; }
+        run_over "$scratch/other" "${looks[@]}"
+        case $end in "1/ashd: 509 NoMemory/" | 0//*) [ "$found$lines" = "${known[$key.]}" ] ;; *) false ;; esac
+        verdict $? "allocation $number refused over $name: $end $lines"
+        [ ${#kept[@]} -lt $# ] || { untouched=0; break; }
+    done
+    verdict $untouched "a run over $name that no refusal meets"
+}
+
+# load NAME SOURCE: a load, in $loading
+load() {
+    loading="load $1 ${#2}"$'\n'$2
+}
+
+looks=(seq 'object 1' 'get m g')
+load m 'Counter@ g = Counter(7);'
+refuse_each "a counter that a global holds" "$loading" 'object 1' snapshot 'discard m' 'object 1'
+looks=(seq)
+load m 'int two(Counter@ h, int k) { return k; } int f() { Counter@ a = Counter(1); Counter@ c = Counter(5); int r = two(@a = null, c.add(1)); c.add(1); return r; }'
+refuse_each "an object that an expression lets go" "$loading" 'call m f'
+load m 'class B { Counter@ c; } void f() { B@ x = B(); B@ y = B(); @x.c = Counter(1); B@ z = B(); @y.c = Counter(2); @z.c = x.c; }'
+refuse_each "objects that go together" "$loading" 'call m f' 'object 3'
+looks=('get m n' 'call m t')
+load m 'int n = 0; int f(int d) { n = 1; tally(4); return 10 / d; } int t() { return total(); }'
+refuse_each "a tally before an exception" "$loading" 'call m f 0' 'get m n' 'call m t'
+looks=('call m t')
+load k 'int a = tally(3); int b = 1; int c = 1 / 0;'
+failing=$loading
+load m 'int t() { return total(); }'
+refuse_each "a load that comes to no end" "$failing" "$loading" 'call m t'

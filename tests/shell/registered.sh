@@ -1,4 +1,5 @@
-# What ashd registers: names that are taken, and stores with another text of registrations, one of them of version 1.
+# What ashd registers: names that are taken, stores with another text of registrations, one of them of version 1, and a store
+# with a counter and a tally.
 
 asks 'load k 14\nint tally = 1;\nload k 12\nint add = 1;\n'
 ends "a registered name" 0 "" try --budget 1000 --counters 2
@@ -20,3 +21,38 @@ overwrite '\003' 21 "$scratch/foreign/ash.a"
 ends "damage before another text" 1 "ashd: 503 Damaged" serve "$scratch/foreign" --budget 1 --counters 0
 overwrite '\002' 21 "$scratch/foreign/ash.a"
 ends "create over a store with another text" 1 "ashd: 502 AlreadyThere" create "$scratch/foreign"
+
+# A counter and a tally, which are stored byte for byte. With the script an image has 34 bytes more than the script and 228.
+store=$scratch/counted
+source='Counter@ g = Counter(7); void f() { g.add(tally(4)); }'
+size=$((228 + 34 + ${#source}))
+module="\\001\\001m\\$(printf %o ${#source})\\0\\0\\0$source\\001\\0\\006\\001\\0\\0\\0\\0\\0\\0\\0"
+object='\001\0\0\0\001\0\0\0\0\0\0\0\002\001\0\004\0'
+empty_store "$store"
+empty_store "$scratch/wanted"
+overwrite '\001' 249 "$scratch/wanted/ash.a"
+record $size 1 "$module" '\001\0\002\0\004\0\0\0\0\0' 1 "$object\\007\\0\\0\\0" >> "$scratch/wanted/ash.a"
+overwrite '\001' $((249 + 6 + size)) "$scratch/wanted/ash.a"
+record $size 2 "$module" '\001\0\002\0\004\0\004\0\0\0' 1 "$object\\013\\0\\0\\0" >> "$scratch/wanted/ash.a"
+asks "load m ${#source}\n$source\ncall m f\n"
+ends "serve a counter and a tally" 0 "" serve "$store" --budget 1000 --counters 1
+holds "a counter and a tally" $'ok seq 1\nok seq 2'
+same "the bytes of a counter and a tally" "$store" "$scratch/wanted"
+asks 'seq\n'
+ends "serve a counter without a box" 1 "ashd: 505 PoolShort" serve "$store" --budget 1000 --counters 0
+holds "no reply without a box" ""
+same "a counter without a box stays" "$store" "$scratch/wanted"
+asks 'object 1\nget m g\ncall m f\nobject 1\ndiscard m\nobject 1\n'
+ends "serve a counter again" 0 "" serve "$store" --budget 1000 --counters 1
+holds "a counter that is found" "$(printf '%s\n' 'ok object 1 Counter count 1 state 0b000000' 'ok object 1' 'ok seq 3' \
+    'ok object 1 Counter count 1 state 13000000' 'ok seq 4 dropped 1' 'refused 407 NoObject')"
+asks 'object 1\nseq\n'
+ends "serve without a counter" 0 "" serve "$store" --budget 1000 --counters 0
+holds "no box is needed then" $'refused 407 NoObject\nok 4'
+
+# The last number was given: that is found before an empty pool.
+empty_store "$scratch/spent"
+overwrite '\377\377\377\377\377\377\377\377' 226 "$scratch/spent/ash.a"
+asks 'load m 26\nvoid f() { Counter c(1); }\ncall m f\n'
+ends "serve a store whose last number was given" 0 "" serve "$scratch/spent" --budget 1000 --counters 0
+holds "the last number was given" $'ok seq 1\nexception NumbersSpent f 1 seq 2'

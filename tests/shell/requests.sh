@@ -8,7 +8,7 @@ replied() {
     ends "$name" 0 "" try --budget "$budget" --counters 0
     holds "the replies to $name" "$(printf '%s\n' "$@")"
 }
-bad='refused 601 BadRequest' missing='refused 401 NoModule' later='refused 199 NotYet'
+bad='refused 601 BadRequest' missing='refused 401 NoModule'
 
 # What is no request: an empty line, a line with two spaces at its end, and a source that no line feed follows.
 replied "requests, and lines that are none" 1000 \
@@ -16,8 +16,9 @@ replied "requests, and lines that are none" 1000 \
     'ok 0' "$bad" "$missing" "$missing" 'refused 104 Unexpected 3' "$bad" 'refused 407 NoObject' "$bad" ok
 replied "snapshots, which have no number" 0 'load m 0\n\nsnapshot\nsnapshot x\nsnapshot \nsnapshot\nseq\n' \
     'ok seq 1' ok "$bad" "$bad" ok 'ok 1'
-replied "loads of what uses something registered, which have no number" 1000 \
-    'load m 11\nCounter@ c;\nload m 27\nint t() { return total(); }\nseq\n' "$later" "$later" 'ok 0'
+replied "loads of what uses something registered" 1000 \
+    'load m 11\nCounter@ c;\nload k 27\nint t() { return total(); }\ncall k t\nget m c\nseq\n' \
+    'ok seq 1' 'ok seq 2' 'ok 0 seq 3' 'ok null' 'ok 3'
 replied "loads of what uses nothing registered" 1000 'load m 8\nbool b; \nload k 11\nclass A { }\nseq\n' 'ok seq 1' 'ok seq 2' 'ok 2'
 replied "looks at objects, and lines that are none" 1000 \
     'load m 23\nclass A { } A@ a = A();\nobject 1\nobject 2\nobject\nobject x\nobject 1 1\nobject 18446744073709551616\nseq\n' \

@@ -37,8 +37,8 @@ pub enum File {
     First,
     /// A generation of the program, with these services.
     Program(&'static [(u16, i32)]),
-    /// A generation of the program, in which a counter lives.
-    Living,
+    /// A generation of the program, in which a counter lives; and the next gate.
+    Living(u8),
 }
 
 const MODULE: ImageModule<'static> = ImageModule {
@@ -64,6 +64,14 @@ fn served(
     image_bytes(alloc, &image)
 }
 
+/// A file with this byte in the place of its last gate.
+fn with_gate(mut file: Vec<u8>, gate: u8) -> Vec<u8> {
+    if let Some(last) = file.as_mut_slice().last_mut() {
+        *last = gate;
+    }
+    file
+}
+
 /// A generation with an image before any request, and a record after it.
 fn loaded(
     alloc: Global,
@@ -75,10 +83,7 @@ fn loaded(
     let image = served(alloc, version, &[], states.0)?;
     let mut file = generation(alloc, number, &image)?;
     add_record(&mut file, &served(alloc, version, &[MODULE], states.1)?)?;
-    if let Some(last) = file.as_mut_slice().last_mut() {
-        *last = gate;
-    }
-    Ok(file)
+    Ok(with_gate(file, gate))
 }
 
 /// The first generation with a text and services, before any request.
@@ -112,11 +117,11 @@ const LIVING: &[u8] = b"\
     \x04\x00\x07\x00\x00\x00";
 
 /// A generation of the program in which a counter lives.
-fn living(alloc: Global) -> Result<Vec<u8>, AllocError> {
+fn living(alloc: Global, gate: u8) -> Result<Vec<u8>, AllocError> {
     let mut image = Vec::from_slice(alloc, b"\x02\x00\xbf\x00\x00\x00")?;
     image.extend_from_slice(PROGRAM.as_bytes())?;
     image.extend_from_slice(LIVING)?;
-    generation(alloc, 1, &image)
+    Ok(with_gate(generation(alloc, 1, &image)?, gate))
 }
 
 /// The bytes of a file.
@@ -133,7 +138,7 @@ pub fn bytes_of(alloc: Global, file: File) -> Result<Vec<u8>, AllocError> {
         File::Swapped => first_with(alloc, TWO, &[(3, -2), (2, 5)]),
         File::First => first_with(alloc, TWO, &[(2, 5)]),
         File::Program(services) => first_with(alloc, PROGRAM, services),
-        File::Living => living(alloc),
+        File::Living(gate) => living(alloc, gate),
     }
 }
 

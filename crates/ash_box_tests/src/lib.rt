@@ -5,6 +5,7 @@
 //! - `visits`: a store that is made or opened with such boxes, and is asked something, as data.
 //! - `files`: the files of such stores, written by hand.
 //! - `services`: which services a host takes, with what states, and what becomes of the other boxes.
+//! - `objects`: which boxes host objects take, and when those are given up.
 //! - `refused`: stores that are not made or not opened, in the order of what is wrong, and whose disks read as before.
 //! - `moments`: crashes at each moment of a making and of an opening.
 //! - `refusals`: memory that is refused once.
@@ -16,6 +17,8 @@ mod checks;
 mod files;
 #[cfg(test)]
 mod moments;
+#[cfg(test)]
+mod objects;
 #[cfg(test)]
 mod refusals;
 #[cfg(test)]

@@ -35,7 +35,7 @@ const OTHER: File = File::Bytes(&[7]);
 
 const LOADED: (File, File) = (File::Loaded(1, (5, -2), (7, -3), 2), OTHER);
 
-static OPENED: [Row; 19] = [
+static OPENED: [Row; 21] = [
     Row {
         what: "no service",
         files: LOADED,
@@ -197,24 +197,41 @@ static OPENED: [Row; 19] = [
         fault: "Open(Damaged(0))",
         reports: "taken | given up 1 | then",
     },
-    // A host object that lives. Its script uses what is registered, which is not admitted so far, and that comes before
-    // the boxes.
+    // A host object that lives.
     Row {
         what: "a host object, and no box",
-        files: (File::Living, OTHER),
+        files: (File::Living(0), OTHER),
         registered: Registered::Program,
         pool: &[],
         services: &[Named::Taking(1, 2, 0)],
-        fault: "Open(Damaged(0))",
+        fault: "PoolShort(1)",
         reports: "taken | given up 1 | then",
     },
     Row {
+        what: "a host object, no box, and a service that refuses its state",
+        files: (File::Living(2), OTHER),
+        registered: Registered::Program,
+        pool: &[Named::Taking(4, 2, 0)],
+        services: &[Named::Refusing(1, 2)],
+        fault: "PoolShort(1)",
+        reports: "taken | given up 1 4 | then",
+    },
+    Row {
         what: "a host object, and a box that refuses its state",
-        files: (File::Living, OTHER),
+        files: (File::Living(2), OTHER),
         registered: Registered::Program,
         pool: &[Named::Refusing(4, 1)],
         services: &[Named::Taking(1, 2, 0)],
-        fault: "Open(Damaged(0))",
+        fault: "RestoreRefused(1)",
+        reports: "taken 1:0 | given up 1 4 | then",
+    },
+    Row {
+        what: "a host object, and a box and a service that refuse their states",
+        files: (File::Living(2), OTHER),
+        registered: Registered::Program,
+        pool: &[Named::Refusing(4, 1)],
+        services: &[Named::Refusing(1, 2)],
+        fault: "RestoreRefused(0)",
         reports: "taken | given up 1 4 | then",
     },
 ];

@@ -1,6 +1,6 @@
 //! A store that is made or opened with boxes, and is asked something.
 
-use crate::watched::{Log, Named, new_box, note_end};
+use crate::watched::{Log, Named, new_box, note_answers, note_end};
 use ash_disk::Disk;
 use ash_durable::{Host, OpenRefused};
 use ash_host::HostObject;
@@ -20,6 +20,8 @@ pub enum Registered {
     Program,
     /// The same, and one more method.
     OneMore,
+    /// What the program registers, and a type `Odd` of the kind 9 with a method that has a result.
+    Odd,
 }
 
 fn register_services(registry: &mut Registry, kinds: &[u16]) -> Result<(), RegistryFault> {
@@ -44,6 +46,12 @@ fn register_program(registry: &mut Registry) -> Result<(), RegistryFault> {
     registry.function(0, "int total()", 2)
 }
 
+fn register_odd(registry: &mut Registry) -> Result<(), RegistryFault> {
+    registry.object_type("Odd", 9)?;
+    registry.factory("Odd", "Odd@ make(int)")?;
+    registry.method("Odd", "int bad()", 1)
+}
+
 /// A registry with what is registered.
 pub fn registry_of(alloc: Global, registered: Registered) -> Result<Registry, RegistryFault> {
     let mut registry = Registry::new(alloc);
@@ -54,6 +62,10 @@ pub fn registry_of(alloc: Global, registered: Registered) -> Result<Registry, Re
         Registered::OneMore => {
             register_program(&mut registry)?;
             registry.method("Counter", "int get()", 3)?;
+        }
+        Registered::Odd => {
+            register_program(&mut registry)?;
+            register_odd(&mut registry)?;
         }
     }
     Ok(registry)
@@ -102,6 +114,7 @@ fn visited_with<D: Disk + Drop, B: HostObject>(
     match begun {
         Ok(mut host) => {
             let answers = answers(alloc, &mut host, visit.steps)?;
+            note_answers(log);
             Ok((answers, closed(host)))
         }
         Err(refused) => Ok((shown(alloc, &refused.fault)?, (refused.a, refused.b))),

@@ -8,12 +8,13 @@ use std::fmt::Write;
 use std::rc::Rc;
 
 /// What boxes reported: the states that they took, each after a name, and the names of those that were given up, of
-/// which so many were given up before there was a host or a refusal.
+/// which so many were given up before there was a host or a refusal, and so many before the last request was answered.
 #[derive(Drop)]
 pub struct Reports {
     taken: Vec<(u16, i32)>,
     given_up: Vec<u16>,
     early: usize,
+    asked: usize,
 }
 
 /// Where boxes report.
@@ -25,6 +26,7 @@ pub fn new_log(alloc: Global) -> Result<Log, AllocError> {
         taken: Vec::new(alloc),
         given_up: Vec::new(alloc),
         early: 0,
+        asked: 0,
     };
     Ok(Rc::new(alloc, RefCell::new(reports))?)
 }
@@ -36,13 +38,17 @@ pub enum Named {
     Taking(u16, u16, i32),
     /// One that refuses every state.
     Refusing(u16, u16),
+    /// One whose methods all answer this.
+    Answering(u16, u16, HostAnswer),
 }
 
-/// A box of any kind, whose state is an `int`.
+/// A box of any kind, whose state is an `int`. What it says of its answers is that they may be any.
 pub struct Watched {
     name: u16,
     kind: u16,
     is_refusing: bool,
+    /// What its methods answer, if they don't answer as those of a tally.
+    answer: Option<HostAnswer>,
     tally: Tally,
     log: Log,
 }
@@ -57,22 +63,19 @@ fn tally_of(number: i32) -> Tally {
 /// A box that reports to a log.
 pub fn new_box(log: &Log, named: Named) -> Result<Watched, NoMemory> {
     let log = log.clone()?;
-    match named {
-        Named::Taking(name, kind, number) => Ok(Watched {
-            name,
-            kind,
-            is_refusing: false,
-            tally: tally_of(number),
-            log,
-        }),
-        Named::Refusing(name, kind) => Ok(Watched {
-            name,
-            kind,
-            is_refusing: true,
-            tally: Tally::new(),
-            log,
-        }),
-    }
+    let (name, kind, number, is_refusing, answer) = match named {
+        Named::Taking(name, kind, number) => (name, kind, number, false, None),
+        Named::Refusing(name, kind) => (name, kind, 0, true, None),
+        Named::Answering(name, kind, answer) => (name, kind, 0, false, Some(answer)),
+    };
+    Ok(Watched {
+        name,
+        kind,
+        is_refusing,
+        answer,
+        tally: tally_of(number),
+        log,
+    })
 }
 
 /// The number that a state is, if it is one.
@@ -92,6 +95,7 @@ impl Drop for Watched {
             name: _,
             kind: _,
             is_refusing: _,
+            answer: _,
             tally: _,
             log: _,
         } = self;
@@ -103,7 +107,7 @@ impl HostObject for Watched {
 
     ghost state = { λ w. ⟦<Tally as HostObject>⟧.state w.tally };
 
-    ghost allows = { λ w. ⟦<Tally as HostObject>⟧.allows w.tally };
+    ghost allows = { λ w call before answer after. Unit {0} };
 
     ghost refuses = { λ w bytes. IsTrue w.is_refusing
         ⊎ ⟦<Tally as HostObject>⟧.refuses w.tally bytes };
@@ -117,7 +121,10 @@ impl HostObject for Watched {
     }
 
     fn invoke(&mut self, method: u16, args: &[Word]) -> HostAnswer {
-        self.tally.invoke(method, args)
+        match self.answer {
+            Some(answer) => answer,
+            None => self.tally.invoke(method, args),
+        }
     }
 
     fn get(&self, prop: u16) -> Word {
@@ -148,6 +155,14 @@ impl HostObject for Watched {
 pub fn note_end(log: &Log) {
     if let Ok(mut reports) = log.try_borrow_mut() {
         reports.early = reports.given_up.len();
+        reports.asked = reports.early;
+    }
+}
+
+/// Notes that the last request was answered.
+pub fn note_answers(log: &Log) {
+    if let Ok(mut reports) = log.try_borrow_mut() {
+        reports.asked = reports.given_up.len();
     }
 }
 
@@ -164,6 +179,14 @@ fn write_names(out: &mut String, names: &[u16]) -> Result<(), AllocError> {
     Ok(())
 }
 
+/// Writes each of these names.
+fn write_in_order(out: &mut String, names: &[u16]) -> Result<(), AllocError> {
+    for name in names {
+        write!(out, " {name}")?;
+    }
+    Ok(())
+}
+
 fn write_taken(out: &mut String, taken: &[(u16, i32)]) -> Result<(), AllocError> {
     for (name, number) in taken {
         write!(out, " {name}:{number}")?;
@@ -172,20 +195,22 @@ fn write_taken(out: &mut String, taken: &[(u16, i32)]) -> Result<(), AllocError>
 }
 
 fn write_reports(out: &mut String, reports: &Reports) -> Result<(), AllocError> {
-    let (early, late) = reports
-        .given_up
-        .as_slice()
-        .split_at(reports.early.min(reports.given_up.len()));
+    let names = reports.given_up.as_slice();
+    let (early, late) = names.split_at(reports.early.min(names.len()));
+    let asked = reports.asked.saturating_sub(reports.early);
+    let (asked, last) = late.split_at(asked.min(late.len()));
     write!(out, "taken")?;
     write_taken(out, &reports.taken)?;
     write!(out, " | given up")?;
     write_names(out, early)?;
     write!(out, " | then")?;
-    write_names(out, late)
+    write_in_order(out, asked)?;
+    write_names(out, last)
 }
 
 /// What was reported: the states that were taken, in order; the names of the boxes that were given up before there was
-/// a host or a refusal, ascending; and of those given up then.
+/// a host or a refusal, ascending; then of those given up while requests were answered, in order, and after that,
+/// ascending.
 pub fn reports_of(alloc: Global, log: &Log) -> Result<String, AllocError> {
     let mut out = String::new(alloc);
     if let Ok(reports) = log.try_borrow() {

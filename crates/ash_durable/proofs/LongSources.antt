@@ -16,9 +16,7 @@ use Rattle.ash_requests.specs.Steps.{unless_refused}
 use Rattle.ash_requests.specs.TaskResults.{TakesMemoryToFind, TaskChangesState}
 use Rattle.ash_sources.specs.SourceFaults.{SourceFault, Lexical}
 use Rattle.ash_sources.specs.SourceFaults as sources
-use Rattle.ash_sources.specs.TypedSource.{TypedResult, typed_if_checked, typed_source}
-use Rattle.ash_sources.specs.Sources.{admitted_as}
-use Rattle.ash_sources.specs.declared.sources.AdmittedScripts.TheVariants.{UsingNothingRegistered}
+use Rattle.ash_sources.specs.TypedSource.{typed_if_checked, typed_source}
 use Rattle.ash_sources.proofs.CheckedSourceLaws.{of_no_tokens}
 use Rattle.ash_states.specs.HostStates.{HostState, embedding_for}
 use Rattle.ash_states.specs.StateSteps.{task_of}
@@ -42,9 +40,7 @@ typed_long registered source long =
 
 read_long : (registered : List Registration) (source : List ℕ) → 65536 < length source
     → (embedding_for registered).read source ≡ Err (Lexical SourceTooLong)
-read_long registered source long =
-    ap (λ (typed : TypedResult). admitted_as UsingNothingRegistered typed (typed_source [] source))
-    (typed_long registered source long)
+read_long registered source long = typed_long registered source long
 
 -- what a load asks for, by what its source is read as
 abbrev load_task : List ℕ → List ℕ → State → Result Module SourceFault → TaskResult SourceFault

@@ -13,6 +13,7 @@ use ash_states::state::HostReply;
 use ash_store_fixtures::hosts::{
     Boxes, State, closed, created, found_state, image_after, load, need, no_boxes, opened, reopened,
 };
+use ash_store_fixtures::lives::Start;
 use std::alloc::{AllocError, Global};
 use std::io::{Read, Write};
 use std::process::Abort;
@@ -179,20 +180,33 @@ pub fn both_crashed(
     Ok(Disks { first, second })
 }
 
-/// The disks of a host after a crash that nothing survives.
-fn disks_after_crash(alloc: Global, host: BoxedHost) -> Result<Disks, AllocError> {
-    let disks = closed_disks(alloc, host)?;
-    both_crashed(alloc, &disks, usize::MAX, Survives::Nothing)
-}
-
 /// A host that is opened, with nothing registered, over what a crash of another leaves that nothing survives.
 pub fn unregistered_after_crash(alloc: Global, host: BoxedHost) -> Result<BoxedHost, Fail> {
-    opened_unregistered(alloc, disks_after_crash(alloc, host)?)
+    opened_unregistered(alloc, crashed_disks(alloc, Box::into_inner(host))?)
 }
 
-/// The same with what the program registers.
-pub fn registered_after_crash(alloc: Global, host: BoxedHost) -> Result<BoxedHost, Fail> {
-    opened_registered(alloc, disks_after_crash(alloc, host)?)
+/// A host with what the program registers, and with these boxes, on these disks: made or opened.
+pub fn begun_registered<B: HostObject>(
+    alloc: Global,
+    disks: Disks,
+    start: Start,
+    boxes: Boxes<B>,
+) -> Result<Host<MemoryDisk, B>, Fail> {
+    let (a, b) = unboxed(disks);
+    let registry = registrations(alloc)?;
+    match start {
+        Start::Make => Ok(created(alloc, a, b, registry, boxes)?),
+        Start::Open => Ok(opened(alloc, a, b, registry, boxes)?),
+    }
+}
+
+/// What a crash leaves of the disks of a host that nothing survives.
+pub fn crashed_disks<B: HostObject>(
+    alloc: Global,
+    host: Host<MemoryDisk, B>,
+) -> Result<Disks, AllocError> {
+    let disks = boxed_disks(alloc, closed(host))?;
+    both_crashed(alloc, &disks, usize::MAX, Survives::Nothing)
 }
 
 /// How a run ends.

@@ -4,7 +4,7 @@
 //! proved once; what requests to the program itself show is in the transcripts and rows of `tests/`.
 //!
 //! `hosts` makes the hosts of the others and has them serve requests, and `rows` compares their replies: the rows are
-//! in `limits`, `integers`, `exceptions`, `classes`, `interfaces`, `arrays` and `requests`.
+//! in `limits`, `integers`, `exceptions`, `classes`, `interfaces`, `arrays`, `host_objects` and `requests`.
 #![tactic(auto)]
 
 #[cfg(test)]
@@ -17,6 +17,8 @@ mod classes;
 mod disks;
 #[cfg(test)]
 mod exceptions;
+#[cfg(test)]
+mod host_objects;
 #[cfg(test)]
 mod hosts;
 #[cfg(test)]

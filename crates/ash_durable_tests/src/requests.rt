@@ -9,29 +9,10 @@ use std::process::Abort;
 use std::test::Fail;
 
 static REGISTERED: [Row; 1] = [Row {
-    what: "scripts that use what is registered can't be run so far, and all that is wrong with them comes \
-                  first",
+    what: "scripts that use what is registered, and what is wrong with some",
     budget: 1000,
     parts: &[
-        "load m 24\n\
-             Counter@ g = Counter(7);\n\
-             -> refused 199 NotYet\n\
-             load m 22\n\
-             void f(Counter@ c) { }\n\
-             -> refused 199 NotYet\n\
-             load m 25\n\
-             class Box { Counter@ c; }\n\
-             -> refused 199 NotYet\n\
-             load m 18\n\
-             array<Counter@> l;\n\
-             -> refused 199 NotYet\n\
-             load m 27\n\
-             int t() { return total(); }\n\
-             -> refused 199 NotYet\n\
-             load m 17\n\
-             int a = tally(3);\n\
-             -> refused 199 NotYet\n\
-             load m 38\n\
+        "load m 38\n\
              Counter@ g; class Node { Node@ next; }\n\
              -> refused 309 CyclicType Node\n\
              load m 20\n\
@@ -40,8 +21,15 @@ static REGISTERED: [Row; 1] = [Row {
              load m 16\n\
              int Counter = 1;\n\
              -> refused 303 NameTaken 4\n\
+             load m 67\n\
+             void f(Counter@ c) { } class Box { Counter@ c; } array<Counter@> l;\n\
+             -> ok seq 1\n\
+             call m f 1\n\
+             -> refused 404 NotCallable\n\
+             object 1\n\
+             -> ok object 1 array count 1\n\
              seq\n\
-             -> ok 0\n",
+             -> ok 1\n",
     ],
 }];
 

@@ -1,7 +1,10 @@
-//! Rows: what is asked of a host with what the program registers, and what is replied, byte for byte.
+//! Rows: what is asked of a host with what the program registers and hands over, and what is replied, byte for byte.
 
 use crate::checks::check_text;
-use crate::hosts::{BoxedHost, registered_after_crash, registered_host, replies_within};
+use crate::hosts::{Disks, begun_registered, crashed_disks, disks_with, replies_of};
+use ash_host::{Counter, HostObject, Tally};
+use ash_store_fixtures::hosts::Boxes;
+use ash_store_fixtures::lives::Start;
 use std::alloc::{AllocError, Global};
 use std::process::Abort;
 use std::test::Fail;
@@ -70,34 +73,78 @@ fn check_replies(
     Ok(())
 }
 
-/// Compares what is replied to the requests of a part.
+/// The disks of a store, and whether it is made on them or opened.
+type Found = (Disks, Start);
+
+/// What a host with these boxes replies to requests, and what a crash leaves of its disks then.
+fn replies_with<B: HostObject>(
+    alloc: Global,
+    found: Found,
+    boxes: Boxes<B>,
+    budget: u64,
+    requests: &[u8],
+) -> Result<(String, Disks), Fail> {
+    let (disks, start) = found;
+    let mut host = begun_registered(alloc, disks, start, boxes)?;
+    let replies = replies_of(alloc, &mut host, budget, requests)?;
+    Ok((replies, crashed_disks(alloc, host)?))
+}
+
+/// The same of a host with so many free counters, and a tally.
+fn replies_with_counters(
+    alloc: Global,
+    found: Found,
+    counters: usize,
+    budget: u64,
+    requests: &[u8],
+) -> Result<(String, Disks), Fail> {
+    let mut pool: Vec<Box<dyn HostObject>> = Vec::new(alloc);
+    for _ in 0..counters {
+        pool.push(Box::new(alloc, Counter::new())?)?;
+    }
+    let mut services: Vec<Box<dyn HostObject>> = Vec::new(alloc);
+    services.push(Box::new(alloc, Tally::new())?)?;
+    replies_with(alloc, found, Boxes { pool, services }, budget, requests)
+}
+
+/// Compares what is replied to the requests of a part. What is found after the crash.
 fn check_part(
     rt: &impl Abort,
     alloc: Global,
     row: &Row,
-    host: &mut BoxedHost,
+    counters: usize,
+    found: Found,
     part: &str,
-) -> Result<(), Fail> {
+) -> Result<Found, Fail> {
     let requests = requests_of(alloc, part)?;
-    let replies = replies_within(alloc, host, row.budget, &requests)?;
+    let (replies, disks) = replies_with_counters(alloc, found, counters, row.budget, &requests)?;
     check_replies(rt, alloc, row.what, part, &replies)?;
-    Ok(())
+    Ok((disks, Start::Open))
 }
 
 /// Compares what is replied in each part of a row.
-fn check_row(rt: &impl Abort, alloc: Global, row: &Row) -> Result<(), Fail> {
-    let mut host = registered_host(alloc)?;
+fn check_row(rt: &impl Abort, alloc: Global, counters: usize, row: &Row) -> Result<(), Fail> {
+    let mut found = (disks_with(alloc, &[], &[])?, Start::Make);
     for part in row.parts {
-        check_part(rt, alloc, row, &mut host, part)?;
-        host = registered_after_crash(alloc, host)?;
+        found = check_part(rt, alloc, row, counters, found, part)?;
     }
     Ok(())
 }
 
-/// Compares what is replied in each part of each row.
-pub fn check_rows(rt: &impl Abort, alloc: Global, rows: &[Row]) -> Result<(), Fail> {
+/// Compares what is replied in each part of each row, where so many counters are free in each.
+pub fn check_rows_with(
+    rt: &impl Abort,
+    alloc: Global,
+    counters: usize,
+    rows: &[Row],
+) -> Result<(), Fail> {
     for row in rows {
-        check_row(rt, alloc, row)?;
+        check_row(rt, alloc, counters, row)?;
     }
     Ok(())
+}
+
+/// The same without free counters.
+pub fn check_rows(rt: &impl Abort, alloc: Global, rows: &[Row]) -> Result<(), Fail> {
+    check_rows_with(rt, alloc, 0, rows)
 }

@@ -16,7 +16,7 @@ use Rattle.ash_soundness.proofs.Stepped.{steps_keep}
 use Rattle.ash_sources.specs.SourceFaults.{SourceFault}
 use Rattle.ash_sources.proofs.SourceLaws.{read_sound}
 use Rattle.ash_image.specs.Image.{max_services}
-use Rattle.ash_states.specs.HostStates.{HostState, IsAdmitted, rules_for, embedding_for, offered_to}
+use Rattle.ash_states.specs.HostStates.{HostState, IsAdmitted, embedding_for, offered_to}
 use Rattle.ash_engine.specs.LiveStates.{Boxes, LiveState}
 use Rattle.ash_engine.specs.LiveSteps.{IsReached, StepsKeepReached, reached_by, box_at, IsValidOf, LiveStepsKeepReached}
 use Rattle.ash_engine.proofs.Untouched.{steps_keep_hosts}
@@ -24,7 +24,7 @@ use Rattle.ash_engine.proofs.Untouched.{steps_keep_hosts}
 -- after a step of the definitions
 pub step_admitted : (budget : ℕ) (request : Request) (old : HostState) (hosts : Hosts) (one : Step SourceFault) → IsAdmitted old → AreHosts hosts → steps.Steps (embedding_for old.registered) budget request old.state hosts one → IsAdmitted (record { registered = old.registered; state = one.state }) × AreHosts one.hosts
 step_admitted budget request old hosts one h fit stepped =
-    let kept = steps_keep (embedding_for old.registered) (offered_to old.registered) budget request old.state hosts one (read_sound (rules_for old.registered)) h.formed fit stepped in
+    let kept = steps_keep (embedding_for old.registered) (offered_to old.registered) budget request old.state hosts one (read_sound old.registered) h.formed fit stepped in
     let served : length (one.state).services ≡ length (old.state).services = (steps_keep_hosts SourceFault old.state hosts ((h.formed).numbered) (embedding_for old.registered) budget request one stepped).served in (
       record { formed = kept.0; served = served ∙ h.served; few = subst (λ (n : ℕ). n ≤ max_services) (sym served) h.few },
       kept.1,

@@ -44,7 +44,7 @@ use Rattle.ash_plain_steps.specs.declared.state.PlainState.{PlainState}
 use Rattle.ash_plain_steps.specs.StateViews.{loaded_seen, modules_seen}
 use Rattle.ash_plain_steps.specs.Consistency.{AreConsistent}
 use Rattle.ash_plain_steps.proofs.Changed.{consistent_insert}
-use Rattle.ash_states.specs.HostStates.{HostState, embedding_for, offered_to, rules_for}
+use Rattle.ash_states.specs.HostStates.{HostState, embedding_for, offered_to}
 use Rattle.ash_states.specs.StateSteps.{task_of, FailsInChange}
 use Rattle.ash_table_states.specs.TableStates.{names_in}
 use Rattle.ash_engine.specs.declared.live.Compiled.{Compiled}
@@ -139,11 +139,11 @@ module _ {B : Type 0} (G : Ghosts B) (registered : List Registration) (request :
 
     module _ (good : is_module_name name ≡ true) (is : embedding.read m.source.items ≡ Ok tree) (free : find_module name durable.state ≡ None) (few : length seen < max_modules) (numbered : live.loaded.seq < max_seq) where
       abbrev Loads : run_outcome.Outcome → Type 0
-      Loads o = LoadSteps embedding (offered_to registered) (read_sound (rules_for registered)) ranked G seen slots live.loaded.seq live.table ((is_live.admitted).formed) is_live.fit
+      Loads o = LoadSteps embedding (offered_to registered) (read_sound registered) ranked G seen slots live.loaded.seq live.table ((is_live.admitted).formed) is_live.fit
           name m.source.items tree c.code good is free fresh compiled budget o left.parts
 
       loads : (o : run_outcome.Outcome) → left.outcome ≡ Ok o → Loads o
-      loads o came = load_steps embedding (offered_to registered) (read_sound (rules_for registered)) ranked G seen slots live.loaded.seq live.table ((is_live.admitted).formed) is_live.fit
+      loads o came = load_steps embedding (offered_to registered) (read_sound registered) ranked G seen slots live.loaded.seq live.table ((is_live.admitted).formed) is_live.fit
           name m.source.items tree c.code good is free fresh compiled budget parts left takes says o came
 
       step_by : (one : steps.Step SourceFault) (o : run_outcome.Outcome) (run : Loads o)
@@ -186,7 +186,7 @@ module _ {B : Type 0} (G : Ghosts B) (registered : List Registration) (request :
         kept_step : steps.step embedding budget request durable.state (hosts_of G live.table run.records)
             ≡ Some (answered_with G live.loaded.seq (Finished value) left.parts.events.items kept_modules kept_slots left.parts.table)
         kept_step = step_by _ (outcomes.Finished value) run
-            (kept_so embedding (offered_to registered) (read_sound (rules_for registered)) ranked G seen slots live.loaded.seq live.table ((is_live.admitted).formed) is_live.fit
+            (kept_so embedding (offered_to registered) (read_sound registered) ranked G seen slots live.loaded.seq live.table ((is_live.admitted).formed) is_live.fit
             name m.source.items tree c.code good is free fresh compiled budget value left.parts kept_slots run kept_named)
 
         kept_held : HoldsRoots left.parts.table (handles (globals_of kept_modules))
@@ -243,12 +243,12 @@ module _ {B : Type 0} (G : Ghosts B) (registered : List Registration) (request :
         gone_step : steps.step embedding budget request durable.state (hosts_of G live.table run.records)
             ≡ Some (answered_with G live.loaded.seq end events seen slots before.table)
         gone_step = step_by _ o run
-            (abandoned_so embedding (offered_to registered) (read_sound (rules_for registered)) ranked G seen slots live.loaded.seq live.table ((is_live.admitted).formed) is_live.fit
+            (abandoned_so embedding (offered_to registered) (read_sound registered) ranked G seen slots live.loaded.seq live.table ((is_live.admitted).formed) is_live.fit
             name m.source.items tree c.code good is free fresh compiled few numbered budget o left.parts run held before.table events gone.in_order gone.released other
             ∙ ap (λ (e : End). Some (answered_with {Fault = SourceFault} G live.loaded.seq e events seen slots before.table)) (ends_same tree o new_names))
 
         gone_held : HoldsRoots before.table (handles (globals_of seen))
-        gone_held = left_held embedding (offered_to registered) (read_sound (rules_for registered)) ranked G seen slots live.loaded.seq live.table ((is_live.admitted).formed) is_live.fit
+        gone_held = left_held embedding (offered_to registered) (read_sound registered) ranked G seen slots live.loaded.seq live.table ((is_live.admitted).formed) is_live.fit
             name m.source.items tree c.code good is free fresh compiled few numbered budget o left.parts run held before.table events gone.in_order gone.released
 
         gone_taken : TakesStep G budget request (live_seen G registered live) (reply_seen fault_of one.reply) (live_seen G registered one.live)
@@ -292,15 +292,17 @@ module _ {B : Type 0} (G : Ghosts B) (registered : List Registration) (request :
         ended (outcomes.Exception x function line) came =
             let other : (value : Option Word) → outcomes.Exception x function line ≡ outcomes.Finished value → ⊥ = λ value e. cc in
             let (before, events, gone, answered) = l.abandoned (outcomes.Exception x function line) came other in
-            let run = loads good is free few numbered (outcomes.Exception x function line) came in
-            (inl (gone_taken good is free few numbered (outcomes.Exception x function line) run other before events gone one answered),
-            gone_live good is free few numbered (outcomes.Exception x function line) run other before events gone one answered)
+            let run = loads good is free few numbered (outcomes.Exception x function line) came in (
+              inl (gone_taken good is free few numbered (outcomes.Exception x function line) run other before events gone one answered),
+              gone_live good is free few numbered (outcomes.Exception x function line) run other before events gone one answered,
+            )
         ended (outcomes.Aborted function line) came =
             let other : (value : Option Word) → outcomes.Aborted function line ≡ outcomes.Finished value → ⊥ = λ value e. cc in
             let (before, events, gone, answered) = l.abandoned (outcomes.Aborted function line) came other in
-            let run = loads good is free few numbered (outcomes.Aborted function line) came in
-            (inl (gone_taken good is free few numbered (outcomes.Aborted function line) run other before events gone one answered),
-            gone_live good is free few numbered (outcomes.Aborted function line) run other before events gone one answered)
+            let run = loads good is free few numbered (outcomes.Aborted function line) came in (
+              inl (gone_taken good is free few numbered (outcomes.Aborted function line) run other before events gone one answered),
+              gone_live good is free few numbered (outcomes.Aborted function line) run other before events gone one answered,
+            )
 
         by : (r : Result run_outcome.Outcome RunFault) → left.outcome ≡ r → IsStepOf G registered budget request live (Ok one)
         by (Ok o) came = ended o came

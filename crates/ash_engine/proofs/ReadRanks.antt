@@ -23,7 +23,8 @@ module _ (classes : List Class) where
 
   within : (from to : ℕ) → refers_at classes from to ≡ true → (from < length classes) × (to < length classes)
   within from to refers =
-      let (other, at, one, here, holds) = (refer from to).0 refers in
+      let (other, at, there) = (refer from to).0 refers in
+      let (one, here, holds) = there in
       (slice_get_within classes from one here, slice_get_within classes to other at)
 
 pub read_ranked : (registered : List Registration) → ReadsRanked (offered_to registered) (embedding_for registered)

@@ -1,9 +1,9 @@
 //! What goes with a module: what its globals held, at a release point.
 
-ghost use Rattle.std.specs.Prelude.{◌≡◌, ◌<◌, ◌≤◌, ℕ, [], ◌∷◌, length, slice_get, Some, IfOk, OnOk};
-ghost use Rattle.ash_host.specs.Objects.{handle, handles};
+ghost use Rattle.std.specs.Prelude.{◌≡◌, ◌<◌, ◌≤◌, ℕ, length, slice_get, Some, IfOk, OnOk};
+ghost use Rattle.ash_host.specs.Objects.{handles, IsInOrder};
 ghost use Rattle.ash_objects.specs.Table.{holds_of};
-ghost use Rattle.ash_run_steps.specs.RunStates.{HoldsLess, times};
+ghost use Rattle.ash_run_steps.specs.RunStates.{times};
 ghost use Rattle.ash_plain_steps.specs.declared.state.LoadedModule.{LoadedModule as LoadedData};
 ghost use Rattle.ash_plain_steps.specs.declared.task.Task.TheVariants as tasks;
 ghost use Rattle.ash_engine.specs.TableRuns.{Released, IsRemoved};
@@ -16,36 +16,7 @@ use crate::steps::LiveStep;
 use ash_host::{Event, HostObject, NoMemory, Word};
 use ash_objects::Objects;
 use ash_requests::{Outcome, StepError};
-
-/// The object that a word is a handle to.
-fn handle(word: Word) -> Option<u64>
-    ensures handle { result ≡ handle word }
-{
-    match word {
-        Word::Object(number) => Some(number),
-        _ => None,
-    }
-}
-
-/// Undoes the hold of what a word is a handle to.
-fn unhold<B: HostObject>(table: &mut Objects<B>, word: Word)
-    requires held { (number : ℕ) → times number (handles (word ∷ [])) ≤ holds_of number table.old }
-    ensures unheld { HoldsLess (handles (word ∷ [])) table.old table.new }
-{
-    if let Some(number) = handle(word) {
-        table.unhold(number);
-    }
-}
-
-/// Undoes a hold for each of these words that is a handle.
-fn unhold_all<B: HostObject>(table: &mut Objects<B>, words: &[Word])
-    requires held { (number : ℕ) → times number (handles words.now) ≤ holds_of number table.old }
-    ensures unheld { HoldsLess (handles words.now) table.old table.new }
-{
-    for word in words {
-        unhold(table, *word);
-    }
-}
+use ash_run_steps::counting::unhold_words;
 
 /// Gives up what the globals of a module hold, and takes away what nothing leads to any more.
 pub(crate) fn release<B: HostObject>(
@@ -56,7 +27,7 @@ pub(crate) fn release<B: HostObject>(
     requires held { (number : ℕ) → times number (handles globals.now) ≤ holds_of number table.old }
     ensures released { OnOk result (Released globals.now table.old table.new events.old.items events.new.items) }
 {
-    unhold_all(table, globals);
+    unhold_words(table, globals);
     table.sweep(events)
 }
 
@@ -71,12 +42,14 @@ fn remove_module<B: HostObject>(
         → times number (handles m.globals.items) ≤ holds_of number live.table }
     ensures removed { (m : LoadedData) → slice_get live.loaded.modules.items place ≡ Some m
         → IfOk result (λ left. IsRemoved live place m left.0 left.1.items) }
+    ensures in_order { IfOk result (λ left. IsInOrder left.0.table.objects) }
 {
     let mut live = live;
     let removed = live.loaded.modules.remove(place);
     live.compiled.remove(place);
     let mut events = Vec::new(live.loaded.alloc);
     release(&mut live.table, &removed.globals, &mut events)?;
+    live.table.facts();
     Ok((live, events))
 }
 

@@ -1,5 +1,6 @@
 //! The step of one request.
 
+ghost use Rattle.std.specs.Prelude.{◌≡◌};
 ghost use Rattle.ash_registry.specs.RegistryViews.{registered};
 ghost use Rattle.ash_requests.specs.RequestViews.{request_seen};
 ghost use Rattle.ash_plain_steps.specs.TaskViews.{GivesTask};

@@ -6,7 +6,7 @@ use Rattle.ash_parse.specs.declared.faults.UnsupportedPart.{UnsupportedPart}
 use Rattle.ash_parse.specs.declared.faults.ParseFault.{ParseFault}
 use Rattle.ash_parse.specs.declared.faults.ParseFault.TheVariants as syntactic
 use Rattle.ash_check.specs.ScriptFaults.{ScriptFault, Broken, Cyclic}
-use Rattle.ash_sources.specs.SourceFaults.{SourceFault, Lexical, Syntactic, Checked, NotYet}
+use Rattle.ash_sources.specs.SourceFaults.{SourceFault, Lexical, Syntactic, Checked}
 use Rattle.ash_lines.specs.declared.details.Details as code
 use Rattle.ash_lines.specs.declared.details.Details.TheVariants as the
 
@@ -53,4 +53,3 @@ abbrev pub source_details : SourceFault → Details
 source_details (Lexical fault) = lexical_details fault
 source_details (Syntactic fault) = syntactic_details fault
 source_details (Checked fault) = script_details fault
-source_details NotYet = Nothing

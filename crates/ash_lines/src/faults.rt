@@ -53,6 +53,5 @@ pub(crate) fn source_details(fault: &SourceFault) -> Details<'_>
         SourceFault::Lexical(fault) => lexical_details(*fault),
         SourceFault::Syntactic(fault) => syntactic_details(*fault),
         SourceFault::Checked(fault) => script_details(fault),
-        SourceFault::NotYet => Details::Nothing,
     }
 }

@@ -16,7 +16,7 @@ use Rattle.ash_sources.specs.CheckedSource.{IsAccepted, HasCycle, ReportsCycle, 
 use Rattle.ash_sources.specs.CheckedSource.{checked_source}
 use Rattle.ash_sources.specs.declared.fault.SourceError.{SourceError}
 use Rattle.ash_sources.specs.declared.fault.SourceError.TheVariants as errors
-use Rattle.ash_sources.specs.SourceFaults.{SourceFault, Lexical, Syntactic, Checked, NotYet, fault_of}
+use Rattle.ash_sources.specs.SourceFaults.{SourceFault, Lexical, Syntactic, Checked, fault_of}
 use Rattle.ash_sources.specs.SourceFaults.{checked_error, RefusesSource, RefusesWhere, IfFault}
 use Rattle.ash_sources.proofs.CheckedSourceLaws.{parsed, stopped, checked_source-is, checked_source-only}
 use Rattle.ash_sources.proofs.CheckedSourceLaws.{of_tokens, of_no_tokens, takes_items, takes_text}
@@ -34,7 +34,6 @@ unspelled_checked registered source (Lexical fault) h = of_no_tokens registered 
 unspelled_checked registered source (Syntactic fault) h = of_tokens registered source h.tokens h.lexed
     ∙ stopped registered h.tokens fault h.first
 unspelled_checked registered source (Checked fault) h = absurd h
-unspelled_checked registered source NotYet h = absurd h
 
 pub source_refused : (registered : List Registration) (source : List ℕ) (error : SourceError)
     → RefusesWhere (HasNoScript source) (IsText source) error → RefusesSource (checked_source registered source) error

@@ -32,7 +32,7 @@ use Rattle.ash_sources.specs.CheckedSource.{SourceResult, tokens_in, end_by, end
 use Rattle.ash_sources.specs.CheckedSource.{IsTypedScript, IsUntypedScript, IsCyclicScript, HasFault, ChecksTokens}
 use Rattle.ash_sources.specs.CheckedSource.{Checks, no_tokens, has_tokens, unless_fault, items_checked}
 use Rattle.ash_sources.specs.CheckedSource.{script_checked, tokens_checked, checked_on, checked_source}
-use Rattle.ash_sources.specs.SourceFaults.{SourceFault, Lexical, Syntactic, Checked, NotYet}
+use Rattle.ash_sources.specs.SourceFaults.{SourceFault, Lexical, Syntactic, Checked}
 use Rattle.ash_sources.specs.SourceFaults.{MayTakeMemory, TakesMemoryFor}
 use Rattle.ash_sources.proofs.LexingLaws.{lexed-is, lexed-only, of_text}
 use Rattle.ash_sources.proofs.ScanLaws.{IsScan, scan-is}
@@ -124,7 +124,6 @@ fault_only registered tokens (Lexical fault) h = absurd h
 fault_only registered tokens (Syntactic fault) h = stopped registered tokens fault h
 fault_only registered tokens (Checked (Broken fault)) h = untyped_only registered tokens fault h
 fault_only registered tokens (Checked (Cyclic names)) h = cyclic_only registered tokens names h
-fault_only registered tokens NotYet h = absurd h
 
 tokens_only : (registered : List Registration) (tokens : List Lexeme) (outcome : SourceResult)
     → ChecksTokens registered tokens outcome → tokens_checked registered tokens ≡ outcome

@@ -19,7 +19,7 @@ use Rattle.ash_sources.specs.Lexing.{IsText, Lexes, LexesNothing}
 use Rattle.ash_sources.specs.Scripts.{HasNoItems, SpellsScript, HasNoScript}
 use Rattle.ash_sources.specs.declared.fault.SourceError.{SourceError}
 use Rattle.ash_sources.specs.declared.fault.SourceError.TheVariants as errors
-use Rattle.ash_sources.specs.SourceFaults.{SourceFault, Lexical, Syntactic, Checked, NotYet, fault_of}
+use Rattle.ash_sources.specs.SourceFaults.{SourceFault, Lexical, Syntactic, Checked, fault_of}
 use Rattle.ash_sources.specs.SourceFaults.{lexical_error, syntactic_error, RefusesWhere}
 use Rattle.ash_sources.proofs.CheckedSourceLaws.{seen_tokens, seen_end}
 
@@ -66,7 +66,6 @@ no_script : (source : List ℕ) (ts : List Lexeme) → Lexes source (Ok ts) → 
 no_script source ts h (Lexical fault) none = absurd none
 no_script source ts h (Syntactic fault) none = record { tokens = ts; lexed = h; first = none }
 no_script source ts h (Checked fault) none = absurd none
-no_script source ts h NotYet none = absurd none
 
 no_script_by : (source : List ℕ) (ts : List Lexeme) → Lexes source (Ok ts) → (error : SourceError)
     → RefusesWhere (HasNoItems ts) (Unit {0}) error → RefusesWhere (HasNoScript source) (IsText source) error

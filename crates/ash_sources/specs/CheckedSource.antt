@@ -28,7 +28,7 @@ use Rattle.ash_check.specs.ScriptFaults.{ScriptFault, Broken, Cyclic}
 use Rattle.ash_check.specs.Checks.{checked, names_of_cycle}
 use Rattle.ash_sources.specs.Lexing.{Lexes}
 use Rattle.ash_sources.specs.Scanning.{lexed}
-use Rattle.ash_sources.specs.SourceFaults.{SourceFault, Lexical, Syntactic, Checked, NotYet}
+use Rattle.ash_sources.specs.SourceFaults.{SourceFault, Lexical, Syntactic, Checked}
 
 -- the items of a script that is typed, or a fault
 abbrev pub SourceResult : Type 0
@@ -89,7 +89,6 @@ HasFault registered tokens (Lexical fault) = ⊥
 HasFault registered tokens (Syntactic fault) = IsNoScript tokens fault
 HasFault registered tokens (Checked (Broken fault)) = IsUntypedScript registered tokens fault
 HasFault registered tokens (Checked (Cyclic names)) = IsCyclicScript registered tokens names
-HasFault registered tokens NotYet = ⊥
 
 -- what checking the tokens of a source comes to
 abbrev pub ChecksTokens : List Registration → List Lexeme → SourceResult → Type 0

@@ -1,6 +1,6 @@
 -- Why a source has no typed tree, without where names lie in memory; the code by which that is reported; and how
 -- reading a source fails.
-use Rattle.std.specs.Prelude.{◌≡◌, ℕ, List, Result, Ok, Err, codes}
+use Rattle.std.specs.Prelude.{◌≡◌, ℕ, List, Result, Ok, Err}
 use Rattle.ash_lex.specs.LexCodes as lexical
 use Rattle.ash_lex.specs.declared.faults.LexFault.{LexFault}
 use Rattle.ash_lex.specs.declared.faults.LexFault.TheVariants as lex_faults
@@ -16,19 +16,17 @@ use Rattle.ash_sources.specs.declared.fault.SourceFault.TheVariants as the
 use Rattle.ash_sources.specs.declared.fault.SourceError.{SourceError}
 use Rattle.ash_sources.specs.declared.fault.SourceError.TheVariants as errors
 
--- why a source has no typed tree: the fault of the layer that finds it, whole, or that its script can't be run so far
+-- why a source has no typed tree: the fault of the layer that finds it, whole
 pub data SourceFault : Type 0 where
   Lexical : (fault : LexFault) → SourceFault
   Syntactic : (fault : ParseFault) → SourceFault
   Checked : (fault : ScriptFault) → SourceFault
-  NotYet : SourceFault
 
 -- the number and the name of a fault
 abbrev pub code_of : SourceFault → List ℕ
 code_of (Lexical fault) = lexical.code_of fault
 code_of (Syntactic fault) = syntactic.code_of fault
 code_of (Checked fault) = checking.code_of fault
-code_of NotYet = codes "199 NotYet"
 
 -- what the code's faults represent
 
@@ -36,7 +34,6 @@ abbrev pub fault_of : code.SourceFault → SourceFault
 fault_of (the.Lexical fault) = Lexical fault
 fault_of (the.Syntactic fault) = Syntactic fault
 fault_of (the.Checked fault) = Checked (script_fault_of fault)
-fault_of the.NotYet = NotYet
 
 -- A layer's fault makes this error: it is the source's, unless it says that memory was refused.
 

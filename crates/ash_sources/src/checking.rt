@@ -58,14 +58,14 @@ pub(crate) fn checked_module(
 }
 
 /// Checks a source as `load` does, with these registrations, and runs nothing. It is `Ok` where nothing is
-/// reported, also of a script that is typed and can't be run so far.
+/// reported.
 ///
 /// # Errors
 ///
 /// The first of these that holds: `SourceTooLong`; `BadCharacter`, where it is no UTF-8; `BadCharacter`,
 /// `UnclosedComment` or `NumberTooLarge`, the first in the source; `Unexpected`, `Unsupported` or `TooDeep`, the first
 /// in the source; a rule of typing that is broken, the first in the order in which the script is walked; `CyclicType`.
-/// Or `NoMemory`, which a source that is too long never is. `NotYet` is none of these.
+/// Or `NoMemory`, which a source that is too long never is.
 pub fn check_source(alloc: Global, registry: &Registry, source: &[u8]) -> Result<(), SourceError>
     // What is accepted by the rules, and nothing else; only memory may be in the way.
     ensures accepted { OnOk result (IsAccepted (registered registry.now) source.now) }

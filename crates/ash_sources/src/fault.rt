@@ -5,7 +5,7 @@ use ash_lex::LexFault;
 use ash_parse::ParseFault;
 use thiserror::Error;
 
-/// Why a source has no typed tree: the fault of the layer that finds it, whole, or that its script can't be run so far.
+/// Why a source has no typed tree: the fault of the layer that finds it, whole.
 #[derive(Debug, PartialEq, Eq, Drop, Error)]
 pub enum SourceFault {
     /// The source has no tokens.
@@ -17,9 +17,6 @@ pub enum SourceFault {
     /// Its script breaks a rule of typing, or has a class that reaches itself.
     #[error("{0}")]
     Checked(ScriptFault),
-    /// Its script is typed, but uses something registered, which no script that runs can do so far.
-    #[error("the script uses something that is registered, which scripts can't do yet")]
-    NotYet,
 }
 
 impl SourceFault {
@@ -34,7 +31,6 @@ impl SourceFault {
             SourceFault::Lexical(fault) => fault.code(),
             SourceFault::Syntactic(fault) => fault.code(),
             SourceFault::Checked(fault) => fault.code(),
-            SourceFault::NotYet => "199 NotYet",
         }
     }
 }

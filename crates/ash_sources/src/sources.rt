@@ -1,97 +1,49 @@
 //! How the sources of modules are read: to the typed tree of each, by what is registered.
 
-ghost use Rattle.std.specs.Prelude.{◌≡◌, ◌↔◌, ℕ, List, [], Ok, Err, IsOk, IsErr, IfOk, IfErr};
-ghost use Rattle.ash_tree.specs.TreeViews.{module_of as items_of};
+ghost use Rattle.std.specs.Prelude.{◌≡◌, List, Ok, IfOk, IfErr};
 ghost use Rattle.ash_registry.specs.AcceptedRegistrations.{Registration as Registered};
 ghost use Rattle.ash_registry.specs.RegistryViews.{registered};
-ghost use Rattle.ash_typed.specs.Modules.{Module as Typed, module_of};
+ghost use Rattle.ash_typed.specs.Modules.{module_of};
 ghost use Rattle.ash_typed.specs.SoundModules.{IsSound};
 ghost use Rattle.ash_type_rules.specs.Environment.{name_of_kind};
-ghost use Rattle.ash_type_rules.specs.Nesting.{ItemsDeclareInBlocks};
+ghost use Rattle.ash_type_rules.specs.Offered.{offered};
 ghost use Rattle.ash_requests.specs.Premises.{ReadsSound};
-ghost use Rattle.ash_sources.specs.SourceFaults.{SourceFault as Fault, NotYet, RefusesSource, fault_of};
+ghost use Rattle.ash_sources.specs.SourceFaults.{SourceFault as Fault, RefusesSource, fault_of};
 ghost use Rattle.ash_sources.specs.SourceFaults.{MayTakeMemory};
-ghost use Rattle.ash_sources.specs.TypedSource.{check_items, typed_source};
-ghost use Rattle.ash_sources.specs.Sources.{SourceRules, rules_of, typed_or_not_yet, admitted_as};
-ghost use Rattle.ash_sources.specs.Sources.{read_source, host_for, embedding_of};
-ghost use Rattle.ash_sources.specs.Sources.{admitting_unregistered};
+ghost use Rattle.ash_sources.specs.TypedSource.{typed_source};
+ghost use Rattle.ash_sources.specs.Sources.{registered_for, embedding_of};
 
 use crate::fault::{SourceError, SourceFault};
 use crate::parsing::script_of;
 use crate::typing::type_script;
 use ash_registry::{Registration, Registry};
 use ash_requests::sources::SourceReader;
-use ash_tree::Module;
 use ash_typed::Module as Tree;
 use std::alloc::{AllocError, Global};
-
-/// Which scripts are admitted of those that are typed.
-#[derive(Clone, Copy, Debug)]
-pub enum AdmittedScripts {
-    /// Each of them.
-    All,
-    /// Those that use nothing registered: they are typed with nothing registered too.
-    UsingNothingRegistered,
-}
 
 /// How the sources of modules are read.
 #[derive(Clone, Copy)]
 pub struct Sources<'a> {
     pub registry: &'a Registry,
-    pub admitted: AdmittedScripts,
-}
-
-/// The typed tree of a script with nothing registered, or that it can't be run so far.
-#[tactic(auto, using(crate::proofs::SourceLaws::takes_alone))]
-fn type_alone(alloc: Global, script: &Module) -> Result<Tree, SourceError>
-    requires nested { ItemsDeclareInBlocks (items_of script.now) }
-    ensures found { IfOk result (λ tree. typed_or_not_yet (check_items [] (items_of script.now))
-        ≡ Ok (module_of tree)) }
-    ensures refused { IfErr result (RefusesSource (typed_or_not_yet (check_items []
-        (items_of script.now)))) }
-{
-    match type_script(alloc, &Registry::new(alloc), script) {
-        Ok(tree) => Ok(tree),
-        Err(SourceError::NoMemory) => Err(SourceError::NoMemory),
-        Err(SourceError::Fault(_)) => Err(SourceError::Fault(SourceFault::NotYet)),
-    }
 }
 
 impl Sources<'_> {
-    /// The typed tree of a script, if it is admitted.
-    #[tactic(auto, using(crate::proofs::SourceLaws::admitted_refused, crate::proofs::SourceLaws::admitted_alone))]
-    fn admit(&self, alloc: Global, script: &Module) -> Result<Tree, SourceError>
-        requires nested { ItemsDeclareInBlocks (items_of script.now) }
-        ensures found { IfOk result (λ tree. admitted_as self.now.admitted
-            (check_items (registered self.now.registry.now) (items_of script.now))
-            (check_items [] (items_of script.now)) ≡ Ok (module_of tree)) }
-        ensures refused { IfErr result (RefusesSource (admitted_as self.now.admitted
-            (check_items (registered self.now.registry.now) (items_of script.now))
-            (check_items [] (items_of script.now)))) }
-    {
-        let tree = type_script(alloc, self.registry, script)?;
-        match self.admitted {
-            AdmittedScripts::All => Ok(tree),
-            AdmittedScripts::UsingNothingRegistered => type_alone(alloc, script),
-        }
-    }
-
     /// The typed tree of a source.
     ///
     /// # Errors
     ///
-    /// A source is refused for the fault that checking it comes to; and where that comes to none, for not being
-    /// admitted: `NotYet`. Or memory was refused, which a source that is too long never is.
+    /// A source is refused for the fault that checking it comes to. Or memory was refused, which a source that is too
+    /// long never is.
     pub fn read_tree(&self, alloc: Global, source: &[u8]) -> Result<Tree, SourceError>
-        ensures found { IfOk result (λ tree. read_source (rules_of self.now) source.now
+        ensures found { IfOk result (λ tree. typed_source (registered_for self.now) source.now
             ≡ Ok (module_of tree)) }
-        ensures sound { IfOk result (λ tree. IsSound (host_for (rules_of self.now))
+        ensures sound { IfOk result (λ tree. IsSound (offered (registered_for self.now))
             (module_of tree)) }
         ensures refused { IfErr result
-            (RefusesSource (read_source (rules_of self.now) source.now)) }
+            (RefusesSource (typed_source (registered_for self.now) source.now)) }
     {
         let script = script_of(alloc, source)?;
-        self.admit(alloc, &script)
+        type_script(alloc, self.registry, &script)
     }
 
     /// The name of the registered type of a kind. A kind that no type has has none.
@@ -113,7 +65,7 @@ impl SourceReader for Sources<'_> {
 
     ghost fault_seen = { fault_of };
 
-    ghost embedding = { λ s. embedding_of (rules_of s) };
+    ghost embedding = { λ s. embedding_of (registered_for s) };
 
     ghost TakesMemory = { MayTakeMemory };
 
@@ -131,19 +83,8 @@ impl SourceReader for Sources<'_> {
     }
 }
 
-/// Each source that is read has a sound tree, also where only those scripts are admitted that use nothing registered:
-/// nothing is offered to those.
+/// Each source that is read has a tree that is sound with what is registered.
 pub fn sources_are_read_sound()
-    ensures sound { (rules : SourceRules) → ReadsSound (host_for rules) (embedding_of rules) }
-{}
-
-/// Where only those scripts are admitted that use nothing registered, a source that is typed has the tree that it has
-/// with nothing registered; where it has none, and nowhere else, its fault is `NotYet`.
-pub fn unregistered_scripts_are_admitted()
-    ensures read { (registrations : List Registered) (source : List ℕ) (typed : Typed) →
-        (read_source (admitting_unregistered registrations) source ≡ Ok typed)
-        ↔ (IsOk (typed_source registrations source) × (typed_source [] source ≡ Ok typed)) }
-    ensures refused { (registrations : List Registered) (source : List ℕ) →
-        (read_source (admitting_unregistered registrations) source ≡ Err NotYet)
-        ↔ (IsOk (typed_source registrations source) × IsErr (typed_source [] source)) }
+    ensures sound { (registrations : List Registered)
+        → ReadsSound (offered registrations) (embedding_of registrations) }
 {}

@@ -148,7 +148,6 @@ fn write_fault(out: &mut String, fault: &SourceFault) -> Result<(), AllocError> 
         SourceFault::Syntactic(fault) => write_syntactic(out, *fault),
         SourceFault::Checked(ScriptFault::Broken(fault)) => write!(out, " {}", fault.at),
         SourceFault::Checked(ScriptFault::Cyclic(names)) => write_names(out, names.0.as_slice()),
-        SourceFault::NotYet => Ok(()),
     }
 }
 

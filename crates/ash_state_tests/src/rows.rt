@@ -1,7 +1,7 @@
 //! Rows, and how they are run.
 
 ghost use Rattle.std.specs.Prelude.{◌≡◌, [], IfOk};
-ghost use Rattle.ash_sources.specs.Sources.{rules_of, embedding_of};
+ghost use Rattle.ash_sources.specs.Sources.{registered_for, embedding_of};
 ghost use Rattle.ash_plain_steps.specs.Consistency.{AreConsistent};
 
 use crate::calls::{HostStep, answers};
@@ -14,7 +14,7 @@ use ash_plain_steps::step::Step;
 use ash_plain_steps::steps::plain_step;
 use ash_requests::{Reply, Request, StepError};
 use ash_sources::fault::SourceFault;
-use ash_sources::sources::{AdmittedScripts, Sources};
+use ash_sources::sources::Sources;
 use std::alloc::{AllocError, Global};
 use std::process::Abort;
 use std::test::Fail;
@@ -31,15 +31,13 @@ pub struct Host {
     pub budget: u64,
     /// The last number that was given to an object.
     pub last: u64,
-    pub admitted: AdmittedScripts,
 }
 
-/// Two counters are free, and each script is admitted.
+/// Two counters are free.
 pub const HOST: Host = Host {
     counters: 2,
     budget: 1000,
     last: 0,
-    admitted: AdmittedScripts::All,
 };
 
 /// A row: what it shows, what is found before the first request, the requests, and the state that they leave.
@@ -68,9 +66,9 @@ fn step_of(
     request: &Request<'_>,
     before: Step<SourceFault>,
 ) -> Result<Step<SourceFault>, StepError>
-    requires consistent { AreConsistent (embedding_of (rules_of sources.now))
+    requires consistent { AreConsistent (embedding_of (registered_for sources.now))
         before.state.modules.items }
-    ensures consistent { IfOk result (λ s. AreConsistent (embedding_of (rules_of sources.now))
+    ensures consistent { IfOk result (λ s. AreConsistent (embedding_of (registered_for sources.now))
         s.state.modules.items) }
 {
     plain_step(sources, budget, request, before.state, before.hosts)
@@ -84,9 +82,9 @@ fn stepped(
     line: &str,
     before: Box<Step<SourceFault>>,
 ) -> Result<Box<Step<SourceFault>>, Fail>
-    requires consistent { AreConsistent (embedding_of (rules_of sources.now))
+    requires consistent { AreConsistent (embedding_of (registered_for sources.now))
         before.value.state.modules.items }
-    ensures consistent { IfOk result (λ s. AreConsistent (embedding_of (rules_of sources.now))
+    ensures consistent { IfOk result (λ s. AreConsistent (embedding_of (registered_for sources.now))
         s.value.state.modules.items) }
 {
     let arguments = arguments_of(alloc, line)?;
@@ -164,7 +162,6 @@ pub fn check_row(rt: &impl Abort, alloc: Global, row: &Row<'_>) -> Result<(), Fa
     let registry = registry(alloc)?;
     let sources = Sources {
         registry: &registry,
-        admitted: row.host.admitted,
     };
     let step = check_exchanges(rt, alloc, &sources, row)?;
     let found = state_text(alloc, &step.state, &step.hosts)?;

@@ -1,30 +1,22 @@
-//! Which sources are admitted where only those scripts are that use nothing registered.
+//! Sources that use what is registered.
 
-use crate::rows::{HOST, Host, Row, check_row};
-use ash_sources::sources::AdmittedScripts;
+use crate::rows::{HOST, Row, check_row};
 use std::test::Fail;
 
-/// Only those scripts are admitted that use nothing registered.
-const ALONE: Host = Host {
-    admitted: AdmittedScripts::UsingNothingRegistered,
-    ..HOST
-};
-
-static SCRIPTS_THAT_USE_WHAT_IS_REGISTERED: Row<'static> = Row {
-    what: "scripts that use what is registered",
-    host: ALONE,
+static SOURCES_THAT_USE_WHAT_IS_REGISTERED: Row<'static> = Row {
+    what: "sources that use what is registered",
+    host: HOST,
     steps: &[],
     exchanges: &[
-        ("load m Counter@ g = Counter(7);", "refused 199 NotYet", ""),
-        ("load m void f(Counter@ c) { }", "refused 199 NotYet", ""),
-        ("load m class Box { Counter@ c; }", "refused 199 NotYet", ""),
-        ("load m array<Counter@> l;", "refused 199 NotYet", ""),
-        (
-            "load m int t() { return total(); }",
-            "refused 199 NotYet",
-            "",
-        ),
-        // Whatever checking reports comes before.
+        ("load a Counter@ g;", "ok seq 1", ""),
+        ("load b void f(Counter@ c) { }", "ok seq 2", ""),
+        ("load c class Box { Counter@ c; }", "ok seq 3", ""),
+        ("load d array<Counter@> l;", "ok seq 4", ""),
+        ("load e int t() { return total(); }", "ok seq 5", ""),
+        ("get a g", "ok null", ""),
+        ("object 1", "ok object 1 array count 1", ""),
+        ("call b f 1", "refused 404 NotCallable", ""),
+        // What checking finds.
         (
             "load m Counter@ g; class Node { Node@ next; }",
             "refused 309 CyclicType Node",
@@ -35,39 +27,13 @@ static SCRIPTS_THAT_USE_WHAT_IS_REGISTERED: Row<'static> = Row {
             "refused 104 Unexpected 19",
             "",
         ),
-        ("seq", "ok 0", ""),
+        ("load m int total = 1;", "refused 303 NameTaken 4", ""),
+        ("seq", "ok 5", ""),
     ],
-    left: "seq 0 last 0 | objects | services 00000000 | free 3 left 0",
+    left: "seq 5 last 1 | a null | b | c | d object 1 | e | objects 1 | services 00000000 | free 3 left 0",
 };
 
 #[test]
-fn scripts_that_use_what_is_registered(rt: HostRuntime) -> Result<(), Fail> {
-    check_row(&rt, rt.alloc(), &SCRIPTS_THAT_USE_WHAT_IS_REGISTERED)
-}
-
-static SCRIPTS_THAT_USE_NOTHING_REGISTERED: Row<'static> = Row {
-    what: "a script that uses nothing registered",
-    host: ALONE,
-    steps: &[],
-    exchanges: &[
-        (
-            "load m class Q { int w = 1; } \
-        class P { Q q; Q@ r; int v = 2; P(int k) { v = v + k; @r = q; } } P@ g = P(5); \
-        int f() { return g.v; }",
-            "ok seq 1",
-            "",
-        ),
-        ("call m f", "ok 7 seq 2", ""),
-        (
-            "object 1",
-            "ok object 1 m.P count 1 q object 2 r object 2 v 7",
-            "",
-        ),
-    ],
-    left: "seq 2 last 2 | m object 1 | objects 1 2 | services 00000000 | free 3 left 0",
-};
-
-#[test]
-fn scripts_that_use_nothing_registered(rt: HostRuntime) -> Result<(), Fail> {
-    check_row(&rt, rt.alloc(), &SCRIPTS_THAT_USE_NOTHING_REGISTERED)
+fn sources_that_use_what_is_registered(rt: HostRuntime) -> Result<(), Fail> {
+    check_row(&rt, rt.alloc(), &SOURCES_THAT_USE_WHAT_IS_REGISTERED)
 }

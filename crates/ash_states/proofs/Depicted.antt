@@ -17,7 +17,7 @@ use Rattle.ash_image.specs.SnapshotViews.{services_in, modules_in, object_in, ob
 use Rattle.ash_image.specs.ObjectBytes.{FitsHost}
 use Rattle.ash_image.specs.Image.{FitsVersion, FitsText, image_of}
 use Rattle.ash_soundness.specs.WellFormed.{IsState}
-use Rattle.ash_states.specs.HostStates.{HostState, IsAdmitted, service_kinds, rules_for, embedding_for, offered_to}
+use Rattle.ash_states.specs.HostStates.{HostState, IsAdmitted, service_kinds, embedding_for, offered_to}
 use Rattle.ash_states.specs.Images.{IsDepicted, IsImageIn}
 use Rattle.ash_states.specs.Indexes.{index_in, plain_indexed, entry_indexed, snapshot_for, IsPlainIndexed, HasKind, HaveKinds, HaveServiceKinds, HaveImages}
 use Rattle.ash_states.specs.Writing.{AreWrittenIn}
@@ -38,22 +38,22 @@ module _ (s : HostState) (h : IsAdmitted s) where
       few = omega (arith, zip_short (service_kinds s.registered) (s.state).services, h.few);
       each = zip_all (λ (kind : ℕ). kind < 2 ^ 16) IsState (λ (e : ℕ × List ℕ). FitsHost e.0 e.1) (λ kind state fits short. record { kind_fits = fits; short = short }) (service_kinds s.registered) (s.state).services services (h.formed).services;
     };
-    modules = modules_fit (embedding_for s.registered) (offered_to s.registered) (read_sound (rules_for s.registered)) short s.state h.formed;
-    objects = objects_fit (embedding_for s.registered) (offered_to s.registered) (read_sound (rules_for s.registered)) short s.state h.formed kinds;
+    modules = modules_fit (embedding_for s.registered) (offered_to s.registered) (read_sound s.registered) short s.state h.formed;
+    objects = objects_fit (embedding_for s.registered) (offered_to s.registered) (read_sound s.registered) short s.state h.formed kinds;
   }
 
   pub depicted : IsDepicted (snapshot_for s) s
   depicted = record {
     text_is = refl;
     services_are = zip_firsts (service_kinds s.registered) (s.state).services h.served;
-    state_is = same_state (embedding_for s.registered) (offered_to s.registered) (read_sound (rules_for s.registered)) s.state h.formed s.registered h.served;
+    state_is = same_state (embedding_for s.registered) (offered_to s.registered) (read_sound s.registered) s.state h.formed s.registered h.served;
     admitted = h;
   }
 
   -- what spells the snapshot is the image of the state
   pub image_is : (bytes : List ℕ) → FitsVersion Two (snapshot_for s) → bytes ≡ image_of (snapshot_for s) → IsImageIn Two bytes s
   image_is bytes fits is =
-      (snapshot_for s, ((fits, is), rules (embedding_for s.registered) (offered_to s.registered) (read_sound (rules_for s.registered)) s.state h.formed s.registered), depicted)
+      (snapshot_for s, ((fits, is), rules (embedding_for s.registered) (offered_to s.registered) (read_sound s.registered) s.state h.formed s.registered), depicted)
 
 -- the kinds of the snapshot are those of the state
 
@@ -90,7 +90,7 @@ snapshot_same a b registered seq last services modules objects =
 pub all_indexed : (s : HostState) → IsAdmitted s → AllByRecursion (λ (e : ℕ × Plain (List ℕ)). IsPlainIndexed (s.state).modules e.1) (s.state).objects
 all_indexed s h =
     all_more (IsWritten (s.state).modules) (λ (e : ℕ × Plain (List ℕ)). IsPlainIndexed (s.state).modules e.1) (λ e w. (w.place).indexed) (s.state).objects
-    (each_written (embedding_for s.registered) (offered_to s.registered) (read_sound (rules_for s.registered)) s.state h.formed)
+    (each_written (embedding_for s.registered) (offered_to s.registered) (read_sound s.registered) s.state h.formed)
 
 -- a snapshot of the parts that the code lists
 abbrev pub listed_snapshot : HostState → List ℕ → List HostParts → List ModuleParts → List ObjectParts → Snapshot

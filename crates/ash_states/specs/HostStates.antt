@@ -9,8 +9,8 @@ use Rattle.ash_requests.specs.States as steps
 use Rattle.ash_soundness.specs.WellFormed.{IsState}
 use Rattle.ash_soundness.specs.WellFormedStates.{IsWellFormedState}
 use Rattle.ash_sources.specs.SourceFaults.{SourceFault}
-use Rattle.ash_sources.specs.Sources.{SourceRules, embedding_of, host_for}
-use Rattle.ash_sources.specs.declared.sources.AdmittedScripts.TheVariants.{All}
+use Rattle.ash_sources.specs.Sources.{embedding_of}
+use Rattle.ash_type_rules.specs.Offered.{offered}
 
 -- The state of a host is what is registered, and what outlives a request.
 pub record HostState : Type 0 where
@@ -25,16 +25,13 @@ service_kinds registered = filter_map service_kind registered
 abbrev pub empty : List Registration → List (List ℕ) → HostState
 empty registered services = record { registered = registered; state = steps.empty services }
 
--- Sources are read by what is registered, and each script that is typed is admitted.
-abbrev pub rules_for : List Registration → SourceRules
-rules_for registered = record { registered = registered; admitted = All }
-
+-- Sources are read by what is registered.
 abbrev pub embedding_for : List Registration → Embedding SourceFault
-embedding_for registered = embedding_of (rules_for registered)
+embedding_for registered = embedding_of registered
 
 -- what scripts are offered
 abbrev pub offered_to : List Registration → HostSignatures
-offered_to registered = host_for (rules_for registered)
+offered_to registered = offered registered
 
 -- A host may be in a state that is well-formed for what is registered, and has the state of each registered service.
 pub record IsAdmitted (s : HostState) : Type 0 where

@@ -2,10 +2,10 @@
 
 ghost use Rattle.std.specs.Prelude.{◌≡◌, ◌↔◌, IfOk, IsTrue};
 ghost use Rattle.ash_registry.specs.RegistryViews.{registered};
-ghost use Rattle.ash_sources.specs.Sources.{rules_of};
+ghost use Rattle.ash_sources.specs.Sources.{registered_for};
 ghost use Rattle.ash_image.specs.Rules.{IsShaped};
 ghost use Rattle.ash_image.specs.SnapshotViews.{services_of, snapshot_of};
-ghost use Rattle.ash_states.specs.HostStates.{rules_for, service_kinds};
+ghost use Rattle.ash_states.specs.HostStates.{service_kinds};
 ghost use Rattle.ash_states.specs.Images.{kinds_in};
 ghost use Rattle.ash_states.specs.StateRestoring.{RestoresHostState};
 
@@ -16,17 +16,14 @@ use ash_admission::admission::is_well_typed;
 use ash_image::stored::{StoredHost, StoredState};
 use ash_plain_steps::state::PlainState;
 use ash_registry::Registry;
-use ash_sources::sources::{AdmittedScripts, Sources};
+use ash_sources::sources::Sources;
 use std::alloc::{AllocError, Global};
 
 /// How a host with this registry reads sources.
 pub fn sources_for(registry: &Registry) -> Sources<'_>
-    ensures value { rules_of result ≡ rules_for (registered registry.now) }
+    ensures value { registered_for result ≡ registered registry.now }
 {
-    Sources {
-        registry,
-        admitted: AdmittedScripts::All,
-    }
+    Sources { registry }
 }
 
 /// Whether the services that were stored are of the kinds that are registered, in order.

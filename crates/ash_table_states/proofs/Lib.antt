@@ -4,3 +4,4 @@ pub mod Stored
 pub mod Listed
 pub mod Paired
 pub mod Saved
+pub mod Written

@@ -61,6 +61,51 @@ fn state_parts<'a, B: HostObject>(
     }
 }
 
+/// The image of a state, in version 2, by the parts of its services, its modules and its objects.
+fn image_by<B: HostObject>(
+    alloc: Global,
+    registry: &Registry,
+    state: &TableState<'_, B>,
+    services: &[HostParts<'_>],
+    modules: &[ModuleParts<'_>],
+    objects: &[ObjectParts<'_>],
+) -> Result<Vec<u8>, AllocError>
+    requires writable { IsWritable B.HostObject (registered registry.now) state.now }
+    requires listed { AreWrittenIn (state_in B.HostObject (registered registry.now) state.now)
+        services.now modules.now objects.now }
+    ensures image { IfOk result (λ image. IsImageIn Two image.items
+        (state_in B.HostObject (registered registry.now) state.now)) }
+    ensures short { IfOk result (λ image. length image.items < 2 ^ 32) }
+{
+    write_image(
+        alloc,
+        state_parts(registry, state, services, modules, objects),
+    )
+}
+
+/// The body of a record that has the image of a state, in version 2, by the parts of its services, its modules and its
+/// objects.
+fn body_by<B: HostObject>(
+    alloc: Global,
+    registry: &Registry,
+    state: &TableState<'_, B>,
+    services: &[HostParts<'_>],
+    modules: &[ModuleParts<'_>],
+    objects: &[ObjectParts<'_>],
+) -> Result<Vec<u8>, AllocError>
+    requires writable { IsWritable B.HostObject (registered registry.now) state.now }
+    requires listed { AreWrittenIn (state_in B.HostObject (registered registry.now) state.now)
+        services.now modules.now objects.now }
+    ensures body { IfOk result (λ body. IsBodyIn Two body.items
+        (state_in B.HostObject (registered registry.now) state.now)) }
+    ensures short { IfOk result (λ body. length body.items < 2 ^ 32) }
+{
+    write_body(
+        alloc,
+        state_parts(registry, state, services, modules, objects),
+    )
+}
+
 /// The image of a state, in version 2.
 pub fn image_of<B: HostObject>(
     alloc: Global,
@@ -80,8 +125,7 @@ pub fn image_of<B: HostObject>(
     let listed = listed(alloc, state.table)?;
     let states = object_states(alloc, &listed)?;
     let objects = object_parts(alloc, state.slots, &listed, &states)?;
-    let parts = state_parts(registry, state, &services, &modules, &objects);
-    write_image(alloc, parts)
+    image_by(alloc, registry, state, &services, &modules, &objects)
 }
 
 /// The body of a record that has the image of a state, in version 2.
@@ -103,6 +147,5 @@ pub fn body_of<B: HostObject>(
     let listed = listed(alloc, state.table)?;
     let states = object_states(alloc, &listed)?;
     let objects = object_parts(alloc, state.slots, &listed, &states)?;
-    let parts = state_parts(registry, state, &services, &modules, &objects);
-    write_body(alloc, parts)
+    body_by(alloc, registry, state, &services, &modules, &objects)
 }

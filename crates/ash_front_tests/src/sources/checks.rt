@@ -7,7 +7,7 @@ use ash_check::ScriptFault;
 use ash_registry::Registry;
 use ash_sources::checking::check_source;
 use ash_sources::fault::{SourceError, SourceFault};
-use ash_sources::sources::{AdmittedScripts, Sources};
+use ash_sources::sources::Sources;
 use std::alloc::{AllocError, Global};
 use std::fmt::Debug;
 use std::panic::Expect;
@@ -34,7 +34,6 @@ fn printed_fault(alloc: Global, fault: &SourceFault) -> Result<String, AllocErro
         SourceFault::Lexical(fault) => debugged(alloc, fault),
         SourceFault::Syntactic(fault) => debugged(alloc, fault),
         SourceFault::Checked(fault) => printed_script_fault(alloc, fault),
-        SourceFault::NotYet => String::from_str(alloc, "NotYet"),
     }
 }
 
@@ -47,7 +46,7 @@ fn printed<T: Drop>(alloc: Global, ended: Result<T, SourceError>) -> Result<Stri
 }
 
 /// How checking a source ends.
-pub(crate) fn checked(
+fn checked(
     alloc: Global,
     registry: &Registry,
     source: &[u8],
@@ -55,45 +54,34 @@ pub(crate) fn checked(
     printed(alloc, check_source(alloc, registry, source))
 }
 
-/// How reading a source ends, where these scripts are admitted.
-pub(crate) fn read(
+/// How reading a source ends.
+fn read(
     alloc: Global,
     registry: &Registry,
-    admitted: AdmittedScripts,
     source: &[u8],
 ) -> Result<String, AllocError> {
-    let sources = Sources { registry, admitted };
-    printed(alloc, sources.read_tree(alloc, source))
+    printed(alloc, Sources { registry }.read_tree(alloc, source))
 }
 
-/// How a source ends, where nothing is registered: checked, or read where these scripts are admitted.
-fn ended(
+/// Compares how checking a source ends, and how reading it does, with what is wanted.
+pub(crate) fn check_source_with(
+    rt: &impl Abort,
     alloc: Global,
-    admitted: Option<AdmittedScripts>,
+    registry: &Registry,
     source: &[u8],
-) -> Result<String, AllocError> {
-    let registry = empty(alloc)?;
-    match admitted {
-        None => checked(alloc, &registry, source),
-        Some(admitted) => read(alloc, &registry, admitted, source),
-    }
+    wanted: &str,
+) {
+    let text = expect_text(rt, String::from_utf8_lossy(alloc, source));
+    let found = expect_text(rt, checked(alloc, registry, source));
+    check_text(rt, found.as_str(), wanted, text.as_str());
+    let found = expect_text(rt, read(alloc, registry, source));
+    check_text(rt, found.as_str(), wanted, text.as_str());
 }
 
-/// What a source is done to: it is checked, or read where these scripts are admitted.
-const DONE: [Option<AdmittedScripts>; 3] = [
-    None,
-    Some(AdmittedScripts::All),
-    Some(AdmittedScripts::UsingNothingRegistered),
-];
-
-/// Compares how checking a source ends, and how reading it does, where nothing is registered: the same, whichever
-/// scripts are admitted.
+/// The same, where nothing is registered.
 pub(crate) fn check_source_of(rt: &impl Abort, alloc: Global, source: &[u8], wanted: &str) {
-    let text = expect_text(rt, String::from_utf8_lossy(alloc, source));
-    for admitted in &DONE {
-        let found = expect_text(rt, ended(alloc, *admitted, source));
-        check_text(rt, found.as_str(), wanted, text.as_str());
-    }
+    let registry = empty(alloc).expect(rt, NO_MEMORY);
+    check_source_with(rt, alloc, &registry, source, wanted);
 }
 
 /// The parts of a row: how its source ends, and the source.

@@ -27,8 +27,7 @@ pub enum ProgramTask<'a> {
 pub struct Limits {
     /// Ticks for each request.
     pub budget: u64,
-    /// How many host objects of the kind Counter the host is handed, 4,096 at the most. No script can construct one so
-    /// far.
+    /// How many host objects of the kind Counter the host is handed for scripts to construct, 4,096 at the most.
     pub counters: u64,
 }
 

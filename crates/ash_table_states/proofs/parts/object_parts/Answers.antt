@@ -1,4 +1,4 @@
-use Rattle.std.proofs.Common.{rules, ◌≡◌, ◌∙◌, arith}
+use Rattle.std.proofs.Common.{rules, ◌∙◌}
 use Rattle.ash_table_states.specs.WrittenObjects.{state_in}
 use Rattle.ash_table_states.proofs.Paired.{same_at}
 use Rattle.ash_table_states.proofs.parts.object_parts.Goals as goal

@@ -1,0 +1,261 @@
+-- A module that the code discarded is gone by a step of the live state.
+use Rattle.std.proofs.Common.{◌≡◌, ◌<◌, ◌≤◌, ◌+◌, ℕ, List, [], ◌++◌, length, map, refl, sym, ap, ◌∙◌, subst, slice_get, nat_eq, inl, arith}
+use Rattle.std.specs.Prelude.{Some, None, Ok, Err, IsSome, option_map}
+use Rattle.std.specs.List.{AllZip, IsDistinct, remove}
+use Rattle.std.proofs.lemmas.List.{append-nil}
+use Rattle.std.proofs.lemmas.Option.{slice_get-map, slice_get_within}
+use Rattle.ash_host.specs.declared.event.Event.{Event}
+use Rattle.ash_host.specs.declared.host_object.HostObject.{Ghosts}
+use Rattle.ash_host.specs.Objects.{LiveObjects, handles, IsInOrder}
+use Rattle.ash_registry.specs.AcceptedRegistrations.{Registration}
+use Rattle.ash_meaning.specs.Activity.{World}
+use Rattle.ash_meaning.specs.Ends.{Finished}
+use Rattle.ash_meaning.specs.Releases.{roots, sweep}
+use Rattle.ash_objects.specs.Table.{Table, holds_of}
+use Rattle.ash_object_ranks.specs.ObjectRanks.{ClassRanks}
+use Rattle.ash_object_ranks.specs.ShownTables.{objects_shown}
+use Rattle.ash_run_steps.specs.Becoming.{Gave}
+use Rattle.ash_run_steps.specs.Ranks.{rank_test}
+use Rattle.ash_run_steps.specs.RunStates.{Names, HoldsRoots, times}
+use Rattle.ash_run_steps.proofs.Roots.{times_append}
+use Rattle.ash_requests.specs.declared.step_error.StepError.TheVariants as errors
+use Rattle.ash_requests.specs.RequestViews.{reply_seen}
+use Rattle.ash_requests.specs.States.{LoadedModule, Hosts, Embedding, globals_of, without_module, world_of}
+use Rattle.ash_requests.specs.Requests.{Request}
+use Rattle.ash_requests.specs.Requests as replies
+use Rattle.ash_requests.specs.Steps.{Step, after_discard, performed, unless_refused}
+use Rattle.ash_requests.specs.Steps as steps
+use Rattle.ash_requests.specs.TaskResults.{TaskChangesState}
+use Rattle.ash_requests.specs.Tasks.{Task, TaskResult, Remove, max_seq}
+use Rattle.ash_soundness.specs.WellFormed.{AreObjects}
+use Rattle.ash_soundness.specs.WellFormedStates.{AreHosts, IsWellFormedState, known_of}
+use Rattle.ash_soundness.proofs.Asked.{IsTask, removes, task_is}
+use Rattle.ash_soundness.proofs.Entries.{mapped}
+use Rattle.ash_sources.specs.SourceFaults.{SourceFault, fault_of}
+use Rattle.ash_sources.proofs.SourceLaws.{read_sound}
+use Rattle.ash_plain_steps.specs.declared.state.LoadedModule as code_module
+use Rattle.ash_plain_steps.specs.declared.state.PlainState.{PlainState}
+use Rattle.ash_plain_steps.specs.declared.task.Task.TheVariants as tasks
+use Rattle.ash_plain_steps.specs.StateViews.{loaded_seen, modules_seen}
+use Rattle.ash_plain_steps.specs.Consistency.{AreConsistent}
+use Rattle.ash_plain_steps.proofs.Changed.{globals_set, removed_there, consistent_remove}
+use Rattle.ash_plain_steps.proofs.Places.{map-remove}
+use Rattle.ash_states.specs.HostStates.{HostState, IsAdmitted, embedding_for, offered_to}
+use Rattle.ash_states.specs.StateSteps.{task_of}
+use Rattle.ash_table_states.specs.TableStates.{names_in}
+use Rattle.ash_engine.specs.declared.live.Compiled.{Compiled}
+use Rattle.ash_engine.specs.declared.live.Live.{Live}
+use Rattle.ash_engine.specs.declared.steps.LiveStep.{LiveStep}
+use Rattle.ash_engine.specs.LiveSteps.{TakesStep}
+use Rattle.ash_engine.specs.TableRuns.{IsAnswered, IsRemoved}
+use Rattle.ash_engine.specs.TableSteps.{IsStepOf}
+use Rattle.ash_engine.specs.TableStates.{slots_of, names_of, roots_of, IsCompiledFrom, durable_seen, live_seen, IsLive}
+use Rattle.ash_engine.specs.TableTasks.{IsAsked}
+use Rattle.ash_engine.proofs.Admitted.{step_admitted}
+use Rattle.ash_engine.proofs.AnsweredSteps.{IsShown, taken, still_admitted, still_fit, still_kinds}
+use Rattle.ash_engine.proofs.CallEnds.{numbered_from}
+use Rattle.ash_engine.proofs.ChangedModules.{held_before}
+use Rattle.ash_engine.proofs.KnownRanks.{class_ranks, known_sound, known_ranked}
+use Rattle.ash_engine.proofs.LoadEnds.{answered_with}
+use Rattle.ash_engine.proofs.ReadRanks.{read_ranked}
+use Rattle.ash_engine.proofs.ReleasedGlobals.{released_gave}
+use Rattle.ash_engine.proofs.RemovedModules.{zip_at, zip_remove, distinct_remove, set_own, names_kept}
+use Rattle.ash_engine.proofs.ShownAlike.{shown_alike}
+use Rattle.ash_engine.proofs.TableCalls.{free_box, hosts_of}
+use Rattle.ash_engine.proofs.TableReleases.{ReleasesAs, releases_as}
+
+-- a release point changes objects and events alone
+swept_rest : (w : World) → sweep [] w ≡ record w { objects = (sweep [] w).objects; events = (sweep [] w).events }
+unfolding sweep
+swept_rest w = refl
+
+module _ {B : Type 0} (G : Ghosts B) (registered : List Registration) (live : Live B) (is_live : IsLive G registered live) (place : ℕ) (m : code_module.LoadedModule)
+    (at : slice_get live.loaded.modules.items place ≡ Some m) where
+  abbrev ms : List code_module.LoadedModule
+  ms = live.loaded.modules.items
+
+  abbrev seen : List LoadedModule
+  seen = modules_seen ms
+
+  abbrev cs : List Compiled
+  cs = live.compiled.items
+
+  abbrev slots : List ℕ
+  slots = slots_of cs
+
+  abbrev durable : HostState
+  durable = durable_seen G registered live
+
+  abbrev embedding : Embedding SourceFault
+  embedding = embedding_for registered
+
+  abbrev name : List ℕ
+  name = (loaded_seen m).name
+
+  -- the modules without the one that goes, and their slots
+  abbrev others : List LoadedModule
+  others = without_module name seen
+
+  abbrev other_slots : List ℕ
+  other_slots = remove slots place
+
+  abbrev outside : List ℕ
+  outside = handles (globals_of others)
+
+  formed : IsWellFormedState embedding (offered_to registered) durable.state
+  formed = (is_live.admitted).formed
+
+  seen_at : slice_get seen place ≡ Some (loaded_seen m)
+  seen_at = slice_get-map loaded_seen ms place ∙ ap (option_map loaded_seen) at
+
+  code_at : (c : Compiled) × (slice_get cs place ≡ Some c)
+  code_at = zip_at IsCompiledFrom ms cs place m (is_live.compiled).each at
+
+  abbrev slot : ℕ
+  slot = (code_at.0).code.module
+
+  slot_at : slice_get slots place ≡ Some slot
+  slot_at = slice_get-map (λ (c : Compiled). c.code.module) cs place ∙ ap (option_map (λ (c : Compiled). c.code.module)) code_at.1
+
+  pub within : place < length ms
+  within = slice_get_within ms place m at
+
+  pub within_codes : place < length cs
+  within_codes = slice_get_within cs place code_at.0 code_at.1
+
+  -- each object is held as often as the others hold it, and as the globals of the module do
+  held_apart : HoldsRoots live.table (outside ++ handles m.globals.items)
+  held_apart = held_before live.table outside seen place (loaded_seen m) formed.ascending seen_at refl
+      (sym (globals_set seen place (loaded_seen m) m.globals.items (is_live.consistent).ascending seen_at) ∙ set_own seen place (loaded_seen m) seen_at)
+      is_live.held
+
+  pub holds_enough : (number : ℕ) → times number (handles m.globals.items) ≤ holds_of number live.table
+  holds_enough number = omega (arith, held_apart number, times_append number outside (handles m.globals.items))
+
+  module _ (request : Request) (asked : task_of request durable ≡ Ok (Remove name)) where
+    changes : TaskChangesState (task_of request durable)
+    changes = subst (λ (d : TaskResult SourceFault). TaskChangesState d) (sym asked) tt
+
+    pub fails : IsStepOf G registered 0 request live (Err errors.NoMemory)
+    fails = changes
+
+    numbered_by : IsTask embedding durable.state (Remove name) → live.loaded.seq < max_seq
+    numbered_by (removes numbered) = numbered
+
+    pub numbered : live.loaded.seq < max_seq
+    numbered = numbered_by (task_is embedding durable.state request (Remove name) asked)
+
+    module _ (budget : ℕ) (before : Live B) (events : List Event) (gone : IsRemoved live place m before events) (order : IsInOrder before.table.objects) where
+      pub still_numbered : before.loaded.seq < max_seq
+      still_numbered = subst (λ (n : ℕ). n < max_seq) (sym (ap (λ (s : PlainState). s.seq) gone.loaded)) numbered
+
+      abbrev hosts : Hosts
+      hosts = hosts_of G live.table []
+
+      abbrev world : World
+      world = world_of [] others durable.state hosts
+
+      roots_are : roots [] world ≡ outside
+      roots_are = append-nil (outside ++ []) ∙ append-nil outside
+
+      abbrev ranks : ClassRanks
+      ranks = class_ranks embedding (offered_to registered) (read_ranked registered) seen
+
+      releases : ReleasesAs G (names_of live) world live.table before.table events
+      releases = releases_as G (names_of live) (offered_to registered) (known_of embedding seen) ranks world m.globals.items live.table before.table events
+          (known_sound embedding (offered_to registered) (read_sound registered) seen) (known_ranked embedding (offered_to registered) (read_ranked registered) seen)
+          formed.living (formed.numbered).in_order order refl
+          (subst (λ (l : List ℕ). HoldsRoots live.table (l ++ handles m.globals.items)) (sym roots_are) held_apart) gone.released
+
+      step_done : steps.step embedding budget request durable.state hosts ≡ Some (after_discard name durable.state hosts)
+      step_done = ap (λ (d : TaskResult SourceFault). unless_refused budget d durable.state hosts) asked
+
+      kept : IsAdmitted (record { registered = registered; state = (after_discard {Fault = SourceFault} name durable.state hosts).state })
+          × AreHosts (after_discard {Fault = SourceFault} name durable.state hosts).hosts
+      kept = step_admitted budget request durable hosts (after_discard name durable.state hosts) is_live.admitted (record { pool = is_live.fit; answers = tt }) (performed step_done)
+
+      others_are : modules_seen (remove ms place) ≡ others
+      others_are = removed_there ms place m (is_live.consistent).ascending at
+
+      agree : (other : ℕ) → IsSome (known_of embedding others (names_of live other)) → names_in others other_slots other ≡ names_of live other
+      agree other known =
+          ap (λ (l : List LoadedModule). names_in l other_slots other) (sym others_are ∙ map-remove loaded_seen ms place)
+          ∙ names_kept embedding seen slots place slot (loaded_seen m) (is_live.compiled).apart seen_at slot_at other known
+
+      shown_as : objects_shown G (names_in others other_slots) before.table.objects ≡ (sweep [] world).objects
+      shown_as = shown_alike G (known_of embedding others) (names_of live) (names_in others other_slots) agree before.table.objects
+          (subst (λ (l : LiveObjects (List ℕ)). IsInOrder l) (sym releases.shown) (((kept.0).formed).numbered).in_order)
+          (subst (λ (l : LiveObjects (List ℕ)). AreObjects (known_of embedding others) l) (sym releases.shown) ((kept.0).formed).living)
+          ∙ releases.shown
+
+      step_is : steps.step embedding budget request durable.state hosts ≡ Some (answered_with G live.loaded.seq (Finished None) events others other_slots before.table)
+      step_is =
+          let services : (sweep [] world).services ≡ map G.state before.table.services = ap (λ (w : World). w.services) (swept_rest world) ∙ ap (map G.state) (sym releases.services) in
+          let last : (sweep [] world).last ≡ before.table.last = ap (λ (w : World). w.last) (swept_rest world) ∙ sym releases.last in
+          let pool : (sweep [] world).pool ≡ map (free_box G) before.table.pool = ap (λ (w : World). w.pool) (swept_rest world) ∙ ap (map (free_box G)) (sym releases.pool) in
+          step_done
+          ∙ (λ i. Some (record {
+            reply = replies.Answered (Finished None) (live.loaded.seq + 1) (sym releases.events i);
+            state = record { modules = others; objects = sym shown_as i; services = services i; last = last i; seq = live.loaded.seq + 1 };
+            hosts = record { pool = pool i; answers = (swept_rest world i).answers };
+          }))
+
+      names : Names
+      names = record { modules = names_of live; functions = λ index. [] }
+
+      gave : Gave G [] live.table [] before.table events
+      gave = released_gave G names (rank_test (known_of embedding seen) ranks) outside m.globals.items live.table before.table [] events
+          (numbered_from G (names_of live) live.table formed.numbered) order held_apart gone.released
+
+      module _ (one : LiveStep B) (answered : IsAnswered before (Finished None) events one) where
+        items_are : one.live.loaded.modules.items ≡ remove ms place
+        items_are = ap (λ (l : Live B). l.loaded.modules.items) answered.live ∙ gone.modules
+
+        codes_are : one.live.compiled.items ≡ remove cs place
+        codes_are = ap (λ (l : Live B). l.compiled.items) answered.live ∙ gone.compiled
+
+        shown : IsShown one.live others other_slots (live.loaded.seq + 1) before.table
+        shown = record {
+          modules_are = ap modules_seen items_are ∙ others_are;
+          slots_are = ap slots_of codes_are ∙ map-remove (λ (c : Compiled). c.code.module) cs place;
+          seq_is = ap (λ (l : Live B). l.loaded.seq) answered.live ∙ ap (λ (s : PlainState). s.seq + 1) gone.loaded;
+          table_is = ap (λ (l : Live B). l.table) answered.live;
+        }
+
+        discard_taken : TakesStep G budget request (live_seen G registered live) (reply_seen fault_of one.reply) (live_seen G registered one.live)
+        discard_taken =
+            subst (λ (r : replies.Reply SourceFault). TakesStep G budget request (live_seen G registered live) r (live_seen G registered one.live))
+            (sym (answered.reply ∙ ap (λ (s : PlainState). replies.Answered (Finished None) (s.seq + 1) events) gone.loaded))
+            (taken G registered request budget live is_live (Finished None) events others other_slots before.table [] gave step_is one.live shown)
+
+        discard_live : IsLive G registered one.live
+        discard_live = record {
+          admitted = still_admitted G registered request budget live is_live (Finished None) events others other_slots before.table [] gave step_is one.live shown;
+          consistent = subst (λ (l : List code_module.LoadedModule). AreConsistent embedding l) (sym items_are) (consistent_remove embedding ms place m is_live.consistent at);
+          compiled = record {
+            each = subst (λ (l : List code_module.LoadedModule). AllZip IsCompiledFrom l one.live.compiled.items) (sym items_are)
+                (subst (λ (l : List Compiled). AllZip IsCompiledFrom (remove ms place) l) (sym codes_are) (zip_remove IsCompiledFrom ms cs place (is_live.compiled).each));
+            apart = subst (IsDistinct nat_eq) (sym shown.slots_are) (distinct_remove slots place (is_live.compiled).apart);
+          };
+          held = subst (λ (t : Table B). HoldsRoots t (roots_of one.live)) (sym shown.table_is)
+              (subst (λ (l : List LoadedModule). HoldsRoots before.table (handles (globals_of l))) (sym shown.modules_are)
+              (subst (λ (l : List ℕ). HoldsRoots before.table l) roots_are releases.held));
+          kinds = still_kinds G registered request budget live is_live (Finished None) events others other_slots before.table [] gave step_is one.live shown;
+          fit = still_fit G registered request budget live is_live (Finished None) events others other_slots before.table [] gave step_is one.live shown;
+        }
+
+        -- The removal that the code did is a step.
+        pub discarded : IsStepOf G registered budget request live (Ok one)
+        discarded = (inl discard_taken, discard_live)
+
+-- what is asked for is a module that is there
+module _ {B : Type 0} (G : Ghosts B) (live : Live B) (place : ℕ) (asked : IsAsked G live (tasks.Remove place)) where
+  pub record IsThere : Type 0 where
+    pub module_there : code_module.LoadedModule
+    pub at : slice_get live.loaded.modules.items place ≡ Some module_there
+    pub task : task_of asked.request (durable_seen G asked.registered live) ≡ Ok (Remove (loaded_seen module_there).name)
+
+  pub there : IsThere
+  there =
+      let found = mapped (λ (m : code_module.LoadedModule). Remove (loaded_seen m).name) (slice_get live.loaded.modules.items place) asked.one asked.seen in
+      record { module_there = found.0; at = found.1; task = asked.is ∙ ap (λ (t : Task). Ok t) (sym found.2) }

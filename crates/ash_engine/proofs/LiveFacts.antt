@@ -1,0 +1,36 @@
+-- What is known of the live state of an engine, if there is one.
+use Rattle.std.proofs.Common.{◌≡◌, List, sym, ap, ◌∙◌, subst}
+use Rattle.std.specs.Prelude.{Option, Some, None, IfSome, option_map}
+use Rattle.ash_host.specs.declared.host_object.HostObject.{Ghosts}
+use Rattle.ash_registry.specs.AcceptedRegistrations.{Registration}
+use Rattle.ash_engine.specs.declared.live.Live.{Live}
+use Rattle.ash_engine.specs.LiveStates.{LiveState, AreOf}
+use Rattle.ash_engine.specs.LiveSteps.{reached_by, IsReached}
+use Rattle.ash_engine.specs.TableStates.{live_seen, IsLive}
+use Rattle.ash_engine.proofs.Living.{boxes_are, is_reached}
+
+module _ {B : Type 0} (G : Ghosts B) (registered : List Registration) where
+  pub boxes_in : (o : Option (Live B)) → IfSome o (IsLive G registered) → (live : LiveState B) → option_map (live_seen G registered) o ≡ Some live → AreOf G live
+  boxes_in None h live is = absurd (cc)
+  boxes_in (Some l) h live is =
+      let same : live_seen G registered l ≡ live = cc in
+      subst (λ (x : LiveState B). AreOf G x) same (boxes_are G registered l h)
+
+  pub reached_in : (o : Option (Live B)) → IfSome o (IsLive G registered) → (live : LiveState B) → option_map (live_seen G registered) o ≡ Some live → IsReached (reached_by live)
+  reached_in None h live is = absurd (cc)
+  reached_in (Some l) h live is =
+      let same : live_seen G registered l ≡ live = cc in
+      subst (λ (x : LiveState B). IsReached (reached_by x)) same (is_reached G registered l h)
+
+  pub registered_in : (o : Option (Live B)) (live : LiveState B) → option_map (live_seen G registered) o ≡ Some live → (live.durable).registered ≡ registered
+  registered_in None live is = absurd (cc)
+  registered_in (Some l) live is =
+      let same : live_seen G registered l ≡ live = cc in
+      ap (λ (x : LiveState B). (x.durable).registered) (sym same)
+
+  pub seq_in : (o : Option (Live B)) (l : Live B) → o ≡ Some l → (live : LiveState B) → option_map (live_seen G registered) o ≡ Some live → l.loaded.seq ≡ ((live.durable).state).seq
+  seq_in None l there live is = absurd (cc)
+  seq_in (Some x) l there live is =
+      let same : live_seen G registered x ≡ live = cc in
+      let one : x ≡ l = cc in
+      ap (λ (y : Live B). y.loaded.seq) (sym one) ∙ ap (λ (y : LiveState B). ((y.durable).state).seq) same
