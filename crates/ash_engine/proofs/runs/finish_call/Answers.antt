@@ -16,8 +16,9 @@ pub answered-requires : goal.answered-requires
 answered-requires g c =
     let ms : List LoadedModule = c.args.rest.loaded.modules.items in
     let m = get_or ms c.args.place c.index.result.now in
-    let given = c.give_back-live.ensures.given m (slice_get-get_or ms c.args.place c.index.result.now c.requires.within) in
-    record { numbered = subst (λ (n : ℕ). n < max_seq) (sym (ap (λ (s : PlainState). s.seq) given.loaded)) c.requires.numbered }
+    let given = c.give_back-live.ensures.given m (slice_get-get_or ms c.args.place c.index.result.now c.requires.within)
+    in
+    record { numbered = subst (λ (s : PlainState). s.seq < max_seq) (sym given.loaded) c.requires.numbered }
 
 pub returns-in_ok-outcome-in-Ok-clause-answered : goal.returns-in_ok-outcome-in-Ok-clause-answered
 returns-in_ok-outcome-in-Ok-clause-answered g c m outcome at is =
@@ -30,14 +31,17 @@ returns-in_ok-outcome-in-Ok-clause-answered g c m outcome at is =
     ∙ (λ i. end_named (entry_name (module_of (module_is i).tree)) (outcome_is i)) in (
       back,
       c.give_back-live.ensures.given m at,
-      subst (λ (es : List Event). IsAnswered back (end_named (entry_name (module_of m.tree)) outcome) es c.answered.result)
+      subst (λ (es : List Event). IsAnswered back (end_named (entry_name (module_of m.tree)) outcome) es
+          c.answered.result)
           (ap (λ (v : _). v.items) c.give_back-live.ensures.events)
-          (subst (λ (e : End). IsAnswered back e c.give_back-live.result.1.items c.answered.result) end c.answered.ensures.answered),
+          (subst (λ (e : End). IsAnswered back e c.give_back-live.result.1.items c.answered.result) end
+          c.answered.ensures.answered),
     )
 
 pub returns-in-Err-NotBegun-clause-refused : goal.returns-in-Err-NotBegun-clause-refused
 returns-in-Err-NotBegun-clause-refused g c m at is = (
   c.without_memory.ensures.refused,
-  subst (λ (l : Live g.row.B.Denot). IsGivenBack c.args.rest c.args.place m c.args.left.parts l) (sym c.without_memory.ensures.unchanged)
+  subst (λ (l : Live g.row.B.Denot). IsGivenBack c.args.rest c.args.place m c.args.left.parts l)
+      (sym c.without_memory.ensures.unchanged)
       (c.give_back-live-in-Err-NotBegun.ensures.given m at),
 )
