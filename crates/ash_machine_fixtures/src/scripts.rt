@@ -1,0 +1,175 @@
+//! Scripts whose calls run on the machine and by the plain evaluator, with every budget.
+
+use crate::boxes::{Pool, boxes_of, services_of};
+use crate::machine::Machine;
+use crate::noted::{Log, new_log};
+use crate::pairs::{Compared, Pair, run_both};
+use crate::plain::{Task, new_world};
+use crate::registered::ODD;
+use ash_host::{Counter, HostObject, NoMemory, Word};
+use ash_integers::word_from;
+use ash_objects::Objects;
+use ash_typed::{Function, Module, VarType};
+use std::alloc::{AllocError, Global};
+
+/// What came of a script with some budget.
+#[derive(Drop)]
+pub struct Played {
+    /// The first run whose ends differ, if there is one.
+    pub fault: Option<String>,
+    /// Whether some run was aborted.
+    pub is_aborted: bool,
+    /// What the last run left by the machine.
+    pub last: String,
+}
+
+fn kinds_of(alloc: Global, pool: Pool) -> Result<Vec<u16>, AllocError> {
+    let mut kinds = Vec::new(alloc);
+    for _ in 0..pool.counters {
+        kinds.push(Counter::KIND)?;
+    }
+    for _ in 0..pool.odds {
+        kinds.push(ODD)?;
+    }
+    Ok(kinds)
+}
+
+/// A text as a word of a type.
+fn word_of(var_type: VarType, text: &str) -> Word {
+    let number = text.parse::<i128>().unwrap_or(0);
+    match var_type {
+        VarType::Bool => Word::Bool(text == "true"),
+        VarType::Integer(int_type) => word_from(int_type, number),
+        VarType::Object(_) | VarType::Handle(_) => Word::Null,
+    }
+}
+
+/// The function of a name, with its place.
+pub fn function_of<'a>(tree: &'a Module, name: &str) -> Option<(usize, &'a Function)> {
+    for (place, function) in tree.functions.iter().enumerate() {
+        if function.name.as_str() == name {
+            return Some((place, function));
+        }
+    }
+    None
+}
+
+/// The function that a call names, with its place.
+pub fn called_function<'a>(tree: &'a Module, call: &str) -> Option<(usize, &'a Function)> {
+    let name = call.split(' ').next()?;
+    function_of(tree, name)
+}
+
+/// The words of the arguments after the name of a function.
+pub fn arguments_of(
+    alloc: Global,
+    function: &Function,
+    call: &str,
+) -> Result<Vec<Word>, AllocError> {
+    let mut words = Vec::new(alloc);
+    let mut texts = call.split(' ').skip(1);
+    for parameter in &function.parameters {
+        words.push(word_of(*parameter, texts.next().unwrap_or("")))?;
+    }
+    Ok(words)
+}
+
+fn fault_of(alloc: Global, call: &str, compared: &Compared) -> Result<Option<String>, AllocError> {
+    if compared.found == compared.wanted {
+        return Ok(None);
+    }
+    let text = format!(in alloc;
+        "{call}\n  found  {}\n  wanted {}",
+        compared.found, compared.wanted
+    )?;
+    Ok(Some(text))
+}
+
+/// Runs one call on both.
+fn call_both<B: HostObject>(
+    alloc: Global,
+    tree: &Module,
+    pair: Pair<B>,
+    log: &Log,
+    call: &str,
+    budget: u64,
+) -> Result<(Option<Pair<B>>, Compared), NoMemory> {
+    match called_function(tree, call) {
+        Some((place, function)) => {
+            let args = arguments_of(alloc, function, call)?;
+            run_both(alloc, tree, pair, log, Task::Call(place, &args), budget)
+        }
+        None => {
+            let compared = Compared {
+                found: format!(in alloc; "no function {call}")?,
+                wanted: String::new(alloc),
+                is_aborted: false,
+                is_ended: false,
+            };
+            Ok((Some(pair), compared))
+        }
+    }
+}
+
+fn play_with<B: HostObject>(
+    alloc: Global,
+    tree: &Module,
+    boxes: (Vec<B>, Vec<B>),
+    kinds: &[u16],
+    log: &Log,
+    calls: &[&str],
+    budget: u64,
+) -> Result<Played, NoMemory> {
+    let Ok(machine) = Machine::new(alloc, tree, Objects::new(alloc, boxes.0, boxes.1)) else {
+        return Ok(Played {
+            fault: Some(String::from_str(alloc, "it is not compiled")?),
+            is_aborted: false,
+            last: String::new(alloc),
+        });
+    };
+    let pair = Pair {
+        machine,
+        world: new_world(alloc, kinds)?,
+        numbers: Vec::new(alloc),
+    };
+    let (mut pair, compared) = run_both(alloc, tree, pair, log, Task::Load, budget)?;
+    let mut played = Played {
+        fault: fault_of(alloc, "load", &compared)?,
+        is_aborted: compared.is_aborted,
+        last: compared.found,
+    };
+    if compared.is_aborted || !compared.is_ended || played.last.starts_with("exception") {
+        return Ok(played);
+    }
+    for call in calls {
+        let Some(both) = pair else {
+            return Ok(played);
+        };
+        if played.fault.is_some() {
+            return Ok(played);
+        }
+        let (after, compared) = call_both(alloc, tree, both, log, call, budget)?;
+        pair = after;
+        played = Played {
+            fault: fault_of(alloc, call, &compared)?,
+            is_aborted: played.is_aborted || compared.is_aborted,
+            last: compared.found,
+        };
+    }
+    Ok(played)
+}
+
+/// Runs the initializers of a module, and then calls, on both with a budget for each.
+pub fn play(
+    alloc: Global,
+    tree: &Module,
+    pool: Pool,
+    calls: &[&str],
+    budget: u64,
+) -> Result<Played, NoMemory> {
+    let log = new_log(alloc)?;
+    let boxes = boxes_of(alloc, &log, pool)?;
+    let services = services_of(alloc, &log)?;
+    let kinds = kinds_of(alloc, pool)?;
+    play_with(alloc, tree, (boxes, services), &kinds, &log, calls, budget)
+}
