@@ -85,6 +85,16 @@ fn fault_of(alloc: Global, call: &str, compared: &Compared) -> Result<Option<Str
     Ok(Some(text))
 }
 
+/// What is compared of a call of a function that is not there.
+fn no_function(alloc: Global, call: &str) -> Result<Compared, AllocError> {
+    Ok(Compared {
+        found: format!(in alloc; "no function {call}")?,
+        wanted: String::new(alloc),
+        is_aborted: false,
+        is_ended: false,
+    })
+}
+
 /// Runs one call on both.
 fn call_both<B: HostObject>(
     alloc: Global,
@@ -99,48 +109,53 @@ fn call_both<B: HostObject>(
             let args = arguments_of(alloc, function, call)?;
             run_both(alloc, tree, pair, log, Task::Call(place, &args), budget)
         }
-        None => {
-            let compared = Compared {
-                found: format!(in alloc; "no function {call}")?,
-                wanted: String::new(alloc),
-                is_aborted: false,
-                is_ended: false,
-            };
-            Ok((Some(pair), compared))
-        }
+        None => Ok((None, no_function(alloc, call)?)),
     }
 }
 
-fn play_with<B: HostObject>(
+/// What has come of a script after a run, if some run before it was aborted or none.
+fn played_of(
+    alloc: Global,
+    call: &str,
+    was_aborted: bool,
+    compared: Compared,
+) -> Result<Played, AllocError> {
+    Ok(Played {
+        fault: fault_of(alloc, call, &compared)?,
+        is_aborted: was_aborted || compared.is_aborted,
+        last: compared.found,
+    })
+}
+
+/// Runs the initializers on both. If they come to their end, calls can follow.
+fn load_both<B: HostObject>(
     alloc: Global,
     tree: &Module,
-    boxes: (Vec<B>, Vec<B>),
-    kinds: &[u16],
+    pair: Pair<B>,
+    log: &Log,
+    budget: u64,
+) -> Result<(Option<Pair<B>>, Played), NoMemory> {
+    let (pair, compared) = run_both(alloc, tree, pair, log, Task::Load, budget)?;
+    let can_follow = compared.is_ended
+        && !compared.is_aborted
+        && !compared.found.starts_with("exception");
+    let played = played_of(alloc, "load", false, compared)?;
+    match can_follow && played.fault.is_none() {
+        true => Ok((pair, played)),
+        false => Ok((None, played)),
+    }
+}
+
+/// Runs the initializers on both, and then calls, up to one whose ends differ.
+fn play_both<B: HostObject>(
+    alloc: Global,
+    tree: &Module,
+    pair: Pair<B>,
     log: &Log,
     calls: &[&str],
     budget: u64,
 ) -> Result<Played, NoMemory> {
-    let Ok(machine) = Machine::new(alloc, tree, Objects::new(alloc, boxes.0, boxes.1)) else {
-        return Ok(Played {
-            fault: Some(String::from_str(alloc, "it is not compiled")?),
-            is_aborted: false,
-            last: String::new(alloc),
-        });
-    };
-    let pair = Pair {
-        machine,
-        world: new_world(alloc, kinds)?,
-        numbers: Vec::new(alloc),
-    };
-    let (mut pair, compared) = run_both(alloc, tree, pair, log, Task::Load, budget)?;
-    let mut played = Played {
-        fault: fault_of(alloc, "load", &compared)?,
-        is_aborted: compared.is_aborted,
-        last: compared.found,
-    };
-    if compared.is_aborted || !compared.is_ended || played.last.starts_with("exception") {
-        return Ok(played);
-    }
+    let (mut pair, mut played) = load_both(alloc, tree, pair, log, budget)?;
     for call in calls {
         let Some(both) = pair else {
             return Ok(played);
@@ -150,13 +165,18 @@ fn play_with<B: HostObject>(
         }
         let (after, compared) = call_both(alloc, tree, both, log, call, budget)?;
         pair = after;
-        played = Played {
-            fault: fault_of(alloc, call, &compared)?,
-            is_aborted: played.is_aborted || compared.is_aborted,
-            last: compared.found,
-        };
+        played = played_of(alloc, call, played.is_aborted, compared)?;
     }
     Ok(played)
+}
+
+/// What comes of a module that is not compiled.
+fn not_compiled(alloc: Global) -> Result<Played, AllocError> {
+    Ok(Played {
+        fault: Some(String::from_str(alloc, "it is not compiled")?),
+        is_aborted: false,
+        last: String::new(alloc),
+    })
 }
 
 /// Runs the initializers of a module, and then calls, on both with a budget for each.
@@ -170,6 +190,14 @@ pub fn play(
     let log = new_log(alloc)?;
     let boxes = boxes_of(alloc, &log, pool)?;
     let services = services_of(alloc, &log)?;
-    let kinds = kinds_of(alloc, pool)?;
-    play_with(alloc, tree, (boxes, services), &kinds, &log, calls, budget)
+    let world = new_world(alloc, &kinds_of(alloc, pool)?)?;
+    let Ok(machine) = Machine::new(alloc, tree, Objects::new(alloc, boxes, services)) else {
+        return Ok(not_compiled(alloc)?);
+    };
+    let pair = Pair {
+        machine,
+        world,
+        numbers: Vec::new(alloc),
+    };
+    play_both(alloc, tree, pair, &log, calls, budget)
 }

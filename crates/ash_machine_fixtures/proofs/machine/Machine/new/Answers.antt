@@ -1,7 +1,7 @@
 use Rattle.std.proofs.Common.{arith, ap, sym, ◌∙◌}
 use Rattle.std.proofs.lemmas.List.{nil_from_length}
 use Rattle.ash_host.specs.Objects.{handles}
-use Rattle.ash_machine_fixtures.proofs.Plain.{nothing_held}
+use Rattle.ash_machine_fixtures.proofs.PlainWords.{nothing_held}
 use Rattle.ash_machine_fixtures.proofs.machine.Machine.new.Goals as goal
 
 pub invariant_of-result : goal.invariant_of-result

@@ -1,4 +1,4 @@
-use Rattle.ash_machine_fixtures.proofs.Plain.{all_alive}
+use Rattle.ash_machine_fixtures.proofs.PlainWords.{all_alive}
 use Rattle.ash_machine_fixtures.proofs.machine.Machine.run.Goals as goal
 
 pub run-parts-requires-clause-alive : goal.run-parts-requires-clause-alive
