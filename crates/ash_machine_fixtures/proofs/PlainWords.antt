@@ -2,9 +2,9 @@
 use Rattle.std.proofs.Common.{◌≡◌, ℕ, zero, suc, ◌<◌, ◌++◌, List, [], ◌∷◌, length, get_or, All, Option, Some, None, IsTrue, refl, rules, arith}
 use Rattle.std.specs.List.{cons_option}
 use Rattle.ash_host.specs.declared.word.Word.{Word}
-use Rattle.ash_host.specs.Objects.{handle, handles, object_at}
-use Rattle.ash_objects.specs.Table.{Living, Table, holds_of}
-use Rattle.ash_run_steps.specs.RunStates.{HoldsRoots, is_alive_in, times}
+use Rattle.ash_host.specs.Objects.{handle, handles}
+use Rattle.ash_objects.specs.Table.{Table}
+use Rattle.ash_run_steps.specs.RunStates.{HoldsRoots, is_alive_in}
 
 -- words that are no handles are alive
 pub all_alive : {B : Type 0} (table : Table B) (words : List Word) → handles words ≡ []

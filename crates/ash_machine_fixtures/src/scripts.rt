@@ -9,6 +9,7 @@ use crate::registered::ODD;
 use ash_host::{Counter, HostObject, NoMemory, Word};
 use ash_integers::word_from;
 use ash_objects::Objects;
+use ash_plain_world::activity::World;
 use ash_typed::{Function, Module, VarType};
 use std::alloc::{AllocError, Global};
 
@@ -179,6 +180,27 @@ fn not_compiled(alloc: Global) -> Result<Played, AllocError> {
     })
 }
 
+/// Runs the initializers of a module, and then calls, on both, over a table and a world.
+fn play_over<B: HostObject>(
+    alloc: Global,
+    tree: &Module,
+    table: Objects<B>,
+    world: World,
+    log: &Log,
+    calls: &[&str],
+    budget: u64,
+) -> Result<Played, NoMemory> {
+    let Ok(machine) = Machine::new(alloc, tree, table) else {
+        return Ok(not_compiled(alloc)?);
+    };
+    let pair = Pair {
+        machine,
+        world,
+        numbers: Vec::new(alloc),
+    };
+    play_both(alloc, tree, pair, log, calls, budget)
+}
+
 /// Runs the initializers of a module, and then calls, on both with a budget for each.
 pub fn play(
     alloc: Global,
@@ -191,13 +213,6 @@ pub fn play(
     let boxes = boxes_of(alloc, &log, pool)?;
     let services = services_of(alloc, &log)?;
     let world = new_world(alloc, &kinds_of(alloc, pool)?)?;
-    let Ok(machine) = Machine::new(alloc, tree, Objects::new(alloc, boxes, services)) else {
-        return Ok(not_compiled(alloc)?);
-    };
-    let pair = Pair {
-        machine,
-        world,
-        numbers: Vec::new(alloc),
-    };
-    play_both(alloc, tree, pair, &log, calls, budget)
+    let table = Objects::new(alloc, boxes, services);
+    play_over(alloc, tree, table, world, &log, calls, budget)
 }
