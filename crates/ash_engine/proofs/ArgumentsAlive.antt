@@ -61,4 +61,4 @@ module _ {B : Type 0} (table : Table B) where
   arguments_alive (t ∷ types) (a ∷ asked) ws e =
       let (w, rest, one, more, whole) = both_some (argument_of t a) (arguments_of types asked) ws e in
       subst (All Alive) whole (All-cons Alive w rest (bare_alive w (no_handle t a w one))
-          (arguments_alive types asked rest more))
+      (arguments_alive types asked rest more))

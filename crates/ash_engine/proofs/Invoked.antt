@@ -89,9 +89,11 @@ pub set_compiled : (ms : List code_module.LoadedModule) (cs : List Compiled) (pl
 set_compiled [] cs place m new each at tree = absurd (cc)
 set_compiled (x ∷ ms) [] place m new each at tree = absurd each
 set_compiled (x ∷ ms) (c ∷ cs) zero m new each at tree =
-    let one : x ≡ m = cc in
-    (λ context known is. each.0 context known (is ∙ ap module_of
-        (tree ∙ ap (λ (y : code_module.LoadedModule). y.tree) (sym one))), each.1)
+    let one : x ≡ m = cc in (
+      λ context known is. each.0 context known (is ∙ ap module_of
+          (tree ∙ ap (λ (y : code_module.LoadedModule). y.tree) (sym one))),
+      each.1,
+    )
 set_compiled (x ∷ ms) (c ∷ cs) (suc place) m new each at tree = (each.0, set_compiled ms cs place m new each.1 at tree)
 
 -- a module as the definitions have it, in its place
@@ -127,7 +129,7 @@ module _ {B : Type 0} (G : Ghosts B) (live : Live B) (call : Invocation) (asked 
       (parts : Parts B) (left : Left B) (code : CodeParts) (in_slot : slice_get slots call.module ≡ Some code.module)
       (compiled : (c : Context) → IsContext c → (c.program).tree ≡ module_of m.tree → IsCodeOf code c)
       (takes : Takes live.table m.globals.items (handles
-          (globals_of (without_module (loaded_seen m).name (modules_seen ms)))) parts)
+      (globals_of (without_module (loaded_seen m).name (modules_seen ms)))) parts)
       (says : SaysOfCall G code parts call.function call.args.items budget left) where
     is_task : IsTask embedding durable.state (Invoke (loaded_seen m) (module_of m.tree) call.function call.args.items)
     is_task = subst (IsTask embedding durable.state) (sym one)
@@ -152,8 +154,11 @@ module _ {B : Type 0} (G : Ghosts B) (live : Live B) (call : Invocation) (asked 
       changed_modules = update_globals (loaded_seen m).name left.parts.globals.items (modules_seen ms)
 
       abbrev reached : HostState
-      reached = record { registered = registered; state = state_shown G changed_modules slots
-          (live.loaded.seq + 1) left.parts.table }
+      reached = record {
+        registered = registered;
+        state = state_shown G changed_modules slots
+            (live.loaded.seq + 1) left.parts.table;
+      }
 
       modules_are : modules_seen new.loaded.modules.items ≡ changed_modules
       modules_are = ap modules_seen after.modules
@@ -164,25 +169,30 @@ module _ {B : Type 0} (G : Ghosts B) (live : Live B) (call : Invocation) (asked 
       slots_are = slots_from new.compiled.items live.compiled.items after.codes
 
       reached_is : durable_seen G registered new ≡ reached
-      reached_is = (λ i. record { registered = registered;
-          state = state_shown G (modules_are i) (slots_are i) (after.seq i) (after.table i) })
+      reached_is = (λ i. record {
+        registered = registered;
+        state = state_shown G (modules_are i) (slots_are i) (after.seq i) (after.table i);
+      })
 
       module _ (ran : CallSteps embedding (offered_to registered) (read_sound registered) ranked G
           (modules_seen ms) slots live.loaded.seq live.table
           budget (loaded_seen m) (module_of m.tree) call.function call.args.items o left.parts) where
         hosts_fit : AreHosts (hosts_of G live.table ran.records)
-        hosts_fit = record { pool = (asked.live).fit; answers = answers_fit G ran.records live.table left.parts.table []
-            left.parts.events.items ran.gave }
+        hosts_fit = record {
+          pool = (asked.live).fit;
+          answers = answers_fit G ran.records live.table left.parts.table []
+              left.parts.events.items ran.gave;
+        }
 
         step_is : steps.step embedding budget asked.request durable.state (hosts_of G live.table ran.records)
             ≡ Some (called embedding (offered_to registered) (read_sound registered) ranked G
-                (modules_seen ms) slots live.loaded.seq live.table (loaded_seen m) end left.parts)
+            (modules_seen ms) slots live.loaded.seq live.table (loaded_seen m) end left.parts)
         step_is = ap (λ (d : TaskResult SourceFault). unless_refused budget d durable.state
             (hosts_of G live.table ran.records))
             (asked.is ∙ ap (λ (t : Task). Ok t) (sym one))
             ∙ called_so embedding (offered_to registered) (read_sound registered) ranked G
-                (modules_seen ms) slots live.loaded.seq live.table budget (loaded_seen m)
-                (module_of m.tree) call.function call.args.items o left.parts ran
+            (modules_seen ms) slots live.loaded.seq live.table budget (loaded_seen m)
+            (module_of m.tree) call.function call.args.items o left.parts ran
 
         kept : IsAdmitted reached × AreHosts (hosts_of G left.parts.table [])
         kept = step_admitted budget asked.request durable (hosts_of G live.table ran.records) _
@@ -212,8 +222,14 @@ module _ {B : Type 0} (G : Ghosts B) (live : Live B) (call : Invocation) (asked 
         as_many =
             let now = (kept.0).served in
             let was = ((asked.live).admitted).served in
-            omega (arith, now, was, length-map left.parts.table.services G.state, length-map live.table.services
-                G.state)
+            omega (
+              arith,
+              now,
+              was,
+              length-map left.parts.table.services G.state,
+              length-map live.table.services
+                  G.state,
+            )
 
         pub call_live : IsLive G registered new
         call_live = record {
@@ -225,17 +241,17 @@ module _ {B : Type 0} (G : Ghosts B) (live : Live B) (call : Invocation) (asked 
                 (sym after.modules)
                 (still_compiled (set ms call.module after.changed) live.compiled.items new.compiled.items
                 (set_compiled ms live.compiled.items call.module m after.changed ((asked.live).compiled).each at
-                    (ap (λ (x : code_module.LoadedModule). x.tree) after.same)) after.codes);
+                (ap (λ (x : code_module.LoadedModule). x.tree) after.same)) after.codes);
             apart = subst (IsDistinct nat_eq) (sym slots_are) ((asked.live).compiled).apart;
           };
           held = subst (λ (t : Table B). HoldsRoots t (roots_of new)) (sym after.table)
               (subst (λ (l : List LoadedModule). HoldsRoots left.parts.table (handles (globals_of l))) (sym modules_are)
               (held_after left.parts.table left.parts.outside.items left.parts.globals.items
-                  (modules_seen ms) call.module (loaded_seen m)
+              (modules_seen ms) call.module (loaded_seen m)
               ((((asked.live).admitted).formed).ascending) (seen_at ms call.module m at) ran.outside held));
           kinds = ap (λ (t : Table B). map G.kind_of t.services) after.table
               ∙ kinds_kept G (ran.gave).drawn live.table left.parts.table (((ran.gave).follows).boxes) as_many
-                  ∙ (asked.live).kinds;
+              ∙ (asked.live).kinds;
           fit = subst (λ (t : Table B). BoxesFit (map (plain_box G) t.pool)) (sym after.table) (kept.1).pool;
         }
 
@@ -244,19 +260,19 @@ module _ {B : Type 0} (G : Ghosts B) (live : Live B) (call : Invocation) (asked 
         → HoldsRoots left.parts.table (left.parts.outside.items ++ handles left.parts.globals.items)
         → TakesStep G budget asked.request (live_seen G registered live)
         (replies.Answered (end_said (names_for (names_of live) (module_of m.tree)) o)
-            (live.loaded.seq + 1) left.parts.events.items) (live_seen G registered new)
+        (live.loaded.seq + 1) left.parts.events.items) (live_seen G registered new)
         × IsLive G registered new
     call_answered o new e after held = from is_task
       where
         from : IsTask embedding durable.state (Invoke (loaded_seen m) (module_of m.tree) call.function call.args.items)
             → TakesStep G budget asked.request (live_seen G registered live)
             (replies.Answered (end_said (names_for (names_of live) (module_of m.tree)) o)
-                (live.loaded.seq + 1) left.parts.events.items) (live_seen G registered new)
+            (live.loaded.seq + 1) left.parts.events.items) (live_seen G registered new)
             × IsLive G registered new
         from (calls {f = f} given_args found is there given numbered) =
             let ran = call_steps embedding (offered_to registered) (read_sound registered) ranked G
-                (modules_seen ms) slots live.loaded.seq live.table
+            (modules_seen ms) slots live.loaded.seq live.table
             ((asked.live).admitted).formed (asked.live).fit ((asked.live).compiled).apart call.module (loaded_seen m)
-                (module_of m.tree) code (seen_at ms call.module m at) in_slot
+            (module_of m.tree) code (seen_at ms call.module m at) in_slot
             compiled found is budget call.function f given_args call.args.items there given parts left takes says o e in
             (call_taken o new after held ran, call_live o new after held ran)

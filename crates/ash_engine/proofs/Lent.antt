@@ -161,8 +161,10 @@ module _ {B : Type 0} (G : Ghosts B) (live : Live B) (call : Invocation)
       slots_before = slots_from new.compiled.items live.compiled.items as_before.codes
 
       durable_before : durable_seen G registered new ≡ durable
-      durable_before = (λ i. record { registered = registered;
-          state = state_shown G (modules_before i) (slots_before i) (as_before.seq i) (as_before.table i) })
+      durable_before = (λ i. record {
+        registered = registered;
+        state = state_shown G (modules_before i) (slots_before i) (as_before.seq i) (as_before.table i);
+      })
 
       live_before : live_seen G registered new ≡ live_seen G registered live
       live_before = (λ i. record {
@@ -181,22 +183,23 @@ module _ {B : Type 0} (G : Ghosts B) (live : Live B) (call : Invocation)
               (sym as_before.modules)
               (still_compiled (set ms call.module as_before.changed) live.compiled.items new.compiled.items
               (set_compiled ms live.compiled.items call.module m as_before.changed asked.live.compiled.each at
-                  (ap (λ (x : code_module.LoadedModule). x.tree) as_before.same)) as_before.codes);
+              (ap (λ (x : code_module.LoadedModule). x.tree) as_before.same)) as_before.codes);
           apart = subst (IsDistinct nat_eq) (sym slots_before) asked.live.compiled.apart;
         };
         held = subst (λ (t : Table B). HoldsRoots t (roots_of new)) (sym as_before.table)
             (subst (λ (l : List LoadedModule). HoldsRoots live.table (handles (globals_of l)))
-                (sym modules_before) asked.live.held);
+            (sym modules_before) asked.live.held);
         kinds = ap (λ (t : Table B). map G.kind_of t.services) as_before.table ∙ asked.live.kinds;
         fit = subst (λ (t : Table B). BoxesFit (map (plain_box G) t.pool)) (sym as_before.table) asked.live.fit;
       }
 
       refused_step : (budget : ℕ) (reply : Reply SourceFault) → reply ≡ Refused NoMemory
           → LiveSteps G budget asked.request (live_seen G registered live) reply (live_seen G registered new)
-              × IsLive G registered new
-      refused_step budget reply refused =
-          (inr (ran_out G registered live asked.request the_task reply new task_found tt refused live_before),
-          still_live)
+          × IsLive G registered new
+      refused_step budget reply refused = (
+        inr (ran_out G registered live asked.request the_task reply new task_found tt refused live_before),
+        still_live,
+      )
 
     -- memory was refused before the run began to take anything
     pub without_run : (budget : ℕ) (one : LiveStep B) → reply_seen fault_of one.reply ≡ Refused NoMemory
@@ -218,15 +221,19 @@ module _ {B : Type 0} (G : Ghosts B) (live : Live B) (call : Invocation)
 
       takes : Takes live.table m.globals.items (handles (globals_of
           (without_module (loaded_seen m).name (modules_seen ms)))) parts
-      takes = record { same_table = lent.table; same_globals = lent.globals; same_outside = outside_is;
-          no_events = lent.events }
+      takes = record {
+        same_table = lent.table;
+        same_globals = lent.globals;
+        same_outside = outside_is;
+        no_events = lent.events;
+      }
 
       pub roots_held : HoldsRoots parts.table (parts.outside.items ++ handles parts.globals.items)
       roots_held =
           subst (λ (t : Table B). HoldsRoots t (parts.outside.items ++ handles parts.globals.items)) (sym lent.table)
           (subst (λ (ws : List Word). HoldsRoots live.table (parts.outside.items ++ handles ws)) (sym lent.globals)
           (held_before live.table parts.outside.items (modules_seen ms) call.module
-              (loaded_seen m) asked.live.admitted.formed.ascending (seen_at ms call.module m at)
+          (loaded_seen m) asked.live.admitted.formed.ascending (seen_at ms call.module m at)
           outside_is unchanged_globals asked.live.held))
 
       pub there : slice_get rest.loaded.modules.items call.module ≡ Some lending
@@ -234,8 +241,13 @@ module _ {B : Type 0} (G : Ghosts B) (live : Live B) (call : Invocation)
           ∙ got_set ms call.module m lending at
 
       pub within_rest : call.module < length rest.loaded.modules.items
-      within_rest = omega (arith, within, ap (length {A = code_module.LoadedModule}) lent.modules, length-set ms
-          call.module lending)
+      within_rest = omega (
+        arith,
+        within,
+        ap (length {A = code_module.LoadedModule}) lent.modules,
+        length-set ms
+            call.module lending,
+      )
 
       pub within_rest_codes : call.module < length rest.compiled.items
       within_rest_codes = subst (λ (v : _). call.module < length v.items) (sym lent.compiled) within_codes
@@ -246,7 +258,7 @@ module _ {B : Type 0} (G : Ghosts B) (live : Live B) (call : Invocation)
       module _ (budget : ℕ) (left : Left B) (after : Rest) (same_loaded : after.loaded ≡ rest.loaded)
           (same_codes : codes_of after.compiled.items ≡ codes_of rest.compiled.items)
           (says : (c : Compiled) → slice_get rest.compiled.items call.module ≡ Some c
-              → SaysOfCall G c.code parts call.function call.args.items budget left)
+          → SaysOfCall G c.code parts call.function call.args.items budget left)
           (unchanged : left.outcome ≡ Err faults.NotBegun → left.parts ≡ parts)
           (held : HoldsRoots left.parts.table (left.parts.outside.items ++ handles left.parts.globals.items)) where
         code_there : slice_get rest.compiled.items call.module ≡ Some has_code.0
@@ -281,19 +293,19 @@ module _ {B : Type 0} (G : Ghosts B) (live : Live B) (call : Invocation)
           -- the run had an outcome
           answers : (o : run_outcome.Outcome) (step : LiveStep B) → left.outcome ≡ Ok o
               → IsAnswered back (end_named (entry_name (module_of lending.tree)) o) left.parts.events.items step
-                  → IsStepOf G registered budget asked.request live (Ok step)
+              → IsStepOf G registered budget asked.request live (Ok step)
           answers o step e answered =
               let tree : module_of lending.tree ≡ module_of m.tree =
-                  ap (λ (x : code_module.LoadedModule). module_of x.tree) lent.same in
+              ap (λ (x : code_module.LoadedModule). module_of x.tree) lent.same in
               let end : end_named (entry_name (module_of lending.tree)) o
-                  ≡ end_said (names_for (names_of live) (module_of m.tree)) o =
+              ≡ end_said (names_for (names_of live) (module_of m.tree)) o =
               (λ i. end_named (entry_name (tree i)) o) ∙ end_same (names_for (names_of live) (module_of m.tree)) o in
               let reply : reply_seen fault_of step.reply ≡ Answered
-                  (end_said (names_for (names_of live) (module_of m.tree)) o)
-                  (live.loaded.seq + 1) left.parts.events.items =
+              (end_said (names_for (names_of live) (module_of m.tree)) o)
+              (live.loaded.seq + 1) left.parts.events.items =
               answered.reply ∙ (λ i. Answered (end i) (seq_back i + 1) left.parts.events.items) in
               let came = call_answered G live call asked (read_ranked registered) budget m at one parts left
-                  has_code.0.code in_slot has_code.2 takes says_there o step.live e
+              has_code.0.code in_slot has_code.2 takes says_there o step.live e
               (record {
                 changed = changed;
                 same = changed_is;
@@ -314,7 +326,7 @@ module _ {B : Type 0} (G : Ghosts B) (live : Live B) (call : Invocation)
           -- the run was not begun
           refuses : (reply : Reply SourceFault) → left.outcome ≡ Err faults.NotBegun → reply ≡ Refused NoMemory
               → LiveSteps G budget asked.request (live_seen G registered live) reply (live_seen G registered back)
-                  × IsLive G registered back
+              × IsLive G registered back
           refuses reply e refused = refused_step back (record {
             changed = changed;
             same = changed_is;
@@ -333,7 +345,7 @@ module _ {B : Type 0} (G : Ghosts B) (live : Live B) (call : Invocation)
             × IsAnswered back (end_named (entry_name (module_of lending.tree)) outcome) left.parts.events.items step))
             → (left.outcome ≡ Err faults.NotBegun
             → IfOk result (λ step. (reply_seen fault_of step.reply ≡ Refused NoMemory)
-                × IsGivenBack after call.module lending left.parts step.live))
+            × IsGivenBack after call.module lending left.parts step.live))
             → (left.outcome ≡ Err faults.NoMemory → IfOk result (λ step. ⊥))
             → (left.outcome ≡ Err faults.Unsound → IfOk result (λ step. ⊥))
             → IfErr result (λ error. error ≡ errors.NoMemory)

@@ -30,6 +30,7 @@ pub mod Loaded
 pub mod Discarded
 pub mod ObjectsAsked
 pub mod LoadOutcomes
+pub mod LoadAsked
 pub mod Invoked
 pub mod Beside
 pub mod ArgumentsAlive

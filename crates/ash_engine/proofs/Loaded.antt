@@ -75,6 +75,20 @@ ends_same tree (outcomes.Finished value) names = refl
 ends_same tree (outcomes.Exception x function line) names = refl
 ends_same tree (outcomes.Aborted function line) names = refl
 
+-- what is left of a load
+pub record IsLeft {B : Type 0} (live : Live B) (m : code_module.LoadedModule) (c : Compiled) (left : Left B) (result : Result (LiveStep B) StepError) : Type 0 where
+  pub kept : (value : Option Word) → left.outcome ≡ Ok (outcomes.Finished value)
+      → IfOk result (λ one. (before : Live B) × IsKept (record { loaded = live.loaded; compiled = live.compiled }) m c left.parts before
+      × IsAnswered before (Finished value) left.parts.events.items one)
+  pub abandoned : (o : run_outcome.Outcome) → left.outcome ≡ Ok o → ((value : Option Word) → o ≡ outcomes.Finished value → ⊥)
+      → IfOk result (λ one. (before : Live B) × (events : List Event) × IsAbandoned (record { loaded = live.loaded; compiled = live.compiled }) left.parts before events
+      × IsAnswered before (end_named (entry_name (module_of m.tree)) o) events one)
+  pub refused : left.outcome ≡ Err faults.NotBegun
+      → IfOk result (λ one. (reply_seen fault_of one.reply ≡ Refused NoMemoryRefusal) × (one.live ≡ record { loaded = live.loaded; compiled = live.compiled; table = left.parts.table }))
+  pub lost : left.outcome ≡ Err faults.NoMemory → IfOk result (λ one. ⊥)
+  pub never : left.outcome ≡ Err faults.Unsound → IfOk result (λ one. ⊥)
+  pub memory : IfErr result (λ error. error ≡ errors.NoMemory)
+
 module _ {B : Type 0} (G : Ghosts B) (registered : List Registration) (request : Request) (budget : ℕ) (live : Live B) (is_live : IsLive G registered live)
     (ranked : ReadsRanked (offered_to registered) (embedding_for registered)) (m : code_module.LoadedModule) where
   abbrev ms : List code_module.LoadedModule
@@ -265,22 +279,10 @@ module _ {B : Type 0} (G : Ghosts B) (registered : List Registration) (request :
       subst (IsLive G registered) (sym same) is_live,
     )
 
-    -- what is left of a load is a step
-    pub record IsLeft (result : Result (LiveStep B) StepError) : Type 0 where
-      pub kept : (value : Option Word) → left.outcome ≡ Ok (outcomes.Finished value)
-          → IfOk result (λ one. (before : Live B) × IsKept rest m c left.parts before × IsAnswered before (Finished value) left.parts.events.items one)
-      pub abandoned : (o : run_outcome.Outcome) → left.outcome ≡ Ok o → ((value : Option Word) → o ≡ outcomes.Finished value → ⊥)
-          → IfOk result (λ one. (before : Live B) × (events : List Event) × IsAbandoned rest left.parts before events × IsAnswered before (end_named (entry_name tree) o) events one)
-      pub refused : left.outcome ≡ Err faults.NotBegun
-          → IfOk result (λ one. (reply_seen fault_of one.reply ≡ Refused NoMemoryRefusal) × (one.live ≡ record { loaded = live.loaded; compiled = live.compiled; table = left.parts.table }))
-      pub unchanged : left.outcome ≡ Err faults.NotBegun → left.parts.table ≡ live.table
-      pub lost : left.outcome ≡ Err faults.NoMemory → IfOk result (λ one. ⊥)
-      pub never : left.outcome ≡ Err faults.Unsound → IfOk result (λ one. ⊥)
-      pub memory : IfErr result (λ error. error ≡ errors.NoMemory)
-
-    load_is_step : IsTask embedding durable.state task → (result : Result (LiveStep B) StepError) → IsLeft result → IsStepOf G registered budget request live result
-    load_is_step is_task (Err error) l = subst (λ (e : StepError). FailsInChange request durable e) (sym l.memory) changes
-    load_is_step (initializes good is free few numbered) (Ok one) l = by left.outcome refl
+    load_is_step : IsTask embedding durable.state task → (left.outcome ≡ Err faults.NotBegun → left.parts.table ≡ live.table)
+        → (result : Result (LiveStep B) StepError) → IsLeft live m c left result → IsStepOf G registered budget request live result
+    load_is_step is_task unchanged (Err error) l = subst (λ (e : StepError). FailsInChange request durable e) (sym l.memory) changes
+    load_is_step (initializes good is free few numbered) unchanged (Ok one) l = by left.outcome refl
       where
         ended : (o : run_outcome.Outcome) → left.outcome ≡ Ok o → IsStepOf G registered budget request live (Ok one)
         ended (outcomes.Finished value) came =
@@ -306,10 +308,11 @@ module _ {B : Type 0} (G : Ghosts B) (registered : List Registration) (request :
         by (Ok o) came = ended o came
         by (Err faults.NotBegun) came =
             let both = l.refused came in
-            refused_step one both.0 (both.1 ∙ ap (λ (t : Table B). let same : Live B = record { loaded = live.loaded; compiled = live.compiled; table = t } in same) (l.unchanged came))
+            refused_step one both.0 (both.1 ∙ ap (λ (t : Table B). let same : Live B = record { loaded = live.loaded; compiled = live.compiled; table = t } in same) (unchanged came))
         by (Err faults.NoMemory) came = absurd (l.lost came)
         by (Err faults.Unsound) came = absurd (l.never came)
 
     -- The load that the code ran is a step.
-    pub loaded : (result : Result (LiveStep B) StepError) → IsLeft result → IsStepOf G registered budget request live result
-    loaded result l = load_is_step (task_is embedding durable.state request task asked) result l
+    pub loaded : (left.outcome ≡ Err faults.NotBegun → left.parts.table ≡ live.table) → (result : Result (LiveStep B) StepError) → IsLeft live m c left result
+        → IsStepOf G registered budget request live result
+    loaded unchanged result l = load_is_step (task_is embedding durable.state request task asked) unchanged result l

@@ -43,7 +43,7 @@ module _ (embedding : Embedding SourceFault) where
 
   global_takes_none : (f : LoadedModule → Option Word) (o : Option LoadedModule)
       → TakesMemoryToFind MayTakeMemory (require_some {Fault = SourceFault} o NoModule
-          (λ m. require_some (f m) NoGlobal (λ word. Ok (Read word)))) → ⊥
+      (λ m. require_some (f m) NoGlobal (λ word. Ok (Read word)))) → ⊥
   global_takes_none f (Some m) h = word_takes_none (f m) h
   global_takes_none f None h = h
 
@@ -55,7 +55,7 @@ module _ (embedding : Embedding SourceFault) where
   takes_found (Discard name) state h = tt
   takes_found (Get name global) state h =
       absurd (global_takes_none (λ m. option_and_then (λ tree. word_named global tree m.globals) (tree_of embedding m))
-          (find_module name state) h)
+      (find_module name state) h)
   takes_found (Object number) state h = tt
   takes_found Seq state h = h
   takes_found Snapshot state h = tt
@@ -70,20 +70,26 @@ module _ {B : Type 0} (G : Ghosts B) (registered : List Registration) (live : Li
   -- what a request asks for
   abbrev pub asked_from : (request : Request) (task : code_task.Task) → IsLive G registered live
       → GivesTask {Code = code_fault.SourceFault} fault_of MayTakeMemory ms (Ok task) (task_of request durable)
-          → IsAsked G live task
+      → IsAsked G live task
   asked_from request task is_live gives =
       let found = mapped (λ (one : Task). let r : TaskResult SourceFault = Ok one in r) (task_seen ms task)
-          (task_of request durable) gives in
-      record { registered = registered; request = request; live = is_live; one = found.0; seen = found.1;
-          is = sym found.2 }
+      (task_of request durable) gives in
+      record {
+        registered = registered;
+        request = request;
+        live = is_live;
+        one = found.0;
+        seen = found.1;
+        is = sym found.2;
+      }
 
   -- the step of a task or of a refusal that is replied, and changes nothing
   pub looked_on : (budget : ℕ) (request : Request) (d : TaskResult SourceFault) (step : LiveStep B)
       → IsLive G registered live → task_of request durable ≡ d
       → unless_refused budget d durable.state (hosts_of G live.table [])
-          ≡ Some (replied (reply_seen fault_of step.reply) durable.state (hosts_of G live.table []))
+      ≡ Some (replied (reply_seen fault_of step.reply) durable.state (hosts_of G live.table []))
       → events_of_reply (reply_seen fault_of step.reply) ≡ [] → step.live ≡ live
-          → IsStepOf G registered budget request live (Ok step)
+      → IsStepOf G registered budget request live (Ok step)
   looked_on budget request d step is_live is does none same = (
     inl (subst (λ (l : Live B). TakesStepTo l) (sym same)
         (looked G registered live budget request d (reply_seen fault_of step.reply) is does none)),
@@ -99,7 +105,7 @@ module _ {B : Type 0} (G : Ghosts B) (registered : List Registration) (live : Li
       → IsLive G registered live
       → GivesTask fault_of MayTakeMemory ms (Err r) (task_of request durable)
       → reply_seen fault_of step.reply ≡ Refused (refusal_seen fault_of r) → step.live ≡ live
-          → IsStepOf G registered budget request live (Ok step)
+      → IsStepOf G registered budget request live (Ok step)
   refused budget request r step is_live gives reply same = by r gives reply
     where
       so : (r : refusal.Refusal code_fault.SourceFault) → task_of request durable ≡ Err (refusal_seen fault_of r)
@@ -107,7 +113,7 @@ module _ {B : Type 0} (G : Ghosts B) (registered : List Registration) (live : Li
           → IsStepOf G registered budget request live (Ok step)
       so r is reply = looked_on budget request (Err (refusal_seen fault_of r)) step is_live is
           (ap (λ (x : Reply SourceFault). Some (replied x durable.state (hosts_of G live.table []))) (sym reply))
-              (ap events_of_reply reply) same
+          (ap events_of_reply reply) same
 
       by : (r : refusal.Refusal code_fault.SourceFault) → RefusesAs fault_of MayTakeMemory r (task_of request durable)
           → reply_seen fault_of step.reply ≡ Refused (refusal_seen fault_of r)
@@ -153,11 +159,11 @@ pub looked_at : {B : Type 0} (G : Ghosts B) (live : Live B) (task : code_task.Ta
     (budget : ℕ) (one : Task) (step : LiveStep B)
     → task_seen live.loaded.modules.items task ≡ Some one
     → unless_refused {Fault = SourceFault} budget (Ok one) (durable_seen G asked.registered live).state
-        (hosts_of G live.table [])
+    (hosts_of G live.table [])
     ≡ Some (replied (reply_seen fault_of step.reply) (durable_seen G asked.registered live).state
-        (hosts_of G live.table []))
+    (hosts_of G live.table []))
     → events_of_reply (reply_seen fault_of step.reply) ≡ [] → step.live ≡ live
-        → IsStepOf G asked.registered budget asked.request live (Ok step)
+    → IsStepOf G asked.registered budget asked.request live (Ok step)
 looked_at G live task asked budget one step seen does none same =
     looked_on G asked.registered live budget asked.request (Ok one) step asked.live
     (asked.is ∙ ap (λ (t : Task). Ok t) (same_Some asked.one one (sym asked.seen ∙ seen))) does none same

@@ -17,7 +17,7 @@ answered-requires g c =
     let ms : List LoadedModule = c.args.rest.loaded.modules.items in
     let m = get_or ms c.args.place c.index.result.now in
     let given = c.give_back-live.ensures.given m (slice_get-get_or ms c.args.place c.index.result.now c.requires.within)
-        in
+    in
     record { numbered = subst (λ (s : PlainState). s.seq < max_seq) (sym given.loaded) c.requires.numbered }
 
 pub returns-in_ok-outcome-in-Ok-clause-answered : goal.returns-in_ok-outcome-in-Ok-clause-answered
@@ -35,7 +35,7 @@ returns-in_ok-outcome-in-Ok-clause-answered g c m outcome at is =
           c.answered.result)
           (ap (λ (v : _). v.items) c.give_back-live.ensures.events)
           (subst (λ (e : End). IsAnswered back e c.give_back-live.result.1.items c.answered.result) end
-              c.answered.ensures.answered),
+          c.answered.ensures.answered),
     )
 
 pub returns-in-Err-NotBegun-clause-refused : goal.returns-in-Err-NotBegun-clause-refused

@@ -12,7 +12,7 @@ returns c =
       value = c.in_ok-push_all_handles-2.ensures.value
           ∙ ap (λ (l : List ℕ). l ++ held_by (take (length ms - (place + 1)) (drop (place + 1) ms)))
           (c.in_ok-push_all_handles.ensures.value ∙ ap (λ (l : List ℕ). l ++ held_by (take place ms))
-              c.new-numbers.ensures.items)
+          c.new-numbers.ensures.items)
           ∙ ap (λ (l : List LoadedModule). held_by (take place ms) ++ held_by l) (take_rest ms (place + 1))
           ∙ held_beside ms place;
     }

@@ -34,7 +34,7 @@ run_at-left-requires-clause-within g c =
     let found = asked_module G c.args.live c.args.call asked (read_ranked asked.registered) in
     within_rest_codes G c.args.live c.args.call asked found.0 found.1 found.2 c.in-Ok.outside.items
     (c.in-Ok.ensures.value ∙ ap (λ (l : List LoadedModule). held_by (remove l c.args.call.module))
-        c.deref.ensures.value)
+    c.deref.ensures.value)
     c.lend-rest.result.0 c.lend-rest.result.1 (c.lend-rest.ensures.lent found.0 found.1)
 
 pub run_at-left-requires-clause-held : goal.run_at-left-requires-clause-held
@@ -44,7 +44,7 @@ run_at-left-requires-clause-held g c =
     let found = asked_module G c.args.live c.args.call asked (read_ranked asked.registered) in
     roots_held G c.args.live c.args.call asked found.0 found.1 found.2 c.in-Ok.outside.items
     (c.in-Ok.ensures.value ∙ ap (λ (l : List LoadedModule). held_by (remove l c.args.call.module))
-        c.deref.ensures.value)
+    c.deref.ensures.value)
     c.lend-rest.result.0 c.lend-rest.result.1 (c.lend-rest.ensures.lent found.0 found.1)
 
 pub run_at-left-requires-clause-alive : goal.run_at-left-requires-clause-alive
@@ -53,7 +53,7 @@ run_at-left-requires-clause-alive g c =
     let asked = c.requires.asked in
     let found = asked_module G c.args.live c.args.call asked (read_ranked asked.registered) in
     subst (λ (ws : List Word). All (λ word. IsTrue (is_alive_in word c.lend-rest.result.1.table)) ws)
-        (sym c.deref-2.ensures.value)
+    (sym c.deref-2.ensures.value)
     (alive G c.args.live c.args.call asked found.0 found.1 found.2 c.lend-rest.result.1.table)
 
 pub finish_call-requires-clause-numbered : goal.finish_call-requires-clause-numbered
@@ -63,7 +63,7 @@ finish_call-requires-clause-numbered g c =
     let found = asked_module G c.args.live c.args.call asked (read_ranked asked.registered) in
     rest_numbered G c.args.live c.args.call asked found.0 found.1 found.2 c.in-Ok.outside.items
     (c.in-Ok.ensures.value ∙ ap (λ (l : List LoadedModule). held_by (remove l c.args.call.module))
-        c.deref.ensures.value)
+    c.deref.ensures.value)
     c.lend-rest.result.0 c.lend-rest.result.1 (c.lend-rest.ensures.lent found.0 found.1)
 
 pub finish_call-requires-clause-within : goal.finish_call-requires-clause-within
@@ -73,7 +73,7 @@ finish_call-requires-clause-within g c =
     let found = asked_module G c.args.live c.args.call asked (read_ranked asked.registered) in
     within_rest G c.args.live c.args.call asked found.0 found.1 found.2 c.in-Ok.outside.items
     (c.in-Ok.ensures.value ∙ ap (λ (l : List LoadedModule). held_by (remove l c.args.call.module))
-        c.deref.ensures.value)
+    c.deref.ensures.value)
     c.lend-rest.result.0 c.lend-rest.result.1 (c.lend-rest.ensures.lent found.0 found.1)
 
 pub returns : goal.returns
@@ -82,17 +82,17 @@ returns g c = record {
       λ asked. let G = g.B.HostObject in
       let found = asked_module G c.args.live c.args.call asked (read_ranked asked.registered) in
       let beside = c.in-Ok.ensures.value ∙ ap (λ (l : List LoadedModule). held_by (remove l c.args.call.module))
-          c.deref.ensures.value in
+      c.deref.ensures.value in
       let rest = c.lend-rest.result.0 in
       let parts = c.lend-rest.result.1 in
       let lent = c.lend-rest.ensures.lent found.0 found.1 in
       let left = c.run_at-left.result in
       let at = there G c.args.live c.args.call asked found.0 found.1 found.2 c.in-Ok.outside.items beside rest parts
-          lent in
+      lent in
       call_stepped G c.args.live c.args.call asked found.0 found.1 found.2 c.in-Ok.outside.items beside rest parts lent
       c.args.budget left (record rest { compiled = c.run_at-left.new.compiled }) refl c.run_at-left.ensures.codes
       (λ one code_at. subst (λ (ws : List Word). SaysOfCall G one.code parts c.args.call.function ws c.args.budget left)
-          c.deref-2.ensures.value (c.run_at-left.ensures.says one code_at))
+      c.deref-2.ensures.value (c.run_at-left.ensures.says one code_at))
       c.run_at-left.ensures.unchanged c.run_at-left.ensures.held
       c.finish_call.result left.outcome refl
       (λ outcome is. c.finish_call.ensures.answered lent.lending outcome at is)

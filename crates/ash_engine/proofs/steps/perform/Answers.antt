@@ -35,7 +35,7 @@ returns-in-Read g c = record {
       λ asked. let G = g.B.HostObject in
       let step : LiveStep g.row.B.Denot = record { reply = replies.Value c.in-Read.word; live = c.args.live } in
       subst (λ (s : LiveStep g.row.B.Denot). IsStepOf G asked.registered c.args.budget asked.request c.args.live (Ok s))
-          (sym c.replied.ensures.value)
+      (sym c.replied.ensures.value)
       (looked_at G c.args.live c.args.task asked c.args.budget (Read c.in-Read.word) step
       (ap (task_seen c.args.live.loaded.modules.items) c.in-Read.is) refl refl refl);
 }
@@ -46,7 +46,7 @@ returns-in-Show g c = record {
       λ asked. let G = g.B.HostObject in
       let step : LiveStep g.row.B.Denot = record { reply = replies.Shown c.in-Show.shown; live = c.args.live } in
       subst (λ (s : LiveStep g.row.B.Denot). IsStepOf G asked.registered c.args.budget asked.request c.args.live (Ok s))
-          (sym c.replied-in-Show.ensures.value)
+      (sym c.replied-in-Show.ensures.value)
       (looked_at G c.args.live c.args.task asked c.args.budget (Show (shown_seen c.in-Show.shown)) step
       (ap (task_seen c.args.live.loaded.modules.items) c.in-Show.is) refl refl refl);
 }
@@ -57,7 +57,7 @@ returns-in-Count g c = record {
       λ asked. let G = g.B.HostObject in
       let step : LiveStep g.row.B.Denot = record { reply = replies.Seq c.args.live.loaded.seq; live = c.args.live } in
       subst (λ (s : LiveStep g.row.B.Denot). IsStepOf G asked.registered c.args.budget asked.request c.args.live (Ok s))
-          (sym c.replied-in-Count.ensures.value)
+      (sym c.replied-in-Count.ensures.value)
       (looked_at G c.args.live c.args.task asked c.args.budget Count step
       (ap (task_seen c.args.live.loaded.modules.items) c.in-Count.is) refl refl refl);
 }
@@ -68,7 +68,7 @@ returns-in-Rewrite g c = record {
       λ asked. let G = g.B.HostObject in
       let step : LiveStep g.row.B.Denot = record { reply = replies.Done; live = c.args.live } in
       subst (λ (s : LiveStep g.row.B.Denot). IsStepOf G asked.registered c.args.budget asked.request c.args.live (Ok s))
-          (sym c.replied-in-Rewrite.ensures.value)
+      (sym c.replied-in-Rewrite.ensures.value)
       (looked_at G c.args.live c.args.task asked c.args.budget Rewrite step
       (ap (task_seen c.args.live.loaded.modules.items) c.in-Rewrite.is) refl refl refl);
 }

@@ -18,7 +18,7 @@ returns-in-Ok g c = record {
   stepped =
       c.perform.ensures.stepped
       (asked_from g.B.HostObject (registered c.args.registry.now) c.args.live
-          (request_seen c.args.request.now) c.in-Ok.task c.requires.live c.in-Ok.ensures.task);
+      (request_seen c.args.request.now) c.in-Ok.task c.requires.live c.in-Ok.ensures.task);
 }
 
 pub returns-in-Err : goal.returns-in-Err
@@ -30,7 +30,7 @@ returns-in-Err g c =
     record {
       stepped =
           subst (λ (s : LiveStep g.row.B.Denot). IsStepOf G registrations c.args.budget request c.args.live (Ok s))
-              (sym c.replied.ensures.value)
+          (sym c.replied.ensures.value)
           (refused G registrations c.args.live c.args.budget request c.in-Err.refusal step c.requires.live
-              c.in-Err.ensures.task refl refl);
+          c.in-Err.ensures.task refl refl);
     }
