@@ -6,7 +6,6 @@ use Rattle.std.specs.List.{remove}
 use Rattle.std.proofs.lemmas.List.{map-append}
 use Rattle.std.proofs.lemmas.List.Elements.{filter_map-append}
 use Rattle.std.proofs.lemmas.Grind.{flat_map-append}
-use Rattle.ash_host.specs.declared.word.Word.{Word}
 use Rattle.ash_host.specs.Objects.{handle, handles}
 use Rattle.ash_requests.specs.States.{LoadedModule, globals_of}
 use Rattle.ash_plain_steps.specs.declared.state.LoadedModule as code_module

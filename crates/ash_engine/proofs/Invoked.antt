@@ -1,19 +1,17 @@
 -- A call that the code ran is a step of the live state.
 use Rattle.std.proofs.Common.{◌≡◌, ◌+◌, ℕ, zero, suc, List, [], ◌∷◌, ◌++◌, length, map, set, refl, sym, ap, ◌∙◌, subst}
-use Rattle.std.proofs.Common.{slice_get, nat_eq, inl, inr, arith}
-use Rattle.std.specs.Prelude.{Option, Some, None, Result, Ok, Err, option_map}
+use Rattle.std.proofs.Common.{slice_get, nat_eq, arith}
+use Rattle.std.specs.Prelude.{Some, Ok, option_map}
 use Rattle.std.specs.List.{AllZip, IsDistinct}
 use Rattle.std.proofs.lemmas.List.{length-map}
 use Rattle.std.proofs.lemmas.Option.{slice_get-map}
-use Rattle.ash_host.specs.declared.event.Event.{Event}
 use Rattle.ash_host.specs.declared.host_object.HostObject.{Ghosts}
 use Rattle.ash_host.specs.declared.word.Word.{Word}
 use Rattle.ash_host.specs.Objects.{handles}
 use Rattle.ash_registry.specs.AcceptedRegistrations.{Registration}
-use Rattle.ash_typed.specs.Modules.{Function, module_of}
+use Rattle.ash_typed.specs.Modules.{module_of}
 use Rattle.ash_meaning.specs.Ends.{End}
 use Rattle.ash_objects.specs.Table.{Table}
-use Rattle.ash_object_ranks.specs.ShownTables.{objects_shown}
 use Rattle.ash_run_steps.specs.declared.beginning.Parts.{Parts}
 use Rattle.ash_run_steps.specs.Answered.{Answered, boxes_of}
 use Rattle.ash_run_steps.specs.RunStates.{HoldsRoots}
@@ -22,13 +20,10 @@ use Rattle.ash_code.specs.declared.code.CodeParts.{CodeParts}
 use Rattle.ash_context.specs.declared.context.Left.{Left}
 use Rattle.ash_context.specs.declared.outcome.Outcome as run_outcome
 use Rattle.ash_context.specs.Outcomes.{end_said}
-use Rattle.ash_requests.specs.declared.argument.Arg.{Arg}
-use Rattle.ash_requests.specs.States.{LoadedModule, State, Embedding, globals_of, without_module, update_globals}
-use Rattle.ash_requests.specs.Requests.{Request}
+use Rattle.ash_requests.specs.States.{LoadedModule, Embedding, globals_of, without_module, update_globals}
 use Rattle.ash_requests.specs.Requests as replies
-use Rattle.ash_requests.specs.Steps.{Step, performed, perform, unless_refused}
+use Rattle.ash_requests.specs.Steps.{performed, unless_refused}
 use Rattle.ash_requests.specs.Steps as steps
-use Rattle.ash_requests.specs.TaskResults.{TaskChangesState}
 use Rattle.ash_requests.specs.Tasks.{Task, TaskResult, Invoke}
 use Rattle.ash_soundness.specs.WellFormed.{Context, IsContext}
 use Rattle.ash_soundness.specs.WellFormedStates.{AreHosts}
@@ -37,14 +32,12 @@ use Rattle.ash_soundness.proofs.Entries.{mapped}
 use Rattle.ash_sources.specs.SourceFaults.{SourceFault}
 use Rattle.ash_sources.proofs.SourceLaws.{read_sound}
 use Rattle.ash_plain_steps.specs.declared.state.LoadedModule as code_module
-use Rattle.ash_plain_steps.specs.declared.state.PlainState.{PlainState}
 use Rattle.ash_plain_steps.specs.declared.task.Invocation.{Invocation}
 use Rattle.ash_plain_steps.specs.declared.task.Task.TheVariants as tasks
 use Rattle.ash_plain_steps.specs.StateViews.{loaded_seen, modules_seen}
 use Rattle.ash_plain_steps.specs.Consistency.{AreConsistent}
 use Rattle.ash_plain_steps.proofs.Changed.{seen_set, consistent_set}
-use Rattle.ash_states.specs.HostStates.{HostState, IsAdmitted, embedding_for, offered_to, service_kinds}
-use Rattle.ash_states.specs.StateSteps.{task_of}
+use Rattle.ash_states.specs.HostStates.{HostState, IsAdmitted, embedding_for, offered_to}
 use Rattle.ash_table_states.specs.TableStates.{names_in, state_shown}
 use Rattle.ash_engine.specs.declared.live.Compiled.{Compiled}
 use Rattle.ash_engine.specs.declared.live.Live.{Live}
@@ -54,7 +47,7 @@ use Rattle.ash_engine.specs.RankedSources.{ReadsRanked}
 use Rattle.ash_engine.specs.TableRuns.{SaysOfCall}
 use Rattle.ash_engine.specs.TableStates.{slots_of, names_of, roots_of, IsCompiledFrom, BoxesFit, durable_seen}
 use Rattle.ash_engine.specs.TableStates.{live_seen, IsLive}
-use Rattle.ash_engine.specs.TableTasks.{codes_of, entry_name, IsAsked}
+use Rattle.ash_engine.specs.TableTasks.{codes_of, IsAsked}
 use Rattle.ash_engine.proofs.Admitted.{step_admitted}
 use Rattle.ash_engine.proofs.CallEnds.{called, called_so, numbered_from, boxes_answered, kinds_kept}
 use Rattle.ash_engine.proofs.ChangedModules.{held_after}

@@ -1,22 +1,19 @@
 -- What a call takes of a live state, and what it gives back.
 use Rattle.std.proofs.Common.{◌≡◌, ◌<◌, ◌+◌, ◌++◌, ℕ, zero, suc, List, [], ◌∷◌, length, map, set, refl, sym, ap, ◌∙◌}
 use Rattle.std.proofs.Common.{subst, slice_get, nat_eq, inl, inr, arith}
-use Rattle.std.specs.Prelude.{Option, Some, None, Result, Ok, Err, All, IsTrue, IfOk, IfErr, option_map}
+use Rattle.std.specs.Prelude.{Some, Result, Ok, Err, All, IsTrue, IfOk, IfErr, option_map}
 use Rattle.std.specs.List.{AllZip, IsDistinct, remove}
 use Rattle.std.proofs.lemmas.List.{length-set}
 use Rattle.std.proofs.lemmas.Option.{same_Some, slice_get_within, slice_get-map}
-use Rattle.ash_host.specs.declared.event.Event.{Event}
 use Rattle.ash_host.specs.declared.host_object.HostObject.{Ghosts}
 use Rattle.ash_host.specs.declared.word.Word.{Word}
 use Rattle.ash_host.specs.Objects.{handles}
 use Rattle.ash_registry.specs.AcceptedRegistrations.{Registration}
 use Rattle.ash_typed.specs.Modules.{module_of}
-use Rattle.ash_meaning.specs.Ends.{End}
 use Rattle.ash_objects.specs.Table.{Table}
 use Rattle.ash_run_steps.specs.declared.beginning.Parts.{Parts}
 use Rattle.ash_run_steps.specs.Answered.{boxes_of}
 use Rattle.ash_run_steps.specs.RunStates.{HoldsRoots, Names, is_alive_in}
-use Rattle.ash_code.specs.declared.code.CodeParts.{CodeParts}
 use Rattle.ash_context.specs.declared.context.Left.{Left}
 use Rattle.ash_context.specs.declared.outcome.Outcome as run_outcome
 use Rattle.ash_context.specs.declared.outcome.Outcome.TheVariants as outcomes
@@ -47,7 +44,7 @@ use Rattle.ash_engine.specs.declared.live.Live.{Live}
 use Rattle.ash_engine.specs.declared.live.Rest.{Rest}
 use Rattle.ash_engine.specs.declared.steps.LiveStep.{LiveStep}
 use Rattle.ash_engine.specs.LiveStates.{plain_box}
-use Rattle.ash_engine.specs.LiveSteps.{LiveSteps, TakesStep, RanOut}
+use Rattle.ash_engine.specs.LiveSteps.{LiveSteps, TakesStep}
 use Rattle.ash_engine.specs.TableRuns.{SaysOfCall, IsLent, IsGivenBack, IsAnswered, end_named}
 use Rattle.ash_engine.specs.TableStates.{slots_of, names_of, roots_of, IsCompiledFrom, BoxesFit, durable_seen}
 use Rattle.ash_engine.specs.TableStates.{live_seen, IsLive}
@@ -55,11 +52,11 @@ use Rattle.ash_engine.specs.TableSteps.{IsStepOf}
 use Rattle.ash_engine.specs.TableTasks.{codes_of, entry_name, IsAsked}
 use Rattle.ash_engine.proofs.ArgumentsAlive.{arguments_alive}
 use Rattle.ash_engine.proofs.ChangedModules.{held_before}
-use Rattle.ash_engine.proofs.Invoked.{slots_from, still_compiled, set_compiled, seen_at, asked_module, call_answered}
+use Rattle.ash_engine.proofs.Invoked.{slots_from, still_compiled, set_compiled, seen_at, call_answered}
 use Rattle.ash_engine.proofs.Looked.{ran_out}
 use Rattle.ash_engine.proofs.ReadRanks.{read_ranked}
 use Rattle.ash_engine.proofs.RunSettings.{names_for}
-use Rattle.ash_engine.proofs.TableCalls.{Takes, never_unsound}
+use Rattle.ash_engine.proofs.TableCalls.{Takes}
 
 -- a list with an item in its own place
 same_set : {A : Type 0} (xs : List A) (place : ℕ) (x : A) → slice_get xs place ≡ Some x → set xs place x ≡ xs

@@ -1,6 +1,6 @@
 -- The tasks of requests over a live state, and the steps of those that are not taken.
-use Rattle.std.proofs.Common.{◌≡◌, ℕ, List, [], refl, sym, ap, ◌∙◌, subst, inl, inr}
-use Rattle.std.specs.Prelude.{Option, Some, None, Ok, Err, option_map}
+use Rattle.std.proofs.Common.{◌≡◌, ℕ, List, [], sym, ap, ◌∙◌, subst, inl, inr}
+use Rattle.std.specs.Prelude.{Option, Some, None, Ok, Err}
 use Rattle.std.specs.Option.{option_and_then}
 use Rattle.std.proofs.lemmas.Option.{same_Some}
 use Rattle.ash_host.specs.declared.host_object.HostObject.{Ghosts}
@@ -13,7 +13,7 @@ use Rattle.ash_requests.specs.Requests.{Request, Load, Call, Discard, Get, Objec
 use Rattle.ash_requests.specs.Requests.{Reply, Refused}
 use Rattle.ash_requests.specs.States.{LoadedModule, Embedding, State, find_module}
 use Rattle.ash_requests.specs.StepLaws.{events_of_reply}
-use Rattle.ash_requests.specs.Steps.{Step, TakesMemory, replied, unless_refused}
+use Rattle.ash_requests.specs.Steps.{TakesMemory, replied, unless_refused}
 use Rattle.ash_requests.specs.TaskResults.{TakesMemoryToFind}
 use Rattle.ash_requests.specs.Tasks as tasks
 use Rattle.ash_requests.specs.Tasks.{Task, TaskResult, Read, require_some, tree_of, word_named}
@@ -22,7 +22,6 @@ use Rattle.ash_sources.specs.declared.fault.SourceFault as code_fault
 use Rattle.ash_sources.specs.SourceFaults.{SourceFault, fault_of, MayTakeMemory}
 use Rattle.ash_plain_steps.specs.declared.state.LoadedModule as code_module
 use Rattle.ash_plain_steps.specs.declared.task.Task as code_task
-use Rattle.ash_plain_steps.specs.StateViews.{modules_seen, state_seen}
 use Rattle.ash_plain_steps.specs.TaskViews.{task_seen, GivesTask, RefusesAs}
 use Rattle.ash_states.specs.HostStates.{HostState, embedding_for}
 use Rattle.ash_states.specs.StateSteps.{task_of}

@@ -1,4 +1,4 @@
-use Rattle.std.proofs.Common.{◌≡◌, ◌∙◌, List, refl, sym, ap, subst}
+use Rattle.std.proofs.Common.{◌∙◌, List, refl, sym, ap, subst}
 use Rattle.std.specs.Prelude.{All, IsTrue}
 use Rattle.std.specs.List.{remove}
 use Rattle.ash_host.specs.declared.word.Word.{Word}
