@@ -8,5 +8,6 @@ returns-in-Ok-clause-abandoned g c = (
   c.in-Ok.live,
   c.in-Ok.events.items,
   c.in-Ok.ensures.abandoned,
-  subst (λ (end : End). IsAnswered c.in-Ok.live end c.in-Ok.events.items c.answered.result) c.in_ok-outcome.ensures.end c.answered.ensures.answered,
+  subst (λ (end : End). IsAnswered c.in-Ok.live end c.in-Ok.events.items c.answered.result) c.in_ok-outcome.ensures.end
+      c.answered.ensures.answered,
 )

@@ -15,7 +15,8 @@ returns-in_ok-live-in-Finished-clause-kept g c = λ value came.
       live,
       c.in_ok-live-in-Finished.ensures.kept,
       subst (λ (v : Option Word). IsAnswered live (Finished v) c.args.parts.events.items c.answered.result) same
-          (subst (λ (events : _). IsAnswered live (Finished c.in-Finished.value) events.items c.answered.result) c.in_ok-live-in-Finished.ensures.events c.answered.ensures.answered),
+          (subst (λ (events : _). IsAnswered live (Finished c.in-Finished.value) events.items c.answered.result)
+          c.in_ok-live-in-Finished.ensures.events c.answered.ensures.answered),
     )
 
 pub returns-in_ok-live-in-Finished-clause-abandoned : goal.returns-in_ok-live-in-Finished-clause-abandoned
@@ -26,7 +27,8 @@ returns-in-Exception g c =
     let one = outcomes.Exception c.in-Exception.code c.in-Exception.function c.in-Exception.line in
     record {
       kept = λ value came. absurd (let e : one ≡ outcomes.Finished value = sym c.in-Exception.is ∙ came in cc);
-      abandoned = λ other. abandoned_as c.args.rest c.args.parts (module_of c.args.new_module.tree) c.finish_abandoned.result one c.args.outcome (sym c.in-Exception.is) c.finish_abandoned.ensures.abandoned;
+      abandoned = λ other. abandoned_as c.args.rest c.args.parts (module_of c.args.new_module.tree)
+          c.finish_abandoned.result one c.args.outcome (sym c.in-Exception.is) c.finish_abandoned.ensures.abandoned;
       memory = c.finish_abandoned.ensures.memory;
     }
 
@@ -35,6 +37,8 @@ returns-in-Aborted g c =
     let one = outcomes.Aborted c.in-Aborted.function c.in-Aborted.line in
     record {
       kept = λ value came. absurd (let e : one ≡ outcomes.Finished value = sym c.in-Aborted.is ∙ came in cc);
-      abandoned = λ other. abandoned_as c.args.rest c.args.parts (module_of c.args.new_module.tree) c.finish_abandoned-in-Aborted.result one c.args.outcome (sym c.in-Aborted.is) c.finish_abandoned-in-Aborted.ensures.abandoned;
+      abandoned = λ other. abandoned_as c.args.rest c.args.parts (module_of c.args.new_module.tree)
+          c.finish_abandoned-in-Aborted.result one c.args.outcome
+          (sym c.in-Aborted.is) c.finish_abandoned-in-Aborted.ensures.abandoned;
       memory = c.finish_abandoned-in-Aborted.ensures.memory;
     }

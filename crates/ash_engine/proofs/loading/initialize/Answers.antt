@@ -6,12 +6,14 @@ use Rattle.ash_engine.proofs.loading.initialize.Goals as goal
 
 pub returns-in_default : goal.returns-in_default
 returns-in_default g c = record {
-  stepped = λ asked. load_refused g.B.HostObject c.args.live c.args.new asked c.args.budget c.without_memory.result c.without_memory.ensures.refused c.without_memory.ensures.unchanged;
+  stepped = λ asked. load_refused g.B.HostObject c.args.live c.args.new asked c.args.budget c.without_memory.result
+      c.without_memory.ensures.refused c.without_memory.ensures.unchanged;
 }
 
 pub run_initializers-left-requires : goal.run_initializers-left-requires
 run_initializers-left-requires g c = record {
-  held = held_first g.B.HostObject c.args.live c.args.new c.requires.asked c.in-Ok.prepared c.in-Ok.ensures.prepared c.replace.result.items (ap (λ (v : _). v.items) c.replace.ensures.value);
+  held = held_first g.B.HostObject c.args.live c.args.new c.requires.asked c.in-Ok.prepared c.in-Ok.ensures.prepared
+      c.replace.result.items (ap (λ (v : _). v.items) c.replace.ensures.value);
 }
 
 pub finish_load-requires-clause-numbered : goal.finish_load-requires-clause-numbered
@@ -31,10 +33,17 @@ returns g c = record {
       λ asked.
       let prepared = c.in-Ok.prepared in
       let m : LoadedModule = record prepared.new_module { globals = c.replace.new.dest } in
-      let parts : Parts g.row.B.Denot = record { table = c.args.live.table; globals = c.replace.result; outside = prepared.outside; events = c.new-2.result } in
+      let parts : Parts g.row.B.Denot = record {
+        table = c.args.live.table;
+        globals = c.replace.result;
+        outside = prepared.outside;
+        events = c.new-2.result;
+      } in
       load_stepped g.B.HostObject c.args.live c.args.new asked prepared c.in-Ok.ensures.prepared m refl refl refl
-      c.run_initializers-left.new.compiled c.run_initializers-left.ensures.code parts refl (ap (λ (v : _). v.items) c.replace.ensures.value) refl c.new-2.ensures.items
-      c.args.budget c.run_initializers-left.result c.run_initializers-left.ensures.says c.run_initializers-left.ensures.unchanged c.run_initializers-left.ensures.held
+      c.run_initializers-left.new.compiled c.run_initializers-left.ensures.code parts refl
+      (ap (λ (v : _). v.items) c.replace.ensures.value) refl c.new-2.ensures.items
+      c.args.budget c.run_initializers-left.result c.run_initializers-left.ensures.says
+      c.run_initializers-left.ensures.unchanged c.run_initializers-left.ensures.held
       c.finish_load.result (record {
         kept = c.finish_load.ensures.kept;
         abandoned = c.finish_load.ensures.abandoned;
