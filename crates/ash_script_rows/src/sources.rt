@@ -1,9 +1,9 @@
 //! Sources that use what is registered.
 
-use crate::rows::{HOST, Row, check_row};
-use std::test::Fail;
+use crate::rows::{HOST, Row};
 
-static SOURCES_THAT_USE_WHAT_IS_REGISTERED: Row<'static> = Row {
+/// The rows.
+pub static ROWS: [Row<'static>; 1] = [Row {
     what: "sources that use what is registered",
     host: HOST,
     steps: &[],
@@ -31,9 +31,4 @@ static SOURCES_THAT_USE_WHAT_IS_REGISTERED: Row<'static> = Row {
         ("seq", "ok 5", ""),
     ],
     left: "seq 5 last 1 | a null | b | c | d object 1 | e | objects 1 | services 00000000 | free 3 left 0",
-};
-
-#[test]
-fn sources_that_use_what_is_registered(rt: HostRuntime) -> Result<(), Fail> {
-    check_row(&rt, rt.alloc(), &SOURCES_THAT_USE_WHAT_IS_REGISTERED)
-}
+}];
