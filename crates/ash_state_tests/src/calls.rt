@@ -2,32 +2,10 @@
 
 use ash_host::{Counter, HostAnswer, HostObject, NoMemory, Tally, Target, Word};
 use ash_plain_data::host_call::{HostCall, HostRecord};
+use ash_script_rows::steps::HostStep;
 use std::alloc::{AllocError, Global};
 use std::collections::VecDeque;
 use std::test::Fail;
-
-/// A call that a script makes of a host object, by its number, or of the service.
-#[derive(Clone, Copy)]
-pub enum HostStep {
-    /// A counter is started with a value.
-    Start(u64, i32),
-    /// A counter adds.
-    Add(u64, i32),
-    /// A counter raises a code.
-    Fail(u64, i32),
-    /// A counter's value is read.
-    Read(u64),
-    /// A counter's value is written.
-    Write(u64, i32),
-    /// The service adds.
-    Tally(i32),
-    /// The service's total is read.
-    Total,
-    /// An object of the kind 9 is started.
-    StartOdd(u64, i32),
-    /// An object of the kind 9 runs its method, and answers `true` where an `int` is declared.
-    Bad(u64),
-}
 
 /// Those that answer.
 #[derive(Drop)]

@@ -4,7 +4,7 @@ ghost use Rattle.std.specs.Prelude.{◌≡◌, [], IfOk};
 ghost use Rattle.ash_sources.specs.Sources.{registered_for, embedding_of};
 ghost use Rattle.ash_plain_steps.specs.Consistency.{AreConsistent};
 
-use crate::calls::{HostStep, answers};
+use crate::calls::answers;
 use crate::registered::{pool, registry, zero};
 use crate::replies::{events_text, reply_text};
 use crate::requests::{arguments_of, request_of};
@@ -13,43 +13,12 @@ use ash_plain_steps::state::{Hosts, PlainState};
 use ash_plain_steps::step::Step;
 use ash_plain_steps::steps::plain_step;
 use ash_requests::{Reply, Request, StepError};
+use ash_script_rows::rows::Row;
 use ash_sources::fault::SourceFault;
 use ash_sources::sources::Sources;
 use std::alloc::{AllocError, Global};
 use std::process::Abort;
 use std::test::Fail;
-
-/// A request as a line, where a source follows the name of its module; its reply as the program writes it; its events.
-pub type Exchange<'a> = (&'a str, &'a str, &'a str);
-
-/// What is found before the first request.
-#[derive(Clone, Copy)]
-pub struct Host {
-    /// How many counters are free.
-    pub counters: usize,
-    /// How many ticks a request has.
-    pub budget: u64,
-    /// The last number that was given to an object.
-    pub last: u64,
-}
-
-/// Two counters are free.
-pub const HOST: Host = Host {
-    counters: 2,
-    budget: 1000,
-    last: 0,
-};
-
-/// A row: what it shows, what is found before the first request, the requests, and the state that they leave.
-#[derive(Clone, Copy)]
-pub struct Row<'a> {
-    pub what: &'a str,
-    pub host: Host,
-    /// What is asked of counters and the service, in order.
-    pub steps: &'a [HostStep],
-    pub exchanges: &'a [Exchange<'a>],
-    pub left: &'a str,
-}
 
 /// Compares a text with the one that is wanted of a row.
 fn check_text(rt: &impl Abort, found: &str, wanted: &str, what: (&str, &str)) {

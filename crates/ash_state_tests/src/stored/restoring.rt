@@ -208,7 +208,15 @@ fn check_changes(rt: &impl Abort, alloc: Global, row: &Row) -> Result<(), Fail> 
 
 #[test]
 fn each_byte_changed(rt: HostRuntime) -> Result<(), Fail> {
-    for row in &ROWS {
+    for row in ROWS.iter().take(5) {
+        check_changes(&rt, rt.alloc(), row)?;
+    }
+    Ok(())
+}
+
+#[test]
+fn each_byte_changed_of_objects(rt: HostRuntime) -> Result<(), Fail> {
+    for row in ROWS.iter().skip(5) {
         check_changes(&rt, rt.alloc(), row)?;
     }
     Ok(())

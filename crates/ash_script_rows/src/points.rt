@@ -1,8 +1,7 @@
 //! Counters that go at the end of a full expression and of blocks, those of one point by ascending number.
 
-use crate::calls::HostStep;
-use crate::rows::{HOST, Host, Row, check_rows};
-use std::test::Fail;
+use crate::rows::{HOST, Host, Row};
+use crate::steps::HostStep;
 
 /// Four counters are free.
 pub const FOUR: Host = Host {
@@ -10,7 +9,8 @@ pub const FOUR: Host = Host {
     ..HOST
 };
 
-static EXPRESSIONS: [Row<'static>; 8] = [
+/// The rows.
+pub static ROWS: [Row<'static>; 15] = [
     Row {
         what: "an expression statement",
         host: FOUR,
@@ -194,14 +194,6 @@ static EXPRESSIONS: [Row<'static>; 8] = [
         ],
         left: "seq 1 last 2 | m 1 2 | objects | services 00000000 | free 3 left 0",
     },
-];
-
-#[test]
-fn the_end_of_a_full_expression(rt: HostRuntime) -> Result<(), Fail> {
-    check_rows(&rt, rt.alloc(), &EXPRESSIONS)
-}
-
-static BLOCKS: [Row<'static>; 7] = [
     Row {
         what: "a block: its locals in another order than their numbers",
         host: FOUR,
@@ -365,8 +357,3 @@ static BLOCKS: [Row<'static>; 7] = [
         left: "seq 2 last 3 | m | objects | services 00000000 | free 2 left 0",
     },
 ];
-
-#[test]
-fn the_end_of_blocks(rt: HostRuntime) -> Result<(), Fail> {
-    check_rows(&rt, rt.alloc(), &BLOCKS)
-}

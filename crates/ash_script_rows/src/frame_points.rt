@@ -1,11 +1,11 @@
 //! Counters that go where a frame is left, and where a run or a module ends, those of one point by ascending number.
 
-use crate::calls::HostStep;
 use crate::points::FOUR;
-use crate::rows::{Row, check_rows};
-use std::test::Fail;
+use crate::rows::Row;
+use crate::steps::HostStep;
 
-static FRAMES: [Row<'static>; 5] = [
+/// The rows.
+pub static ROWS: [Row<'static>; 13] = [
     Row {
         what: "a body that comes to its end",
         host: FOUR,
@@ -116,14 +116,6 @@ static FRAMES: [Row<'static>; 5] = [
         ],
         left: "seq 2 last 3 | m | objects | services 00000000 | free 3 left 0",
     },
-];
-
-#[test]
-fn the_end_of_a_frame(rt: HostRuntime) -> Result<(), Fail> {
-    check_rows(&rt, rt.alloc(), &FRAMES)
-}
-
-static ENDS: [Row<'static>; 8] = [
     Row {
         what: "all frames, by an exception",
         host: FOUR,
@@ -271,8 +263,3 @@ static ENDS: [Row<'static>; 8] = [
         left: "seq 2 last 2 | objects | services 00000000 | free 3 left 0",
     },
 ];
-
-#[test]
-fn the_end_of_a_run_and_of_a_module(rt: HostRuntime) -> Result<(), Fail> {
-    check_rows(&rt, rt.alloc(), &ENDS)
-}

@@ -1,10 +1,10 @@
 //! Host objects and services take no tick and no frame.
 
-use crate::calls::HostStep;
-use crate::rows::{HOST, Host, Row, check_rows};
-use std::test::Fail;
+use crate::rows::{HOST, Host, Row};
+use crate::steps::HostStep;
 
-static TICKS: [Row<'static>; 2] = [
+/// The rows.
+pub static ROWS: [Row<'static>; 4] = [
     Row {
         what: "a tick for the entry, and one for each statement",
         host: Host { budget: 4, ..HOST },
@@ -47,14 +47,6 @@ static TICKS: [Row<'static>; 2] = [
         ],
         left: "seq 2 last 1 | m | objects | services 00000000 | free 2 left 0",
     },
-];
-
-#[test]
-fn hosts_take_no_ticks(rt: HostRuntime) -> Result<(), Fail> {
-    check_rows(&rt, rt.alloc(), &TICKS)
-}
-
-static FRAMES: [Row<'static>; 2] = [
     Row {
         what: "in the last frame that there may be",
         host: HOST,
@@ -92,8 +84,3 @@ static FRAMES: [Row<'static>; 2] = [
         left: "seq 2 last 0 | m | objects | services 00000000 | free 3 left 0",
     },
 ];
-
-#[test]
-fn hosts_take_no_frames(rt: HostRuntime) -> Result<(), Fail> {
-    check_rows(&rt, rt.alloc(), &FRAMES)
-}

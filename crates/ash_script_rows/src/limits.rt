@@ -1,9 +1,9 @@
 //! Ticks, frames, numbers and objects that run out.
 
-use crate::rows::{HOST, Host, Row, check_row, check_rows};
-use std::test::Fail;
+use crate::rows::{HOST, Host, Row};
 
-static THE_LAST_TICK: [Row<'static>; 2] = [
+/// The rows.
+pub static ROWS: [Row<'static>; 6] = [
     Row {
         what: "as many ticks as are taken",
         host: Host { budget: 2, ..HOST },
@@ -24,34 +24,20 @@ static THE_LAST_TICK: [Row<'static>; 2] = [
         ],
         left: "seq 2 last 0 | m | objects | services 00000000 | free 3 left 0",
     },
-];
-
-#[test]
-fn the_last_tick(rt: HostRuntime) -> Result<(), Fail> {
-    check_rows(&rt, rt.alloc(), &THE_LAST_TICK)
-}
-
-static A_LOAD_WITHOUT_TICKS: Row<'static> = Row {
-    what: "a load without ticks",
-    host: Host { budget: 0, ..HOST },
-    steps: &[],
-    exchanges: &[
-        (
-            "load m int n = 2; int f(int k) { n += k; return n; }",
-            "aborted (init) 1 seq 1",
-            "",
-        ),
-        ("call m f", "refused 401 NoModule", ""),
-    ],
-    left: "seq 1 last 0 | objects | services 00000000 | free 3 left 0",
-};
-
-#[test]
-fn a_load_without_ticks(rt: HostRuntime) -> Result<(), Fail> {
-    check_row(&rt, rt.alloc(), &A_LOAD_WITHOUT_TICKS)
-}
-
-static ENDLESS_CALLS: [Row<'static>; 2] = [
+    Row {
+        what: "a load without ticks",
+        host: Host { budget: 0, ..HOST },
+        steps: &[],
+        exchanges: &[
+            (
+                "load m int n = 2; int f(int k) { n += k; return n; }",
+                "aborted (init) 1 seq 1",
+                "",
+            ),
+            ("call m f", "refused 401 NoModule", ""),
+        ],
+        left: "seq 1 last 0 | objects | services 00000000 | free 3 left 0",
+    },
     Row {
         what: "as many frames as there may be",
         host: Host {
@@ -87,29 +73,18 @@ static ENDLESS_CALLS: [Row<'static>; 2] = [
         ],
         left: "seq 2 last 0 | m | objects | services 00000000 | free 3 left 0",
     },
-];
-
-#[test]
-fn endless_calls(rt: HostRuntime) -> Result<(), Fail> {
-    check_rows(&rt, rt.alloc(), &ENDLESS_CALLS)
-}
-
-static NUMBERS_THAT_ARE_SPENT: Row<'static> = Row {
-    what: "the last number, before an empty pool",
-    host: Host {
-        counters: 0,
-        last: u64::MAX,
-        ..HOST
+    Row {
+        what: "the last number, before an empty pool",
+        host: Host {
+            counters: 0,
+            last: u64::MAX,
+            ..HOST
+        },
+        steps: &[],
+        exchanges: &[
+            ("load m void f() { Counter c(1); }", "ok seq 1", ""),
+            ("call m f", "exception NumbersSpent f 1 seq 2", ""),
+        ],
+        left: "seq 2 last 18446744073709551615 | m | objects | services 00000000 | free 1 left 0",
     },
-    steps: &[],
-    exchanges: &[
-        ("load m void f() { Counter c(1); }", "ok seq 1", ""),
-        ("call m f", "exception NumbersSpent f 1 seq 2", ""),
-    ],
-    left: "seq 2 last 18446744073709551615 | m | objects | services 00000000 | free 1 left 0",
-};
-
-#[test]
-fn numbers_that_are_spent(rt: HostRuntime) -> Result<(), Fail> {
-    check_row(&rt, rt.alloc(), &NUMBERS_THAT_ARE_SPENT)
-}
+];

@@ -1,0 +1,5 @@
+//! Tests that sources are compiled: their code is valid, and has what their modules declare.
+#![tactic(auto)]
+
+#[cfg(test)]
+mod compiled;
