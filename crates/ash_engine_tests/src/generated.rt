@@ -19,16 +19,52 @@ const HOST: Host = Host {
 
 /// What is asked. `#` is a number, `@` a script.
 static LINES: [&str; 30] = [
-    "call m f #", "call m f #", "call m f #", "call m r #", "call m r #", "call m z #",
-    "call m z #", "call m y # true", "call m y # false", "call k f #", "call k r #", "call k z #",
-    "get m n", "get m g", "get m p", "get k w", "get m none", "object #", "object #", "object #",
-    "seq", "snapshot", "open", "discard m", "load m @", "load k @", "load k @", "discard k",
-    "call m two 1", "call m f",
+    "call m f #",
+    "call m f #",
+    "call m f #",
+    "call m r #",
+    "call m r #",
+    "call m z #",
+    "call m z #",
+    "call m y # true",
+    "call m y # false",
+    "call k f #",
+    "call k r #",
+    "call k z #",
+    "get m n",
+    "get m g",
+    "get m p",
+    "get k w",
+    "get m none",
+    "object #",
+    "object #",
+    "object #",
+    "seq",
+    "snapshot",
+    "open",
+    "discard m",
+    "load m @",
+    "load k @",
+    "load k @",
+    "discard k",
+    "call m two 1",
+    "call m f",
 ];
 
 /// The numbers that calls are handed, and of the objects that are looked at.
 static NUMBERS: [&str; 12] = [
-    "0", "1", "2", "3", "4", "5", "6", "7", "8", "-3", "100", "2147483647",
+    "0",
+    "1",
+    "2",
+    "3",
+    "4",
+    "5",
+    "6",
+    "7",
+    "8",
+    "-3",
+    "100",
+    "2147483647",
 ];
 
 /// A line, with a number and a script in their places.
@@ -71,7 +107,14 @@ fn session_of(alloc: Global, number: u64) -> Result<Vec<Ask>, AllocError> {
         let pattern = seed.pick(&LINES);
         asks.push(ask_of(alloc, &mut seed, pattern)?)?;
     }
-    for pattern in ["open", "object 1", "discard m", "discard k", "object 1", "seq"] {
+    for pattern in [
+        "open",
+        "object 1",
+        "discard m",
+        "discard k",
+        "object 1",
+        "seq",
+    ] {
         asks.push(ask_of(alloc, &mut seed, pattern)?)?;
     }
     Ok(asks)

@@ -2,8 +2,8 @@
 //! objects that note what they are asked. The plain evaluator is handed what the boxes answered. After each request the
 //! replies, the events, the boxes that went, and the states are the same.
 //!
-//! `lines` has requests as lines, `texts` replies and states as texts, `boxes` the boxes of a session. `both` is an
-//! engine beside the plain evaluator, `sessions` what is asked of both. `rows` has the worked rows of `ash_script_rows`;
+//! `texts` has replies and states as texts, `boxes` the boxes of a session. `both` is an engine beside the plain
+//! evaluator, `sessions` what is asked of both. `rows` has the worked rows of `ash_script_rows`;
 //! `seeds`, `phrases`, `scripts` and `generated` make scripts and sessions by seeds, and run them.
 #![tactic(auto)]
 
@@ -13,8 +13,6 @@ mod both;
 mod boxes;
 #[cfg(test)]
 mod generated;
-#[cfg(test)]
-mod lines;
 #[cfg(test)]
 mod phrases;
 #[cfg(test)]

@@ -23,12 +23,7 @@ fn push_phrase(
 }
 
 /// Fills each hole of a text.
-fn filled(
-    alloc: Global,
-    seed: &mut Seed,
-    text: &str,
-    is_last: bool,
-) -> Result<String, AllocError> {
+fn filled(alloc: Global, seed: &mut Seed, text: &str, is_last: bool) -> Result<String, AllocError> {
     let mut out = String::new(alloc);
     let mut is_hole = false;
     for letter in text.chars() {

@@ -5,9 +5,9 @@ ghost use Rattle.std.specs.Prelude.{◌≡◌, [], IsSome, IfOk};
 
 use crate::both::{Both, Compared, durable_in};
 use crate::boxes::{free_boxes, service_boxes, taken_by, zero};
-use crate::lines::{arguments_of, request_of};
 use ash_engine::engine::Engine;
 use ash_machine_fixtures::boxes::Pool;
+use ash_machine_fixtures::lines::{arguments_of, request_of};
 use ash_machine_fixtures::noted::{Log, Noted, new_log};
 use ash_machine_fixtures::registered::registry;
 use ash_plain_steps::state::PlainState;
