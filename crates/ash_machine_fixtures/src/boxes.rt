@@ -1,13 +1,15 @@
 //! The boxes that a test has.
 
 use crate::noted::{Inner, Log, new_box};
+use ash_example_kind::Buffer;
 use ash_host::{Counter, HostObject, NoMemory, Tally, Target};
 use std::alloc::Global;
 
-/// How many boxes are free: counters, and then boxes of the kind that answers badly.
+/// How many boxes are free: counters, then buffers, and then boxes of the kind that answers badly.
 #[derive(Clone, Copy)]
 pub struct Pool {
     pub counters: usize,
+    pub buffers: usize,
     pub odds: usize,
 }
 
@@ -32,6 +34,9 @@ pub fn boxes_of(
     let mut boxes: Vec<Box<dyn HostObject>> = Vec::new(alloc);
     for _ in 0..pool.counters {
         push_free(alloc, &mut boxes, log, Inner::Counter(Counter::new()))?;
+    }
+    for _ in 0..pool.buffers {
+        push_free(alloc, &mut boxes, log, Inner::Buffer(Buffer::new(alloc)))?;
     }
     for _ in 0..pool.odds {
         push_free(alloc, &mut boxes, log, Inner::Odd)?;

@@ -4,6 +4,7 @@ ghost use Rattle.ash_host.specs.Limits.{max_state_bytes};
 ghost use Rattle.ash_machine_fixtures.specs.Boxes.{kind_in, state_in};
 
 use crate::registered::ODD;
+use ash_example_kind::Buffer;
 use ash_host::{Counter, HostAnswer, HostObject, NoMemory, RestoreFault, Tally, Target, Word};
 use ash_plain_data::host_call::{HostCall, HostRecord};
 use std::alloc::{AllocError, Global};
@@ -55,6 +56,7 @@ pub fn take_notes(alloc: Global, log: &Log) -> Notes {
 pub enum Inner {
     Counter(Counter),
     Tally(Tally),
+    Buffer(Buffer),
     /// A kind that answers badly. It has no state.
     Odd,
 }
@@ -105,6 +107,7 @@ impl Inner {
         match self {
             Inner::Counter(_) => Counter::KIND,
             Inner::Tally(_) => Tally::KIND,
+            Inner::Buffer(buffer) => buffer.kind(),
             Inner::Odd => ODD,
         }
     }
@@ -116,6 +119,7 @@ impl Inner {
         match self {
             Inner::Counter(counter) => counter.start(args),
             Inner::Tally(tally) => tally.start(args),
+            Inner::Buffer(buffer) => buffer.start(args),
             Inner::Odd => start_odd(args),
         }
     }
@@ -127,6 +131,7 @@ impl Inner {
         match self {
             Inner::Counter(counter) => counter.invoke(method, args),
             Inner::Tally(tally) => tally.invoke(method, args),
+            Inner::Buffer(buffer) => buffer.invoke(method, args),
             Inner::Odd => invoke_odd(method, args),
         }
     }
@@ -135,6 +140,7 @@ impl Inner {
         match (self, prop) {
             (Inner::Counter(counter), _) => counter.get(prop),
             (Inner::Tally(tally), _) => tally.get(prop),
+            (Inner::Buffer(buffer), _) => buffer.get(prop),
             (Inner::Odd, 1) => Word::Bool(true),
             (Inner::Odd, 2) => Word::Int64(-5),
             (Inner::Odd, _) => Word::Null,
@@ -148,6 +154,7 @@ impl Inner {
         match self {
             Inner::Counter(counter) => counter.set(prop, word),
             Inner::Tally(tally) => tally.set(prop, word),
+            Inner::Buffer(buffer) => buffer.set(prop, word),
             Inner::Odd => {}
         }
     }
@@ -160,6 +167,7 @@ impl Inner {
         match self {
             Inner::Counter(counter) => counter.save(out),
             Inner::Tally(tally) => tally.save(out),
+            Inner::Buffer(buffer) => buffer.save(out),
             Inner::Odd => Ok(()),
         }
     }
@@ -172,6 +180,7 @@ impl Inner {
         match self {
             Inner::Counter(counter) => counter.restore(bytes),
             Inner::Tally(tally) => tally.restore(bytes),
+            Inner::Buffer(buffer) => buffer.restore(bytes),
             Inner::Odd if bytes.is_empty() => Ok(()),
             Inner::Odd => Err(RestoreFault::Refused),
         }

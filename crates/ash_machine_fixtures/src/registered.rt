@@ -1,4 +1,4 @@
-//! What is registered: `Counter` and `Tally`, as the program registers them, and `Odd`, a kind that answers badly.
+//! What is registered: `Counter` and `Tally`, as the program registers them, `Buffer`, and `Odd`, a kind that answers badly.
 
 use ash_registry::{Registry, RegistryFault};
 use std::alloc::Global;
@@ -20,6 +20,14 @@ fn register_tally(registry: &mut Registry) -> Result<(), RegistryFault> {
     registry.function(0, "int total()", 2)
 }
 
+fn register_buffer(registry: &mut Registry) -> Result<(), RegistryFault> {
+    registry.object_type("Buffer", 3)?;
+    registry.factory("Buffer", "Buffer@ f()")?;
+    registry.method("Buffer", "void put(int)", 1)?;
+    registry.method("Buffer", "int take()", 2)?;
+    registry.property("Buffer", "int length", 1)
+}
+
 fn register_odd(registry: &mut Registry) -> Result<(), RegistryFault> {
     registry.object_type("Odd", ODD)?;
     registry.factory("Odd", "Odd@ f(int)")?;
@@ -37,6 +45,7 @@ pub fn registry(alloc: Global) -> Result<Registry, RegistryFault> {
     let mut registry = Registry::new(alloc);
     register_counter(&mut registry)?;
     register_tally(&mut registry)?;
+    register_buffer(&mut registry)?;
     register_odd(&mut registry)?;
     Ok(registry)
 }

@@ -6,6 +6,7 @@ use crate::noted::{Log, new_log};
 use crate::pairs::{Compared, Pair, run_both};
 use crate::plain::{Task, new_world};
 use crate::registered::ODD;
+use ash_example_kind::Buffer;
 use ash_host::{Counter, HostObject, NoMemory, Word};
 use ash_integers::word_from;
 use ash_objects::Objects;
@@ -24,10 +25,14 @@ pub struct Played {
     pub last: String,
 }
 
-fn kinds_of(alloc: Global, pool: Pool) -> Result<Vec<u16>, AllocError> {
+/// The kinds of free boxes, in their order.
+pub fn kinds_of(alloc: Global, pool: Pool) -> Result<Vec<u16>, AllocError> {
     let mut kinds = Vec::new(alloc);
     for _ in 0..pool.counters {
         kinds.push(Counter::KIND)?;
+    }
+    for _ in 0..pool.buffers {
+        kinds.push(Buffer::KIND)?;
     }
     for _ in 0..pool.odds {
         kinds.push(ODD)?;

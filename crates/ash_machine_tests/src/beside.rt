@@ -21,6 +21,7 @@ struct Script {
 
 const POOL: Pool = Pool {
     counters: 6,
+    buffers: 0,
     odds: 2,
 };
 

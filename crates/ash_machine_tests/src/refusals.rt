@@ -30,6 +30,7 @@ handle int; 8 count 1 host 1 0b000000 | services 07000000";
 
 const POOL: Pool = Pool {
     counters: 3,
+    buffers: 0,
     odds: 0,
 };
 

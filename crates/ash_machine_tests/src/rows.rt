@@ -206,6 +206,7 @@ pub fn check_row(rt: &impl Abort, alloc: Global, row: &Row<'_>) -> Result<(), Fa
     let log = new_log(alloc)?;
     let pool = Pool {
         counters: row.host.counters,
+        buffers: 0,
         odds: 1,
     };
     let boxes = (boxes_of(alloc, &log, pool)?, services_of(alloc, &log)?);
