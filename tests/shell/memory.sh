@@ -30,7 +30,7 @@ finds() {
 # one in the commit the host must be opened again.
 cp examples/first.requests "$scratch/input"
 untouched=1
-for number in $(seq 1 1000); do
+for number in $(seq 1 10000); do
     refused "$number" try --budget 1000 --counters 2
     case $end in
         "1/ashd: 509 NoMemory/" | "1/ashd: 507 DeviceFailed/") verdict 0 "allocation $number refused, before the run" ;;
@@ -46,7 +46,7 @@ verdict $untouched "a run that no refusal meets"
 
 # The making of a store. After a refusal a store can be made, or is there.
 untouched=1
-for number in $(seq 1 1000); do
+for number in $(seq 1 10000); do
     rm -f "$scratch/other/"*
     refused "$number" create "$scratch/other"
     case $end in
@@ -73,7 +73,7 @@ verdict $untouched "a check that no refusal meets"
 
 # A run over a store. Memory that is refused is no failure of a file, and what was answered is found afterwards.
 untouched=1
-for number in $(seq 1 1000); do
+for number in $(seq 1 10000); do
     keep "$scratch/empty" "$scratch/other"
     refused "$number" serve "$scratch/other" --budget 1000 --counters 2
     case $end in
@@ -92,7 +92,7 @@ verdict $untouched "a run over a store that no refusal meets"
 # A discard takes no memory but for its commit.
 asks 'load m 0\n\ndiscard m\nget m n\nseq\nquit\n'
 untouched=1
-for number in $(seq 1 1000); do
+for number in $(seq 1 10000); do
     refused "$number" try --budget 1000 --counters 2
     case $end in
         "1/ashd: 509 NoMemory/" | "1/ashd: 507 DeviceFailed/") verdict 0 "allocation $number refused, before the discard's run" ;;
@@ -109,7 +109,7 @@ verdict $untouched "a discard that no refusal meets"
 # memory a write of one may fail.
 asks "$(head -n 2 examples/first.requests)\nsnapshot\ncall m f 5\nsnapshot\nget m n\nquit\n"
 untouched=1
-for number in $(seq 1 1000); do
+for number in $(seq 1 10000); do
     refused "$number" try --budget 1000 --counters 2
     case $end in
         "1/ashd: 509 NoMemory/" | "1/ashd: 507 DeviceFailed/") verdict 0 "allocation $number refused, before a run with snapshots" ;;
@@ -134,7 +134,7 @@ asks 'call m f 1\ncall m f 1\ncall m f 1\ncall m f 1\n'
 ends "four requests more" 0 "" serve "$scratch/several" --budget 1000 --counters 2
 asks 'get m n\nsnapshot\ncall m f 1\nsnapshot\nget m n\nseq\n'
 untouched=1
-for number in $(seq 1 1000); do
+for number in $(seq 1 10000); do
     keep "$scratch/several" "$scratch/other"
     refused "$number" serve "$scratch/other" --budget 1000 --counters 2
     case $end in
@@ -160,7 +160,7 @@ array='ok object 2 array count 1'
 asks "load m ${#source}\n$source\ncall m f\nobject 2\ncall m f\nobject 2\nseq\n"
 no='refused 509 NoMemory' lost='refused 508 Reopen'
 untouched=1
-for number in $(seq 1 2000); do
+for number in $(seq 1 10000); do
     keep "$scratch/empty" "$scratch/other"
     refused "$number" serve "$scratch/other" --budget 1000 --counters 0
     case $end in
@@ -211,7 +211,7 @@ refuse_each() {
     local name=$1 found key lines lost number place replies untouched=1 wanted
     local -A known=()
     shift
-    for number in $(seq 1 3000); do
+    for number in $(seq 1 10000); do
         printf '%s\n' "$@" > "$scratch/input"
         keep "$scratch/empty" "$scratch/other"
         refused "$number" serve "$scratch/other" --budget 1000 --counters 2
