@@ -7,14 +7,13 @@ ghost use Rattle.ash_image.specs.SnapshotViews.{snapshot_of};
 ghost use Rattle.ash_sources.specs.Sources.{embedding_of};
 ghost use Rattle.ash_plain_steps.specs.Consistency.{AreConsistent};
 
-use crate::texts::{events_in, events_text, line_of, state_text};
+use crate::texts::{events_in, events_text, line_of, state_text, stored_text};
 use ash_engine::engine::Engine;
 use ash_host::{Event, HostObject};
 use ash_image::image::read_image;
 use ash_image::stored::StoredState;
 use ash_machine_fixtures::noted::{Log, Notes, take_notes};
 use ash_machine_fixtures::numbering::{number_boxes, numbers_of, starved, with_numbers};
-use ash_machine_fixtures::registered::registry;
 use ash_plain_data::host_call::HostRecord;
 use ash_plain_steps::state::{Hosts, PlainState};
 use ash_plain_steps::step::Step;
@@ -168,9 +167,10 @@ pub fn durable_in(alloc: Global, registry: Registry, image: &[u8]) -> Result<Hos
 fn engine_text<B: HostObject>(alloc: Global, engine: &Engine<B>) -> Result<String, Fail>
     requires live { IsSome engine.now.live }
 {
-    let image = engine.image()?;
-    let (_, state) = durable_in(alloc, registry(alloc)?, &image)?.into_parts();
-    state_text(alloc, &state)
+    match read_image(alloc, &engine.image()?)? {
+        Some(stored) => stored_text(alloc, &stored.state),
+        None => Err(Fail::new("no image")),
+    }
 }
 
 /// What a request left, as a text: the reply, the events, the boxes that went, and the state.
