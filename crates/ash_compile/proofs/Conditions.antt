@@ -19,8 +19,9 @@ use Rattle.ash_code.specs.Running.{step}
 use Rattle.ash_compile.specs.Stretches.{continued, Arrives, with_slots, Fits, Holds, Has, Computes}
 use Rattle.ash_compile.specs.Performances.{here, HasLocals, Exits, Acts, Decides, Outs, Performs, Reaches}
 use Rattle.ash_compile.proofs.Simulation.{continued_then, steps_on, goes_by, step_is, then_is}
-use Rattle.ash_compile.proofs.Statements.{arrives_then, ticks_first, ticked_stands, released_frame, fits_there, held_there}
+use Rattle.ash_compile.proofs.Statements.{arrives_then, ticks_first, ticked_stands, released_frame, fits_there, held_there, below_there}
 use Rattle.ash_compile.proofs.Statements.{LeadsTo}
+use Rattle.ash_compile.specs.Operands.{Affects}
 
 -- objects have ranks where a phrase is done
 abbrev pub RanksAfter : {A : Type 0} → Setting → (Activity → Type 0) → Run A → Type 0
@@ -86,15 +87,15 @@ module _ (s : Setting) (Good : Activity → Type 0) (function room : ℕ) where
 
   -- an expression that is evaluated for what it does
 
-  pub evaluates : (p : Run Word) (from mid count : ℕ) → Computes s Good function room p from mid count
+  pub evaluates : (p : Run Word) (from mid count : ℕ) → Affects s Good function room p from mid count
       → Has s Good function room mid i.EndExpression → RanksAfter s Good p
       → Acts s Good function room (full p >> skip) from (mid + 1) count count
-  evaluates p from mid count computes ends ranks = record {
+  evaluates p from mid count affects ends ranks = record {
     comes = λ callers size slots a rest long stands good goes.
         let start = here function from count slots callers in
         arrives_then s start a (full p a) (λ _. skip) rest
         (arrives_then s start a (p a) (λ v. releases.end_expression >> give v) (λ _ b. rest tt b)
-        (computes.comes (record { slots = slots; count = count; callers = callers }) a
+        (affects.comes (record { slots = slots; count = count; callers = callers }) a
         (λ v b. continued ((releases.end_expression >> give v) b) (λ _ b. rest tt b)) (omega arith)
         (omega (arith, long, stands.long)) (fits_there size count slots callers a stands) good (λ v b next ran held.
         let c = here function mid count next callers in
@@ -103,7 +104,7 @@ module _ (s : Setting) (Good : Activity → Type 0) (function room : ℕ) where
         (ends_full mid count next callers b (ranks a b v good ran) ends) (λ u d ended.
         goes d next (then_is (full p a) v d (λ _. skip) _ (then_is (p a) v b (λ x. releases.end_expression >> give x) _ ran
         (ap (λ (x : Progress (Unit {0})). onward x (λ _. give v)) ended)) refl)
-        (ended_stands size count next b d ended (held_there size count count slots next callers v a b stands held)))))));
+        (ended_stands size count next b d ended (below_there size count count slots next callers a b stands held)))))));
   }
 
   -- a condition: its value is tested where its full expression ends

@@ -10,13 +10,16 @@ use Rattle.ash_typed.specs.SoundExpressions.{Fits, fits}
 use Rattle.ash_typed.specs.SoundStatements.{IsEvaluated, IsSoundCondition, IsSoundBeginning, AreSoundDeclarations, none_declared, and_declared}
 use Rattle.ash_typed.specs.SoundStatements.{IsSoundHead, head_is_empty, head_declares, head_evaluates}
 use Rattle.ash_meaning.specs.OperatorMeaning.{zero_of}
+use Rattle.ash_meaning.specs.ExpressionMeaning.{expression}
 use Rattle.ash_meaning.specs.StatementMeaning.{evaluate, condition, declare_all, begin}
 use Rattle.ash_code.specs.declared.instruction.Instruction.{Instruction}
 use Rattle.ash_code.specs.declared.instruction.Instruction.TheVariants as i
 use Rattle.ash_compile.specs.declared.builder.CodeBuilder.{CodeBuilder}
 use Rattle.ash_compile.specs.Performances.{Acts, Decides}
 use Rattle.ash_compile.specs.Emission.{code_of, end_of, Keeps, Puts, Scene, IsScene, Suits, Good, Stands, DoesExpression, Emits, calls_of}
-use Rattle.ash_compile.specs.EmittedStatements.{EmitsEvaluation, EmitsEvaluations, EmitsVariable, EmitsVariables, EmitsHead}
+use Rattle.ash_compile.specs.Operands.{Affects}
+use Rattle.ash_compile.specs.EmittedStatements.{EmitsEvaluation, EmitsFull, EmitsEvaluations, EmitsVariable}
+use Rattle.ash_compile.specs.EmittedStatements.{EmitsVariables, EmitsHead}
 use Rattle.ash_compile.specs.EmittedStatements.{Tests, DoesActs}
 use Rattle.ash_compile.proofs.Emission.{HasAt, keeps_on, put_keeps, put_one, put_there, put_within, suits_before, stands_before, stands_after, has_put}
 use Rattle.ash_compile.proofs.TypedStatements.{ranked_of}
@@ -43,6 +46,10 @@ pub evaluation_keeps : (old new : CodeBuilder) (e : Expr) (slot : ℕ) → Emits
 evaluation_keeps old new e slot emits =
     keeps_on old emits.mid new (emits.emits).keeps (put_keeps emits.mid new slot i.EndExpression emits.puts)
 
+pub full_keeps : (old new : CodeBuilder) (e : Expr) (slot : ℕ) → EmitsFull old new e slot → Keeps old new
+full_keeps old new e slot emits =
+    keeps_on old emits.mid new (emits.emits).keeps (put_keeps emits.mid new slot i.EndExpression emits.puts)
+
 pub evaluation_does : (old new : CodeBuilder) (e : Expr) (slot : ℕ) → EmitsEvaluation old new e slot
     → (s : Scene) → IsScene s → slot ≡ length (s.env).locals → IsEvaluated s.env e
     → Stands s (code_of new) (end_of old) (end_of new) → Suits s new
@@ -53,8 +60,8 @@ evaluation_does old new e slot emits s scene is typed stands suits =
     subst (λ (to : ℕ). DoesActs s (evaluate (calls_of s) e) (end_of old) to (length (s.env).locals))
     (sym (put_one mid new slot i.EndExpression emits.puts))
     (does_evaluation s scene (ranked_of s scene) e typed.0 (end_of old) (end_of mid) typed.1
-    (subst (λ (n : ℕ). DoesExpression s e (end_of old) (end_of mid) n) is
-    ((emits.emits).does s typed.0 scene typed.1 (stands_before s mid new (end_of old) keeps stands)
+    (subst (λ (n : ℕ). Affects s.setting (Good s) s.function s.room (expression (calls_of s) e) (end_of old) (end_of mid) n)
+    is ((emits.emits).does s typed.0 scene typed.1 (stands_before s mid new (end_of old) keeps stands)
     (suits_before s mid new keeps suits)))
     (has_put s mid new (end_of old) slot i.EndExpression ((emits.emits).keeps).longer emits.puts stands))
 

@@ -40,7 +40,7 @@ use Rattle.ash_compile.specs.Stretches.{Arrives}
 use Rattle.ash_compile.specs.Performances.{here, HasLocals, Exit, Exits, Reaches, by_release}
 use Rattle.ash_compile.specs.Emission.{code_of, end_of, Keeps, Puts, Leads, Scene, IsScene, Suits, Good, DoesExpression, calls_of}
 use Rattle.ash_compile.specs.EmittedStatements.{waits, AreBelow, AreApart, Draft, with_jumps, end_in, Joins}
-use Rattle.ash_compile.specs.EmittedStatements.{typed_scope, DoesFlow, EmitsStatement, EmitsStatements, EmitsEvaluation, Landing}
+use Rattle.ash_compile.specs.EmittedStatements.{typed_scope, DoesFlow, EmitsStatement, EmitsStatements, EmitsFull, Landing}
 use Rattle.ash_compile.specs.EmittedStatements.{label_jump, count_cases, AreTests, next_label, DoesLabels, EmitsLabels, EmitsLabel}
 use Rattle.ash_compile.proofs.Typed.{values_long}
 use Rattle.ash_compile.proofs.Emission.{HasAt, keeps_on, put_keeps, put_one, put_there, suits_before}
@@ -50,7 +50,7 @@ use Rattle.ash_compile.proofs.Statements as code
 use Rattle.ash_compile.proofs.Switches as switches
 use Rattle.ash_compile.proofs.SwitchCode.{spends_labelled, spends_cases, does_switch}
 use Rattle.ash_compile.proofs.Drafts.{joins_none, joins_on, joins_wider, shown_code, shown_same, with_after, apart_continues}
-use Rattle.ash_compile.proofs.EmittedParts.{put_stays, evaluation_keeps}
+use Rattle.ash_compile.proofs.EmittedParts.{put_stays, full_keeps}
 use Rattle.ash_compile.proofs.EmittedLoops.{landing_suits}
 use Rattle.ash_compile.proofs.EmittedRepeats.{performs_reaching}
 
@@ -296,7 +296,7 @@ sound_switch (typing.switch typed sound) = (typed, sound)
 -- `break`, c7 with the jump led.
 pub switch : (c0 c1 c2 c3 c4 c5 c6 c7 : CodeBuilder) (b0 n0 own n1 : List ℕ) (line : ℕ) (t : IntType) (e : Expr) (cs : Cases)
     (scope : Scope) (test past end : ℕ)
-    → Puts c0 c1 scope.locals (i.Tick line) → EmitsEvaluation c1 c2 e scope.locals
+    → Puts c0 c1 scope.locals (i.Tick line) → EmitsFull c1 c2 e scope.locals
     → test ≡ end_of c2 → Keeps c2 c3 → end_of c3 ≡ end_of c2 + count_cases cs
     → past ≡ end_of c3 → Puts c3 c4 scope.locals (i.Jump 0)
     → EmitsLabels (with_jumps c4 [] n0) (with_jumps c5 own n1) test cs (record scope { broken = scope.locals })
@@ -367,8 +367,8 @@ switch c0 c1 c2 c3 c4 c5 c6 c7 b0 n0 own n1 line t e cs scope test past end tick
           does_switch s scene (ranked_of s scene) exits line t e (value (vars.Integer t)) cs emits.ats (end_of c0) (end_of mid)
           (end_of c5 + 1) (end_of c7) parts.0
           (spends_cases s scene result true c t [] cs parts.1)
-          (plain (end_of c0) (omega arith) (omega (arith, one, (evaluation_keeps c1 c2 e scope.locals evaluates).longer))
-          ∙ put_stays c0 c1 c2 scope.locals (i.Tick line) ticks (evaluation_keeps c1 c2 e scope.locals evaluates))
+          (plain (end_of c0) (omega arith) (omega (arith, one, (full_keeps c1 c2 e scope.locals evaluates).longer))
+          ∙ put_stays c0 c1 c2 scope.locals (i.Tick line) ticks (full_keeps c1 c2 e scope.locals evaluates))
           (subst (λ (n : ℕ). DoesExpression s e n (end_of mid) (length (s.env).locals)) one
           (subst (λ (n : ℕ). DoesExpression s e (end_of c1) (end_of mid) n) inside.locals
           ((evaluates.emits).does s _ scene parts.0
@@ -418,7 +418,7 @@ switch c0 c1 c2 c3 c4 c5 c6 c7 b0 n0 own n1 line t e cs scope test past end tick
     last = put_keeps c3 c4 scope.locals (i.Jump 0) jumps
 
     to_two : end_of c0 ≤ end_of c2
-    to_two = omega (arith, one, (evaluation_keeps c1 c2 e scope.locals evaluates).longer)
+    to_two = omega (arith, one, (full_keeps c1 c2 e scope.locals evaluates).longer)
 
     to_four : end_of c0 ≤ end_of c4
     to_four = omega (arith, to_two, three, four)
@@ -426,7 +426,7 @@ switch c0 c1 c2 c3 c4 c5 c6 c7 b0 n0 own n1 line t e cs scope test past end tick
     from_start : Keeps c0 c4
     from_start = keeps_on c0 c2 c4
         (keeps_on c0 c1 c2 (put_keeps c0 c1 scope.locals (i.Tick line) ticks)
-        (evaluation_keeps c1 c2 e scope.locals evaluates)) (keeps_on c2 c3 c4 places last)
+        (full_keeps c1 c2 e scope.locals evaluates)) (keeps_on c2 c3 c4 places last)
 
     -- code that was there before the labels
     led : (k : ℕ) → k < end_of c4 → (k ≡ past → ⊥) → slice_get (code_of c7) k ≡ slice_get (code_of c5) k

@@ -24,8 +24,9 @@ use Rattle.ash_meaning.specs.StatementMeaning.{statement, statements, condition,
 use Rattle.ash_code.specs.declared.instruction.Instruction.{Instruction}
 use Rattle.ash_code.specs.declared.instruction.Instruction.TheVariants as i
 use Rattle.ash_compile.specs.Stretches.{Has, Computes}
+use Rattle.ash_compile.specs.Operands.{Affects}
 use Rattle.ash_compile.specs.Performances.{Exits, Acts, Decides, Performs, Reaches, Lands}
-use Rattle.ash_compile.specs.Emission.{Scene, IsScene, calls_of, DoesExpression}
+use Rattle.ash_compile.specs.Emission.{Scene, IsScene, Good, calls_of, DoesExpression}
 use Rattle.ash_compile.proofs.Statements as code
 use Rattle.ash_compile.proofs.Statements.{LeadsTo}
 use Rattle.ash_compile.proofs.Conditions as conditions
@@ -66,6 +67,13 @@ module _ (s : Scene) (scene : IsScene s) (ranked : IsRanked s) where
     comes = λ w a rest low long fits good. does.comes w a rest low long fits good;
   }
 
+  ready_effect : (e : Expr) (from to slot : ℕ)
+      → Affects s.setting (Good s) s.function s.room (expression (calls_of s) e) from to slot
+      → Affects s.setting (Ready s) s.function s.room (expression (calls_of s) e) from to slot
+  ready_effect e from to slot does = record {
+    comes = λ w a rest low long fits good. does.comes w a rest low long fits good;
+  }
+
   ranks_after : (e : Expr) (of : ValueType) → IsWellTyped s.env e of
       → RanksAfter s.setting (Ready s) (expression (calls_of s) e)
   ranks_after e of typed a b v good is = ranked s.env b (((spends_expression s scene e of typed a b v good is).0).0)
@@ -76,12 +84,12 @@ module _ (s : Scene) (scene : IsScene s) (ranked : IsRanked s) where
   -- parts of statements
 
   pub does_evaluation : (e : Expr) (of : ValueType) (from mid : ℕ) → IsWellTyped s.env e of
-      → DoesExpression s e from mid locals
+      → Affects s.setting (Good s) s.function s.room (expression (calls_of s) e) from mid locals
       → HasAt mid i.EndExpression
       → DoesParts (evaluate (calls_of s) e) from (mid + 1)
   does_evaluation e of from mid typed does has =
       conditions.evaluates s.setting (Ready s) s.function s.room (expression (calls_of s) e) from mid locals
-      (ready e from mid locals does) has (ranks_after e of typed)
+      (ready_effect e from mid locals does) has (ranks_after e of typed)
 
   pub does_no_steps : (at : ℕ) → DoesParts (evaluate_all (calls_of s) []) at at
   does_no_steps at = code.acts_none s.setting (Ready s) s.function s.room at locals

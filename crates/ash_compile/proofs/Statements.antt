@@ -20,6 +20,7 @@ use Rattle.ash_code.specs.Performing.{Setting, GoesOn, go, go_to}
 use Rattle.ash_code.specs.Running.{step}
 use Rattle.ash_compile.specs.Stretches.{continued, Arrives, Leaves, with_slots, Fits, Holds, Has, Computes}
 use Rattle.ash_compile.specs.Performances.{here, HasLocals, Exit, Exits, Acts, Decides, Jumps, Outs, Performs, Reaches}
+use Rattle.ash_compile.specs.Places.{HoldsBelow}
 use Rattle.ash_compile.proofs.Simulation.{continued_then, then_is, steps_on, goes_by, frame_in, step_is}
 
 -- what a step of the meaning leaves of the frame
@@ -83,6 +84,16 @@ pub held_there : (size count slot : ℕ) (slots next : List Word) (callers : Lis
     → HasLocals size count slots a → Holds (record { slots = slots; count = count; callers = callers }) slot word next b
     → HasLocals size count next b
 held_there size count slot slots next callers word a b stands held = record {
+  long = held.long ∙ stands.long;
+  within = stands.within;
+  locals = held.locals;
+}
+
+pub below_there : (size count slot : ℕ) (slots next : List Word) (callers : List Caller) (a b : Activity)
+    → HasLocals size count slots a
+    → HoldsBelow (record { slots = slots; count = count; callers = callers }) slot next b
+    → HasLocals size count next b
+below_there size count slot slots next callers a b stands held = record {
   long = held.long ∙ stands.long;
   within = stands.within;
   locals = held.locals;

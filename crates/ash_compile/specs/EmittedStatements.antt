@@ -28,6 +28,7 @@ use Rattle.ash_compile.specs.declared.bodies.Jumps.{Jumps}
 use Rattle.ash_compile.specs.Performances.{Exits, Acts, Performs, Reaches, Lands}
 use Rattle.ash_compile.specs.Emission.{code_of, end_of, Keeps, Puts, Leads, Scene, IsScene, Suits, calls_of}
 use Rattle.ash_compile.specs.Emission.{Good, Stands, Emits}
+use Rattle.ash_compile.specs.Operands.{EmitsEffect}
 
 -- jumps that wait
 
@@ -197,8 +198,14 @@ frame_end constructs = if constructs then i.ReturnThis else i.ReturnNothing
 
 -- full expressions of statements
 
--- The code has grown by that of an expression and the end of its full expression.
+-- The code has grown by that of an expression whose value is not used, and the end of its full expression.
 pub record EmitsEvaluation (old new : CodeBuilder) (e : Expr) (slot : ℕ) : Type 0 where
+  pub mid : CodeBuilder
+  pub emits : EmitsEffect old mid e slot
+  pub puts : Puts mid new slot i.EndExpression
+
+-- The code has grown by that of an expression, whose value it has in a slot, and the end of its full expression.
+pub record EmitsFull (old new : CodeBuilder) (e : Expr) (slot : ℕ) : Type 0 where
   pub mid : CodeBuilder
   pub emits : Emits old mid e slot
   pub puts : Puts mid new slot i.EndExpression

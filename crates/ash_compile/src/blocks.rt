@@ -6,7 +6,7 @@ ghost use Rattle.ash_typed.specs.BodyViews.{value_of, head_of};
 ghost use Rattle.ash_meaning.specs.OperatorMeaning.{zero_of};
 ghost use Rattle.ash_code.specs.declared.instruction.Instruction.TheVariants as i;
 ghost use Rattle.ash_compile.specs.Emission.{Puts, end_of};
-ghost use Rattle.ash_compile.specs.EmittedStatements.{EmitsVariable, EmitsVariables, EmitsHead, EmitsEvaluation};
+ghost use Rattle.ash_compile.specs.EmittedStatements.{EmitsVariable, EmitsVariables, EmitsHead, EmitsEvaluation, EmitsFull};
 ghost use Rattle.ash_compile.specs.EmittedStatements.{EmitsEvaluations, Tests};
 
 use crate::builder::CodeBuilder;
@@ -53,6 +53,14 @@ impl CodeBuilder {
     /// An expression that is evaluated for what it does, as a full expression.
     pub(crate) fn evaluation(&mut self, expr: &Expr, slot: usize) -> Result<(), AllocError>
         ensures emits { IfOk result (λ u. EmitsEvaluation self.old self.new (expr_of expr.now) slot) }
+    {
+        self.effect(expr, slot)?;
+        self.put(slot, Instruction::EndExpression)
+    }
+
+    /// An expression that is evaluated as a full expression. Its value stays in the slot.
+    pub(crate) fn full_value(&mut self, expr: &Expr, slot: usize) -> Result<(), AllocError>
+        ensures emits { IfOk result (λ u. EmitsFull self.old self.new (expr_of expr.now) slot) }
     {
         self.expression(expr, slot)?;
         self.put(slot, Instruction::EndExpression)

@@ -86,7 +86,7 @@ impl CodeBuilder {
             (draft self.new jumps.new) (Switch line of (expr_of value.now) (case_list (map case_of cases.now))) scope) }
     {
         self.tick(line, scope.locals)?;
-        self.evaluation(value, scope.locals)?;
+        self.full_value(value, scope.locals)?;
         let tests = self.here();
         self.test_places(cases, scope.locals)?;
         let past = self.here();

@@ -2,6 +2,7 @@ pub mod Asked
 pub mod Bounds
 pub mod Calls
 pub mod Composed
+pub mod Fetching
 pub mod Members
 pub mod ObjectClasses
 pub mod Outcomes

@@ -21,6 +21,7 @@ pub(crate) struct Entry {
 }
 
 // The entry of a function, if there is one.
+#[inline(always)]
 fn entry_of(functions: &[FunctionCode], function: usize) -> Option<Entry>
     ensures entry { result ≡ option_map entry_in (slice_get functions.now function) }
 {
@@ -34,6 +35,7 @@ fn entry_of(functions: &[FunctionCode], function: usize) -> Option<Entry>
 }
 
 // Whether arguments are in slots of the frame that are no locals.
+#[inline(always)]
 fn has_room<B: HostObject>(state: &RunState<B>, first: usize, parameters: usize) -> bool
     ensures room { result ≡ nat_le state.now.frames.frame.count first
         && nat_le (first + parameters) (length state.now.frames.frame.slots) }
@@ -43,6 +45,7 @@ fn has_room<B: HostObject>(state: &RunState<B>, first: usize, parameters: usize)
 }
 
 // Enters a function, if its arguments are in slots that are no locals.
+#[inline(always)]
 fn enter<B: HostObject>(
     entry: Entry,
     state: &mut RunState<B>,
@@ -63,6 +66,7 @@ fn enter<B: HostObject>(
 }
 
 /// Enters a function, if there is one.
+#[inline(always)]
 pub(crate) fn enter_at<B: HostObject>(
     code: &CodeParts,
     state: &mut RunState<B>,
@@ -82,6 +86,7 @@ pub(crate) fn enter_at<B: HostObject>(
 }
 
 /// Calls a function or a method.
+#[inline(always)]
 pub(crate) fn call_with<B: HostObject>(
     code: &CodeParts,
     state: &mut RunState<B>,
@@ -101,6 +106,7 @@ pub(crate) fn call_with<B: HostObject>(
 }
 
 /// Calls a function.
+#[inline(always)]
 pub(crate) fn call<B: HostObject>(
     code: &CodeParts,
     state: &mut RunState<B>,
@@ -116,6 +122,7 @@ pub(crate) fn call<B: HostObject>(
 }
 
 /// Calls a method of an object.
+#[inline(always)]
 pub(crate) fn call_method<B: HostObject>(
     code: &CodeParts,
     state: &mut RunState<B>,

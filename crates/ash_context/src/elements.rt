@@ -15,6 +15,7 @@ use ash_run_steps::state::RunState;
 use ash_run_steps::stop::Stop;
 
 // Reads an element by an index, and holds its word.
+#[inline(always)]
 fn element_held<B: HostObject>(
     state: &mut RunState<B>,
     array: Word,
@@ -31,6 +32,7 @@ fn element_held<B: HostObject>(
 }
 
 /// Reads an element, and holds its word.
+#[inline(always)]
 pub(crate) fn read_element<B: HostObject>(
     state: &mut RunState<B>,
     at: usize,
@@ -48,6 +50,7 @@ pub(crate) fn read_element<B: HostObject>(
 }
 
 // Writes an element by an index.
+#[inline(always)]
 fn element_written<B: HostObject>(
     state: &mut RunState<B>,
     array: Word,
@@ -65,6 +68,7 @@ fn element_written<B: HostObject>(
 }
 
 /// Writes an element.
+#[inline(always)]
 pub(crate) fn write_element<B: HostObject>(
     state: &mut RunState<B>,
     at: usize,

@@ -12,10 +12,10 @@
 //! A run ends with `Stop::Unsound` only if the guards of its code leave nothing of it. Code that was compiled from a
 //! sound module never ends so.
 //!
-//! In reading order: `turning` (what is left after an instruction), `storing` (slots), `operators`, `calculating`,
-//! `members` (globals and fields), `elements`, `arrays`, `hosts` (host objects and services), `stepping` (statements),
-//! `jumping`, `calling`, `returning`, `classes` (of objects), `casting` (casts, and calls by an interface),
-//! `constructing`, `running` (each instruction), `looping`, `outcome`, `ending`, `context`.
+//! In reading order: `turning` (what is left after an instruction), `storing` (slots), `operators`, `operands` (operators
+//! on slots), `calculating`, `members` (globals and fields), `elements`, `arrays`, `hosts` (host objects and services),
+//! `stepping` (statements), `jumping`, `calling`, `returning`, `classes` (of objects), `casting` (casts, and calls by an
+//! interface), `constructing`, `running` (each instruction), `looping`, `outcome`, `ending`, `context`.
 #![tactic(auto)]
 
 mod arrays;
@@ -31,6 +31,7 @@ mod hosts;
 mod jumping;
 mod looping;
 mod members;
+mod operands;
 mod operators;
 pub mod outcome;
 mod returning;

@@ -14,6 +14,7 @@ use ash_run_steps::state::RunState;
 use ash_run_steps::stop::Stop;
 
 /// Reads a global, and holds its word.
+#[inline(always)]
 pub(crate) fn read_global<B: HostObject>(
     state: &mut RunState<B>,
     at: usize,
@@ -30,6 +31,7 @@ pub(crate) fn read_global<B: HostObject>(
 }
 
 /// Writes a global.
+#[inline(always)]
 pub(crate) fn write_global<B: HostObject>(
     state: &mut RunState<B>,
     at: usize,
@@ -46,6 +48,7 @@ pub(crate) fn write_global<B: HostObject>(
 }
 
 /// Reads a field or an element of an object, and holds its word.
+#[inline(always)]
 pub(crate) fn part_held<B: HostObject>(
     state: &mut RunState<B>,
     number: u64,
@@ -60,6 +63,7 @@ pub(crate) fn part_held<B: HostObject>(
 }
 
 // Reads a field of an object, and holds its word.
+#[inline(always)]
 fn field_held<B: HostObject>(
     state: &mut RunState<B>,
     object: Word,
@@ -76,6 +80,7 @@ fn field_held<B: HostObject>(
 }
 
 /// Reads a field, and holds its word.
+#[inline(always)]
 pub(crate) fn read_field<B: HostObject>(
     state: &mut RunState<B>,
     at: usize,
@@ -93,6 +98,7 @@ pub(crate) fn read_field<B: HostObject>(
 }
 
 // Writes a field of an object.
+#[inline(always)]
 fn field_written<B: HostObject>(
     state: &mut RunState<B>,
     object: Word,
@@ -110,6 +116,7 @@ fn field_written<B: HostObject>(
 }
 
 /// Writes a field.
+#[inline(always)]
 pub(crate) fn write_field<B: HostObject>(
     state: &mut RunState<B>,
     at: usize,
@@ -127,6 +134,7 @@ pub(crate) fn write_field<B: HostObject>(
 }
 
 /// Writes a field of the object whose method runs.
+#[inline(always)]
 pub(crate) fn write_own_field<B: HostObject>(
     state: &mut RunState<B>,
     at: usize,

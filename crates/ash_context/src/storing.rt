@@ -1,5 +1,5 @@
 //! Words that are read from slots, and stored in them.
-ghost use Rattle.std.specs.Prelude.{◌≡◌, ◌<◌, ◌≤◌, ℕ, List, length, slice_index_or, OnOk};
+ghost use Rattle.std.specs.Prelude.{◌≡◌, ◌<◌, ◌≤◌, ℕ, List, length, slice_index_or, OnOk, IfSome};
 ghost use Rattle.ash_code.specs.Controls.{Control};
 ghost use Rattle.ash_code.specs.Performing.{Setting, put};
 ghost use Rattle.ash_code.specs.Steps.{give_held};
@@ -20,13 +20,27 @@ use ash_run_steps::state::RunState;
 use ash_run_steps::stop::Stop;
 
 /// The word in a slot; null past the last.
+#[inline(always)]
 pub(crate) fn word_at<B: HostObject>(state: &RunState<B>, slot: usize) -> Word
     ensures word { result ≡ slice_index_or state.now.frames.frame.slots slot words.Null }
 {
     state.slot(slot).unwrap_or(Word::Null)
 }
 
+/// The number in a slot, if it is of type `int`.
+#[inline(always)]
+pub(crate) fn int_at<B: HostObject>(state: &RunState<B>, slot: usize) -> Option<i32>
+    ensures int { IfSome result
+        (λ number. slice_index_or state.now.frames.frame.slots slot words.Null ≡ words.Int number) }
+{
+    match word_at(state, slot) {
+        Word::Int(number) => Some(number),
+        _ => None,
+    }
+}
+
 // Stores a word in a local.
+#[inline(always)]
 fn put_local<B: HostObject>(
     state: &mut RunState<B>,
     at: usize,
@@ -42,6 +56,7 @@ fn put_local<B: HostObject>(
 }
 
 /// Writes a word into a slot that is no local. Past the last slot nothing is written.
+#[inline(always)]
 pub(crate) fn write_slot<B: HostObject>(state: &mut RunState<B>, slot: usize, word: Word)
     requires above { state.old.frames.frame.count ≤ slot }
     ensures same { (names : Names) (rest : List HostRecord) → shown B.HostObject names rest state.new
@@ -56,6 +71,7 @@ pub(crate) fn write_slot<B: HostObject>(state: &mut RunState<B>, slot: usize, wo
 }
 
 // Stores a word in a slot that is no local.
+#[inline(always)]
 fn put_temporary<B: HostObject>(
     state: &mut RunState<B>,
     at: usize,
@@ -71,6 +87,7 @@ fn put_temporary<B: HostObject>(
 }
 
 /// Stores a word, and goes on with the next instruction. Past the last slot nothing is stored.
+#[inline(always)]
 pub(crate) fn store<B: HostObject>(
     state: &mut RunState<B>,
     at: usize,
@@ -88,6 +105,7 @@ pub(crate) fn store<B: HostObject>(
 }
 
 /// Stores the word that a step gave, if it gave one.
+#[inline(always)]
 pub(crate) fn store_given<B: HostObject>(
     step: Result<Word, Stop>,
     state: &mut RunState<B>,
@@ -107,6 +125,7 @@ pub(crate) fn store_given<B: HostObject>(
 }
 
 /// Stores null after a step that has no value, unless it ended the run.
+#[inline(always)]
 pub(crate) fn store_null<B: HostObject>(
     step: Result<(), Stop>,
     state: &mut RunState<B>,
@@ -126,6 +145,7 @@ pub(crate) fn store_null<B: HostObject>(
 }
 
 /// Holds a word until the full expression ends, and gives it.
+#[inline(always)]
 pub(crate) fn held<B: HostObject>(state: &mut RunState<B>, word: Word) -> Result<Word, Stop>
     ensures held { (names : Names) → Comes B.HostObject names (give_held word) state.old result state.new }
     ensures same { OnOk result (SameControl state.old.frames state.new.frames) }

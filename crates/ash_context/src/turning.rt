@@ -15,6 +15,7 @@ pub(crate) enum Turn {
 }
 
 /// The end of a step that has no value, after which the run goes on.
+#[inline(always)]
 pub(crate) fn going_on(step: Result<(), Stop>, to: usize) -> Result<Turn, Stop>
     ensures going_on { result ≡ positions.going_on step to }
 {

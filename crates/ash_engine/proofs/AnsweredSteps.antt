@@ -30,33 +30,43 @@ use Rattle.ash_engine.proofs.LoadEnds.{answered_with}
 use Rattle.ash_engine.proofs.TableCalls.{hosts_of}
 
 -- what a live state shows, if these modules are loaded, in these slots
-pub record IsShown {B : Type 0} (l : Live B) (modules : List LoadedModule) (slots : List ℕ) (seq : ℕ) (table : Table B) : Type 0 where
+pub record IsShown {B : Type 0} (l : Live B) (modules : List LoadedModule) (slots : List ℕ) (seq : ℕ)
+    (table : Table B) : Type 0 where
   pub modules_are : modules_seen l.loaded.modules.items ≡ modules
   pub slots_are : slots_of l.compiled.items ≡ slots
   pub seq_is : l.loaded.seq ≡ seq
   pub table_is : l.table ≡ table
 
-module _ {B : Type 0} (G : Ghosts B) (registered : List Registration) (request : Request) (budget : ℕ) (live : Live B) (is_live : IsLive G registered live) where
+module _ {B : Type 0} (G : Ghosts B) (registered : List Registration) (request : Request) (budget : ℕ) (live : Live B)
+    (is_live : IsLive G registered live) where
   abbrev durable : HostState
   durable = durable_seen G registered live
 
-  module _ (end : End) (events : List Event) (modules : List LoadedModule) (slots : List ℕ) (table : Table B) (records : List HostRecord)
+  module _ (end : End) (events : List Event) (modules : List LoadedModule) (slots : List ℕ) (table : Table B)
+      (records : List HostRecord)
       (gave : Gave G records live.table [] table events)
-      (step_is : steps.step (embedding_for registered) budget request durable.state (hosts_of G live.table records) ≡ Some (answered_with G live.loaded.seq end events modules slots table))
+      (step_is : steps.step (embedding_for registered) budget request durable.state
+      (hosts_of G live.table records) ≡ Some (answered_with G live.loaded.seq end events modules slots table))
       (new : Live B) (shown : IsShown new modules slots (live.loaded.seq + 1) table) where
     abbrev reached : HostState
     reached = record { registered = registered; state = state_shown G modules slots (live.loaded.seq + 1) table }
 
     reached_is : durable_seen G registered new ≡ reached
-    reached_is = (λ i. record { registered = registered; state = state_shown G (shown.modules_are i) (shown.slots_are i) (shown.seq_is i) (shown.table_is i) })
+    reached_is = (λ i. record {
+      registered = registered;
+      state = state_shown G (shown.modules_are i) (shown.slots_are i)
+          (shown.seq_is i) (shown.table_is i);
+    })
 
     hosts_fit : AreHosts (hosts_of G live.table records)
     hosts_fit = record { pool = is_live.fit; answers = answers_fit G records live.table table [] events gave }
 
     kept : IsAdmitted reached × AreHosts (hosts_of G table [])
-    kept = step_admitted budget request durable (hosts_of G live.table records) _ is_live.admitted hosts_fit (performed step_is)
+    kept = step_admitted budget request durable (hosts_of G live.table records) _ is_live.admitted hosts_fit
+        (performed step_is)
 
-    pub taken : TakesStep G budget request (live_seen G registered live) (replies.Answered end (live.loaded.seq + 1) events) (live_seen G registered new)
+    pub taken : TakesStep G budget request (live_seen G registered live)
+        (replies.Answered end (live.loaded.seq + 1) events) (live_seen G registered new)
     taken = record {
       answers = records;
       taken = record {

@@ -25,7 +25,8 @@ number_handle ints.Uint z = refl
 number_handle ints.Int64 z = refl
 number_handle ints.Uint64 z = refl
 
-number_no_handle : (int_type : IntType) (z : _) (w : Word) (b : Bool) → (if b then Some (word_at int_type z) else None) ≡ Some w → handle w ≡ None
+number_no_handle : (int_type : IntType) (z : _) (w : Word) (b : Bool)
+    → (if b then Some (word_at int_type z) else None) ≡ Some w → handle w ≡ None
 number_no_handle int_type z w true e = ap handle (sym (same_Some (word_at int_type z) w e)) ∙ number_handle int_type z
 number_no_handle int_type z w false e = absurd (cc)
 
@@ -33,11 +34,13 @@ no_handle : (of : VarType) (a : Arg) (w : Word) → argument_of of a ≡ Some w 
 no_handle vars.Bool (arguments.Truth b) w e = ap handle (sym (same_Some _ w e))
 no_handle vars.Bool (arguments.Number z) w e = absurd (cc)
 no_handle (vars.Integer int_type) (arguments.Truth b) w e = absurd (cc)
-no_handle (vars.Integer int_type) (arguments.Number z) w e = number_no_handle int_type z w (int_eq (reduced int_type z) z) e
+no_handle (vars.Integer int_type) (arguments.Number z) w e =
+    number_no_handle int_type z w (int_eq (reduced int_type z) z) e
 no_handle (vars.Object o) a w e = absurd (cc)
 no_handle (vars.Handle o) a w e = absurd (cc)
 
-both_some : (o : Option Word) (os : Option (List Word)) (ws : List Word) → option_cons o os ≡ Some ws → (w : Word) × (rest : List Word) × (o ≡ Some w) × (os ≡ Some rest) × (w ∷ rest ≡ ws)
+both_some : (o : Option Word) (os : Option (List Word)) (ws : List Word) → option_cons o os ≡ Some ws → (w : Word)
+    × (rest : List Word) × (o ≡ Some w) × (os ≡ Some rest) × (w ∷ rest ≡ ws)
 both_some (Some w) (Some rest) ws e = (w, rest, refl, refl, same_Some (w ∷ rest) ws e)
 both_some (Some w) None ws e = absurd (cc)
 both_some None os ws e = absurd (cc)
@@ -47,12 +50,15 @@ module _ {B : Type 0} (table : Table B) where
   Alive word = IsTrue (is_alive_in word table)
 
   bare_alive : (w : Word) → handle w ≡ None → Alive w
-  bare_alive w none = ap (λ (o : Option ℕ). option_map_or (λ (number : ℕ). is_some (object_at number table.objects)) o true) none
+  bare_alive w none = ap (λ (o : Option ℕ). option_map_or
+      (λ (number : ℕ). is_some (object_at number table.objects)) o true) none
 
-  pub arguments_alive : (types : List VarType) (asked : List Arg) (ws : List Word) → arguments_of types asked ≡ Some ws → All Alive ws
+  pub arguments_alive : (types : List VarType) (asked : List Arg) (ws : List Word) → arguments_of types asked ≡ Some ws
+      → All Alive ws
   arguments_alive [] [] ws e = subst (All Alive) (same_Some [] ws e) (All-nil Alive)
   arguments_alive [] (a ∷ asked) ws e = absurd (cc)
   arguments_alive (t ∷ types) [] ws e = absurd (cc)
   arguments_alive (t ∷ types) (a ∷ asked) ws e =
       let (w, rest, one, more, whole) = both_some (argument_of t a) (arguments_of types asked) ws e in
-      subst (All Alive) whole (All-cons Alive w rest (bare_alive w (no_handle t a w one)) (arguments_alive types asked rest more))
+      subst (All Alive) whole (All-cons Alive w rest (bare_alive w (no_handle t a w one))
+      (arguments_alive types asked rest more))

@@ -1,11 +1,11 @@
 -- What the globals of all modules but one hold.
-use Rattle.std.proofs.Common.{◌≡◌, ◌+◌, ℕ, zero, suc, List, [], ◌∷◌, ◌++◌, map, take, drop, refl, sym, ap, ◌∙◌, arith, add-one}
+use Rattle.std.proofs.Common.{◌≡◌, ◌+◌, ℕ, zero, suc, List, [], ◌∷◌, ◌++◌, map, take, drop, refl, sym, ap, ◌∙◌, arith}
+use Rattle.std.proofs.Common.{add-one}
 use Rattle.std.specs.Prelude.{flat_map}
 use Rattle.std.specs.List.{remove}
 use Rattle.std.proofs.lemmas.List.{map-append}
 use Rattle.std.proofs.lemmas.List.Elements.{filter_map-append}
 use Rattle.std.proofs.lemmas.Grind.{flat_map-append}
-use Rattle.ash_host.specs.declared.word.Word.{Word}
 use Rattle.ash_host.specs.Objects.{handle, handles}
 use Rattle.ash_requests.specs.States.{LoadedModule, globals_of}
 use Rattle.ash_plain_steps.specs.declared.state.LoadedModule as code_module
@@ -30,5 +30,6 @@ held_by_both ms ns =
     ∙ ap handles (flat_map-append (λ (m : LoadedModule). m.globals) (modules_seen ms) (modules_seen ns))
     ∙ filter_map-append handle (globals_of (modules_seen ms)) (globals_of (modules_seen ns))
 
-pub held_beside : (ms : List code_module.LoadedModule) (place : ℕ) → held_by (take place ms) ++ held_by (drop (place + 1) ms) ≡ held_by (remove ms place)
+pub held_beside : (ms : List code_module.LoadedModule) (place : ℕ)
+    → held_by (take place ms) ++ held_by (drop (place + 1) ms) ≡ held_by (remove ms place)
 held_beside ms place = sym (held_by_both (take place ms) (drop (place + 1) ms)) ∙ ap held_by (parts_left ms place)

@@ -41,7 +41,7 @@ use Rattle.ash_plain_steps.specs.Consistency.{AreConsistent}
 use Rattle.ash_plain_steps.proofs.Changed.{globals_set, removed_there, consistent_remove}
 use Rattle.ash_plain_steps.proofs.Places.{map-remove}
 use Rattle.ash_states.specs.HostStates.{HostState, IsAdmitted, embedding_for, offered_to}
-use Rattle.ash_states.specs.StateSteps.{task_of, FailsInChange}
+use Rattle.ash_states.specs.StateSteps.{task_of}
 use Rattle.ash_table_states.specs.TableStates.{names_in}
 use Rattle.ash_engine.specs.declared.live.Compiled.{Compiled}
 use Rattle.ash_engine.specs.declared.live.Live.{Live}

@@ -1,6 +1,6 @@
 -- The live state before any request.
-use Rattle.std.proofs.Common.{◌≡◌, ◌≤◌, ℕ, zero, suc, List, [], ◌∷◌, length, map, refl, sym, ap, ◌∙◌, subst, arith}
-use Rattle.std.specs.Prelude.{All, nat_eq}
+use Rattle.std.proofs.Common.{◌≡◌, ◌≤◌, ℕ, suc, List, [], ◌∷◌, length, map, refl, sym, ap, ◌∙◌, subst, arith}
+use Rattle.std.specs.Prelude.{All}
 use Rattle.std.specs.List.{AllByRecursion, IsDistinct}
 use Rattle.std.specs.Option.{option_map_or}
 use Rattle.std.proofs.lemmas.List.{length-map}
@@ -8,8 +8,8 @@ use Rattle.ash_host.specs.declared.host_object.HostObject.{Ghosts}
 use Rattle.ash_host.specs.Objects.{handles, object_at}
 use Rattle.ash_registry.specs.AcceptedRegistrations.{Registration}
 use Rattle.ash_image.specs.Image.{max_services}
-use Rattle.ash_objects.specs.Table.{Living, Table, holds_of}
-use Rattle.ash_run_steps.specs.RunStates.{HoldsRoots, times}
+use Rattle.ash_objects.specs.Table.{Living, holds_of}
+use Rattle.ash_run_steps.specs.RunStates.{times}
 use Rattle.ash_run_steps.specs.Answered.{Boxes, boxes_of}
 use Rattle.ash_requests.specs.States.{globals_of}
 use Rattle.ash_soundness.specs.WellFormed.{IsState}
@@ -21,7 +21,7 @@ use Rattle.ash_states.proofs.Admitted.{first_admitted}
 use Rattle.ash_engine.specs.declared.live.Compiled.{Compiled}
 use Rattle.ash_engine.specs.declared.live.Live.{Live}
 use Rattle.ash_engine.specs.LiveStates.{LiveState, plain_box, begin, services_for}
-use Rattle.ash_engine.specs.TableStates.{AreCompiled, BoxFits, BoxesFit, durable_seen, live_seen, roots_of, IsLive}
+use Rattle.ash_engine.specs.TableStates.{AreCompiled, BoxesFit, durable_seen, live_seen, roots_of, IsLive}
 
 none_compiled : AreCompiled [] []
 unfolding IsDistinct

@@ -1,5 +1,6 @@
 -- A slot of no module.
-use Rattle.std.proofs.Common.{◌≡◌, ◌<◌, ℕ, zero, suc, Bool, true, false, List, [], ◌∷◌, length, refl, sym, ap, ◌∙◌, nat_eq, arith}
+use Rattle.std.proofs.Common.{◌≡◌, ◌<◌, ℕ, zero, suc, Bool, true, false, List, [], ◌∷◌, length, refl, sym, ap, ◌∙◌}
+use Rattle.std.proofs.Common.{nat_eq, arith}
 use Rattle.std.specs.Prelude.{◌||◌, Contains}
 use Rattle.std.specs.List.{list_any}
 use Rattle.std.proofs.lemmas.Bool.Decides.{nat_tests}
@@ -11,7 +12,8 @@ neither : (a b : Bool) → (a || b) ≡ false → (a ≡ false) × (b ≡ false)
 neither true b none = absurd (cc)
 neither false b none = (refl, none)
 
-pub not_used : (slot : ℕ) (cs : List Compiled) → list_any (λ c. nat_eq c.code.module slot) cs ≡ false → Contains (slots_of cs) slot → ⊥
+pub not_used : (slot : ℕ) (cs : List Compiled) → list_any (λ c. nat_eq c.code.module slot) cs ≡ false
+    → Contains (slots_of cs) slot → ⊥
 not_used slot [] none i = none_in slot i
 not_used slot (c ∷ cs) none i =
     let both = neither (nat_eq c.code.module slot) (list_any (λ c. nat_eq c.code.module slot) cs) none in

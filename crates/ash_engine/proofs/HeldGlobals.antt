@@ -1,10 +1,10 @@
 -- What the globals of modules hold, module by module.
-use Rattle.std.proofs.Common.{◌≡◌, ◌+◌, ◌*◌, ◌<◌, ◌≤◌, ℕ, zero, suc, true, List, [], ◌∷◌, ◌++◌, length, map, take, get_or, refl, sym, ap, ◌∙◌, subst, arith, nat_eq}
+use Rattle.std.proofs.Common.{◌≡◌, ◌+◌, ◌*◌, ◌<◌, ◌≤◌, ℕ, suc, List, [], ◌∷◌, ◌++◌, length, take, get_or, refl, sym, ap, ◌∙◌, subst, arith, nat_eq}
 use Rattle.std.specs.Prelude.{All, IsTrue, flat_map}
 use Rattle.std.proofs.lemmas.List.{take_more, length-append, flat_map_more}
 use Rattle.std.proofs.lemmas.List.Concat.{get_or-flat_map}
 use Rattle.std.proofs.lemmas.List.Elements.{filter_map-append}
-use Rattle.std.proofs.lemmas.List.Folds.{flat_map-map, length-flat_map-take}
+use Rattle.std.proofs.lemmas.List.Folds.{length-flat_map-take}
 use Rattle.std.proofs.lemmas.List.Sums.{count_by-le-length}
 use Rattle.ash_host.specs.declared.word.Word.{Word}
 use Rattle.ash_host.specs.Objects.{handle, handles}
@@ -12,7 +12,7 @@ use Rattle.ash_objects.specs.Table.{Table, holds_of}
 use Rattle.ash_requests.specs.States.{globals_of}
 use Rattle.ash_plain_steps.specs.declared.state.LoadedModule.{LoadedModule}
 use Rattle.ash_plain_steps.specs.StateViews.{modules_seen}
-use Rattle.ash_run_steps.specs.RunStates.{times, is_alive_in, HoldsMore}
+use Rattle.ash_run_steps.specs.RunStates.{is_alive_in, HoldsMore}
 use Rattle.ash_run_steps.proofs.Bare.{same_alive}
 use Rattle.ash_run_steps.proofs.Stacking.{handles_few}
 

@@ -1,18 +1,17 @@
 -- A call that the code ran is a step of the live state.
-use Rattle.std.proofs.Common.{◌≡◌, ◌+◌, ℕ, zero, suc, List, [], ◌∷◌, ◌++◌, length, map, set, refl, sym, ap, ◌∙◌, subst, slice_get, nat_eq, inl, inr, arith}
-use Rattle.std.specs.Prelude.{Option, Some, None, Result, Ok, Err, option_map}
+use Rattle.std.proofs.Common.{◌≡◌, ◌+◌, ℕ, zero, suc, List, [], ◌∷◌, ◌++◌, length, map, set, refl, sym, ap, ◌∙◌, subst}
+use Rattle.std.proofs.Common.{slice_get, nat_eq, arith}
+use Rattle.std.specs.Prelude.{Some, Ok, option_map}
 use Rattle.std.specs.List.{AllZip, IsDistinct}
 use Rattle.std.proofs.lemmas.List.{length-map}
 use Rattle.std.proofs.lemmas.Option.{slice_get-map}
-use Rattle.ash_host.specs.declared.event.Event.{Event}
 use Rattle.ash_host.specs.declared.host_object.HostObject.{Ghosts}
 use Rattle.ash_host.specs.declared.word.Word.{Word}
 use Rattle.ash_host.specs.Objects.{handles}
 use Rattle.ash_registry.specs.AcceptedRegistrations.{Registration}
-use Rattle.ash_typed.specs.Modules.{Function, module_of}
+use Rattle.ash_typed.specs.Modules.{module_of}
 use Rattle.ash_meaning.specs.Ends.{End}
 use Rattle.ash_objects.specs.Table.{Table}
-use Rattle.ash_object_ranks.specs.ShownTables.{objects_shown}
 use Rattle.ash_run_steps.specs.declared.beginning.Parts.{Parts}
 use Rattle.ash_run_steps.specs.Answered.{Answered, boxes_of}
 use Rattle.ash_run_steps.specs.RunStates.{HoldsRoots}
@@ -21,13 +20,10 @@ use Rattle.ash_code.specs.declared.code.CodeParts.{CodeParts}
 use Rattle.ash_context.specs.declared.context.Left.{Left}
 use Rattle.ash_context.specs.declared.outcome.Outcome as run_outcome
 use Rattle.ash_context.specs.Outcomes.{end_said}
-use Rattle.ash_requests.specs.declared.argument.Arg.{Arg}
-use Rattle.ash_requests.specs.States.{LoadedModule, State, Embedding, globals_of, without_module, update_globals}
-use Rattle.ash_requests.specs.Requests.{Request}
+use Rattle.ash_requests.specs.States.{LoadedModule, Embedding, globals_of, without_module, update_globals}
 use Rattle.ash_requests.specs.Requests as replies
-use Rattle.ash_requests.specs.Steps.{Step, performed, perform, unless_refused}
+use Rattle.ash_requests.specs.Steps.{performed, unless_refused}
 use Rattle.ash_requests.specs.Steps as steps
-use Rattle.ash_requests.specs.TaskResults.{TaskChangesState}
 use Rattle.ash_requests.specs.Tasks.{Task, TaskResult, Invoke}
 use Rattle.ash_soundness.specs.WellFormed.{Context, IsContext}
 use Rattle.ash_soundness.specs.WellFormedStates.{AreHosts}
@@ -36,14 +32,12 @@ use Rattle.ash_soundness.proofs.Entries.{mapped}
 use Rattle.ash_sources.specs.SourceFaults.{SourceFault}
 use Rattle.ash_sources.proofs.SourceLaws.{read_sound}
 use Rattle.ash_plain_steps.specs.declared.state.LoadedModule as code_module
-use Rattle.ash_plain_steps.specs.declared.state.PlainState.{PlainState}
 use Rattle.ash_plain_steps.specs.declared.task.Invocation.{Invocation}
 use Rattle.ash_plain_steps.specs.declared.task.Task.TheVariants as tasks
 use Rattle.ash_plain_steps.specs.StateViews.{loaded_seen, modules_seen}
 use Rattle.ash_plain_steps.specs.Consistency.{AreConsistent}
 use Rattle.ash_plain_steps.proofs.Changed.{seen_set, consistent_set}
-use Rattle.ash_states.specs.HostStates.{HostState, IsAdmitted, embedding_for, offered_to, service_kinds}
-use Rattle.ash_states.specs.StateSteps.{task_of}
+use Rattle.ash_states.specs.HostStates.{HostState, IsAdmitted, embedding_for, offered_to}
 use Rattle.ash_table_states.specs.TableStates.{names_in, state_shown}
 use Rattle.ash_engine.specs.declared.live.Compiled.{Compiled}
 use Rattle.ash_engine.specs.declared.live.Live.{Live}
@@ -51,8 +45,9 @@ use Rattle.ash_engine.specs.LiveStates.{plain_box}
 use Rattle.ash_engine.specs.LiveSteps.{TakesStep}
 use Rattle.ash_engine.specs.RankedSources.{ReadsRanked}
 use Rattle.ash_engine.specs.TableRuns.{SaysOfCall}
-use Rattle.ash_engine.specs.TableStates.{slots_of, names_of, roots_of, IsCompiledFrom, BoxesFit, durable_seen, live_seen, IsLive}
-use Rattle.ash_engine.specs.TableTasks.{codes_of, entry_name, IsAsked}
+use Rattle.ash_engine.specs.TableStates.{slots_of, names_of, roots_of, IsCompiledFrom, BoxesFit, durable_seen}
+use Rattle.ash_engine.specs.TableStates.{live_seen, IsLive}
+use Rattle.ash_engine.specs.TableTasks.{codes_of, IsAsked}
 use Rattle.ash_engine.proofs.Admitted.{step_admitted}
 use Rattle.ash_engine.proofs.CallEnds.{called, called_so, numbered_from, boxes_answered, kinds_kept}
 use Rattle.ash_engine.proofs.ChangedModules.{held_after}
@@ -69,7 +64,8 @@ slots_from cs ds same = mapped_codes cs ∙ ap (map (λ (c : CodeParts). c.modul
     mapped_codes [] = refl
     mapped_codes (c ∷ cs) = ap (λ (l : List ℕ). c.code.module ∷ l) (mapped_codes cs)
 
-pub still_compiled : (ms : List code_module.LoadedModule) (cs ds : List Compiled) → AllZip IsCompiledFrom ms cs → codes_of ds ≡ codes_of cs → AllZip IsCompiledFrom ms ds
+pub still_compiled : (ms : List code_module.LoadedModule) (cs ds : List Compiled) → AllZip IsCompiledFrom ms cs
+    → codes_of ds ≡ codes_of cs → AllZip IsCompiledFrom ms ds
 still_compiled [] [] [] each same = tt
 still_compiled [] [] (d ∷ ds) each same = absurd (cc)
 still_compiled [] (c ∷ cs) ds each same = absurd each
@@ -80,20 +76,26 @@ still_compiled (m ∷ ms) (c ∷ cs) (d ∷ ds) each same =
     let rest : codes_of ds ≡ codes_of cs = cc in
     (λ x context tree. rw one (each.0 x context tree), still_compiled ms cs ds each.1 rest)
 
-pub set_compiled : (ms : List code_module.LoadedModule) (cs : List Compiled) (place : ℕ) (m new : code_module.LoadedModule) → AllZip IsCompiledFrom ms cs
+pub set_compiled : (ms : List code_module.LoadedModule) (cs : List Compiled) (place : ℕ)
+    (m new : code_module.LoadedModule) → AllZip IsCompiledFrom ms cs
     → slice_get ms place ≡ Some m → new.tree ≡ m.tree → AllZip IsCompiledFrom (set ms place new) cs
 set_compiled [] cs place m new each at tree = absurd (cc)
 set_compiled (x ∷ ms) [] place m new each at tree = absurd each
 set_compiled (x ∷ ms) (c ∷ cs) zero m new each at tree =
-    let one : x ≡ m = cc in
-    (λ context known is. each.0 context known (is ∙ ap module_of (tree ∙ ap (λ (y : code_module.LoadedModule). y.tree) (sym one))), each.1)
+    let one : x ≡ m = cc in (
+      λ context known is. each.0 context known (is ∙ ap module_of
+          (tree ∙ ap (λ (y : code_module.LoadedModule). y.tree) (sym one))),
+      each.1,
+    )
 set_compiled (x ∷ ms) (c ∷ cs) (suc place) m new each at tree = (each.0, set_compiled ms cs place m new each.1 at tree)
 
 -- a module as the definitions have it, in its place
-pub seen_at : (ms : List code_module.LoadedModule) (place : ℕ) (m : code_module.LoadedModule) → slice_get ms place ≡ Some m → slice_get (modules_seen ms) place ≡ Some (loaded_seen m)
+pub seen_at : (ms : List code_module.LoadedModule) (place : ℕ) (m : code_module.LoadedModule)
+    → slice_get ms place ≡ Some m → slice_get (modules_seen ms) place ≡ Some (loaded_seen m)
 seen_at ms place m at = slice_get-map loaded_seen ms place ∙ ap (option_map loaded_seen) at
 
-module _ {B : Type 0} (G : Ghosts B) (live : Live B) (call : Invocation) (asked : IsAsked G live (tasks.Invoke call)) (ranked : ReadsRanked (offered_to asked.registered) (embedding_for asked.registered)) where
+module _ {B : Type 0} (G : Ghosts B) (live : Live B) (call : Invocation) (asked : IsAsked G live (tasks.Invoke call))
+    (ranked : ReadsRanked (offered_to asked.registered) (embedding_for asked.registered)) where
   abbrev ms : List code_module.LoadedModule
   ms = live.loaded.modules.items
 
@@ -112,16 +114,19 @@ module _ {B : Type 0} (G : Ghosts B) (live : Live B) (call : Invocation) (asked 
   -- the module that is called, and the task
   pub asked_module : (m : code_module.LoadedModule) × (slice_get ms call.module ≡ Some m)
       × (Invoke (loaded_seen m) (module_of m.tree) call.function call.args.items ≡ asked.one)
-  asked_module = mapped (λ (m : code_module.LoadedModule). Invoke (loaded_seen m) (module_of m.tree) call.function call.args.items) (slice_get ms call.module) asked.one asked.seen
+  asked_module = mapped (λ (m : code_module.LoadedModule). Invoke (loaded_seen m)
+      (module_of m.tree) call.function call.args.items) (slice_get ms call.module) asked.one asked.seen
 
   module _ (budget : ℕ) (m : code_module.LoadedModule) (at : slice_get ms call.module ≡ Some m)
       (one : Invoke (loaded_seen m) (module_of m.tree) call.function call.args.items ≡ asked.one)
       (parts : Parts B) (left : Left B) (code : CodeParts) (in_slot : slice_get slots call.module ≡ Some code.module)
       (compiled : (c : Context) → IsContext c → (c.program).tree ≡ module_of m.tree → IsCodeOf code c)
-      (takes : Takes live.table m.globals.items (handles (globals_of (without_module (loaded_seen m).name (modules_seen ms)))) parts)
+      (takes : Takes live.table m.globals.items (handles
+      (globals_of (without_module (loaded_seen m).name (modules_seen ms)))) parts)
       (says : SaysOfCall G code parts call.function call.args.items budget left) where
     is_task : IsTask embedding durable.state (Invoke (loaded_seen m) (module_of m.tree) call.function call.args.items)
-    is_task = subst (IsTask embedding durable.state) (sym one) (task_is embedding durable.state asked.request asked.one asked.is)
+    is_task = subst (IsTask embedding durable.state) (sym one)
+        (task_is embedding durable.state asked.request asked.one asked.is)
 
     -- what the run left is in the live state
     pub record IsAfterCall (new : Live B) : Type 0 where
@@ -133,7 +138,8 @@ module _ {B : Type 0} (G : Ghosts B) (live : Live B) (call : Invocation) (asked 
       pub codes : codes_of new.compiled.items ≡ codes_of live.compiled.items
       pub table : new.table ≡ left.parts.table
 
-    module _ (o : run_outcome.Outcome) (new : Live B) (after : IsAfterCall new) (held : HoldsRoots left.parts.table (left.parts.outside.items ++ handles left.parts.globals.items)) where
+    module _ (o : run_outcome.Outcome) (new : Live B) (after : IsAfterCall new)
+        (held : HoldsRoots left.parts.table (left.parts.outside.items ++ handles left.parts.globals.items)) where
       abbrev end : End
       end = end_said (names_for (names_of live) (module_of m.tree)) o
 
@@ -141,7 +147,11 @@ module _ {B : Type 0} (G : Ghosts B) (live : Live B) (call : Invocation) (asked 
       changed_modules = update_globals (loaded_seen m).name left.parts.globals.items (modules_seen ms)
 
       abbrev reached : HostState
-      reached = record { registered = registered; state = state_shown G changed_modules slots (live.loaded.seq + 1) left.parts.table }
+      reached = record {
+        registered = registered;
+        state = state_shown G changed_modules slots
+            (live.loaded.seq + 1) left.parts.table;
+      }
 
       modules_are : modules_seen new.loaded.modules.items ≡ changed_modules
       modules_are = ap modules_seen after.modules
@@ -152,21 +162,34 @@ module _ {B : Type 0} (G : Ghosts B) (live : Live B) (call : Invocation) (asked 
       slots_are = slots_from new.compiled.items live.compiled.items after.codes
 
       reached_is : durable_seen G registered new ≡ reached
-      reached_is = (λ i. record { registered = registered; state = state_shown G (modules_are i) (slots_are i) (after.seq i) (after.table i) })
+      reached_is = (λ i. record {
+        registered = registered;
+        state = state_shown G (modules_are i) (slots_are i) (after.seq i) (after.table i);
+      })
 
-      module _ (ran : CallSteps embedding (offered_to registered) (read_sound registered) ranked G (modules_seen ms) slots live.loaded.seq live.table
+      module _ (ran : CallSteps embedding (offered_to registered) (read_sound registered) ranked G
+          (modules_seen ms) slots live.loaded.seq live.table
           budget (loaded_seen m) (module_of m.tree) call.function call.args.items o left.parts) where
         hosts_fit : AreHosts (hosts_of G live.table ran.records)
-        hosts_fit = record { pool = (asked.live).fit; answers = answers_fit G ran.records live.table left.parts.table [] left.parts.events.items ran.gave }
+        hosts_fit = record {
+          pool = (asked.live).fit;
+          answers = answers_fit G ran.records live.table left.parts.table []
+              left.parts.events.items ran.gave;
+        }
 
         step_is : steps.step embedding budget asked.request durable.state (hosts_of G live.table ran.records)
-            ≡ Some (called embedding (offered_to registered) (read_sound registered) ranked G (modules_seen ms) slots live.loaded.seq live.table (loaded_seen m) end left.parts)
-        step_is = ap (λ (d : TaskResult SourceFault). unless_refused budget d durable.state (hosts_of G live.table ran.records))
+            ≡ Some (called embedding (offered_to registered) (read_sound registered) ranked G
+            (modules_seen ms) slots live.loaded.seq live.table (loaded_seen m) end left.parts)
+        step_is = ap (λ (d : TaskResult SourceFault). unless_refused budget d durable.state
+            (hosts_of G live.table ran.records))
             (asked.is ∙ ap (λ (t : Task). Ok t) (sym one))
-            ∙ called_so embedding (offered_to registered) (read_sound registered) ranked G (modules_seen ms) slots live.loaded.seq live.table budget (loaded_seen m) (module_of m.tree) call.function call.args.items o left.parts ran
+            ∙ called_so embedding (offered_to registered) (read_sound registered) ranked G
+            (modules_seen ms) slots live.loaded.seq live.table budget (loaded_seen m)
+            (module_of m.tree) call.function call.args.items o left.parts ran
 
         kept : IsAdmitted reached × AreHosts (hosts_of G left.parts.table [])
-        kept = step_admitted budget asked.request durable (hosts_of G live.table ran.records) _ (asked.live).admitted hosts_fit (performed step_is)
+        kept = step_admitted budget asked.request durable (hosts_of G live.table ran.records) _
+            (asked.live).admitted hosts_fit (performed step_is)
 
         pub call_taken : TakesStep G budget asked.request (live_seen G registered live)
             (replies.Answered end (live.loaded.seq + 1) left.parts.events.items) (live_seen G registered new)
@@ -180,7 +203,8 @@ module _ {B : Type 0} (G : Ghosts B) (live : Live B) (call : Invocation) (asked 
             }));
             registered = refl;
           };
-          gave = subst (λ (t : Table B). Answered G (boxes_of live.table) left.parts.events.items ran.records (boxes_of t)) (sym after.table)
+          gave = subst (λ (t : Table B). Answered G (boxes_of live.table) left.parts.events.items ran.records
+              (boxes_of t)) (sym after.table)
               (boxes_answered G ran.records live.table left.parts.table left.parts.events.items
               (numbered_from G (names_of live) live.table (((asked.live).admitted).formed).numbered)
               (numbered_from G (names_in changed_modules slots) left.parts.table ((kept.0).formed).numbered) ran.gave);
@@ -191,24 +215,36 @@ module _ {B : Type 0} (G : Ghosts B) (live : Live B) (call : Invocation) (asked 
         as_many =
             let now = (kept.0).served in
             let was = ((asked.live).admitted).served in
-            omega (arith, now, was, length-map left.parts.table.services G.state, length-map live.table.services G.state)
+            omega (
+              arith,
+              now,
+              was,
+              length-map left.parts.table.services G.state,
+              length-map live.table.services
+                  G.state,
+            )
 
         pub call_live : IsLive G registered new
         call_live = record {
           admitted = subst IsAdmitted (sym reached_is) kept.0;
-          consistent = subst (AreConsistent embedding) (sym after.modules) (consistent_set embedding ms call.module m after.changed (asked.live).consistent at after.same);
+          consistent = subst (AreConsistent embedding) (sym after.modules)
+              (consistent_set embedding ms call.module m after.changed (asked.live).consistent at after.same);
           compiled = record {
-            each = subst (λ (l : List code_module.LoadedModule). AllZip IsCompiledFrom l new.compiled.items) (sym after.modules)
+            each = subst (λ (l : List code_module.LoadedModule). AllZip IsCompiledFrom l new.compiled.items)
+                (sym after.modules)
                 (still_compiled (set ms call.module after.changed) live.compiled.items new.compiled.items
-                (set_compiled ms live.compiled.items call.module m after.changed ((asked.live).compiled).each at (ap (λ (x : code_module.LoadedModule). x.tree) after.same)) after.codes);
+                (set_compiled ms live.compiled.items call.module m after.changed ((asked.live).compiled).each at
+                (ap (λ (x : code_module.LoadedModule). x.tree) after.same)) after.codes);
             apart = subst (IsDistinct nat_eq) (sym slots_are) ((asked.live).compiled).apart;
           };
           held = subst (λ (t : Table B). HoldsRoots t (roots_of new)) (sym after.table)
               (subst (λ (l : List LoadedModule). HoldsRoots left.parts.table (handles (globals_of l))) (sym modules_are)
-              (held_after left.parts.table left.parts.outside.items left.parts.globals.items (modules_seen ms) call.module (loaded_seen m)
+              (held_after left.parts.table left.parts.outside.items left.parts.globals.items
+              (modules_seen ms) call.module (loaded_seen m)
               ((((asked.live).admitted).formed).ascending) (seen_at ms call.module m at) ran.outside held));
           kinds = ap (λ (t : Table B). map G.kind_of t.services) after.table
-              ∙ kinds_kept G (ran.gave).drawn live.table left.parts.table (((ran.gave).follows).boxes) as_many ∙ (asked.live).kinds;
+              ∙ kinds_kept G (ran.gave).drawn live.table left.parts.table (((ran.gave).follows).boxes) as_many
+              ∙ (asked.live).kinds;
           fit = subst (λ (t : Table B). BoxesFit (map (plain_box G) t.pool)) (sym after.table) (kept.1).pool;
         }
 
@@ -216,16 +252,20 @@ module _ {B : Type 0} (G : Ghosts B) (live : Live B) (call : Invocation) (asked 
     pub call_answered : (o : run_outcome.Outcome) (new : Live B) → left.outcome ≡ Ok o → IsAfterCall new
         → HoldsRoots left.parts.table (left.parts.outside.items ++ handles left.parts.globals.items)
         → TakesStep G budget asked.request (live_seen G registered live)
-        (replies.Answered (end_said (names_for (names_of live) (module_of m.tree)) o) (live.loaded.seq + 1) left.parts.events.items) (live_seen G registered new)
+        (replies.Answered (end_said (names_for (names_of live) (module_of m.tree)) o)
+        (live.loaded.seq + 1) left.parts.events.items) (live_seen G registered new)
         × IsLive G registered new
     call_answered o new e after held = from is_task
       where
         from : IsTask embedding durable.state (Invoke (loaded_seen m) (module_of m.tree) call.function call.args.items)
             → TakesStep G budget asked.request (live_seen G registered live)
-            (replies.Answered (end_said (names_for (names_of live) (module_of m.tree)) o) (live.loaded.seq + 1) left.parts.events.items) (live_seen G registered new)
+            (replies.Answered (end_said (names_for (names_of live) (module_of m.tree)) o)
+            (live.loaded.seq + 1) left.parts.events.items) (live_seen G registered new)
             × IsLive G registered new
         from (calls {f = f} given_args found is there given numbered) =
-            let ran = call_steps embedding (offered_to registered) (read_sound registered) ranked G (modules_seen ms) slots live.loaded.seq live.table
-            ((asked.live).admitted).formed (asked.live).fit ((asked.live).compiled).apart call.module (loaded_seen m) (module_of m.tree) code (seen_at ms call.module m at) in_slot
+            let ran = call_steps embedding (offered_to registered) (read_sound registered) ranked G
+            (modules_seen ms) slots live.loaded.seq live.table
+            ((asked.live).admitted).formed (asked.live).fit ((asked.live).compiled).apart call.module (loaded_seen m)
+            (module_of m.tree) code (seen_at ms call.module m at) in_slot
             compiled found is budget call.function f given_args call.args.items there given parts left takes says o e in
             (call_taken o new after held ran, call_live o new after held ran)

@@ -1,21 +1,19 @@
 -- What a call takes of a live state, and what it gives back.
-use Rattle.std.proofs.Common.{◌≡◌, ◌<◌, ◌+◌, ◌++◌, ℕ, zero, suc, List, [], ◌∷◌, length, map, set, refl, sym, ap, ◌∙◌, subst, slice_get, nat_eq, inl, inr, arith}
-use Rattle.std.specs.Prelude.{Option, Some, None, Result, Ok, Err, All, IsTrue, IfOk, IfErr, option_map}
+use Rattle.std.proofs.Common.{◌≡◌, ◌<◌, ◌+◌, ◌++◌, ℕ, zero, suc, List, [], ◌∷◌, length, map, set, refl, sym, ap, ◌∙◌}
+use Rattle.std.proofs.Common.{subst, slice_get, nat_eq, inl, inr, arith}
+use Rattle.std.specs.Prelude.{Some, Result, Ok, Err, All, IsTrue, IfOk, IfErr, option_map}
 use Rattle.std.specs.List.{AllZip, IsDistinct, remove}
 use Rattle.std.proofs.lemmas.List.{length-set}
 use Rattle.std.proofs.lemmas.Option.{same_Some, slice_get_within, slice_get-map}
-use Rattle.ash_host.specs.declared.event.Event.{Event}
 use Rattle.ash_host.specs.declared.host_object.HostObject.{Ghosts}
 use Rattle.ash_host.specs.declared.word.Word.{Word}
 use Rattle.ash_host.specs.Objects.{handles}
 use Rattle.ash_registry.specs.AcceptedRegistrations.{Registration}
 use Rattle.ash_typed.specs.Modules.{module_of}
-use Rattle.ash_meaning.specs.Ends.{End}
 use Rattle.ash_objects.specs.Table.{Table}
 use Rattle.ash_run_steps.specs.declared.beginning.Parts.{Parts}
 use Rattle.ash_run_steps.specs.Answered.{boxes_of}
 use Rattle.ash_run_steps.specs.RunStates.{HoldsRoots, Names, is_alive_in}
-use Rattle.ash_code.specs.declared.code.CodeParts.{CodeParts}
 use Rattle.ash_context.specs.declared.context.Left.{Left}
 use Rattle.ash_context.specs.declared.outcome.Outcome as run_outcome
 use Rattle.ash_context.specs.declared.outcome.Outcome.TheVariants as outcomes
@@ -46,18 +44,19 @@ use Rattle.ash_engine.specs.declared.live.Live.{Live}
 use Rattle.ash_engine.specs.declared.live.Rest.{Rest}
 use Rattle.ash_engine.specs.declared.steps.LiveStep.{LiveStep}
 use Rattle.ash_engine.specs.LiveStates.{plain_box}
-use Rattle.ash_engine.specs.LiveSteps.{LiveSteps, TakesStep, RanOut}
+use Rattle.ash_engine.specs.LiveSteps.{LiveSteps, TakesStep}
 use Rattle.ash_engine.specs.TableRuns.{SaysOfCall, IsLent, IsGivenBack, IsAnswered, end_named}
-use Rattle.ash_engine.specs.TableStates.{slots_of, names_of, roots_of, IsCompiledFrom, BoxesFit, durable_seen, live_seen, IsLive}
+use Rattle.ash_engine.specs.TableStates.{slots_of, names_of, roots_of, IsCompiledFrom, BoxesFit, durable_seen}
+use Rattle.ash_engine.specs.TableStates.{live_seen, IsLive}
 use Rattle.ash_engine.specs.TableSteps.{IsStepOf}
 use Rattle.ash_engine.specs.TableTasks.{codes_of, entry_name, IsAsked}
 use Rattle.ash_engine.proofs.ArgumentsAlive.{arguments_alive}
 use Rattle.ash_engine.proofs.ChangedModules.{held_before}
-use Rattle.ash_engine.proofs.Invoked.{slots_from, still_compiled, set_compiled, seen_at, asked_module, call_answered}
+use Rattle.ash_engine.proofs.Invoked.{slots_from, still_compiled, set_compiled, seen_at, call_answered}
 use Rattle.ash_engine.proofs.Looked.{ran_out}
 use Rattle.ash_engine.proofs.ReadRanks.{read_ranked}
 use Rattle.ash_engine.proofs.RunSettings.{names_for}
-use Rattle.ash_engine.proofs.TableCalls.{Takes, never_unsound}
+use Rattle.ash_engine.proofs.TableCalls.{Takes}
 
 -- a list with an item in its own place
 same_set : {A : Type 0} (xs : List A) (place : ℕ) (x : A) → slice_get xs place ≡ Some x → set xs place x ≡ xs
@@ -66,7 +65,8 @@ same_set {A} (y ∷ ys) zero x at = ap (λ (z : A). z ∷ ys) (sym (same_Some y 
 same_set {A} (y ∷ ys) (suc place) x at = ap (λ (l : List A). y ∷ l) (same_set ys place x at)
 
 -- what is in the same place of the other list
-zipped_at : {A C : Type 0} (R : A → C → Type 0) (xs : List A) (ys : List C) (place : ℕ) (x : A) → AllZip R xs ys → slice_get xs place ≡ Some x
+zipped_at : {A C : Type 0} (R : A → C → Type 0) (xs : List A) (ys : List C) (place : ℕ) (x : A) → AllZip R xs ys
+    → slice_get xs place ≡ Some x
     → (y : C) × (slice_get ys place ≡ Some y) × R x y
 zipped_at R [] ys place x each at = absurd (cc)
 zipped_at R (z ∷ xs) [] place x each at = absurd each
@@ -79,7 +79,8 @@ end_same names (outcomes.Finished value) = refl
 end_same names (outcomes.Exception code function line) = refl
 end_same names (outcomes.Aborted function line) = refl
 
-module _ {B : Type 0} (G : Ghosts B) (live : Live B) (call : Invocation) (asked : IsAsked G live (tasks.Invoke call)) where
+module _ {B : Type 0} (G : Ghosts B) (live : Live B) (call : Invocation)
+    (asked : IsAsked G live (tasks.Invoke call)) where
   abbrev ms : List code_module.LoadedModule
   ms = live.loaded.modules.items
 
@@ -98,7 +99,8 @@ module _ {B : Type 0} (G : Ghosts B) (live : Live B) (call : Invocation) (asked 
     the_task = Invoke (loaded_seen m) (module_of m.tree) call.function call.args.items
 
     is_task : IsTask embedding durable.state the_task
-    is_task = subst (IsTask embedding durable.state) (sym one) (task_is embedding durable.state asked.request asked.one asked.is)
+    is_task = subst (IsTask embedding durable.state) (sym one)
+        (task_is embedding durable.state asked.request asked.one asked.is)
 
     task_found : task_of asked.request durable ≡ Ok the_task
     task_found = asked.is ∙ ap (λ (t : Task). Ok t) (sym one)
@@ -127,11 +129,13 @@ module _ {B : Type 0} (G : Ghosts B) (live : Live B) (call : Invocation) (asked 
     alive table = from is_task
       where
         from : IsTask embedding durable.state the_task → All (λ word. IsTrue (is_alive_in word table)) call.args.items
-        from (calls {f = f} given found is there words left) = arguments_alive table f.parameters given call.args.items words
+        from (calls {f = f} given found is there words left) =
+            arguments_alive table f.parameters given call.args.items words
 
     -- the module has its globals again
     unchanged_globals : update_globals (loaded_seen m).name m.globals.items (modules_seen ms) ≡ modules_seen ms
-    unchanged_globals = sym (seen_set ms call.module m m asked.live.consistent.ascending at refl) ∙ ap modules_seen (same_set ms call.module m at)
+    unchanged_globals = sym (seen_set ms call.module m m asked.live.consistent.ascending at refl)
+        ∙ ap modules_seen (same_set ms call.module m at)
 
     -- the state is as it was
     pub record IsAsBefore (new : Live B) : Type 0 where
@@ -154,7 +158,10 @@ module _ {B : Type 0} (G : Ghosts B) (live : Live B) (call : Invocation) (asked 
       slots_before = slots_from new.compiled.items live.compiled.items as_before.codes
 
       durable_before : durable_seen G registered new ≡ durable
-      durable_before = (λ i. record { registered = registered; state = state_shown G (modules_before i) (slots_before i) (as_before.seq i) (as_before.table i) })
+      durable_before = (λ i. record {
+        registered = registered;
+        state = state_shown G (modules_before i) (slots_before i) (as_before.seq i) (as_before.table i);
+      })
 
       live_before : live_seen G registered new ≡ live_seen G registered live
       live_before = (λ i. record {
@@ -166,27 +173,37 @@ module _ {B : Type 0} (G : Ghosts B) (live : Live B) (call : Invocation) (asked 
       still_live : IsLive G registered new
       still_live = record {
         admitted = subst IsAdmitted (sym durable_before) asked.live.admitted;
-        consistent = subst (AreConsistent embedding) (sym as_before.modules) (consistent_set embedding ms call.module m as_before.changed asked.live.consistent at as_before.same);
+        consistent = subst (AreConsistent embedding) (sym as_before.modules)
+            (consistent_set embedding ms call.module m as_before.changed asked.live.consistent at as_before.same);
         compiled = record {
-          each = subst (λ (l : List code_module.LoadedModule). AllZip IsCompiledFrom l new.compiled.items) (sym as_before.modules)
+          each = subst (λ (l : List code_module.LoadedModule). AllZip IsCompiledFrom l new.compiled.items)
+              (sym as_before.modules)
               (still_compiled (set ms call.module as_before.changed) live.compiled.items new.compiled.items
-              (set_compiled ms live.compiled.items call.module m as_before.changed asked.live.compiled.each at (ap (λ (x : code_module.LoadedModule). x.tree) as_before.same)) as_before.codes);
+              (set_compiled ms live.compiled.items call.module m as_before.changed asked.live.compiled.each at
+              (ap (λ (x : code_module.LoadedModule). x.tree) as_before.same)) as_before.codes);
           apart = subst (IsDistinct nat_eq) (sym slots_before) asked.live.compiled.apart;
         };
         held = subst (λ (t : Table B). HoldsRoots t (roots_of new)) (sym as_before.table)
-            (subst (λ (l : List LoadedModule). HoldsRoots live.table (handles (globals_of l))) (sym modules_before) asked.live.held);
+            (subst (λ (l : List LoadedModule). HoldsRoots live.table (handles (globals_of l)))
+            (sym modules_before) asked.live.held);
         kinds = ap (λ (t : Table B). map G.kind_of t.services) as_before.table ∙ asked.live.kinds;
         fit = subst (λ (t : Table B). BoxesFit (map (plain_box G) t.pool)) (sym as_before.table) asked.live.fit;
       }
 
       refused_step : (budget : ℕ) (reply : Reply SourceFault) → reply ≡ Refused NoMemory
-          → LiveSteps G budget asked.request (live_seen G registered live) reply (live_seen G registered new) × IsLive G registered new
-      refused_step budget reply refused = (inr (ran_out G registered live asked.request the_task reply new task_found tt refused live_before), still_live)
+          → LiveSteps G budget asked.request (live_seen G registered live) reply (live_seen G registered new)
+          × IsLive G registered new
+      refused_step budget reply refused = (
+        inr (ran_out G registered live asked.request the_task reply new task_found tt refused live_before),
+        still_live,
+      )
 
     -- memory was refused before the run began to take anything
-    pub without_run : (budget : ℕ) (one : LiveStep B) → reply_seen fault_of one.reply ≡ Refused NoMemory → one.live ≡ live → IsStepOf G registered budget asked.request live (Ok one)
+    pub without_run : (budget : ℕ) (one : LiveStep B) → reply_seen fault_of one.reply ≡ Refused NoMemory
+        → one.live ≡ live → IsStepOf G registered budget asked.request live (Ok one)
     without_run budget one refused same = (
-      inr (ran_out G registered live asked.request the_task (reply_seen fault_of one.reply) one.live task_found tt refused (ap (live_seen G registered) same)),
+      inr (ran_out G registered live asked.request the_task
+          (reply_seen fault_of one.reply) one.live task_found tt refused (ap (live_seen G registered) same)),
       subst (IsLive G registered) (sym same) asked.live,
     )
 
@@ -196,23 +213,38 @@ module _ {B : Type 0} (G : Ghosts B) (live : Live B) (call : Invocation) (asked 
       lending = lent.lending
 
       outside_is : parts.outside.items ≡ handles (globals_of (without_module (loaded_seen m).name (modules_seen ms)))
-      outside_is = lent.outside ∙ beside ∙ ap (λ (l : List LoadedModule). handles (globals_of l)) (removed_there ms call.module m asked.live.consistent.ascending at)
+      outside_is = lent.outside ∙ beside ∙ ap (λ (l : List LoadedModule). handles (globals_of l))
+          (removed_there ms call.module m asked.live.consistent.ascending at)
 
-      takes : Takes live.table m.globals.items (handles (globals_of (without_module (loaded_seen m).name (modules_seen ms)))) parts
-      takes = record { same_table = lent.table; same_globals = lent.globals; same_outside = outside_is; no_events = lent.events }
+      takes : Takes live.table m.globals.items (handles (globals_of
+          (without_module (loaded_seen m).name (modules_seen ms)))) parts
+      takes = record {
+        same_table = lent.table;
+        same_globals = lent.globals;
+        same_outside = outside_is;
+        no_events = lent.events;
+      }
 
       pub roots_held : HoldsRoots parts.table (parts.outside.items ++ handles parts.globals.items)
       roots_held =
           subst (λ (t : Table B). HoldsRoots t (parts.outside.items ++ handles parts.globals.items)) (sym lent.table)
           (subst (λ (ws : List Word). HoldsRoots live.table (parts.outside.items ++ handles ws)) (sym lent.globals)
-          (held_before live.table parts.outside.items (modules_seen ms) call.module (loaded_seen m) asked.live.admitted.formed.ascending (seen_at ms call.module m at)
+          (held_before live.table parts.outside.items (modules_seen ms) call.module
+          (loaded_seen m) asked.live.admitted.formed.ascending (seen_at ms call.module m at)
           outside_is unchanged_globals asked.live.held))
 
       pub there : slice_get rest.loaded.modules.items call.module ≡ Some lending
-      there = ap (λ (l : List code_module.LoadedModule). slice_get l call.module) lent.modules ∙ got_set ms call.module m lending at
+      there = ap (λ (l : List code_module.LoadedModule). slice_get l call.module) lent.modules
+          ∙ got_set ms call.module m lending at
 
       pub within_rest : call.module < length rest.loaded.modules.items
-      within_rest = omega (arith, within, ap (length {A = code_module.LoadedModule}) lent.modules, length-set ms call.module lending)
+      within_rest = omega (
+        arith,
+        within,
+        ap (length {A = code_module.LoadedModule}) lent.modules,
+        length-set ms
+            call.module lending,
+      )
 
       pub within_rest_codes : call.module < length rest.compiled.items
       within_rest_codes = subst (λ (v : _). call.module < length v.items) (sym lent.compiled) within_codes
@@ -220,21 +252,25 @@ module _ {B : Type 0} (G : Ghosts B) (live : Live B) (call : Invocation) (asked 
       pub rest_numbered : rest.loaded.seq < max_seq
       rest_numbered = subst (λ (n : ℕ). n < max_seq) (sym (ap (λ (s : PlainState). s.seq) lent.loaded)) numbered
 
-      module _ (budget : ℕ) (left : Left B) (after : Rest) (same_loaded : after.loaded ≡ rest.loaded) (same_codes : codes_of after.compiled.items ≡ codes_of rest.compiled.items)
-          (says : (c : Compiled) → slice_get rest.compiled.items call.module ≡ Some c → SaysOfCall G c.code parts call.function call.args.items budget left)
+      module _ (budget : ℕ) (left : Left B) (after : Rest) (same_loaded : after.loaded ≡ rest.loaded)
+          (same_codes : codes_of after.compiled.items ≡ codes_of rest.compiled.items)
+          (says : (c : Compiled) → slice_get rest.compiled.items call.module ≡ Some c
+          → SaysOfCall G c.code parts call.function call.args.items budget left)
           (unchanged : left.outcome ≡ Err faults.NotBegun → left.parts ≡ parts)
           (held : HoldsRoots left.parts.table (left.parts.outside.items ++ handles left.parts.globals.items)) where
         code_there : slice_get rest.compiled.items call.module ≡ Some has_code.0
         code_there = ap (λ (v : _). slice_get v.items call.module) lent.compiled ∙ has_code.1
 
         in_slot : slice_get (slots_of live.compiled.items) call.module ≡ Some has_code.0.code.module
-        in_slot = slice_get-map (λ (c : Compiled). c.code.module) live.compiled.items call.module ∙ ap (option_map (λ (c : Compiled). c.code.module)) has_code.1
+        in_slot = slice_get-map (λ (c : Compiled). c.code.module) live.compiled.items call.module
+            ∙ ap (option_map (λ (c : Compiled). c.code.module)) has_code.1
 
         abbrev changed : code_module.LoadedModule
         changed = record lending { globals = left.parts.globals }
 
         changed_is : changed ≡ record m { globals = changed.globals }
-        changed_is = ap (λ (x : code_module.LoadedModule). let y : code_module.LoadedModule = record x { globals = left.parts.globals } in y) lent.same
+        changed_is = ap (λ (x : code_module.LoadedModule).
+            let y : code_module.LoadedModule = record x { globals = left.parts.globals } in y) lent.same
 
         module _ (back : Live B) (given : IsGivenBack after call.module lending left.parts back) where
           modules_back : back.loaded.modules.items ≡ set ms call.module changed
@@ -244,21 +280,29 @@ module _ {B : Type 0} (G : Ghosts B) (live : Live B) (call : Invocation) (asked 
               ∙ set_again ms call.module lending changed
 
           seq_back : back.loaded.seq ≡ live.loaded.seq
-          seq_back = ap (λ (s : PlainState). s.seq) given.loaded ∙ ap (λ (s : PlainState). s.seq) same_loaded ∙ ap (λ (s : PlainState). s.seq) lent.loaded
+          seq_back = ap (λ (s : PlainState). s.seq) given.loaded ∙ ap (λ (s : PlainState). s.seq) same_loaded
+              ∙ ap (λ (s : PlainState). s.seq) lent.loaded
 
           codes_back : codes_of back.compiled.items ≡ codes_of live.compiled.items
-          codes_back = ap (λ (v : _). codes_of v.items) given.compiled ∙ same_codes ∙ ap (λ (v : _). codes_of v.items) lent.compiled
+          codes_back = ap (λ (v : _). codes_of v.items) given.compiled ∙ same_codes
+              ∙ ap (λ (v : _). codes_of v.items) lent.compiled
 
           -- the run had an outcome
           answers : (o : run_outcome.Outcome) (step : LiveStep B) → left.outcome ≡ Ok o
-              → IsAnswered back (end_named (entry_name (module_of lending.tree)) o) left.parts.events.items step → IsStepOf G registered budget asked.request live (Ok step)
+              → IsAnswered back (end_named (entry_name (module_of lending.tree)) o) left.parts.events.items step
+              → IsStepOf G registered budget asked.request live (Ok step)
           answers o step e answered =
-              let tree : module_of lending.tree ≡ module_of m.tree = ap (λ (x : code_module.LoadedModule). module_of x.tree) lent.same in
-              let end : end_named (entry_name (module_of lending.tree)) o ≡ end_said (names_for (names_of live) (module_of m.tree)) o =
+              let tree : module_of lending.tree ≡ module_of m.tree =
+              ap (λ (x : code_module.LoadedModule). module_of x.tree) lent.same in
+              let end : end_named (entry_name (module_of lending.tree)) o
+              ≡ end_said (names_for (names_of live) (module_of m.tree)) o =
               (λ i. end_named (entry_name (tree i)) o) ∙ end_same (names_for (names_of live) (module_of m.tree)) o in
-              let reply : reply_seen fault_of step.reply ≡ Answered (end_said (names_for (names_of live) (module_of m.tree)) o) (live.loaded.seq + 1) left.parts.events.items =
+              let reply : reply_seen fault_of step.reply ≡ Answered
+              (end_said (names_for (names_of live) (module_of m.tree)) o)
+              (live.loaded.seq + 1) left.parts.events.items =
               answered.reply ∙ (λ i. Answered (end i) (seq_back i + 1) left.parts.events.items) in
-              let came = call_answered G live call asked (read_ranked registered) budget m at one parts left has_code.0.code in_slot has_code.2 takes says_there o step.live e
+              let came = call_answered G live call asked (read_ranked registered) budget m at one parts left
+              has_code.0.code in_slot has_code.2 takes says_there o step.live e
               (record {
                 changed = changed;
                 same = changed_is;
@@ -268,7 +312,8 @@ module _ {B : Type 0} (G : Ghosts B) (live : Live B) (call : Invocation) (asked 
                 codes = ap (λ (l : Live B). codes_of l.compiled.items) answered.live ∙ codes_back;
                 table = ap (λ (l : Live B). l.table) answered.live ∙ given.table;
               }) held in (
-                inl (subst (λ (r : Reply SourceFault). TakesStep G budget asked.request (live_seen G registered live) r (live_seen G registered step.live)) (sym reply) came.0),
+                inl (subst (λ (r : Reply SourceFault). TakesStep G budget asked.request (live_seen G registered live) r
+                    (live_seen G registered step.live)) (sym reply) came.0),
                 came.1,
               )
             where
@@ -277,7 +322,8 @@ module _ {B : Type 0} (G : Ghosts B) (live : Live B) (call : Invocation) (asked 
 
           -- the run was not begun
           refuses : (reply : Reply SourceFault) → left.outcome ≡ Err faults.NotBegun → reply ≡ Refused NoMemory
-              → LiveSteps G budget asked.request (live_seen G registered live) reply (live_seen G registered back) × IsLive G registered back
+              → LiveSteps G budget asked.request (live_seen G registered live) reply (live_seen G registered back)
+              × IsLive G registered back
           refuses reply e refused = refused_step back (record {
             changed = changed;
             same = changed_is;
@@ -289,17 +335,20 @@ module _ {B : Type 0} (G : Ghosts B) (live : Live B) (call : Invocation) (asked 
           }) budget reply refused
 
         -- what the code gives for what the run left
-        pub call_stepped : (result : Result (LiveStep B) StepError) (o : Result run_outcome.Outcome RunFault) → left.outcome ≡ o
+        pub call_stepped : (result : Result (LiveStep B) StepError) (o : Result run_outcome.Outcome RunFault)
+            → left.outcome ≡ o
             → ((outcome : run_outcome.Outcome) → left.outcome ≡ Ok outcome
             → IfOk result (λ step. (back : Live B) × IsGivenBack after call.module lending left.parts back
             × IsAnswered back (end_named (entry_name (module_of lending.tree)) outcome) left.parts.events.items step))
             → (left.outcome ≡ Err faults.NotBegun
-            → IfOk result (λ step. (reply_seen fault_of step.reply ≡ Refused NoMemory) × IsGivenBack after call.module lending left.parts step.live))
+            → IfOk result (λ step. (reply_seen fault_of step.reply ≡ Refused NoMemory)
+            × IsGivenBack after call.module lending left.parts step.live))
             → (left.outcome ≡ Err faults.NoMemory → IfOk result (λ step. ⊥))
             → (left.outcome ≡ Err faults.Unsound → IfOk result (λ step. ⊥))
             → IfErr result (λ error. error ≡ errors.NoMemory)
             → IsStepOf G registered budget asked.request live result
-        call_stepped (Err error) o is answered refused lost never memory = subst (FailsInChange asked.request durable) (sym memory) changes
+        call_stepped (Err error) o is answered refused lost never memory =
+            subst (FailsInChange asked.request durable) (sym memory) changes
         call_stepped (Ok step) (Ok outcome) is answered refused lost never memory =
             let found = answered outcome is in
             answers found.0 found.1 outcome step is found.2

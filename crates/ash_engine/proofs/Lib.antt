@@ -29,6 +29,8 @@ pub mod AnsweredSteps
 pub mod Loaded
 pub mod Discarded
 pub mod ObjectsAsked
+pub mod LoadOutcomes
+pub mod LoadAsked
 pub mod Invoked
 pub mod Beside
 pub mod ArgumentsAlive

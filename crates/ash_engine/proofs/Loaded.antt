@@ -1,5 +1,6 @@
 -- A load that the code ran is a step of the live state.
-use Rattle.std.proofs.Common.{◌≡◌, ◌<◌, ◌+◌, ℕ, List, [], ◌∷◌, ◌++◌, length, map, find, refl, sym, ap, ◌∙◌, subst, nat_eq, inl, inr, arith}
+use Rattle.std.proofs.Common.{◌≡◌, ◌<◌, ◌+◌, ℕ, true, List, [], ◌∷◌, ◌++◌, length, map, find, refl, sym, ap, ◌∙◌, subst}
+use Rattle.std.proofs.Common.{nat_eq, inl, inr, arith}
 use Rattle.std.specs.Prelude.{Option, Some, None, Result, Ok, Err, Contains, IfOk, IfErr, string_bytes}
 use Rattle.std.specs.List.{AllZip, IsDistinct, insert}
 use Rattle.std.proofs.lemmas.List.{length-map}
@@ -55,7 +56,8 @@ use Rattle.ash_engine.specs.LiveSteps.{LiveSteps, TakesStep}
 use Rattle.ash_engine.specs.RankedSources.{ReadsRanked}
 use Rattle.ash_engine.specs.TableRuns.{end_named, SaysOfLoad, IsAnswered, IsKept, IsAbandoned}
 use Rattle.ash_engine.specs.TableSteps.{IsStepOf}
-use Rattle.ash_engine.specs.TableStates.{slots_of, roots_of, IsCompiledFrom, AreCompiled, durable_seen, live_seen, IsLive}
+use Rattle.ash_engine.specs.TableStates.{slots_of, roots_of, IsCompiledFrom, AreCompiled, durable_seen, live_seen}
+use Rattle.ash_engine.specs.TableStates.{IsLive}
 use Rattle.ash_engine.specs.TableTasks.{entry_name}
 use Rattle.ash_engine.proofs.AnsweredSteps.{IsShown, taken, still_admitted, still_fit, still_kinds}
 use Rattle.ash_engine.proofs.CallEnds.{numbered_from}
@@ -70,12 +72,33 @@ use Rattle.ash_engine.proofs.TableCalls.{Takes, hosts_of}
 use Rattle.ash_engine.proofs.TableLoads.{LoadSteps, load_steps}
 
 -- an end with the names of functions, whatever the names of modules
-ends_same : (tree : Module) (o : run_outcome.Outcome) (names : ℕ → List ℕ) → end_said (names_for names tree) o ≡ end_named (entry_name tree) o
+ends_same : (tree : Module) (o : run_outcome.Outcome) (names : ℕ → List ℕ)
+    → end_said (names_for names tree) o ≡ end_named (entry_name tree) o
 ends_same tree (outcomes.Finished value) names = refl
 ends_same tree (outcomes.Exception x function line) names = refl
 ends_same tree (outcomes.Aborted function line) names = refl
 
-module _ {B : Type 0} (G : Ghosts B) (registered : List Registration) (request : Request) (budget : ℕ) (live : Live B) (is_live : IsLive G registered live)
+-- what is left of a load
+pub record IsLeft {B : Type 0} (live : Live B) (m : code_module.LoadedModule) (c : Compiled) (left : Left B)
+    (result : Result (LiveStep B) StepError) : Type 0 where
+  pub kept : (value : Option Word) → left.outcome ≡ Ok (outcomes.Finished value)
+      → IfOk result (λ one. (before : Live B) × IsKept (record { loaded = live.loaded; compiled = live.compiled }) m c
+      left.parts before
+      × IsAnswered before (Finished value) left.parts.events.items one)
+  pub abandoned : (o : run_outcome.Outcome) → left.outcome ≡ Ok o
+      → ((value : Option Word) → o ≡ outcomes.Finished value → ⊥)
+      → IfOk result (λ one. (before : Live B) × (events : List Event) × IsAbandoned
+      (record { loaded = live.loaded; compiled = live.compiled }) left.parts before events
+      × IsAnswered before (end_named (entry_name (module_of m.tree)) o) events one)
+  pub refused : left.outcome ≡ Err faults.NotBegun
+      → IfOk result (λ one. (reply_seen fault_of one.reply ≡ Refused NoMemoryRefusal)
+      × (one.live ≡ record { loaded = live.loaded; compiled = live.compiled; table = left.parts.table }))
+  pub lost : left.outcome ≡ Err faults.NoMemory → IfOk result (λ one. ⊥)
+  pub never : left.outcome ≡ Err faults.Unsound → IfOk result (λ one. ⊥)
+  pub memory : IfErr result (λ error. error ≡ errors.NoMemory)
+
+module _ {B : Type 0} (G : Ghosts B) (registered : List Registration) (request : Request) (budget : ℕ) (live : Live B)
+    (is_live : IsLive G registered live)
     (ranked : ReadsRanked (offered_to registered) (embedding_for registered)) (m : code_module.LoadedModule) where
   abbrev ms : List code_module.LoadedModule
   ms = live.loaded.modules.items
@@ -113,8 +136,10 @@ module _ {B : Type 0} (G : Ghosts B) (registered : List Registration) (request :
   abbrev rest : Rest
   rest = record { loaded = live.loaded; compiled = live.compiled }
 
-  module _ (asked : task_of request durable ≡ Ok task) (c : Compiled) (fresh : Contains slots c.code.module → ⊥) (compiled : IsCompiledFrom m c) (parts : Parts B) (left : Left B)
-      (takes : Takes live.table (map zero_of (types_of_globals tree.globals)) (handles (globals_of seen)) parts) (says : SaysOfLoad G c.code parts budget left)
+  module _ (asked : task_of request durable ≡ Ok task) (c : Compiled) (fresh : Contains slots c.code.module
+      → ⊥) (compiled : IsCompiledFrom m c) (parts : Parts B) (left : Left B)
+      (takes : Takes live.table (map zero_of (types_of_globals tree.globals)) (handles (globals_of seen)) parts)
+      (says : SaysOfLoad G c.code parts budget left)
       (held : HoldsRoots left.parts.table (left.parts.outside.items ++ handles left.parts.globals.items)) where
     changes : TaskChangesState (task_of request durable)
     changes = subst (λ (d : TaskResult SourceFault). TaskChangesState d) (sym asked) tt
@@ -123,23 +148,29 @@ module _ {B : Type 0} (G : Ghosts B) (registered : List Registration) (request :
     abbrev new_names : SlotNames
     new_names = names_in (record { name = name; source = m.source.items; globals = [] } ∷ seen) (c.code.module ∷ slots)
 
-    module _ (good : is_module_name name ≡ true) (is : embedding.read m.source.items ≡ Ok tree) (free : find_module name durable.state ≡ None) (few : length seen < max_modules) (numbered : live.loaded.seq < max_seq) where
+    module _ (good : is_module_name name ≡ true) (is : embedding.read m.source.items ≡ Ok tree)
+        (free : find_module name durable.state ≡ None) (few : length seen < max_modules)
+        (numbered : live.loaded.seq < max_seq) where
       abbrev Loads : run_outcome.Outcome → Type 0
-      Loads o = LoadSteps embedding (offered_to registered) (read_sound registered) ranked G seen slots live.loaded.seq live.table ((is_live.admitted).formed) is_live.fit
+      Loads o = LoadSteps embedding (offered_to registered) (read_sound registered) ranked G seen slots live.loaded.seq
+          live.table ((is_live.admitted).formed) is_live.fit
           name m.source.items tree c.code good is free fresh compiled budget o left.parts
 
       loads : (o : run_outcome.Outcome) → left.outcome ≡ Ok o → Loads o
-      loads o came = load_steps embedding (offered_to registered) (read_sound registered) ranked G seen slots live.loaded.seq live.table ((is_live.admitted).formed) is_live.fit
+      loads o came = load_steps embedding (offered_to registered) (read_sound registered) ranked G seen slots
+          live.loaded.seq live.table ((is_live.admitted).formed) is_live.fit
           name m.source.items tree c.code good is free fresh compiled budget parts left takes says o came
 
       step_by : (one : steps.Step SourceFault) (o : run_outcome.Outcome) (run : Loads o)
           → steps.perform {Fault = SourceFault} budget task durable.state (hosts_of G live.table run.records) ≡ Some one
           → steps.step embedding budget request durable.state (hosts_of G live.table run.records) ≡ Some one
-      step_by one o run performs = ap (λ (d : TaskResult SourceFault). unless_refused budget d durable.state (hosts_of G live.table run.records)) asked ∙ performs
+      step_by one o run performs = ap (λ (d : TaskResult SourceFault). unless_refused budget d durable.state
+          (hosts_of G live.table run.records)) asked ∙ performs
 
       -- a module that is kept
 
-      module _ (value : Option Word) (run : Loads (outcomes.Finished value)) (before : Live B) (kept : IsKept rest m c left.parts before)
+      module _ (value : Option Word) (run : Loads (outcomes.Finished value)) (before : Live B)
+          (kept : IsKept rest m c left.parts before)
           (one : LiveStep B) (answered : IsAnswered before (Finished value) left.parts.events.items one) where
         abbrev kept_module : code_module.LoadedModule
         kept_module = record m { globals = left.parts.globals }
@@ -166,49 +197,70 @@ module _ {B : Type 0} (G : Ghosts B) (registered : List Registration) (request :
 
         kept_named : (at : ℕ) → names_in kept_modules kept_slots at ≡ new_names at
         kept_named at =
-            ap (λ (l : List LoadedModule). names_in l kept_slots at) (sym kept.by_name ∙ ap modules_seen kept.modules ∙ map_insert loaded_seen ms kept.place kept_module)
+            ap (λ (l : List LoadedModule). names_in l kept_slots at) (sym kept.by_name ∙ ap modules_seen kept.modules
+            ∙ map_insert loaded_seen ms kept.place kept_module)
             ∙ inserted_at (loaded_seen kept_module) c.code.module seen slots kept.place at long fresh
 
         kept_step : steps.step embedding budget request durable.state (hosts_of G live.table run.records)
-            ≡ Some (answered_with G live.loaded.seq (Finished value) left.parts.events.items kept_modules kept_slots left.parts.table)
+            ≡ Some (answered_with G live.loaded.seq (Finished value) left.parts.events.items kept_modules kept_slots
+            left.parts.table)
         kept_step = step_by _ (outcomes.Finished value) run
-            (kept_so embedding (offered_to registered) (read_sound registered) ranked G seen slots live.loaded.seq live.table ((is_live.admitted).formed) is_live.fit
-            name m.source.items tree c.code good is free fresh compiled budget value left.parts kept_slots run kept_named)
+            (kept_so embedding (offered_to registered) (read_sound registered) ranked G seen slots live.loaded.seq
+            live.table ((is_live.admitted).formed) is_live.fit
+            name m.source.items tree c.code good is free fresh compiled budget value left.parts kept_slots run
+            kept_named)
 
         kept_held : HoldsRoots left.parts.table (handles (globals_of kept_modules))
-        kept_held n = held n ∙ ap (λ (l : List ℕ). times n (l ++ handles left.parts.globals.items)) run.outside ∙ sym (roots_with (loaded_seen kept_module) seen n)
+        kept_held n = held n ∙ ap (λ (l : List ℕ). times n (l ++ handles left.parts.globals.items)) run.outside
+            ∙ sym (roots_with (loaded_seen kept_module) seen n)
 
-        kept_taken : TakesStep G budget request (live_seen G registered live) (reply_seen fault_of one.reply) (live_seen G registered one.live)
+        kept_taken : TakesStep G budget request (live_seen G registered live) (reply_seen fault_of one.reply)
+            (live_seen G registered one.live)
         kept_taken =
-            subst (λ (r : replies.Reply SourceFault). TakesStep G budget request (live_seen G registered live) r (live_seen G registered one.live))
-            (sym (answered.reply ∙ ap (λ (s : PlainState). replies.Answered (Finished value) (s.seq + 1) left.parts.events.items) kept.loaded))
-            (taken G registered request budget live is_live (Finished value) left.parts.events.items kept_modules kept_slots left.parts.table run.records run.gave kept_step one.live kept_shown)
+            subst (λ (r : replies.Reply SourceFault). TakesStep G budget request (live_seen G registered live) r
+            (live_seen G registered one.live))
+            (sym (answered.reply
+            ∙ ap (λ (s : PlainState). replies.Answered (Finished value) (s.seq + 1) left.parts.events.items)
+            kept.loaded))
+            (taken G registered request budget live is_live (Finished value) left.parts.events.items kept_modules
+            kept_slots left.parts.table run.records run.gave kept_step one.live kept_shown)
 
         kept_live : IsLive G registered one.live
         kept_live = record {
-          admitted = still_admitted G registered request budget live is_live (Finished value) left.parts.events.items kept_modules kept_slots left.parts.table run.records run.gave kept_step one.live kept_shown;
-          consistent = consistent_insert embedding kept_module ms one.live.loaded.modules.items is_live.consistent is free kept_shown.modules_are (kept.place, kept_items);
+          admitted = still_admitted G registered request budget live is_live (Finished value) left.parts.events.items
+              kept_modules kept_slots left.parts.table run.records run.gave kept_step one.live kept_shown;
+          consistent = consistent_insert embedding kept_module ms one.live.loaded.modules.items is_live.consistent is
+              free kept_shown.modules_are (kept.place, kept_items);
           compiled = record {
-            each = subst (λ (l : List code_module.LoadedModule). AllZip IsCompiledFrom l one.live.compiled.items) (sym kept_items)
-                (subst (λ (l : List Compiled). AllZip IsCompiledFrom (insert ms kept.place kept_module) l) (sym kept_codes)
+            each = subst (λ (l : List code_module.LoadedModule). AllZip IsCompiledFrom l one.live.compiled.items)
+                (sym kept_items)
+                (subst (λ (l : List Compiled). AllZip IsCompiledFrom (insert ms kept.place kept_module) l)
+                (sym kept_codes)
                 (zip_insert IsCompiledFrom ms cs kept.place kept_module c (is_live.compiled).each compiled));
-            apart = subst (IsDistinct nat_eq) (sym kept_shown.slots_are) (distinct_insert c.code.module slots kept.place fresh (is_live.compiled).apart);
+            apart = subst (IsDistinct nat_eq) (sym kept_shown.slots_are)
+                (distinct_insert c.code.module slots kept.place fresh (is_live.compiled).apart);
           };
           held = subst (λ (t : Table B). HoldsRoots t (roots_of one.live)) (sym kept_shown.table_is)
-              (subst (λ (l : List LoadedModule). HoldsRoots left.parts.table (handles (globals_of l))) (sym kept_shown.modules_are) kept_held);
-          kinds = still_kinds G registered request budget live is_live (Finished value) left.parts.events.items kept_modules kept_slots left.parts.table run.records run.gave kept_step one.live kept_shown;
-          fit = still_fit G registered request budget live is_live (Finished value) left.parts.events.items kept_modules kept_slots left.parts.table run.records run.gave kept_step one.live kept_shown;
+              (subst (λ (l : List LoadedModule). HoldsRoots left.parts.table (handles (globals_of l)))
+              (sym kept_shown.modules_are) kept_held);
+          kinds = still_kinds G registered request budget live is_live (Finished value) left.parts.events.items
+              kept_modules kept_slots left.parts.table run.records run.gave kept_step one.live kept_shown;
+          fit = still_fit G registered request budget live is_live (Finished value) left.parts.events.items kept_modules
+              kept_slots left.parts.table run.records run.gave kept_step one.live kept_shown;
         }
 
       -- a module that is given up
 
-      module _ (o : run_outcome.Outcome) (run : Loads o) (other : (value : Option Word) → o ≡ outcomes.Finished value → ⊥) (before : Live B) (events : List Event)
-          (gone : IsAbandoned rest left.parts before events) (one : LiveStep B) (answered : IsAnswered before (end_named (entry_name tree) o) events one) where
+      module _ (o : run_outcome.Outcome) (run : Loads o) (other : (value : Option Word) → o ≡ outcomes.Finished value
+          → ⊥) (before : Live B) (events : List Event)
+          (gone : IsAbandoned rest left.parts before events) (one : LiveStep B)
+          (answered : IsAnswered before (end_named (entry_name tree) o) events one) where
         abbrev end : End
         end = end_named (entry_name tree) o
 
         gone_items : one.live.loaded.modules.items ≡ ms
-        gone_items = ap (λ (l : Live B). l.loaded.modules.items) answered.live ∙ ap (λ (s : PlainState). s.modules.items) gone.loaded
+        gone_items = ap (λ (l : Live B). l.loaded.modules.items) answered.live
+            ∙ ap (λ (s : PlainState). s.modules.items) gone.loaded
 
         gone_codes : one.live.compiled.items ≡ cs
         gone_codes = ap (λ (l : Live B). l.compiled.items) answered.live ∙ ap (λ (v : _). v.items) gone.compiled
@@ -222,94 +274,119 @@ module _ {B : Type 0} (G : Ghosts B) (registered : List Registration) (request :
         }
 
         gone_gave : Gave G run.records live.table [] before.table events
-        gone_gave = run_released G (names_for new_names tree) (rank_test (known_of embedding seen) (class_ranks embedding (offered_to registered) ranked seen)) run.records live.table []
-            left.parts.outside.items left.parts.globals.items left.parts.table before.table left.parts.events.items events run.gave
+        gone_gave = run_released G (names_for new_names tree)
+            (rank_test (known_of embedding seen) (class_ranks embedding (offered_to registered) ranked seen))
+            run.records live.table []
+            left.parts.outside.items left.parts.globals.items left.parts.table before.table left.parts.events.items
+            events run.gave
             (numbered_from G new_names left.parts.table ((run.settled).world).numbered) gone.in_order held gone.released
 
         gone_step : steps.step embedding budget request durable.state (hosts_of G live.table run.records)
             ≡ Some (answered_with G live.loaded.seq end events seen slots before.table)
         gone_step = step_by _ o run
-            (abandoned_so embedding (offered_to registered) (read_sound registered) ranked G seen slots live.loaded.seq live.table ((is_live.admitted).formed) is_live.fit
-            name m.source.items tree c.code good is free fresh compiled few numbered budget o left.parts run held before.table events gone.in_order gone.released other
-            ∙ ap (λ (e : End). Some (answered_with {Fault = SourceFault} G live.loaded.seq e events seen slots before.table)) (ends_same tree o new_names))
+            (abandoned_so embedding (offered_to registered) (read_sound registered) ranked G seen slots live.loaded.seq
+            live.table ((is_live.admitted).formed) is_live.fit
+            name m.source.items tree c.code good is free fresh compiled few numbered budget o left.parts run held
+            before.table events gone.in_order gone.released other
+            ∙ ap (λ (e : End). Some (answered_with {Fault = SourceFault} G live.loaded.seq e events seen slots
+            before.table)) (ends_same tree o new_names))
 
         gone_held : HoldsRoots before.table (handles (globals_of seen))
-        gone_held = left_held embedding (offered_to registered) (read_sound registered) ranked G seen slots live.loaded.seq live.table ((is_live.admitted).formed) is_live.fit
-            name m.source.items tree c.code good is free fresh compiled few numbered budget o left.parts run held before.table events gone.in_order gone.released
+        gone_held = left_held embedding (offered_to registered) (read_sound registered) ranked G seen slots
+            live.loaded.seq live.table ((is_live.admitted).formed) is_live.fit
+            name m.source.items tree c.code good is free fresh compiled few numbered budget o left.parts run held
+            before.table events gone.in_order gone.released
 
-        gone_taken : TakesStep G budget request (live_seen G registered live) (reply_seen fault_of one.reply) (live_seen G registered one.live)
+        gone_taken : TakesStep G budget request (live_seen G registered live) (reply_seen fault_of one.reply)
+            (live_seen G registered one.live)
         gone_taken =
-            subst (λ (r : replies.Reply SourceFault). TakesStep G budget request (live_seen G registered live) r (live_seen G registered one.live))
+            subst (λ (r : replies.Reply SourceFault). TakesStep G budget request (live_seen G registered live) r
+            (live_seen G registered one.live))
             (sym (answered.reply ∙ ap (λ (s : PlainState). replies.Answered end (s.seq + 1) events) gone.loaded))
-            (taken G registered request budget live is_live end events seen slots before.table run.records gone_gave gone_step one.live gone_shown)
+            (taken G registered request budget live is_live end events seen slots before.table run.records gone_gave
+            gone_step one.live gone_shown)
 
         gone_live : IsLive G registered one.live
         gone_live = record {
-          admitted = still_admitted G registered request budget live is_live end events seen slots before.table run.records gone_gave gone_step one.live gone_shown;
+          admitted = still_admitted G registered request budget live is_live end events seen slots before.table
+              run.records gone_gave gone_step one.live gone_shown;
           consistent = subst (AreConsistent embedding) (sym gone_items) is_live.consistent;
           compiled = record {
-            each = subst (λ (l : List code_module.LoadedModule). AllZip IsCompiledFrom l one.live.compiled.items) (sym gone_items)
+            each = subst (λ (l : List code_module.LoadedModule). AllZip IsCompiledFrom l one.live.compiled.items)
+                (sym gone_items)
                 (subst (λ (l : List Compiled). AllZip IsCompiledFrom ms l) (sym gone_codes) (is_live.compiled).each);
             apart = subst (IsDistinct nat_eq) (sym gone_shown.slots_are) (is_live.compiled).apart;
           };
           held = subst (λ (t : Table B). HoldsRoots t (roots_of one.live)) (sym gone_shown.table_is)
-              (subst (λ (l : List LoadedModule). HoldsRoots before.table (handles (globals_of l))) (sym gone_shown.modules_are) gone_held);
-          kinds = still_kinds G registered request budget live is_live end events seen slots before.table run.records gone_gave gone_step one.live gone_shown;
-          fit = still_fit G registered request budget live is_live end events seen slots before.table run.records gone_gave gone_step one.live gone_shown;
+              (subst (λ (l : List LoadedModule). HoldsRoots before.table (handles (globals_of l)))
+              (sym gone_shown.modules_are) gone_held);
+          kinds = still_kinds G registered request budget live is_live end events seen slots before.table run.records
+              gone_gave gone_step one.live gone_shown;
+          fit = still_fit G registered request budget live is_live end events seen slots before.table run.records
+              gone_gave gone_step one.live gone_shown;
         }
 
     -- Memory was refused before the run began.
-    refused_step : (one : LiveStep B) → reply_seen fault_of one.reply ≡ Refused NoMemoryRefusal → one.live ≡ live → IsStepOf G registered budget request live (Ok one)
+    refused_step : (one : LiveStep B) → reply_seen fault_of one.reply ≡ Refused NoMemoryRefusal → one.live ≡ live
+        → IsStepOf G registered budget request live (Ok one)
     refused_step one refused same = (
-      inr (ran_out G registered live request task (reply_seen fault_of one.reply) one.live asked tt refused (ap (live_seen G registered) same)),
+      inr (ran_out G registered live request task (reply_seen fault_of one.reply) one.live asked tt refused
+          (ap (live_seen G registered) same)),
       subst (IsLive G registered) (sym same) is_live,
     )
 
-    -- what is left of a load is a step
-    pub record IsLeft (result : Result (LiveStep B) StepError) : Type 0 where
-      pub kept : (value : Option Word) → left.outcome ≡ Ok (outcomes.Finished value)
-          → IfOk result (λ one. (before : Live B) × IsKept rest m c left.parts before × IsAnswered before (Finished value) left.parts.events.items one)
-      pub abandoned : (o : run_outcome.Outcome) → left.outcome ≡ Ok o → ((value : Option Word) → o ≡ outcomes.Finished value → ⊥)
-          → IfOk result (λ one. (before : Live B) × (events : List Event) × IsAbandoned rest left.parts before events × IsAnswered before (end_named (entry_name tree) o) events one)
-      pub refused : left.outcome ≡ Err faults.NotBegun
-          → IfOk result (λ one. (reply_seen fault_of one.reply ≡ Refused NoMemoryRefusal) × (one.live ≡ record { loaded = live.loaded; compiled = live.compiled; table = left.parts.table }))
-      pub unchanged : left.outcome ≡ Err faults.NotBegun → left.parts.table ≡ live.table
-      pub lost : left.outcome ≡ Err faults.NoMemory → IfOk result (λ one. ⊥)
-      pub never : left.outcome ≡ Err faults.Unsound → IfOk result (λ one. ⊥)
-      pub memory : IfErr result (λ error. error ≡ errors.NoMemory)
-
-    load_is_step : IsTask embedding durable.state task → (result : Result (LiveStep B) StepError) → IsLeft result → IsStepOf G registered budget request live result
-    load_is_step is_task (Err error) l = subst (λ (e : StepError). FailsInChange request durable e) (sym l.memory) changes
-    load_is_step (initializes good is free few numbered) (Ok one) l = by left.outcome refl
+    load_is_step : IsTask embedding durable.state task
+        → (left.outcome ≡ Err faults.NotBegun → left.parts.table ≡ live.table)
+        → (result : Result (LiveStep B) StepError) → IsLeft live m c left result
+        → IsStepOf G registered budget request live result
+    load_is_step is_task unchanged (Err error) l = subst (λ (e : StepError). FailsInChange request durable e)
+        (sym l.memory) changes
+    load_is_step (initializes good is free few numbered) unchanged (Ok one) l = by left.outcome refl
       where
         ended : (o : run_outcome.Outcome) → left.outcome ≡ Ok o → IsStepOf G registered budget request live (Ok one)
         ended (outcomes.Finished value) came =
             let (before, kept, answered) = l.kept value came in
-            let run = loads good is free few numbered (outcomes.Finished value) came in
-            (inl (kept_taken good is free few numbered value run before kept one answered), kept_live good is free few numbered value run before kept one answered)
+            let run = loads good is free few numbered (outcomes.Finished value) came in (
+              inl (kept_taken good is free few numbered value run before kept one answered),
+              kept_live good is free few numbered value run before kept one answered,
+            )
         ended (outcomes.Exception x function line) came =
-            let other : (value : Option Word) → outcomes.Exception x function line ≡ outcomes.Finished value → ⊥ = λ value e. cc in
+            let other : (value : Option Word) → outcomes.Exception x function line ≡ outcomes.Finished value
+            → ⊥ = λ value e. cc in
             let (before, events, gone, answered) = l.abandoned (outcomes.Exception x function line) came other in
             let run = loads good is free few numbered (outcomes.Exception x function line) came in (
-              inl (gone_taken good is free few numbered (outcomes.Exception x function line) run other before events gone one answered),
-              gone_live good is free few numbered (outcomes.Exception x function line) run other before events gone one answered,
+              inl (gone_taken good is free few numbered (outcomes.Exception x function line) run other before events
+                  gone one answered),
+              gone_live good is free few numbered (outcomes.Exception x function line) run other before events gone one
+                  answered,
             )
         ended (outcomes.Aborted function line) came =
-            let other : (value : Option Word) → outcomes.Aborted function line ≡ outcomes.Finished value → ⊥ = λ value e. cc in
+            let other : (value : Option Word) → outcomes.Aborted function line ≡ outcomes.Finished value
+            → ⊥ = λ value e. cc in
             let (before, events, gone, answered) = l.abandoned (outcomes.Aborted function line) came other in
             let run = loads good is free few numbered (outcomes.Aborted function line) came in (
-              inl (gone_taken good is free few numbered (outcomes.Aborted function line) run other before events gone one answered),
-              gone_live good is free few numbered (outcomes.Aborted function line) run other before events gone one answered,
+              inl (gone_taken good is free few numbered (outcomes.Aborted function line) run other before events gone
+                  one answered),
+              gone_live good is free few numbered (outcomes.Aborted function line) run other before events gone one
+                  answered,
             )
 
-        by : (r : Result run_outcome.Outcome RunFault) → left.outcome ≡ r → IsStepOf G registered budget request live (Ok one)
+        by : (r : Result run_outcome.Outcome RunFault) → left.outcome ≡ r
+            → IsStepOf G registered budget request live (Ok one)
         by (Ok o) came = ended o came
         by (Err faults.NotBegun) came =
             let both = l.refused came in
-            refused_step one both.0 (both.1 ∙ ap (λ (t : Table B). let same : Live B = record { loaded = live.loaded; compiled = live.compiled; table = t } in same) (l.unchanged came))
+            refused_step one both.0 (both.1 ∙ ap
+            (λ (t : Table B). let same : Live B = record {
+              loaded = live.loaded;
+              compiled = live.compiled;
+              table = t;
+            } in same) (unchanged came))
         by (Err faults.NoMemory) came = absurd (l.lost came)
         by (Err faults.Unsound) came = absurd (l.never came)
 
     -- The load that the code ran is a step.
-    pub loaded : (result : Result (LiveStep B) StepError) → IsLeft result → IsStepOf G registered budget request live result
-    loaded result l = load_is_step (task_is embedding durable.state request task asked) result l
+    pub loaded : (left.outcome ≡ Err faults.NotBegun → left.parts.table ≡ live.table)
+        → (result : Result (LiveStep B) StepError) → IsLeft live m c left result
+        → IsStepOf G registered budget request live result
+    loaded unchanged result l = load_is_step (task_is embedding durable.state request task asked) unchanged result l

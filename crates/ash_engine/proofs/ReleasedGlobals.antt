@@ -37,14 +37,33 @@ nothing_numbered (e ∷ drawn) none = absurd (cc)
 
 -- a frame that reaches nothing
 no_frames : Frames
-no_frames = record { frame = record { function = 0; line = 0; this = words.Null; back = 0; slots = []; count = 0; held = [] }; callers = [] }
+no_frames = record {
+  frame = record {
+    function = 0;
+    line = 0;
+    this = words.Null;
+    back = 0;
+    slots = [];
+    count = 0;
+    held = [];
+  };
+  callers = [];
+}
 
 module _ {B : Type 0} (G : Ghosts B) (names : Names) (test : RankTest) where
   state_of : List ℕ → Table B → List Event → State B
-  state_of outside table events = record { table = table; frames = no_frames; globals = []; outside = outside; events = events; ticks = 0 }
+  state_of outside table events = record {
+    table = table;
+    frames = no_frames;
+    globals = [];
+    outside = outside;
+    events = events;
+    ticks = 0;
+  }
 
   -- where drops alone happened, no box answered
-  drops_gave : (records : List HostRecord) (old new : Table B) (before : List Event) (gone : List (ℕ × Living B)) → Gave G records old before new (before ++ drops gone) → Gave G [] old before new (before ++ drops gone)
+  drops_gave : (records : List HostRecord) (old new : Table B) (before : List Event) (gone : List (ℕ × Living B))
+      → Gave G records old before new (before ++ drops gone) → Gave G [] old before new (before ++ drops gone)
   drops_gave records old new before gone gave =
       let happened : drops gone ≡ gave.happened = append_cancel_left before (drops gone) gave.happened gave.told in
       let undrawn : drawn_in (drops gone) ≡ [] = none_drawn (keys_of (filter (λ e. is_boxed (e.1).body) gone)) in
@@ -58,22 +77,29 @@ module _ {B : Type 0} (G : Ghosts B) (names : Names) (test : RankTest) where
         follows = subst (λ (l : List (ℕ × B)). Follows G l old new) none gave.follows;
       }
 
-  pub released_gave : (outside : List ℕ) (given : List Word) (old new : Table B) (before after : List Event) → AreNumbered old.last old.objects → IsInOrder new.objects
+  pub released_gave : (outside : List ℕ) (given : List Word) (old new : Table B) (before after : List Event)
+      → AreNumbered old.last old.objects → IsInOrder new.objects
       → HoldsRoots old (outside ++ handles given) → Released given old new before after → Gave G [] old before new after
   unfolding state_of no_frames
   released_gave outside given old new before after numbered order held r =
       let counted : HoldsRoots r.unheld outside = held_less (handles given) outside old r.unheld held r.less in
-      let roots : HoldsRoots r.unheld (outside ++ [] ++ []) = subst (HoldsRoots r.unheld) (sym (append-nil (outside ++ []) ∙ append-nil outside)) counted in
+      let roots : HoldsRoots r.unheld (outside ++ [] ++ []) = subst (HoldsRoots r.unheld)
+      (sym (append-nil (outside ++ []) ∙ append-nil outside)) counted in
       let was = numbered_bare old r.unheld (r.less).same numbered in
       let swept = release_gives G names (state_of outside r.unheld before) new roots was.in_order order r.swept test in
       let gave = drops_gave swept.records r.unheld new before (gone_from r.unheld.objects new.objects) swept.gave in
-      let went : Gave G [] r.unheld before new after = subst (λ (es : List Event). Gave G [] r.unheld before new es) (sym r.dropped) gave in
-      gave_then G [] [] old before r.unheld before new after (gave_nothing G old before r.unheld before (follows_bare G old r.unheld (r.less).same) refl) went
+      let went : Gave G [] r.unheld before new after = subst (λ (es : List Event). Gave G [] r.unheld before new es)
+      (sym r.dropped) gave in
+      gave_then G [] [] old before r.unheld before new after
+      (gave_nothing G old before r.unheld before (follows_bare G old r.unheld (r.less).same) refl) went
 
   -- after a run, the boxes gave the answers of the run
-  pub run_released : (records : List HostRecord) (start : Table B) (first : List Event) (outside : List ℕ) (given : List Word) (old new : Table B) (before after : List Event)
+  pub run_released : (records : List HostRecord) (start : Table B) (first : List Event) (outside : List ℕ)
+      (given : List Word) (old new : Table B) (before after : List Event)
       → Gave G records start first old before → AreNumbered old.last old.objects → IsInOrder new.objects
-      → HoldsRoots old (outside ++ handles given) → Released given old new before after → Gave G records start first new after
+      → HoldsRoots old (outside ++ handles given) → Released given old new before after
+      → Gave G records start first new after
   run_released records start first outside given old new before after gave numbered order held r =
       subst (λ (rs : List HostRecord). Gave G rs start first new after) (append-nil records)
-      (gave_then G records [] start first old before new after gave (released_gave outside given old new before after numbered order held r))
+      (gave_then G records [] start first old before new after gave
+      (released_gave outside given old new before after numbered order held r))

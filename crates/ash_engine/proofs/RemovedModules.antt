@@ -1,6 +1,6 @@
 -- Modules of which one is taken away: their code, their slots, and the names of the others.
 use Rattle.std.proofs.Common.{◌≡◌, ℕ, zero, suc, Bool, true, false, cond, not, List, [], ◌∷◌, set, refl, sym, ap, ◌∙◌, subst, slice_get, nat_eq}
-use Rattle.std.specs.Prelude.{Option, Some, None, IsSome, find}
+use Rattle.std.specs.Prelude.{Some, None, IsSome, find}
 use Rattle.std.specs.Option.{option_and_then}
 use Rattle.std.specs.List.{AllByRecursion, AllZip, IsDistinct, remove}
 use Rattle.ash_requests.specs.States.{LoadedModule, Embedding, has_name, without_module}

@@ -1,13 +1,12 @@
 -- The live state of one that was stored.
-use Rattle.std.proofs.Common.{◌≡◌, ◌≤◌, ℕ, zero, suc, List, [], ◌∷◌, length, map, refl, sym, ap, ◌∙◌, subst, arith}
-use Rattle.std.specs.Prelude.{All, IsTrue, Option, Some, None, Vec, filter_map}
+use Rattle.std.proofs.Common.{◌≡◌, ℕ, suc, List, [], ◌∷◌, length, map, refl, sym, ap, ◌∙◌, subst, arith}
+use Rattle.std.specs.Prelude.{All, IsTrue, Vec, filter_map}
 use Rattle.std.specs.List.{AllByRecursion, cons_option}
 use Rattle.std.proofs.lemmas.List.{length-map}
 use Rattle.ash_host.specs.declared.host_object.HostObject.{Ghosts}
 use Rattle.ash_host.specs.declared.word.Word.{Word}
 use Rattle.ash_host.specs.Objects.{handles}
 use Rattle.ash_registry.specs.AcceptedRegistrations.{Registration}
-use Rattle.ash_meaning.specs.Activity.{FreeBox}
 use Rattle.ash_objects.specs.Restoring.{RestoresServices}
 use Rattle.ash_objects.specs.Table.{Living, Table}
 use Rattle.ash_run_steps.specs.Answered.{Boxes, boxed_entry, boxes_of}
@@ -22,9 +21,8 @@ use Rattle.ash_states.specs.HostStates.{HostState, IsAdmitted, embedding_for, se
 use Rattle.ash_states.specs.Holding.{held_with, IsHeld}
 use Rattle.ash_table_states.specs.TableStates.{names_in, places_from, state_shown}
 use Rattle.ash_table_states.proofs.Saved.{back}
-use Rattle.ash_engine.specs.declared.live.Compiled.{Compiled}
 use Rattle.ash_engine.specs.declared.live.Live.{Live}
-use Rattle.ash_engine.specs.LiveStates.{LiveState, AreOf, plain_box, services_for}
+use Rattle.ash_engine.specs.LiveStates.{plain_box, services_for}
 use Rattle.ash_engine.specs.RestoredBoxes.{HasServices, IsShort, IsRefused, Restores}
 use Rattle.ash_engine.specs.RestoredTables.{IsTableOf, IsShortOf, IsRefusedOf}
 use Rattle.ash_engine.specs.TableStates.{AreCompiled, BoxesFit, slots_of, durable_seen, live_seen, IsLive}

@@ -1,13 +1,12 @@
 -- The state that a restored table shows, once what globals hold is held.
-use Rattle.std.proofs.Common.{◌≡◌, ◌+◌, ℕ, List, [], map, refl, sym, ap, ◌∙◌, subst, arith}
+use Rattle.std.proofs.Common.{◌≡◌, ℕ, List, map, sym, ap, ◌∙◌, subst, arith}
 use Rattle.std.specs.List.{AllByRecursion}
 use Rattle.ash_host.specs.declared.host_object.HostObject.{Ghosts}
 use Rattle.ash_host.specs.Objects.{LiveObjects}
 use Rattle.ash_objects.specs.Table.{Table, holds_of}
-use Rattle.ash_object_ranks.specs.ShownTables.{objects_shown}
-use Rattle.ash_run_steps.specs.RunStates.{HoldsRoots, HoldsMore, bare, times}
+use Rattle.ash_run_steps.specs.RunStates.{HoldsRoots, HoldsMore, bare}
 use Rattle.ash_run_steps.proofs.Bare.{same_shown}
-use Rattle.ash_requests.specs.States.{LoadedModule, State}
+use Rattle.ash_requests.specs.States.{State}
 use Rattle.ash_states.specs.Images.{name_at, entry_named}
 use Rattle.ash_states.specs.Indexes.{index_in, entry_indexed}
 use Rattle.ash_table_states.specs.TableStates.{names_in, places_from, state_shown}

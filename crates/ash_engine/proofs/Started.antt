@@ -1,30 +1,29 @@
 -- The live states with which engines start from stored ones, and why there is none.
-use Rattle.std.proofs.Common.{◌≡◌, ◌≤◌, ℕ, List, [], ◌∷◌, length, map, filter_map, Option, Some, None, refl, sym, ap, ◌∙◌, subst, inl, inr}
-use Rattle.std.specs.List.{AllByRecursion, AllZip}
+use Rattle.std.proofs.Common.{◌≡◌, ℕ, List, map, Option, Some, sym, ap, ◌∙◌, subst, inr}
 use Rattle.ash_host.specs.declared.host_object.HostObject.{Ghosts}
 use Rattle.ash_host.specs.Objects.{LiveObjects, object_at, IsInOrder}
 use Rattle.ash_meaning.specs.Activity.{FreeBox}
 use Rattle.ash_objects.specs.declared.restoring.SavedObject.{SavedObject}
 use Rattle.ash_objects.specs.Restoring.{Drawn, draw_boxes, stored_in, RestoresServices, IsRestored}
 use Rattle.ash_objects.specs.Restoring as restoring
-use Rattle.ash_objects.specs.Table.{Living, Table}
+use Rattle.ash_objects.specs.Table.{Table}
 use Rattle.ash_object_ranks.specs.ShownTables.{SlotNames, objects_shown}
 use Rattle.ash_requests.specs.States.{State}
 use Rattle.ash_run_steps.specs.Answered.{boxes_of}
 use Rattle.ash_states.specs.HostStates.{HostState, service_kinds}
 use Rattle.ash_states.specs.Images.{name_at, entry_named}
 use Rattle.ash_states.specs.Indexes.{index_in, entry_indexed}
-use Rattle.ash_table_states.specs.SavedObjects.{entry_saved, AreSavedOf}
+use Rattle.ash_table_states.specs.SavedObjects.{AreSavedOf}
 use Rattle.ash_table_states.specs.TableStates.{names_in, places_from}
-use Rattle.ash_table_states.proofs.Shown.{IsTaken, kinds_drawn, bodies_named}
+use Rattle.ash_table_states.proofs.Shown.{kinds_drawn, bodies_named}
 use Rattle.ash_table_states.proofs.SlotNames.{names_of_places}
 use Rattle.ash_engine.specs.LiveStates.{LiveState, AreOf, hosts_in, services_for, plain_box}
-use Rattle.ash_engine.specs.Drawing.{Drawing, Enough, Short, draw_all}
-use Rattle.ash_engine.specs.SavedDrawing.{wanted_by, by_number, drawing_of}
-use Rattle.ash_engine.specs.RestoredBoxes.{kinds_wanted, HasServices, IsShort, BoxRefused, IsRefused, Service, Object, Restores}
+use Rattle.ash_engine.specs.Drawing.{Enough, draw_all}
+use Rattle.ash_engine.specs.SavedDrawing.{by_number, drawing_of}
+use Rattle.ash_engine.specs.RestoredBoxes.{HasServices, IsShort, BoxRefused, IsRefused, Service, Object, Restores}
 use Rattle.ash_engine.specs.RestoredTables.{IsTableOf, IsShortOf, IsRefusedOf}
 use Rattle.ash_engine.proofs.Drawn.{agree}
-use Rattle.ash_engine.proofs.RestoredHosts.{hosts_saved, hosts_are_saved, kinds_saved, boxes_shown, took, all_left}
+use Rattle.ash_engine.proofs.RestoredHosts.{hosts_saved, hosts_are_saved, kinds_saved, boxes_shown, took}
 use Rattle.ash_engine.proofs.RefusedHosts.{refused_by}
 
 module _ {B : Type 0} (G : Ghosts B) where

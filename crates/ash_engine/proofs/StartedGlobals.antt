@@ -1,5 +1,5 @@
 -- What the globals of a state that a host may be in hold lives in the table of the state.
-use Rattle.std.proofs.Common.{◌≡◌, ◌≤◌, ℕ, zero, suc, Bool, true, List, [], ◌∷◌, length, map, refl, sym, ap, ◌∙◌, arith}
+use Rattle.std.proofs.Common.{◌≡◌, ◌≤◌, ℕ, Bool, true, List, [], ◌∷◌, length, refl, sym, ap, ◌∙◌, arith}
 use Rattle.std.specs.Prelude.{All, IsTrue, Option, Some, None, Contains, is_some}
 use Rattle.std.specs.List.{AllByRecursion}
 use Rattle.std.specs.Option.{option_map_or}
@@ -16,7 +16,6 @@ use Rattle.ash_object_ranks.specs.ShownTables.{SlotNames, objects_shown}
 use Rattle.ash_object_ranks.proofs.ShownTables.{lives_shown}
 use Rattle.ash_run_steps.specs.RunStates.{is_alive_in}
 use Rattle.ash_requests.specs.States.{State, Embedding, globals_of}
-use Rattle.ash_requests.specs.States as states
 use Rattle.ash_requests.specs.Premises.{ReadsSound}
 use Rattle.ash_soundness.specs.WellFormedStates.{IsLoaded, IsWellFormedState}
 use Rattle.ash_soundness.proofs.Lists.{values_length}

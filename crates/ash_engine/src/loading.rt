@@ -1,6 +1,6 @@
 //! Modules that are loaded: their code, and the run of their initializers.
 
-ghost use Rattle.std.specs.Prelude.{◌≡◌, ◌<◌, ◌≤◌, ◌++◌, ℕ, [], Contains, Ok, Err, map, length};
+ghost use Rattle.std.specs.Prelude.{◌≡◌, ◌<◌, ◌≤◌, ◌++◌, ℕ, List, [], Contains, Option, Ok, Err, map, length};
 ghost use Rattle.std.specs.Prelude.{IfErr, IfOk, IfSome, OnOk, nat_eq};
 ghost use Rattle.std.specs.List.{insert, list_any};
 ghost use Rattle.ash_host.specs.Objects.{handles};
@@ -231,6 +231,50 @@ fn finish_abandoned<B: HostObject>(
     }
 }
 
+/// What is left of a load whose initializers ended so.
+fn finish_ended<B: HostObject>(
+    rest: Rest,
+    new_module: LoadedModule,
+    compiled: Compiled,
+    outcome: RunOutcome,
+    parts: Parts<B>,
+) -> Result<LiveStep<B>, StepError>
+    requires numbered { rest.loaded.seq < max_seq }
+    requires many { length rest.compiled.items ≡ length rest.loaded.modules.items }
+    requires held { (number : ℕ) → times number (handles parts.globals.items) ≤ holds_of number parts.table }
+    ensures kept { (value : Option Word) → outcome ≡ variants.Finished value
+        → IfOk result (λ one. (live : Live B) × IsKept rest new_module compiled parts live
+        × IsAnswered live (Finished value) parts.events.items one) }
+    ensures abandoned { ((value : Option Word) → outcome ≡ variants.Finished value → ⊥)
+        → IfOk result (λ one. (live : Live B) × (events : List Event)
+        × IsAbandoned rest parts live events
+        × IsAnswered live (end_named (entry_name (module_of new_module.tree)) outcome) events one) }
+    ensures memory { IfErr result (λ error. error ≡ StepError.NoMemory) }
+{
+    match outcome {
+        RunOutcome::Finished(value) => {
+            let (live, events) = keep(rest, new_module, compiled, parts)?;
+            Ok(answered(live, Outcome::Finished(value), events))
+        }
+        RunOutcome::Exception {
+            code,
+            function,
+            line,
+        } => {
+            let outcome = RunOutcome::Exception {
+                code,
+                function,
+                line,
+            };
+            finish_abandoned(rest, new_module, outcome, parts)
+        }
+        RunOutcome::Aborted { function, line } => {
+            let outcome = RunOutcome::Aborted { function, line };
+            finish_abandoned(rest, new_module, outcome, parts)
+        }
+    }
+}
+
 /// What is left of a load.
 fn finish_load<B: HostObject>(
     rest: Rest,
@@ -259,11 +303,7 @@ fn finish_load<B: HostObject>(
 {
     let Left { parts, outcome } = left;
     match outcome {
-        Ok(RunOutcome::Finished(value)) => {
-            let (live, events) = keep(rest, new_module, compiled, parts)?;
-            Ok(answered(live, Outcome::Finished(value), events))
-        }
-        Ok(outcome) => finish_abandoned(rest, new_module, outcome, parts),
+        Ok(outcome) => finish_ended(rest, new_module, compiled, outcome, parts),
         Err(RunFault::NotBegun) => {
             let Rest { loaded, compiled } = rest;
             Ok(without_memory(Live {

@@ -1,13 +1,12 @@
 //! The live states with which engines start.
 
-ghost use Rattle.std.specs.Prelude.{◌≡◌, ◌≤◌, ◌++◌, ℕ, [], List, All, IsTrue, map, length};
+ghost use Rattle.std.specs.Prelude.{◌≡◌, ◌≤◌, ℕ, List, All, IsTrue, map, length};
 ghost use Rattle.std.specs.Prelude.{IfOk, IsErrOf};
 ghost use Rattle.ash_host.specs.Objects.{handles};
 ghost use Rattle.ash_registry.specs.AcceptedRegistrations.{Registration};
 ghost use Rattle.ash_registry.specs.RegistryViews.{registered};
 ghost use Rattle.ash_objects.specs.declared.restoring.TableFault.{TableFault};
-ghost use Rattle.ash_objects.specs.Restoring.{draw_boxes, RestoresServices};
-ghost use Rattle.ash_objects.specs.Restoring as restoring;
+ghost use Rattle.ash_objects.specs.Restoring.{RestoresServices};
 ghost use Rattle.ash_objects.specs.Table.{holds_of};
 ghost use Rattle.ash_run_steps.specs.RunStates.{is_alive_in, HoldsMore};
 ghost use Rattle.ash_requests.specs.States.{globals_of};

@@ -1,5 +1,6 @@
 -- Words that are no handles, and tables without objects.
-use Rattle.std.proofs.Common.{◌≡◌, ℕ, zero, suc, ◌<◌, ◌++◌, List, [], ◌∷◌, length, get_or, All, Option, Some, None, IsTrue, refl, rules, arith}
+use Rattle.std.proofs.Common.{◌≡◌, ℕ, zero, suc, ◌<◌, ◌++◌, List, [], ◌∷◌, length, get_or, All, Option, Some, None}
+use Rattle.std.proofs.Common.{IsTrue, refl, rules, arith}
 use Rattle.std.specs.List.{cons_option}
 use Rattle.ash_host.specs.declared.word.Word.{Word}
 use Rattle.ash_host.specs.Objects.{handle, handles}

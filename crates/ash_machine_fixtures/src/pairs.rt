@@ -40,8 +40,8 @@ fn is_aborted(outcome: Result<Outcome, RunFault>) -> bool {
     matches!(outcome, Ok(Outcome::Aborted { .. }))
 }
 
-/// What a run of the machine did: how it ended, and what it left; what hosts answered in it; and whether one of them had
-/// no memory.
+/// What a run of the machine did: how it ended, and what it left; what hosts answered in it; and whether one of them
+/// had no memory.
 #[derive(Drop)]
 struct MachineRun {
     outcome: Result<Outcome, RunFault>,

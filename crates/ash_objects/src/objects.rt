@@ -71,6 +71,7 @@ impl<B> Objects<B> {
     }
 
     /// The slot of an object, if it lives. It takes no memory.
+    #[inline(always)]
     pub fn slot(&self, number: u64) -> Option<usize>
         ensures slot { result ≡ slot_of number self.now }
     {
@@ -86,6 +87,7 @@ impl<B> Objects<B> {
     }
 
     /// What an object is, if it lives. It takes no memory.
+    #[inline(always)]
     pub fn body(&self, number: u64) -> Option<&Body<B>>
         ensures body { option_copied result ≡ body_of number self.now }
     {
@@ -105,6 +107,7 @@ impl<B> Objects<B> {
     }
 
     /// Holds the object in a slot once more. It takes no memory.
+    #[inline(always)]
     pub fn hold_at(&mut self, slot: usize)
         requires few { (number : ℕ) × (slot_of number self.old ≡ Some slot)
             × (holds_of number self.old < 2 ^ 127) }
@@ -115,6 +118,7 @@ impl<B> Objects<B> {
     }
 
     /// Holds an object once more. It takes no memory.
+    #[inline(always)]
     pub fn hold(&mut self, number: u64)
         requires lives { Lives self.old.objects number }
         requires few { holds_of number self.old < 2 ^ 127 }
@@ -127,6 +131,7 @@ impl<B> Objects<B> {
     }
 
     /// Undoes a hold of the object in a slot. It takes no memory.
+    #[inline(always)]
     pub fn unhold_at(&mut self, slot: usize)
         requires held { (number : ℕ) × (slot_of number self.old ≡ Some slot)
             × (0 < holds_of number self.old) }
@@ -137,6 +142,7 @@ impl<B> Objects<B> {
     }
 
     /// Undoes a hold of an object. It takes no memory.
+    #[inline(always)]
     pub fn unhold(&mut self, number: u64)
         requires held { 0 < holds_of number self.old }
         ensures unheld { self.new ≡ with_object number unheld self.old }

@@ -89,6 +89,7 @@ impl<B: HostObject> Objects<B> {
     /// Before it takes anything away it has room made for as many events, numbers that went and entries as objects
     /// live. The room for entries it gives up at its end; the other two lists keep theirs. Where memory is refused
     /// nothing is taken away.
+    #[inline(always)]
     pub fn sweep(&mut self, events: &mut Vec<Event>) -> Result<(), NoMemory>
         ensures collected { OnOk result (Collects self.old self.new) }
         ensures dropped { OnOk result (events.new.items ≡ events.old.items
@@ -105,6 +106,7 @@ impl<B: HostObject> Objects<B> {
     }
 
     // The sweep, where objects may wait for it.
+    #[inline(never)]
     fn sweep_waiting(&mut self, events: &mut Vec<Event>) -> Result<(), NoMemory>
         ensures collected { OnOk result (Collects self.old self.new) }
         ensures dropped { OnOk result (events.new.items ≡ events.old.items

@@ -22,6 +22,7 @@ pub const MAX_FRAMES: usize = 256;
 
 impl<B: HostObject> RunState<B> {
     /// The object that a word is a handle to. Null has none, which raises an exception.
+    #[inline(always)]
     pub fn object_of(&self, word: Word) -> Result<u64, Stop>
         ensures found { (names : Names) → Comes B.HostObject names (plain (objects.object_of word))
             self.now result self.now }
@@ -36,6 +37,7 @@ impl<B: HostObject> RunState<B> {
     }
 
     /// Raises an exception unless there is room for one more frame.
+    #[inline(always)]
     pub fn demand_frame(&self) -> Result<(), Stop>
         ensures demanded { (names : Names) → Comes B.HostObject names (plain frames.demand_frame)
             self.now result self.now }

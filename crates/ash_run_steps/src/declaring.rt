@@ -13,13 +13,14 @@ ghost use Rattle.ash_run_steps.specs.declared.stop.Stop.{Stop};
 ghost use Rattle.ash_run_steps.specs.RunStates.{Names, shown};
 ghost use Rattle.ash_run_steps.specs.Stacks.{StackFrame, locals_of};
 
-use crate::counting::{hold_word, is_alive};
+use crate::counting::{hold_in_slot, slot_of_handle};
 use crate::state::RunState;
 use crate::stop::Stop;
 use ash_host::{HostObject, Word};
 
 impl<B: HostObject> RunState<B> {
     /// The word in a slot, if there is such a slot.
+    #[inline(always)]
     pub fn slot(&self, slot: usize) -> Option<Word>
         ensures word { result ≡ slice_get self.now.frames.frame.slots slot }
     {
@@ -27,6 +28,7 @@ impl<B: HostObject> RunState<B> {
     }
 
     /// How many locals there are. Their slots are the first.
+    #[inline(always)]
     pub fn local_count(&self) -> usize
         ensures count { result ≡ self.now.frames.frame.count }
         ensures within { result ≤ length self.now.frames.frame.slots }
@@ -35,6 +37,7 @@ impl<B: HostObject> RunState<B> {
     }
 
     /// How many slots the frame that runs has.
+    #[inline(always)]
     pub fn slot_count(&self) -> usize
         ensures count { result ≡ length self.now.frames.frame.slots }
     {
@@ -42,6 +45,7 @@ impl<B: HostObject> RunState<B> {
     }
 
     /// How many frames call the one that runs.
+    #[inline(always)]
     pub fn depth(&self) -> usize
         ensures depth { result ≡ length self.now.frames.callers }
     {
@@ -49,6 +53,7 @@ impl<B: HostObject> RunState<B> {
     }
 
     /// The instruction that the caller of the frame that runs goes on from.
+    #[inline(always)]
     pub fn back(&self) -> usize
         ensures back { result ≡ self.now.frames.frame.back }
     {
@@ -56,6 +61,7 @@ impl<B: HostObject> RunState<B> {
     }
 
     /// How many slots of its caller are below those of the frame that runs. Its locals are among them.
+    #[inline(always)]
     pub fn began(&self) -> usize
         requires called { 0 < length self.now.frames.callers }
         ensures began { (caller : StackFrame) × (callers : List StackFrame)
@@ -66,6 +72,7 @@ impl<B: HostObject> RunState<B> {
     }
 
     /// The function of the frame that runs.
+    #[inline(always)]
     pub fn function(&self) -> usize
         ensures function { result ≡ self.now.frames.frame.function }
     {
@@ -74,6 +81,7 @@ impl<B: HostObject> RunState<B> {
     }
 
     /// Writes a word into a slot that is no local.
+    #[inline(always)]
     pub fn set_slot(&mut self, slot: usize, word: Word)
         requires above { self.old.frames.frame.count ≤ slot }
         requires within { slot < length self.old.frames.frame.slots }
@@ -87,6 +95,7 @@ impl<B: HostObject> RunState<B> {
     }
 
     /// Makes the slot behind the locals one more local, with the word that is there.
+    #[inline(always)]
     pub fn declare(&mut self) -> Result<(), Stop>
         requires within { self.old.frames.frame.count < length self.old.frames.frame.slots }
         ensures declared { (names : Names) → Comes B.HostObject names (declare
@@ -100,11 +109,11 @@ impl<B: HostObject> RunState<B> {
         let Some(word) = self.stack.word(count) else {
             unreachable!()
         };
-        if !is_alive(&self.table, word) {
+        let Some(slot) = slot_of_handle(&self.table, word) else {
             return Err(Stop::Unsound);
-        }
+        };
         self.stack.facts();
-        hold_word(&mut self.table, word);
+        hold_in_slot(&mut self.table, word, slot);
         self.stack.set_count(count + 1);
         Ok(())
     }
@@ -123,6 +132,7 @@ impl<B: HostObject> RunState<B> {
     }
 
     /// The object whose method runs, or null.
+    #[inline(always)]
     pub fn this(&self) -> Word
         ensures read { (names : Names) → Becomes B.HostObject names (plain locations.this) self.now
             (give result) self.now }

@@ -5,7 +5,7 @@ ghost use Rattle.ash_run_steps.specs.FrameChanges.{entering};
 ghost use Rattle.ash_run_steps.specs.GuardedSteps.{enter};
 ghost use Rattle.ash_run_steps.specs.RunStates.{Names};
 
-use crate::counting::{are_alive, hold_word, hold_words, is_alive};
+use crate::counting::{are_alive, hold_in_slot, hold_words, slot_of_handle};
 use crate::state::RunState;
 use crate::stop::Stop;
 use ash_host::{HostObject, Word};
@@ -13,6 +13,7 @@ use ash_host::{HostObject, Word};
 impl<B: HostObject> RunState<B> {
     /// Enters a frame of a function at a line. Its slots are those of its caller from one on, and its arguments, which
     /// are its first locals, are in the first of them. The caller goes on from an instruction when the frame is left.
+    #[inline(always)]
     pub fn enter(
         &mut self,
         function: usize,
@@ -31,15 +32,15 @@ impl<B: HostObject> RunState<B> {
             self.old.frames) }
         ensures unchanged { OnErr result (self.new.frames ≡ self.old.frames) }
     {
-        if !is_alive(&self.table, this) {
+        let Some(slot) = slot_of_handle(&self.table, this) else {
             return Err(Stop::Unsound);
-        }
+        };
         if !are_alive(&self.table, self.stack.slots_from(at, count)) {
             return Err(Stop::Unsound);
         }
         self.stack.facts();
         self.stack.enter(function, line, this, back, at, count)?;
-        hold_word(&mut self.table, this);
+        hold_in_slot(&mut self.table, this, slot);
         hold_words(&mut self.table, self.stack.locals());
         Ok(())
     }

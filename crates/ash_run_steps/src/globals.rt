@@ -17,6 +17,7 @@ use ash_host::{HostObject, Word};
 
 impl<B: HostObject> RunState<B> {
     /// The word of a global; null if there is no such global.
+    #[inline(always)]
     pub fn read_global(&self, place: usize) -> Word
         ensures read { (names : Names) → Becomes B.HostObject names (read_global place) self.now
             (give result) self.now }
@@ -30,6 +31,7 @@ impl<B: HostObject> RunState<B> {
 
     /// Writes a word into a global. What was there is held until the full expression ends. If the write is refused
     /// nothing changes.
+    #[inline(always)]
     pub fn write_global(&mut self, place: usize, word: Word) -> Result<(), Stop>
         ensures written { (names : Names) → Comes B.HostObject names (write_global place word) self.old
             result self.new }

@@ -14,6 +14,7 @@ use ash_host::HostObject;
 impl<B: HostObject> RunState<B> {
     /// Leaves blocks, the outermost of them with so many locals, and what can't be reached goes: the end of a block, or
     /// a jump out of several, which end together where it leads.
+    #[inline(always)]
     pub fn end_blocks(&mut self, count: usize) -> Result<(), Stop>
         ensures ended { (names : Names) (test : RankTest) (inner : List ℕ) → All (λ other. count ≤ other) inner
             → Comes B.HostObject names (end_blocks test inner count) self.old result self.new }

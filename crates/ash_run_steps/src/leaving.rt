@@ -18,6 +18,7 @@ use ash_host::{HostObject, Word};
 use ash_objects::Objects;
 
 // Undoes a hold for each time that the frame that runs reaches an object by itself.
+#[inline(always)]
 pub(crate) fn unhold_frame<B: HostObject>(table: &mut Objects<B>, stack: &Stack)
     requires held { (number : ℕ) → times number (roots_of stack.now.frame) ≤ holds_of number table.old }
     ensures unheld { HoldsLess (roots_of stack.now.frame) table.old table.new }
@@ -29,6 +30,7 @@ pub(crate) fn unhold_frame<B: HostObject>(table: &mut Objects<B>, stack: &Stack)
 
 impl<B: HostObject> RunState<B> {
     // Gives the frame up. What a word is a handle to passes into what the caller holds.
+    #[inline(always)]
     fn give_back(&mut self, word: Word) -> Result<(), Stop>
         requires called { 0 < length self.old.frames.callers }
         ensures back { (names : Names) → Comes B.HostObject names (give_back word) self.old result
@@ -54,6 +56,7 @@ impl<B: HostObject> RunState<B> {
 
     /// Leaves the frame that runs, from within any blocks, and gives its result, which the caller holds until its full
     /// expression ends. What can't be reached goes.
+    #[inline(always)]
     pub fn leave(&mut self, word: Word) -> Result<Word, Stop>
         requires called { 0 < length self.old.frames.callers }
         ensures left { (names : Names) (test : RankTest) (counts : List ℕ) → Comes B.HostObject names

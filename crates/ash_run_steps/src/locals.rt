@@ -15,6 +15,7 @@ use ash_host::{HostObject, Word};
 
 impl<B: HostObject> RunState<B> {
     /// Writes a word into a local. What was there is held until the full expression ends.
+    #[inline(always)]
     pub fn write_local(&mut self, slot: usize, word: Word) -> Result<(), Stop>
         ensures written { (names : Names) → Comes B.HostObject names (write_local slot word) self.old
             result self.new }
@@ -35,6 +36,7 @@ impl<B: HostObject> RunState<B> {
     }
 
     /// Leaves blocks: the first locals are left, so many of them. It takes no memory.
+    #[inline(always)]
     pub fn leave_blocks(&mut self, count: usize)
         ensures left { (names : Names) → Becomes B.HostObject names
             (plain (releases.leave_blocks count)) self.old (give tt) self.new }

@@ -16,6 +16,7 @@ use ash_host::{HostObject, Word};
 use ash_objects::Objects;
 
 /// The words of an object: its fields, or its elements; none if none lives.
+#[inline(always)]
 pub(crate) fn words_at<B>(table: &Objects<B>, number: u64) -> &[Word]
     ensures words { result.now ≡ words_at number table.now }
 {
@@ -26,6 +27,7 @@ pub(crate) fn words_at<B>(table: &Objects<B>, number: u64) -> &[Word]
 }
 
 /// The word at a place, if there is one.
+#[inline(always)]
 pub(crate) fn word_in(words: &[Word], place: usize) -> Option<Word>
     ensures word { result ≡ slice_get words.now place }
 {
@@ -34,6 +36,7 @@ pub(crate) fn word_in(words: &[Word], place: usize) -> Option<Word>
 
 impl<B: HostObject> RunState<B> {
     /// The word of a field or an element; null if there is none at the place.
+    #[inline(always)]
     pub fn read_part(&self, number: u64, place: usize) -> Word
         ensures read { (names : Names) → Becomes B.HostObject names (read_part number place) self.now
             (give result) self.now }
@@ -47,6 +50,7 @@ impl<B: HostObject> RunState<B> {
 
     /// Writes a word into a field or an element. What was there is held until the full expression ends. If the write
     /// is refused nothing changes.
+    #[inline(always)]
     pub fn write_part(&mut self, number: u64, place: usize, word: Word) -> Result<(), Stop>
         ensures written { (names : Names) → Comes B.HostObject names (write_part number place word) self.old
             result self.new }

@@ -12,6 +12,7 @@ use ash_host::HostObject;
 
 impl<B: HostObject> RunState<B> {
     /// A release point: what can't be reached goes. Where memory is refused nothing goes.
+    #[inline(always)]
     pub fn release(&mut self) -> Result<(), Stop>
         ensures released { (names : Names) (test : RankTest) → Comes B.HostObject names
             (release test) self.old result self.new }
@@ -25,6 +26,7 @@ impl<B: HostObject> RunState<B> {
     }
 
     /// The end of a full expression: what the frame holds is let go, and what can't be reached goes.
+    #[inline(always)]
     pub fn end_expression(&mut self) -> Result<(), Stop>
         ensures ended { (names : Names) (test : RankTest) → Comes B.HostObject names
             (end_expression test) self.old result self.new }

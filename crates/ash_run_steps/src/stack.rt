@@ -158,6 +158,7 @@ impl Stack {
     }
 
     /// What holds of every stack. It does nothing.
+    #[inline(always)]
     pub fn facts(&self)
         ensures few { length (roots_of_frames self.now) < 2 ^ 66 }
         ensures within { self.now.frame.count ≤ length self.now.frame.slots }
@@ -169,6 +170,7 @@ impl Stack {
     }
 
     /// How many frames call the one that runs.
+    #[inline(always)]
     pub fn depth(&self) -> usize
         ensures depth { result ≡ length self.now.callers }
     {
@@ -176,6 +178,7 @@ impl Stack {
     }
 
     /// The instruction that the caller of the frame that runs goes on from.
+    #[inline(always)]
     pub fn back(&self) -> usize
         ensures back { result ≡ self.now.frame.back }
     {
@@ -183,6 +186,7 @@ impl Stack {
     }
 
     /// How many slots of its caller are below those of the frame that runs.
+    #[inline(always)]
     pub fn began(&self) -> usize
         requires called { 0 < length self.now.callers }
         ensures began { (caller : StackFrame) × (callers : List StackFrame)
@@ -196,6 +200,7 @@ impl Stack {
     }
 
     /// How many slots the frame that runs has.
+    #[inline(always)]
     pub fn slot_count(&self) -> usize
         ensures count { result ≡ length self.now.frame.slots }
     {
@@ -203,6 +208,7 @@ impl Stack {
     }
 
     /// The word in a slot, if there is such a slot.
+    #[inline(always)]
     pub fn word(&self, slot: usize) -> Option<Word>
         ensures word { result ≡ slice_get self.now.frame.slots slot }
     {
@@ -211,6 +217,7 @@ impl Stack {
     }
 
     /// Writes a word into a slot.
+    #[inline(always)]
     pub fn set_word(&mut self, slot: usize, word: Word)
         requires within { slot < length self.old.frame.slots }
         ensures written { self.new ≡ record self.old {
@@ -221,6 +228,7 @@ impl Stack {
     }
 
     /// How many locals there are.
+    #[inline(always)]
     pub fn count(&self) -> usize
         ensures count { result ≡ self.now.frame.count }
         ensures within { result ≤ length self.now.frame.slots }
@@ -229,6 +237,7 @@ impl Stack {
     }
 
     /// Makes the first slots locals, so many of them.
+    #[inline(always)]
     pub fn set_count(&mut self, count: usize)
         requires within { count ≤ length self.old.frame.slots }
         ensures count { self.new ≡ record self.old {
@@ -239,6 +248,7 @@ impl Stack {
     }
 
     /// Stores the line of the frame.
+    #[inline(always)]
     pub fn set_line(&mut self, line: u32)
         ensures line { self.new ≡ record self.old {
           frame = record self.old.frame { line = line };
@@ -248,6 +258,7 @@ impl Stack {
     }
 
     /// The function and the line of the frame.
+    #[inline(always)]
     pub fn place(&self) -> (usize, u32)
         ensures function { result.0 ≡ self.now.frame.function }
         ensures line { result.1 ≡ self.now.frame.line }
@@ -256,6 +267,7 @@ impl Stack {
     }
 
     /// The object whose method runs.
+    #[inline(always)]
     pub fn this(&self) -> Word
         ensures this { result ≡ self.now.frame.this }
     {
@@ -263,6 +275,7 @@ impl Stack {
     }
 
     /// Holds one more object. Where memory is refused nothing changes.
+    #[inline(always)]
     pub fn push_held(&mut self, number: u64) -> Result<(), NoMemory>
         ensures held { OnOk result (self.new ≡ record self.old {
           frame = record self.old.frame { held = number ∷ self.old.frame.held };
@@ -274,6 +287,7 @@ impl Stack {
     }
 
     /// The objects that the frame holds, in the order in which it came to hold them.
+    #[inline(always)]
     pub fn held(&self) -> &[u64]
         ensures held { result.now ≡ reverse self.now.frame.held }
     {
@@ -281,6 +295,7 @@ impl Stack {
     }
 
     /// Holds none of them any more.
+    #[inline(always)]
     pub fn clear_held(&mut self)
         ensures cleared { self.new ≡ record self.old {
           frame = record self.old.frame { held = [] };
@@ -333,6 +348,7 @@ impl Stack {
     }
 
     /// The locals.
+    #[inline(always)]
     pub fn locals(&self) -> &[Word]
         ensures locals { result.now ≡ locals_of self.now.frame }
     {
@@ -340,6 +356,7 @@ impl Stack {
     }
 
     /// The word of a local, if there is such a local.
+    #[inline(always)]
     pub fn local(&self, slot: usize) -> Option<Word>
         ensures local { result ≡ slice_get (locals_of self.now.frame) slot }
     {
@@ -347,6 +364,7 @@ impl Stack {
     }
 
     /// The locals from one on.
+    #[inline(always)]
     pub fn locals_from(&self, count: usize) -> &[Word]
         ensures locals { result.now ≡ drop count (locals_of self.now.frame) }
     {
@@ -357,6 +375,7 @@ impl Stack {
     }
 
     /// The slots from one on, so many of them.
+    #[inline(always)]
     pub fn slots_from(&self, at: usize, count: usize) -> &[Word]
         requires within { at + count ≤ length self.now.frame.slots }
         ensures slots { result.now ≡ take count (drop at self.now.frame.slots) }
@@ -367,6 +386,7 @@ impl Stack {
 
     /// Enters a frame, whose slots are those of its caller from one on. So many of them are its locals. The caller goes
     /// on from an instruction when it is left.
+    #[inline(always)]
     pub fn enter(
         &mut self,
         function: usize,
@@ -407,6 +427,7 @@ impl Stack {
 
     /// Leaves the frame that runs. Its caller gets its slots back behind its own. The frame's objects are given up
     /// before, or pass to the caller.
+    #[inline(always)]
     pub fn leave(&mut self)
         requires called { 0 < length self.old.callers }
         ensures left { (caller : StackFrame) × (callers : List StackFrame)

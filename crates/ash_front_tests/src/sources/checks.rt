@@ -46,20 +46,12 @@ fn printed<T: Drop>(alloc: Global, ended: Result<T, SourceError>) -> Result<Stri
 }
 
 /// How checking a source ends.
-fn checked(
-    alloc: Global,
-    registry: &Registry,
-    source: &[u8],
-) -> Result<String, AllocError> {
+fn checked(alloc: Global, registry: &Registry, source: &[u8]) -> Result<String, AllocError> {
     printed(alloc, check_source(alloc, registry, source))
 }
 
 /// How reading a source ends.
-fn read(
-    alloc: Global,
-    registry: &Registry,
-    source: &[u8],
-) -> Result<String, AllocError> {
+fn read(alloc: Global, registry: &Registry, source: &[u8]) -> Result<String, AllocError> {
     printed(alloc, Sources { registry }.read_tree(alloc, source))
 }
 

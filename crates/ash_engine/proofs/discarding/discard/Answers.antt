@@ -1,11 +1,3 @@
-use Rattle.std.proofs.Common.{◌≡◌, ◌<◌, ◌≤◌, ℕ, length, Some, refl, sym, ap, ◌∙◌, subst, slice_get}
-use Rattle.std.proofs.lemmas.Option.{same_Some}
-use Rattle.ash_host.specs.Objects.{handles}
-use Rattle.ash_objects.specs.Table.{holds_of}
-use Rattle.ash_run_steps.specs.RunStates.{times}
-use Rattle.ash_requests.specs.Tasks.{max_seq}
-use Rattle.ash_plain_steps.specs.declared.state.LoadedModule.{LoadedModule}
-use Rattle.ash_plain_steps.specs.declared.state.PlainState.{PlainState}
 use Rattle.ash_engine.proofs.Discarded.{within, within_codes, holds_enough, fails, still_numbered, discarded, there}
 use Rattle.ash_engine.proofs.discarding.discard.Goals as goal
 

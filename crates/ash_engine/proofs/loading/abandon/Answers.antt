@@ -7,5 +7,6 @@ use Rattle.ash_engine.proofs.loading.abandon.Goals as goal
 
 pub release-requires : goal.release-requires
 release-requires g c = record {
-  held = subst (λ (words : List Word). (number : ℕ) → times number (handles words) ≤ holds_of number c.args.parts.table) (sym c.deref.ensures.value) c.requires.held;
+  held = subst (λ (words : List Word). (number : ℕ)
+      → times number (handles words) ≤ holds_of number c.args.parts.table) (sym c.deref.ensures.value) c.requires.held;
 }

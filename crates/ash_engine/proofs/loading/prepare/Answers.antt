@@ -16,12 +16,15 @@ returns g c = record {
     name = c.in_ok-from_str.ensures.ok;
     source = c.in_ok-from_slice.ensures.items;
     tree = refl;
-    zeros = c.in_ok-globals.ensures.zeros ∙ ap (λ (l : List _). map zero_of (types_of_globals (map variables_of l))) c.deref-2.ensures.value;
+    zeros = c.in_ok-globals.ensures.zeros
+        ∙ ap (λ (l : List _). map zero_of (types_of_globals (map variables_of l))) c.deref-2.ensures.value;
     fresh = λ there.
-        subst (λ (o : Option ℕ). IfSome o (λ slot. Contains (slots_of c.deref.result.now) slot → ⊥)) c.in_ok-slot.ensures.ok_part c.free_slot.ensures.free
+        subst (λ (o : Option ℕ). IfSome o (λ slot. Contains (slots_of c.deref.result.now) slot
+        → ⊥)) c.in_ok-slot.ensures.ok_part c.free_slot.ensures.free
         (subst (λ (l : List Compiled). Contains (slots_of l) c.in_ok-slot.slot) (sym c.deref.ensures.value)
         (subst (λ (n : ℕ). Contains (slots_of c.args.live.now.compiled.items) n) c.in_ok-compiled.ensures.slot there));
     compiled = c.in_ok-compiled.ensures.compiled;
-    outside = c.in_ok-outside.ensures.value ∙ ap (λ (l : List _). handles (globals_of (modules_seen l))) c.deref-3.ensures.value;
+    outside = c.in_ok-outside.ensures.value
+        ∙ ap (λ (l : List _). handles (globals_of (modules_seen l))) c.deref-3.ensures.value;
   };
 }

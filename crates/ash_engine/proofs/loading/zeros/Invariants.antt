@@ -6,4 +6,5 @@ use Rattle.ash_engine.proofs.loading.zeros.Given as goal
 
 abbrev pub invariant-loop-declaration : goal.invariant-loop-declaration
 invariant-loop-declaration l =
-    l.words.items ++ map zero_of (types_of_globals (map variables_of (drop l.declaration-index l.declarations))) ≡ map zero_of (types_of_globals (map variables_of l.declarations))
+    l.words.items ++ map zero_of (types_of_globals (map variables_of (drop l.declaration-index l.declarations))) ≡ map
+    zero_of (types_of_globals (map variables_of l.declarations))

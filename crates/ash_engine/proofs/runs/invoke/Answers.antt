@@ -1,16 +1,15 @@
-use Rattle.std.proofs.Common.{◌≡◌, ◌∙◌, List, refl, sym, ap, subst}
+use Rattle.std.proofs.Common.{◌∙◌, List, refl, sym, ap, subst}
 use Rattle.std.specs.Prelude.{All, IsTrue}
 use Rattle.std.specs.List.{remove}
 use Rattle.ash_host.specs.declared.word.Word.{Word}
-use Rattle.ash_host.specs.Objects.{handles}
-use Rattle.ash_requests.specs.States.{globals_of}
 use Rattle.ash_run_steps.specs.RunStates.{is_alive_in}
 use Rattle.ash_plain_steps.specs.declared.state.LoadedModule.{LoadedModule}
-use Rattle.ash_plain_steps.specs.StateViews.{modules_seen}
 use Rattle.ash_engine.specs.TableRuns.{SaysOfCall}
+use Rattle.ash_engine.proofs.Beside.{held_by}
 use Rattle.ash_engine.proofs.Invoked.{asked_module}
 use Rattle.ash_engine.proofs.ReadRanks.{read_ranked}
-use Rattle.ash_engine.proofs.Lent.{within, alive, without_run, roots_held, there, within_rest, within_rest_codes, rest_numbered, call_stepped}
+use Rattle.ash_engine.proofs.Lent.{within, alive, without_run, roots_held, there, within_rest, within_rest_codes}
+use Rattle.ash_engine.proofs.Lent.{rest_numbered, call_stepped}
 use Rattle.ash_engine.proofs.runs.invoke.Goals as goal
 
 pub returns-in_default : goal.returns-in_default
@@ -34,7 +33,8 @@ run_at-left-requires-clause-within g c =
     let asked = c.requires.asked in
     let found = asked_module G c.args.live c.args.call asked (read_ranked asked.registered) in
     within_rest_codes G c.args.live c.args.call asked found.0 found.1 found.2 c.in-Ok.outside.items
-    (c.in-Ok.ensures.value ∙ ap (λ (l : List LoadedModule). handles (globals_of (modules_seen (remove l c.args.call.module)))) c.deref.ensures.value)
+    (c.in-Ok.ensures.value ∙ ap (λ (l : List LoadedModule). held_by (remove l c.args.call.module))
+    c.deref.ensures.value)
     c.lend-rest.result.0 c.lend-rest.result.1 (c.lend-rest.ensures.lent found.0 found.1)
 
 pub run_at-left-requires-clause-held : goal.run_at-left-requires-clause-held
@@ -43,7 +43,8 @@ run_at-left-requires-clause-held g c =
     let asked = c.requires.asked in
     let found = asked_module G c.args.live c.args.call asked (read_ranked asked.registered) in
     roots_held G c.args.live c.args.call asked found.0 found.1 found.2 c.in-Ok.outside.items
-    (c.in-Ok.ensures.value ∙ ap (λ (l : List LoadedModule). handles (globals_of (modules_seen (remove l c.args.call.module)))) c.deref.ensures.value)
+    (c.in-Ok.ensures.value ∙ ap (λ (l : List LoadedModule). held_by (remove l c.args.call.module))
+    c.deref.ensures.value)
     c.lend-rest.result.0 c.lend-rest.result.1 (c.lend-rest.ensures.lent found.0 found.1)
 
 pub run_at-left-requires-clause-alive : goal.run_at-left-requires-clause-alive
@@ -51,7 +52,8 @@ run_at-left-requires-clause-alive g c =
     let G = g.B.HostObject in
     let asked = c.requires.asked in
     let found = asked_module G c.args.live c.args.call asked (read_ranked asked.registered) in
-    subst (λ (ws : List Word). All (λ word. IsTrue (is_alive_in word c.lend-rest.result.1.table)) ws) (sym c.deref-2.ensures.value)
+    subst (λ (ws : List Word). All (λ word. IsTrue (is_alive_in word c.lend-rest.result.1.table)) ws)
+    (sym c.deref-2.ensures.value)
     (alive G c.args.live c.args.call asked found.0 found.1 found.2 c.lend-rest.result.1.table)
 
 pub finish_call-requires-clause-numbered : goal.finish_call-requires-clause-numbered
@@ -60,7 +62,8 @@ finish_call-requires-clause-numbered g c =
     let asked = c.requires.asked in
     let found = asked_module G c.args.live c.args.call asked (read_ranked asked.registered) in
     rest_numbered G c.args.live c.args.call asked found.0 found.1 found.2 c.in-Ok.outside.items
-    (c.in-Ok.ensures.value ∙ ap (λ (l : List LoadedModule). handles (globals_of (modules_seen (remove l c.args.call.module)))) c.deref.ensures.value)
+    (c.in-Ok.ensures.value ∙ ap (λ (l : List LoadedModule). held_by (remove l c.args.call.module))
+    c.deref.ensures.value)
     c.lend-rest.result.0 c.lend-rest.result.1 (c.lend-rest.ensures.lent found.0 found.1)
 
 pub finish_call-requires-clause-within : goal.finish_call-requires-clause-within
@@ -69,7 +72,8 @@ finish_call-requires-clause-within g c =
     let asked = c.requires.asked in
     let found = asked_module G c.args.live c.args.call asked (read_ranked asked.registered) in
     within_rest G c.args.live c.args.call asked found.0 found.1 found.2 c.in-Ok.outside.items
-    (c.in-Ok.ensures.value ∙ ap (λ (l : List LoadedModule). handles (globals_of (modules_seen (remove l c.args.call.module)))) c.deref.ensures.value)
+    (c.in-Ok.ensures.value ∙ ap (λ (l : List LoadedModule). held_by (remove l c.args.call.module))
+    c.deref.ensures.value)
     c.lend-rest.result.0 c.lend-rest.result.1 (c.lend-rest.ensures.lent found.0 found.1)
 
 pub returns : goal.returns
@@ -77,15 +81,18 @@ returns g c = record {
   stepped =
       λ asked. let G = g.B.HostObject in
       let found = asked_module G c.args.live c.args.call asked (read_ranked asked.registered) in
-      let beside = c.in-Ok.ensures.value ∙ ap (λ (l : List LoadedModule). handles (globals_of (modules_seen (remove l c.args.call.module)))) c.deref.ensures.value in
+      let beside = c.in-Ok.ensures.value ∙ ap (λ (l : List LoadedModule). held_by (remove l c.args.call.module))
+      c.deref.ensures.value in
       let rest = c.lend-rest.result.0 in
       let parts = c.lend-rest.result.1 in
       let lent = c.lend-rest.ensures.lent found.0 found.1 in
       let left = c.run_at-left.result in
-      let at = there G c.args.live c.args.call asked found.0 found.1 found.2 c.in-Ok.outside.items beside rest parts lent in
+      let at = there G c.args.live c.args.call asked found.0 found.1 found.2 c.in-Ok.outside.items beside rest parts
+      lent in
       call_stepped G c.args.live c.args.call asked found.0 found.1 found.2 c.in-Ok.outside.items beside rest parts lent
       c.args.budget left (record rest { compiled = c.run_at-left.new.compiled }) refl c.run_at-left.ensures.codes
-      (λ one code_at. subst (λ (ws : List Word). SaysOfCall G one.code parts c.args.call.function ws c.args.budget left) c.deref-2.ensures.value (c.run_at-left.ensures.says one code_at))
+      (λ one code_at. subst (λ (ws : List Word). SaysOfCall G one.code parts c.args.call.function ws c.args.budget left)
+      c.deref-2.ensures.value (c.run_at-left.ensures.says one code_at))
       c.run_at-left.ensures.unchanged c.run_at-left.ensures.held
       c.finish_call.result left.outcome refl
       (λ outcome is. c.finish_call.ensures.answered lent.lending outcome at is)

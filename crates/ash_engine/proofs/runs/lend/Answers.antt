@@ -1,4 +1,4 @@
-use Rattle.std.proofs.Common.{refl, ap}
+use Rattle.std.proofs.Common.{ℕ, List, refl, ap}
 use Rattle.ash_engine.proofs.runs.lend.Goals as goal
 
 pub returns : goal.returns
@@ -13,7 +13,7 @@ returns g c = record {
         compiled = refl;
         table = refl;
         globals = ap (λ (v : _). v.items) replaced.0;
-        outside = refl;
+        outside = refl {A = List ℕ};
         events = c.new-2.ensures.items;
       };
 }

@@ -13,10 +13,12 @@ use Rattle.ash_engine.proofs.runs.run_at.Goals as goal
 pub returns-clause-says : goal.returns-clause-says
 returns-clause-says g c one at context s f is_context is_code set there well =
     let found = c.index_mut-one.result.now in
-    let is : found ≡ one = c.index_mut-one.ensures.value ∙ get_or_from_slice_get c.args.compiled.now.items c.args.place one found at in
+    let is : found ≡ one = c.index_mut-one.ensures.value
+    ∙ get_or_from_slice_get c.args.compiled.now.items c.args.place one found at in
     without_count g.B.HostObject s.names
     (λ (world : World). call_entry context.program c.args.args.now c.args.budget world (entry_of_function f))
-    (λ (world : World). TakesFromEntry s c.args.function c.args.args.now (first_of_function f c.args.args.now c.args.budget world) c.run.new.self)
+    (λ (world : World). TakesFromEntry s c.args.function c.args.args.now
+    (first_of_function f c.args.args.now c.args.budget world) c.run.new.self)
     c.args.parts c.run.result.parts c.run.result.outcome
     (c.run.ensures.called context s f is_context
     (subst (λ (x : Compiled). IsCodeOf x.code context) (sym is) is_code)

@@ -1,4 +1,4 @@
-use Rattle.std.proofs.Common.{rules, ◌≡◌, ℕ, Option, Some, None, Ok, sym, ◌∙◌, ap}
+use Rattle.std.proofs.Common.{◌≡◌, List, Some, None, Ok, sym, ◌∙◌, ap}
 use Rattle.std.specs.Prelude.{option_map}
 use Rattle.std.proofs.lemmas.Result.{err_from_is_err_and}
 use Rattle.ash_objects.specs.Table.{count_of}

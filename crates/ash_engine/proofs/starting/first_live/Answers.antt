@@ -1,4 +1,4 @@
-use Rattle.std.proofs.Common.{◌≡◌, ℕ, List, ap, subst}
+use Rattle.std.proofs.Common.{List, ap, subst}
 use Rattle.std.specs.Prelude.{All}
 use Rattle.ash_registry.specs.RegistryViews.{registered}
 use Rattle.ash_requests.specs.States.{State}

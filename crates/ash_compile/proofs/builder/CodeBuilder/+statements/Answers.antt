@@ -510,14 +510,14 @@ switch-returns t c = record {
       (with_jumps c.lead.new.self places (c.labels.new.jumps.continues).items)
       (Switch c.args.line c.args.of (expr_of c.args.value.now) cs) c.args.scope)
       (sym (ap (λ (v : Vec ℕ Global). v.items) c.replace-outer.ensures.value))
-      (switches.switch c.args.self.now c.tick.new.self c.evaluation.new.self c.test_places.new.self c.put.new.self
+      (switches.switch c.args.self.now c.tick.new.self c.full_value.new.self c.test_places.new.self c.put.new.self
       c.labels.new.self c.landing.new.self c.lead.new.self (c.args.jumps.now.breaks).items
       (c.args.jumps.now.continues).items (c.labels.new.jumps.breaks).items (c.labels.new.jumps.continues).items c.args.line
       c.args.of (expr_of c.args.value.now) cs c.args.scope c.here-tests.result c.here-past.result c.here-end.result
-      c.in_ok-tick.ensures.puts c.in_ok-evaluation.ensures.emits c.here-tests.ensures.place
+      c.in_ok-tick.ensures.puts c.in_ok-full_value.ensures.emits c.here-tests.ensures.place
       c.in_ok-test_places.ensures.keeps
       (c.in_ok-test_places.ensures.places
-      ∙ ap (λ (n : ℕ). end_of c.evaluation.new.self + n) (sym (switches.counted c.args.cases.now)))
+      ∙ ap (λ (n : ℕ). end_of c.full_value.new.self + n) (sym (switches.counted c.args.cases.now)))
       c.here-past.ensures.place c.in_ok-put.ensures.puts
       (subst (λ (places : List ℕ). EmitsLabels (with_jumps c.put.new.self places (c.args.jumps.now.continues).items)
       (draft c.labels.new.self c.labels.new.jumps) c.here-tests.result cs

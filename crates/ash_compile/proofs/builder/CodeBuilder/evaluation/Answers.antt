@@ -4,6 +4,6 @@ use Rattle.ash_compile.proofs.builder.CodeBuilder.evaluation.Goals as goal
 pub returns : goal.returns
 returns c = record {
   emits = if_ok c.put.result
-      (λ u puts. record { mid = c.expression.new.self; emits = c.in_ok-expression.ensures.emits; puts = puts })
+      (λ u puts. record { mid = c.effect.new.self; emits = c.in_ok-effect.ensures.emits; puts = puts })
       c.put.ensures.puts;
 }

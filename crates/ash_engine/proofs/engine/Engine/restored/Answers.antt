@@ -3,7 +3,6 @@ use Rattle.std.proofs.lemmas.Result.{err_from_is_err_and}
 use Rattle.ash_objects.specs.declared.restoring.TableFault.{TableFault}
 use Rattle.ash_registry.specs.RegistryViews.{registered}
 use Rattle.ash_states.specs.HostStates.{HostState}
-use Rattle.ash_states.specs.Holding.{held_with}
 use Rattle.ash_engine.specs.LiveStates.{EngineState}
 use Rattle.ash_engine.specs.RestoredBoxes.{IsShort, IsRefused, Restores}
 use Rattle.ash_engine.specs.TableStates.{live_seen}

@@ -8,4 +8,5 @@ pub invariant_of-result : goal.invariant_of-result
 invariant_of-result g c =
     let empty = nil_from_length c.args.table.objects (omega (arith, c.len.ensures.len, c.if-len-ne0.false)) in
     let plain = ap handles (sym c.deref.ensures.value) ∙ c.are_plain.ensures.none c.if-not-are_plain.false in
-    nothing_held c.args.table c.new-2.result.items (handles c.in_ok-globals.globals.items) empty c.new-2.ensures.items plain
+    nothing_held c.args.table c.new-2.result.items (handles c.in_ok-globals.globals.items) empty
+    c.new-2.ensures.items plain
