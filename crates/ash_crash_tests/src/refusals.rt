@@ -4,11 +4,10 @@
 
 use crate::checks::{check, check_text};
 use crate::plans::{OBJECTS, Plan, SERVICE};
-use crate::visits::{answer_to, begun, new_boxes};
+use crate::visits::{answer_to, begun, new_boxes, registered};
 use ash_disk::MemoryDisk;
 use ash_durable::{Host, OpenRefused};
-use ash_host::HostObject;
-use ash_machine_fixtures::registered::registry;
+use ash_host::{HostObject, NoMemory};
 use ash_store_fixtures::hosts::{Boxes, closed};
 use ash_store_fixtures::lives::Start;
 use std::alloc::Global;
@@ -59,7 +58,7 @@ fn is_answered<B: HostObject>(
     host: &mut Host<MemoryDisk, B>,
     plan: &Plan,
     place: usize,
-) -> Result<bool, Fail> {
+) -> Result<bool, NoMemory> {
     let (line, wanted) = request_at(plan, place);
     let answer = answer_to(alloc, host, line)?;
     if trimmed(&answer) == wanted {
@@ -87,7 +86,7 @@ fn served<B: HostObject>(
     mut host: Host<MemoryDisk, B>,
     plan: &Plan,
     from: usize,
-) -> Result<Served, Fail> {
+) -> Result<Served, NoMemory> {
     for place in from..requests_in(plan) {
         if !is_answered(rt, alloc, &mut host, plan, place)? {
             return Ok((place, closed(host)));
@@ -101,7 +100,7 @@ fn seen<B: HostObject>(
     alloc: Global,
     host: &mut Host<MemoryDisk, B>,
     plan: &Plan,
-) -> Result<String, Fail> {
+) -> Result<String, NoMemory> {
     let mut answers = String::new(alloc);
     for probe in plan.probes {
         if probe.starts_with("load") {
@@ -119,7 +118,7 @@ fn place_found<B: HostObject>(
     host: &mut Host<MemoryDisk, B>,
     plan: &Plan,
     place: usize,
-) -> Result<usize, Fail> {
+) -> Result<usize, NoMemory> {
     let found = seen(alloc, host, plan)?;
     if found_before(plan, place).starts_with(found.as_str()) {
         return Ok(place);
@@ -141,9 +140,9 @@ fn begun_from<B: HostObject>(
     boxes: Boxes<B>,
     plan: &Plan,
     at: (Start, usize),
-) -> Result<Result<Served, (MemoryDisk, MemoryDisk)>, Fail> {
+) -> Result<Result<Served, (MemoryDisk, MemoryDisk)>, NoMemory> {
     let (start, place) = at;
-    match begun(alloc, disks, registry(alloc)?, boxes, start) {
+    match begun(alloc, disks, registered(alloc)?, boxes, start) {
         Ok(mut host) => {
             let from = place_found(rt, alloc, &mut host, plan, place)?;
             Ok(Ok(served(rt, alloc, host, plan, from)?))
@@ -153,7 +152,7 @@ fn begun_from<B: HostObject>(
 }
 
 /// Plays a plan to its end. A store that must be opened again is opened with new boxes.
-fn play(rt: &impl Abort, alloc: Global, plan: &Plan) -> Result<(), Fail> {
+fn play(rt: &impl Abort, alloc: Global, plan: &Plan) -> Result<(), NoMemory> {
     let mut disks = (MemoryDisk::new(alloc), MemoryDisk::new(alloc));
     let mut start = Start::Make;
     let mut place: usize = 0;
@@ -172,11 +171,11 @@ fn play(rt: &impl Abort, alloc: Global, plan: &Plan) -> Result<(), Fail> {
     }
     // A store that was not made whole is made anew.
     check(rt, &start, &Start::Make, plan.what);
-    Err(Fail::new("no store was made"))
+    Err(NoMemory)
 }
 
 /// The same, and once more if the test itself was refused memory.
-fn play_at_last(rt: &impl Abort, alloc: Global, plan: &Plan) -> Result<(), Fail> {
+fn play_at_last(rt: &impl Abort, alloc: Global, plan: &Plan) -> Result<(), NoMemory> {
     match play(rt, alloc, plan) {
         Ok(()) => Ok(()),
         Err(_) => play(rt, alloc, plan),
@@ -185,10 +184,10 @@ fn play_at_last(rt: &impl Abort, alloc: Global, plan: &Plan) -> Result<(), Fail>
 
 #[test]
 fn a_service_that_is_refused_memory(rt: HostRuntime) -> Result<(), Fail> {
-    play_at_last(&rt, rt.alloc(), &SERVICE)
+    Ok(play_at_last(&rt, rt.alloc(), &SERVICE)?)
 }
 
 #[test]
 fn objects_that_are_refused_memory(rt: HostRuntime) -> Result<(), Fail> {
-    play_at_last(&rt, rt.alloc(), &OBJECTS)
+    Ok(play_at_last(&rt, rt.alloc(), &OBJECTS)?)
 }

@@ -3,13 +3,15 @@
 use ash_disk::Disk;
 use ash_durable::{CreateFault, Host, OpenFault, OpenRefused, StoreFault};
 use ash_host::{Counter, HostObject, NoMemory, Tally};
+use ash_lines::reply::{LineReply, write_line_reply};
+use ash_lines::writer::Writer;
 use ash_machine_fixtures::lines::{arguments_of, request_of};
 use ash_machine_fixtures::registered::registry;
 use ash_registry::Registry;
-use ash_store_fixtures::hosts::{Boxes, closed, line_of, reply_to, shown};
+use ash_states::state::HostReply;
+use ash_store_fixtures::hosts::{Boxes, closed, reply_to, shown};
 use ash_store_fixtures::lives::Start;
 use std::alloc::Global;
-use std::test::Fail;
 
 /// How many counters are free.
 const COUNTERS: usize = 9;
@@ -51,12 +53,37 @@ pub fn begun<D: Disk, B: HostObject>(
     }
 }
 
+/// The most bytes of a line that are buffered.
+const MAX_BUFFERED_BYTES: usize = 8192;
+
+/// What a host replies, as the line that is written of it.
+fn line_of(alloc: Global, reply: HostReply) -> Result<String, NoMemory> {
+    let mut bytes = Vec::new(alloc);
+    let buffer = Vec::with_capacity(alloc, MAX_BUFFERED_BYTES)?;
+    let mut writer = Writer::new(&mut bytes, buffer);
+    if write_line_reply(&mut writer, &LineReply::Host(reply)).is_err() {
+        return Err(NoMemory);
+    }
+    match String::from_utf8(bytes) {
+        Ok(text) => Ok(text),
+        Err(_) => Err(NoMemory),
+    }
+}
+
+/// The registry of a store.
+pub fn registered(alloc: Global) -> Result<Registry, NoMemory> {
+    match registry(alloc) {
+        Ok(registry) => Ok(registry),
+        Err(_) => Err(NoMemory),
+    }
+}
+
 /// What a host answers to a line.
 pub fn answer_to<D: Disk, B: HostObject>(
     alloc: Global,
     host: &mut Host<D, B>,
     line: &str,
-) -> Result<String, Fail> {
+) -> Result<String, NoMemory> {
     let arguments = arguments_of(alloc, line)?;
     let reply = reply_to(host, &request_of(line, &arguments));
     line_of(alloc, reply)
@@ -72,7 +99,7 @@ fn asked<D: Disk + Drop, B: HostObject>(
     alloc: Global,
     mut host: Host<D, B>,
     lines: &[&str],
-) -> Result<Visited<D>, Fail> {
+) -> Result<Visited<D>, NoMemory> {
     let mut answers = String::new(alloc);
     let mut done: usize = 0;
     let mut is_failed = false;
@@ -99,8 +126,8 @@ fn visited_with<D: Disk + Drop, B: HostObject>(
     start: Start,
     boxes: Boxes<B>,
     lines: &[&str],
-) -> Result<Visited<D>, Fail> {
-    match begun(alloc, disks, registry(alloc)?, boxes, start) {
+) -> Result<Visited<D>, NoMemory> {
+    match begun(alloc, disks, registered(alloc)?, boxes, start) {
         Ok(host) => asked(alloc, host, lines),
         Err(OpenRefused { fault, a, b }) => Ok(Visited {
             done: 0,
@@ -128,6 +155,6 @@ pub fn visited<D: Disk + Drop>(
     disks: (D, D),
     start: Start,
     lines: &[&str],
-) -> Result<Visited<D>, Fail> {
+) -> Result<Visited<D>, NoMemory> {
     visited_with(alloc, disks, start, new_boxes(alloc)?, lines)
 }

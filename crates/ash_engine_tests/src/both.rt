@@ -2,16 +2,18 @@
 
 ghost use Rattle.std.specs.Prelude.{◌≡◌, IsSome, IfOk};
 ghost use Rattle.ash_registry.specs.RegistryViews.{registered};
+ghost use Rattle.ash_image.specs.Rules.{IsShaped};
+ghost use Rattle.ash_image.specs.SnapshotViews.{snapshot_of};
 ghost use Rattle.ash_sources.specs.Sources.{embedding_of};
 ghost use Rattle.ash_plain_steps.specs.Consistency.{AreConsistent};
 
-use crate::texts::{events_in, events_text, line_of, state_text};
+use crate::texts::{events_in, events_text, line_of, state_text, stored_text};
 use ash_engine::engine::Engine;
 use ash_host::{Event, HostObject};
 use ash_image::image::read_image;
+use ash_image::stored::StoredState;
 use ash_machine_fixtures::noted::{Log, Notes, take_notes};
 use ash_machine_fixtures::numbering::{number_boxes, numbers_of, starved, with_numbers};
-use ash_machine_fixtures::registered::registry;
 use ash_plain_data::host_call::HostRecord;
 use ash_plain_steps::state::{Hosts, PlainState};
 use ash_plain_steps::step::Step;
@@ -140,16 +142,24 @@ fn ask_plain(
     plain_step(&sources, budget, request, Box::into_inner(state), hosts)
 }
 
+/// The state that was stored, with this registry.
+fn restored(alloc: Global, registry: Registry, stored: StoredState) -> Result<HostState, Fail>
+    requires shaped { IsShaped (snapshot_of stored) }
+    ensures registered { IfOk result (λ s. s.registered ≡ registered registry) }
+{
+    match HostState::restore(alloc, registry, stored)? {
+        Some(durable) => Ok(durable),
+        None => Err(Fail::new("no state")),
+    }
+}
+
 /// The state that an image has, with this registry.
 pub fn durable_in(alloc: Global, registry: Registry, image: &[u8]) -> Result<HostState, Fail>
     ensures registered { IfOk result (λ s. s.registered ≡ registered registry) }
 {
-    let Some(stored) = read_image(alloc, image)? else {
-        return Err(Fail::new("no image"));
-    };
-    match HostState::restore(alloc, registry, stored.state)? {
-        Some(durable) => Ok(durable),
-        None => Err(Fail::new("no state")),
+    match read_image(alloc, image)? {
+        Some(stored) => restored(alloc, registry, stored.state),
+        None => Err(Fail::new("no image")),
     }
 }
 
@@ -157,9 +167,10 @@ pub fn durable_in(alloc: Global, registry: Registry, image: &[u8]) -> Result<Hos
 fn engine_text<B: HostObject>(alloc: Global, engine: &Engine<B>) -> Result<String, Fail>
     requires live { IsSome engine.now.live }
 {
-    let image = engine.image()?;
-    let (_, state) = durable_in(alloc, registry(alloc)?, &image)?.into_parts();
-    state_text(alloc, &state)
+    match read_image(alloc, &engine.image()?)? {
+        Some(stored) => stored_text(alloc, &stored.state),
+        None => Err(Fail::new("no image")),
+    }
 }
 
 /// What a request left, as a text: the reply, the events, the boxes that went, and the state.

@@ -84,7 +84,7 @@ fn line_of(alloc: Global, seed: &mut Seed, pattern: &str) -> Result<String, Allo
 fn budget_of(seed: &mut Seed) -> u64 {
     match seed.below(5) {
         0 => seed.below(70),
-        _ => 1000,
+        _ => 300,
     }
 }
 

@@ -19,6 +19,22 @@ fn check_text(rt: &impl Abort, found: &str, wanted: &str, what: (&str, &str)) {
     }
 }
 
+/// The beginning of a reply that a row has, before how many zeros the elements are if they are many.
+fn beginning_of(reply: &str) -> Option<&str> {
+    reply
+        .strip_suffix(" zeros)")?
+        .split_once(" (")
+        .map(|parts| parts.0)
+}
+
+/// Compares a reply as the program writes it with the one of a row.
+fn check_reply(rt: &impl Abort, found: &str, wanted: &str, what: (&str, &str)) {
+    match beginning_of(wanted) {
+        Some(beginning) if found.starts_with(beginning) => {}
+        _ => check_text(rt, found, wanted, what),
+    }
+}
+
 /// What a request of a row comes to, which is compared with what the row says, and with what the plain evaluator says.
 fn check_exchange(
     rt: &impl Abort,
@@ -29,7 +45,7 @@ fn check_exchange(
 ) -> Result<Option<Session>, Fail> {
     let (line, reply, events) = exchange;
     let (session, compared) = asked(alloc, session, line, row.host.budget)?;
-    check_text(rt, &compared.line, reply, (row.what, line));
+    check_reply(rt, &compared.line, reply, (row.what, line));
     check_text(rt, &compared.events, events, (row.what, line));
     check_text(rt, &compared.found, &compared.wanted, (row.what, line));
     Ok(session)

@@ -71,14 +71,14 @@ fn with_last(alloc: Global, image: &[u8], text: usize, last: u64) -> Result<Vec<
     Ok(out)
 }
 
-/// The engine with which a session begins.
+/// The engine with which a session begins. The boxes of one that is restored note in this log alone.
 fn first_engine(alloc: Global, log: &Log, host: Host) -> Result<Engine<Noted>, Fail>
     ensures live { IfOk result (λ engine. IsSome engine.live) }
 {
-    let engine = new_engine(alloc, log, host.pool)?;
     if host.last == 0 {
-        return Ok(engine);
+        return new_engine(alloc, log, host.pool);
     }
+    let engine = new_engine(alloc, &new_log(alloc)?, host.pool)?;
     let text = engine.registry().text().len();
     let image = with_last(alloc, &engine.image()?, text, host.last)?;
     restored(alloc, log, host.pool, engine, &image)
@@ -95,11 +95,10 @@ fn first_state(alloc: Global, last: u64) -> Result<PlainState, AllocError>
 
 /// The session before any request.
 pub fn begun(alloc: Global, host: Host) -> Result<Session, Fail> {
-    let first_log = new_log(alloc)?;
+    let log = new_log(alloc)?;
     let state = first_state(alloc, host.last)?;
     let taken = taken_by(alloc, host.pool, &state)?;
-    let engine = first_engine(alloc, &first_log, host)?;
-    let log = first_log;
+    let engine = first_engine(alloc, &log, host)?;
     Ok(Session {
         both: Both {
             engine,
