@@ -9,11 +9,13 @@ REFUSE=1 REFUSED="$scratch/was_refused" LD_PRELOAD="$scratch/refuse_memory.so" \
 [ -e "$scratch/was_refused" ]
 verdict $? "an allocation of this program that is refused"
 
-# refused NUMBER WORD..: sets $end to how ashd ends on these words where the allocation of this number is refused
+# refused NUMBER WORD..: sets $end to how ashd ends on these words where the allocation of this number is refused, and leaves
+# $scratch/was_refused if there was one
 refused() {
     local number=$1
     shift
-    REFUSE=$number LD_PRELOAD="$scratch/refuse_memory.so" \
+    rm -f "$scratch/was_refused"
+    REFUSE=$number REFUSED="$scratch/was_refused" LD_PRELOAD="$scratch/refuse_memory.so" \
         "$ashd" "$@" < "$scratch/input" > "$scratch/output" 2> "$scratch/error"
     end="$?/$(cat "$scratch/error")/$(tr '\n' ';' < "$scratch/output")"
 }
@@ -206,12 +208,12 @@ wanted_of() {
     wanted+=$lines
 }
 
-# refuse_each NAME REQUEST..: refuses each allocation of a run over these requests; $looks are what is asked of the store then
-refuse_each() {
+# refuse_some NAME REQUEST..: refuses every fifth allocation of a run over these requests; $looks are what is asked of the store then
+refuse_some() {
     local name=$1 found key lines lost number place replies untouched=1 wanted
     local -A known=()
     shift
-    for number in $(seq 1 10000); do
+    for number in $(seq 1 5 10000); do
         printf '%s\n' "$@" > "$scratch/input"
         keep "$scratch/empty" "$scratch/other"
         refused "$number" serve "$scratch/other" --budget 1000 --counters 2
@@ -235,7 +237,7 @@ refuse_each() {
         run_over "$scratch/other" "${looks[@]}"
         case $end in "1/ashd: 509 NoMemory/" | 0//*) [ "$found$lines" = "${known[$key.]}" ] ;; *) false ;; esac
         verdict $? "allocation $number refused over $name: $end $lines"
-        [ ${#kept[@]} -lt $# ] || { untouched=0; break; }
+        [ -e "$scratch/was_refused" ] || { untouched=0; break; }
     done
     verdict $untouched "a run over $name that no refusal meets"
 }
@@ -247,17 +249,17 @@ load() {
 
 looks=(seq 'object 1' 'get m g')
 load m 'Counter@ g = Counter(7);'
-refuse_each "a counter that a global holds" "$loading" 'object 1' snapshot 'discard m' 'object 1'
+refuse_some "a counter that a global holds" "$loading" 'object 1' snapshot 'discard m' 'object 1'
 looks=(seq)
 load m 'int two(Counter@ h, int k) { return k; } int f() { Counter@ a = Counter(1); Counter@ c = Counter(5); int r = two(@a = null, c.add(1)); c.add(1); return r; }'
-refuse_each "an object that an expression lets go" "$loading" 'call m f'
+refuse_some "an object that an expression lets go" "$loading" 'call m f'
 load m 'class B { Counter@ c; } void f() { B@ x = B(); B@ y = B(); @x.c = Counter(1); B@ z = B(); @y.c = Counter(2); @z.c = x.c; }'
-refuse_each "objects that go together" "$loading" 'call m f' 'object 3'
+refuse_some "objects that go together" "$loading" 'call m f' 'object 3'
 looks=('get m n' 'call m t')
 load m 'int n = 0; int f(int d) { n = 1; tally(4); return 10 / d; } int t() { return total(); }'
-refuse_each "a tally before an exception" "$loading" 'call m f 0' 'get m n' 'call m t'
+refuse_some "a tally before an exception" "$loading" 'call m f 0' 'get m n' 'call m t'
 looks=('call m t')
 load k 'int a = tally(3); int b = 1; int c = 1 / 0;'
 failing=$loading
 load m 'int t() { return total(); }'
-refuse_each "a load that comes to no end" "$failing" "$loading" 'call m t'
+refuse_some "a load that comes to no end" "$failing" "$loading" 'call m t'
