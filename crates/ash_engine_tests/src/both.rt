@@ -41,7 +41,7 @@ pub struct Both<B: HostObject> {
 }
 
 impl<B: HostObject> Model for Both<B> {
-    ghost use Rattle.std.specs.Prelude.{◌×◌, IsSome};
+    ghost use Rattle.std.specs.Prelude.{IsSome};
     ghost use Rattle.ash_engine.specs.LiveStates.{EngineState};
     ghost use Rattle.ash_sources.specs.Sources.{embedding_of};
     ghost use Rattle.ash_plain_steps.specs.Consistency.{AreConsistent};

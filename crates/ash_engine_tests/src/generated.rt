@@ -142,7 +142,7 @@ fn check_sessions(rt: &impl Abort, alloc: Global, from: u64, to: u64) -> Result<
     let is_rich = counts.loads > many / 2
         && counts.finished > many
         && counts.raised > many / 5
-        && counts.aborted > many / 10
+        && counts.aborted > many / 20
         && counts.dropped > many / 2
         && counts.opened > many;
     if !is_rich {

@@ -213,28 +213,28 @@ int n = $n; int64 w = $n; uint u; bool t; array<int> l(2);
 Counter@ g; Counter@ h = Counter($n); P@ p = P($n); P s($n); Q q; I@ i; Buffer@ d = Buffer(); Odd@ o;
 array<Counter@> cs(1); array<P@> ps(2);
 int two(Counter@ x, int k) { return x.value + k; }
-int f(int k) { Counter@ a = $c; P@ b = $p; $s $s $s return $i; }
-int r(int k) { Counter@ a = h; P@ b; if (k <= 0) { $s return $i; } $s int x = r(k - 1); $s return x + $i; }
-void z(int k) { Counter@ a; P@ b = s; $s $s $s }
-bool y(int k, bool v) { Counter@ a = h; P@ b = p; $s return v ^^ $i > 0; }",
+int f(int k) { Counter@ a; P@ b; @a = $c; @b = $p; $s $s $s return $i; }
+int r(int k) { Counter@ a; P@ b; @a = h; if (k <= 0) { $s return $i; } $s int x = r(k - 1); $s return x + $i; }
+void z(int k) { Counter@ a; P@ b; @b = s; $s $s $s }
+bool y(int k, bool v) { Counter@ a; P@ b; @a = h; @b = p; $s return v ^^ $i > 0; }",
     "interface I { int m(int k); }
 class P : I { int v; Counter@ c = Counter($n); P(int k) { v = k; } int m(int k) { $t $t return v + k; } }
-class Q { P p($n); P@ l0; array<P@> l(2); Counter c($n); }
+class Q { P@ p = P($n); P@ l0; array<P@> l(2); Counter@ c = Counter($n); }
 int n = $n; int64 w; uint u = $n; bool t = true; array<int> l(3); Buffer@ d; Odd@ o = Odd($n);
 Counter@ h = Counter($n); Counter@ g = h; Q q; P@ p = q.p; P@ s; I@ i = p; array<Counter@> cs(2);
 array<P@> ps(1); int last = two(g, $n) + p.m($n);
 int two(Counter@ x, int k) { return x.add(k); }
-int r(int k) { Counter@ a = $c; P@ b; if (k <= 0) return $i; { $s } return r(k - 1) + $i; }
+int r(int k) { Counter@ a; P@ b; @a = $c; if (k <= 0) return $i; { $s } return r(k - 1) + $i; }
 int f(int k) { Counter@ a; P@ b; $s $s $s $s return r(k & 3); }
-void z(int k) { Counter@ a = $c; P@ b = $p; $s }
+void z(int k) { Counter@ a; P@ b; @a = $c; @b = $p; $s }
 bool y(int k, bool v) { Counter@ a; P@ b; while (k < 3) { k++; $s } return v; }",
     "interface I { int m(int k); } class P : I { int v; Counter@ c; P(int k) { v = k; $t } int m(int k) { return k; } }
 class R : I { P p(1); int m(int k) { return p.m(k) + total(); } } class Q { R@ r = R(); P@ p; array<P@> l; Counter@ c; }
 int n; int64 w = tally($n); uint u; bool t; array<int> l(1); Buffer@ d = Buffer(); Odd@ o; Counter@ g = Counter($n);
-Counter h($n); P@ p; P@ s = P($n); Q@ q = Q(); I@ i = R(); array<Counter@> cs; array<P@> ps; int e = $n / $n;
-int two(Counter@ x, int k) { Counter@ a = x; P@ b; $s return k; }
-int f(int k) { Counter@ a = $c; P@ b = $p; $s $s $s return $i; }
-int r(int k) { Counter@ a = Counter(k); P@ b = P(k); if (k <= 0) { $s return 1; } r(k - 1); $s return n; }
-void z(int k) { Counter@ a = g; P@ b; $s $s }
-bool y(int k, bool v) { Counter@ a; P@ b = p; @g = $c; @p = $p; @i = p; return v && i !is null; }",
+Counter@ h = Counter($n); P@ p; P@ s = P($n); Q@ q = Q(); I@ i = R(); array<Counter@> cs; array<P@> ps; int e = $n / $n;
+int two(Counter@ x, int k) { Counter@ a; P@ b; @a = x; $s return k; }
+int f(int k) { Counter@ a; P@ b; @a = $c; @b = $p; $s $s $s return $i; }
+int r(int k) { Counter@ a; P@ b; @a = Counter(k); @b = P(k); if (k <= 0) { $s return 1; } r(k - 1); $s return n; }
+void z(int k) { Counter@ a; P@ b; @a = g; $s $s }
+bool y(int k, bool v) { Counter@ a; P@ b; @b = p; @g = $c; @p = $p; @i = p; return v && i !is null; }",
 ];
