@@ -116,6 +116,43 @@ done
 [ "$number" -gt 100 ]
 verdict $? "requests between kills: $number"
 
+# The same of a script that counts by a global, a counter and the tally, and lets go of a counter in each call: all of them have
+# counted the same. Once no counter is left a call ends in an exception, which keeps what it has counted.
+counts=$scratch/counts
+empty_store "$counts"
+source='int n = 0; Counter@ g = Counter(0); array<Counter@> l; void f() { n = n + 1; tally(1); g.add(1); Counter@ c = Counter(n); if (l.length() == 0) { l.insertLast(c); } else { @l[0] = c; } } int t() { return total(); }'
+asks "load m ${#source}\n$source\n"
+ends "serve a host that counts" 0 "" serve "$counts" --budget 1000 --counters 1
+holds "a host that counts" 'ok seq 1'
+number=1
+for round in $(seq 50); do
+    : > "$scratch/replies"
+    yes "$(printf 'call m f\n%.0s' {1..6})
+snapshot" 2> /dev/null | "$ashd" serve "$counts" --budget 1000 --counters 32 > "$scratch/replies" 2> "$scratch/error" &
+    killed_id=$!
+    if [ $((round % 4)) -ne 0 ]; then
+        until [ -s "$scratch/replies" ] || ! kill -0 "$killed_id" 2> /dev/null; do sleep 0.002; done
+    fi
+    delay 30
+    kill -KILL "$killed_id" 2> /dev/null
+    { wait "$killed_id"; } 2> /dev/null
+    last=$(sed '$d' "$scratch/replies" | sed -n 's/.* seq \([0-9]*\).*/\1/p' | tail -n 1)
+    found=$(printf 'seq\nget m n\nobject 1\n' | "$ashd" serve "$counts" --budget 1000 --counters 2 2>&1 | tr '\n' ' ')
+    before=$number
+    number=${found#ok }
+    number=${number%% *}
+    count=$((number - 1))
+    state=$(printf %02x $((count & 255)) $((count >> 8 & 255)) $((count >> 16 & 255)) 0)
+    [ "$found" = "ok $number ok $count ok object 1 Counter count 1 state $state " ] && [ "$number" -ge "${last:-$before}" ]
+    verdict $? "kill $round of a host that counts, after the answer ${last:-$before}: $found"
+    [ "$failed" -eq 0 ] || break
+done
+[ "$number" -gt 38 ]
+verdict $? "requests between kills of a host that counts: $number"
+asks 'call m t\n'
+ends "a host that counts after all kills" 0 "" serve "$counts" --budget 1000 --counters 2
+holds "the tally after all kills" "ok $((number - 1)) seq $((number + 1))"
+
 # The same for the making of a store: it is there, or it can be made.
 empty_store "$scratch/empty"
 asks ''
