@@ -2,7 +2,7 @@
 
 use crate::checks::{check, check_text};
 use crate::plans::{OBJECTS, Plan, SERVICE};
-use crate::visits::{Visited, visited};
+use crate::visits::{Visited, visit};
 use ash_disk::{FuseDisk, MemoryDisk, Survives};
 use ash_durable::{OpenFault, StoreFault};
 use ash_store_fixtures::hosts::{crashed, disk, fuse, image_after, inner};
@@ -29,13 +29,13 @@ fn stopped_after(
     calls: (u64, u64),
 ) -> Result<Stopped, Fail> {
     let disks = (fuse(alloc, calls.0), fuse(alloc, calls.1));
-    let made = visited(alloc, disks, Start::Make, plan.lines)?;
+    let made = visit(alloc, disks, Start::Make, plan.lines)?;
     check(rt, &made.is_device(), &true, plan.what);
     let mut done = done_of(&made);
     let mut disks = made.disks;
     if done > plan.lines.len() {
         check_text(rt, &made.answers, plan.answers, plan.what);
-        let opened = visited(alloc, disks, Start::Open, plan.again)?;
+        let opened = visit(alloc, disks, Start::Open, plan.again)?;
         check(rt, &opened.is_device(), &true, plan.what);
         if opened.done == plan.again.len() {
             check_text(rt, &opened.answers, plan.answers_again, plan.what);
@@ -89,7 +89,7 @@ fn check_again(
         crashed(alloc, &found.disks.0, Survives::Nothing)?,
         crashed(alloc, &found.disks.1, Survives::Nothing)?,
     );
-    let again = visited(alloc, disks, Start::Open, &["seq"])?;
+    let again = visit(alloc, disks, Start::Open, &["seq"])?;
     let wanted = format!(in alloc; "{}\n", last_line(&found.answers))?;
     check_text(rt, &again.answers, &wanted, plan.what);
     Ok(())
@@ -105,7 +105,7 @@ fn check_images(
     images: (&[u8], &[u8]),
 ) -> Result<(), Fail> {
     let disks = (disk(alloc, images.0)?, disk(alloc, images.1)?);
-    let found = visited(alloc, disks, Start::Open, plan.probes)?;
+    let found = visit(alloc, disks, Start::Open, plan.probes)?;
     if done == 0 && found.fault == Some(StoreFault::Open(OpenFault::NoGeneration)) {
         return Ok(());
     }

@@ -80,7 +80,7 @@ fn is_answered<B: HostObject>(
 }
 
 /// Asks a host for the requests from a place on, up to one after which it must be opened again.
-fn served<B: HostObject>(
+fn serve<B: HostObject>(
     rt: &impl Abort,
     alloc: Global,
     mut host: Host<MemoryDisk, B>,
@@ -145,7 +145,7 @@ fn begun_from<B: HostObject>(
     match begun(alloc, disks, registered(alloc)?, boxes, start) {
         Ok(mut host) => {
             let from = place_found(rt, alloc, &mut host, plan, place)?;
-            Ok(Ok(served(rt, alloc, host, plan, from)?))
+            Ok(Ok(serve(rt, alloc, host, plan, from)?))
         }
         Err(OpenRefused { fault: _, a, b }) => Ok(Err((a, b))),
     }

@@ -4,6 +4,7 @@ use ash_disk::Disk;
 use ash_durable::{CreateFault, Host, OpenFault, OpenRefused, StoreFault};
 use ash_host::{Counter, HostObject, NoMemory, Tally};
 use ash_lines::reply::{LineReply, write_line_reply};
+use ash_lines::sink::WriteFault;
 use ash_lines::writer::Writer;
 use ash_machine_fixtures::lines::{arguments_of, request_of};
 use ash_machine_fixtures::registered::registry;
@@ -11,7 +12,7 @@ use ash_registry::Registry;
 use ash_states::state::HostReply;
 use ash_store_fixtures::hosts::{Boxes, closed, reply_to, shown};
 use ash_store_fixtures::lives::Start;
-use std::alloc::Global;
+use std::alloc::{AllocError, Global};
 
 /// How many counters are free.
 const COUNTERS: usize = 9;
@@ -56,18 +57,26 @@ pub fn begun<D: Disk, B: HostObject>(
 /// The most bytes of a line that are buffered.
 const MAX_BUFFERED_BYTES: usize = 8192;
 
-/// What a host replies, as the line that is written of it.
+/// Writes a reply as a line.
+fn write_reply(
+    alloc: Global,
+    bytes: &mut Vec<u8>,
+    reply: HostReply,
+) -> Result<Result<(), WriteFault>, AllocError> {
+    let buffer = Vec::with_capacity(alloc, MAX_BUFFERED_BYTES)?;
+    let mut writer = Writer::new(bytes, buffer);
+    Ok(write_line_reply(&mut writer, &LineReply::Host(reply)))
+}
+
+/// What a host replies, as the line that is written of it. A line that can't be written is as one for which there is no
+/// memory.
 fn line_of(alloc: Global, reply: HostReply) -> Result<String, NoMemory> {
     let mut bytes = Vec::new(alloc);
-    let buffer = Vec::with_capacity(alloc, MAX_BUFFERED_BYTES)?;
-    let mut writer = Writer::new(&mut bytes, buffer);
-    if write_line_reply(&mut writer, &LineReply::Host(reply)).is_err() {
+    let written = write_reply(alloc, &mut bytes, reply)?;
+    if written.is_err() {
         return Err(NoMemory);
     }
-    match String::from_utf8(bytes) {
-        Ok(text) => Ok(text),
-        Err(_) => Err(NoMemory),
-    }
+    String::from_utf8(bytes).map_err(|_fault| NoMemory)
 }
 
 /// The registry of a store.
@@ -120,7 +129,7 @@ fn asked<D: Disk + Drop, B: HostObject>(
 }
 
 /// Visits a store with these boxes.
-fn visited_with<D: Disk + Drop, B: HostObject>(
+fn visit_with<D: Disk + Drop, B: HostObject>(
     alloc: Global,
     disks: (D, D),
     start: Start,
@@ -150,11 +159,11 @@ pub fn new_boxes(alloc: Global) -> Result<Boxes<Box<dyn HostObject>>, NoMemory> 
 }
 
 /// Visits a store with new boxes.
-pub fn visited<D: Disk + Drop>(
+pub fn visit<D: Disk + Drop>(
     alloc: Global,
     disks: (D, D),
     start: Start,
     lines: &[&str],
 ) -> Result<Visited<D>, NoMemory> {
-    visited_with(alloc, disks, start, new_boxes(alloc)?, lines)
+    visit_with(alloc, disks, start, new_boxes(alloc)?, lines)
 }
