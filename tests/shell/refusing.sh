@@ -1,4 +1,4 @@
-# What objects.sh, boxes.sh, machine.sh and crashes.sh share: tests of a crate whose allocations are refused in turn, up to the one
+# What objects.sh, boxes.sh and machine.sh share: tests of a crate whose allocations are refused in turn, up to the one
 # of the number $most.
 most=1000
 
