@@ -13,7 +13,7 @@ use ash_host::{HostObject, Word};
 use ash_objects::Objects;
 use ash_registry::Registry;
 use ash_run_steps::beginning::Parts;
-use ash_sources::sources::{AdmittedScripts, Sources};
+use ash_sources::sources::Sources;
 use ash_typed::Module;
 use std::alloc::{AllocError, Global};
 use std::process::ExitCode;
@@ -36,7 +36,6 @@ fn tree(alloc: Global) -> Option<Module> {
     register(&mut registry).ok()?;
     let sources = Sources {
         registry: &registry,
-        admitted: AdmittedScripts::All,
     };
     sources.read_tree(alloc, SCRIPTS.as_bytes()).ok()
 }
