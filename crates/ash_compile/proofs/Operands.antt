@@ -279,7 +279,7 @@ literal_is n within = ap words.Int (int_wrap_fits w32 (pos n) (record { sfits = 
 less_is : (x : ℤ) (n : ℕ) → x +ℤ (pos 0 -ℤ pos n) ≡ x -ℤ pos n
 less_is x n = omega (arith, signed)
 
-adds_number : (s : Scene) (o : Operation) (b : Expr) (number : ℤ) (t : ValueType) (left to : ℕ) (l : Word) (at : Control)
+pub adds_number : (s : Scene) (o : Operation) (b : Expr) (number : ℤ) (t : ValueType) (left to : ℕ) (l : Word) (at : Control)
     (a : Activity)
     → IsAddition o b number → IsWellTyped s.env b t → word_in left at ≡ l
     → perform s.setting (i.AddNumber left number to) at a
@@ -295,7 +295,7 @@ adds_number s _ _ _ t left to l at a (operands.addition (operands.adds_to (opera
     ∙ ap (λ (x : Word). guarded_onward (Some (calculate (of_int calculators.Subtract) l x a)) (put to at))
     (sym (literal_is n (number_within typed)))
 
-number_keeps : (s : Scene) (o : Operation) (b : Expr) (number : ℤ) (l v : Word) (x y : Activity) → IsAddition o b number
+pub number_keeps : (s : Scene) (o : Operation) (b : Expr) (number : ℤ) (l v : Word) (x y : Activity) → IsAddition o b number
     → onward (expression (calls_of s) b x) (operate o l) ≡ Done v y → (y.frame).locals ≡ (x.frame).locals
 number_keeps s o _ _ l v x y (operands.addition (operands.adds_to (operands.Adds.adds {n = n}))) ran = operated_keeps o l (word_at ints.Int (pos n)) v x y ran
 number_keeps s o _ _ l v x y (operands.addition (operands.adds_to (operands.Adds.subtracts {n = n}))) ran = operated_keeps o l (word_at ints.Int (pos n)) v x y ran
