@@ -1,5 +1,6 @@
 pub mod Appended
 pub mod BodyLaws
+pub mod DeltaLaws
 pub mod ExampleLaws
 pub mod FieldLaws
 pub mod ImageLaws
