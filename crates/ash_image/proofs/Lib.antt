@@ -4,6 +4,7 @@ pub mod DeltaLaws
 pub mod ExampleLaws
 pub mod FieldLaws
 pub mod ImageLaws
+pub mod IndexedLaws
 pub mod ItemLoop
 pub mod ImageLengths
 pub mod Listed

@@ -10,6 +10,7 @@ pub mod Rules
 pub mod Delta
 pub mod DeltaReading
 pub mod DeltaViews
+pub mod Leading
 pub mod Search
 pub mod ImageExamples
 pub mod Damage
