@@ -6,6 +6,7 @@ pub mod FieldLaws
 pub mod ImageLaws
 pub mod IndexedLaws
 pub mod ItemLoop
+pub mod LeadingLaws
 pub mod ImageLengths
 pub mod Listed
 pub mod MoveLaws
