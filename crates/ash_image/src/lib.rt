@@ -11,6 +11,7 @@
 
 mod changed_modules;
 pub mod delta;
+pub mod delta_examples;
 pub mod delta_parts;
 pub mod examples;
 mod fields;
