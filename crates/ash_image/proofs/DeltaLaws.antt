@@ -235,6 +235,11 @@ parts_field version =
     })
     (λ d h. (h.seq, (h.last, (h.services, (h.change, (h.gone, h.put))))))
 
+-- what is put rises
+pub put_rises : (version : Version) (bytes : List ℕ) (x : Delta × List ℕ) → IsBytes bytes → parts_at version bytes ≡ Some x
+    → do_rise (numbers x.0.put) ≡ true
+put_rises version bytes x ok e = ((parts_field version).takes bytes x ok e).1.put.order
+
 delta_field : (version : Version) → IsField delta (FitsDelta version) (delta_at version)
 unfolding delta_at
 delta_field version =

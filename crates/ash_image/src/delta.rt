@@ -168,7 +168,6 @@ fn parts_of(
 ) -> Result<(StoredDelta, &[u8]), ReadError>
     ensures field { ReturnsField (λ x. (delta_of x.0, x.1.now)) result
         (parts_at version bytes.now) }
-    ensures rises { IfOk result (λ x. IsTrue (do_rise (numbers (objects_of (x.0).put.items)))) }
 {
     let (seq, rest) = u64_at(bytes)?;
     let (last, rest) = u64_at(rest)?;
