@@ -7,8 +7,15 @@ use Rattle.std.specs.List.{AllByRecursion}
 use Rattle.std.proofs.lemmas.Bool.{eqb-true, eq-eqb, cases_lt}
 use Rattle.ash_host.specs.Objects.{object_at, numbers}
 use Rattle.ash_host.proofs.Order.{object_here, object_later, none_after}
+use Rattle.std.proofs.Common.{get_or, add-one}
+use Rattle.std.proofs.Math.Seq.{drop-cons}
+use Rattle.std.proofs.lemmas.List.{drop_all}
+use Rattle.ash_host.specs.declared.word.Word.{Word}
+use Rattle.ash_image.specs.declared.stored_delta.IndexedWord.{IndexedWord}
+use Rattle.ash_image.specs.DeltaViews.{indexed_of, all_indexed}
 use Rattle.ash_image.specs.Image.{do_rise}
 use Rattle.ash_image.specs.Leading.{values_from, values_after, AreThere}
+use Rattle.ash_image.proofs.Listed.{all_map_at}
 use Rattle.ash_image.proofs.OrderLaws.{increasing, tail_rises}
 
 -- nothing is listed
@@ -68,14 +75,38 @@ pub set_next : {A : Type 0} (i : ℕ) (v : A) (rest : List (ℕ × A)) (vs goal 
 set_next i v rest vs goal rise within so_far =
     sym (set_first 0 i i v rest vs refl (not_later i v rest rise) within) ∙ so_far
 
--- what is left of numbers that rise does
-pub left_rise : (ns : List ℕ) (k : ℕ) → do_rise ns ≡ true → do_rise (drop k ns) ≡ true
-left_rise ns zero rise = rise
-left_rise [] (suc k) rise = refl
-left_rise (n ∷ ns) (suc k) rise = left_rise ns k (tail_rises n ns rise)
+-- ---- words with their indexes
 
--- and what is left of indexes that are there is there
-pub left_there : {A : Type 0} (es : List (ℕ × A)) (count k : ℕ) → AreThere es count → AreThere (drop k es) count
-left_there es count zero there = there
-left_there [] count (suc k) there = tt
-left_there (e ∷ es) count (suc k) there = left_there es count k there.1
+rise_left : (words : List IndexedWord) (k : ℕ) → do_rise (numbers (all_indexed words)) ≡ true
+    → do_rise (numbers (all_indexed (drop k words))) ≡ true
+rise_left words zero rise = rise
+rise_left [] (suc k) rise = refl
+rise_left (w ∷ words) (suc k) rise = rise_left words k (tail_rises w.index (numbers (all_indexed words)) rise)
+
+-- the index of a word that is listed is there
+pub word_there : (words : List IndexedWord) (i count : ℕ) (w : IndexedWord) → i < length words → w ≡ get_or words i w
+    → AreThere (all_indexed words) count → w.index < count
+word_there words i count w within is there =
+    subst (λ (v : IndexedWord). v.index < count) (sym is)
+    (all_map_at (λ (e : ℕ × Word). e.0 < count) indexed_of words i w there within)
+
+-- one word more is set
+pub set_next_word : (words : List IndexedWord) (i : ℕ) (w : IndexedWord) (vs new goal : List Word) → i < length words
+    → w ≡ get_or words i w → do_rise (numbers (all_indexed words)) ≡ true → w.index < length vs
+    → new ≡ set vs w.index w.word → values_after (all_indexed (drop i words)) vs ≡ goal
+    → values_after (all_indexed (drop (i + 1) words)) new ≡ goal
+set_next_word words i w vs new goal within is rise there set_is so_far =
+    let split : drop i words ≡ w ∷ drop (i + 1) words = drop-cons words i w within ∙ rw (sym is) (rw add-one refl) in
+    let rest = all_indexed (drop (i + 1) words) in
+    let rises : do_rise (numbers (indexed_of w ∷ rest)) ≡ true =
+    sym (ap (λ (more : List IndexedWord). do_rise (numbers (all_indexed more))) split) ∙ rise_left words i rise in
+    let from_here : values_after (indexed_of w ∷ rest) vs ≡ goal =
+    sym (ap (λ (more : List IndexedWord). values_after (all_indexed more) vs) split) ∙ so_far in
+    ap (λ (ws : List Word). values_after rest ws) set_is ∙ set_next w.index w.word rest vs goal rises there from_here
+
+-- nothing is left to set
+pub words_set : (words : List IndexedWord) (i : ℕ) (vs goal : List Word) → length words ≤ i
+    → values_after (all_indexed (drop i words)) vs ≡ goal → vs ≡ goal
+words_set words i vs goal past so_far =
+    sym (nothing_listed 0 vs)
+    ∙ sym (ap (λ (more : List IndexedWord). values_after (all_indexed more) vs) (drop_all i words past)) ∙ so_far

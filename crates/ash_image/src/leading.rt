@@ -24,6 +24,14 @@ pub fn are_globals_there(listed: &[IndexedWord], count: usize) -> bool
     true
 }
 
+/// Gives a global the word that is listed for it.
+fn set_global(globals: &mut Vec<Word>, indexed: IndexedWord)
+    requires within { indexed.index < length globals.old.items }
+    ensures value { globals.new.items ≡ set globals.old.items indexed.index indexed.word }
+{
+    globals[indexed.index as usize] = indexed.word;
+}
+
 /// Gives globals the words that are listed.
 pub fn set_globals(globals: &mut Vec<Word>, listed: &[IndexedWord])
     requires there { AreThere (all_indexed listed.now) (length globals.old.items) }
@@ -31,7 +39,7 @@ pub fn set_globals(globals: &mut Vec<Word>, listed: &[IndexedWord])
     ensures led { globals.new.items ≡ values_after (all_indexed listed.now) globals.old.items }
 {
     for indexed in listed {
-        globals[indexed.index as usize] = indexed.word;
+        set_global(globals, *indexed);
     }
 }
 
@@ -50,6 +58,7 @@ pub fn are_services_there(listed: &[StoredService], count: usize) -> bool
 /// Puts a service into a state.
 fn set_service(services: &mut Vec<StoredHost>, service: StoredService)
     requires within { service.index < length services.old.items }
+    ensures same_length { length services.new.items ≡ length services.old.items }
     ensures kinds { map (λ s. s.0) (services_of services.new.items)
         ≡ map (λ s. s.0) (services_of services.old.items) }
     ensures states { map (λ s. s.1) (services_of services.new.items)
