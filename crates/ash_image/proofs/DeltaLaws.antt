@@ -47,7 +47,7 @@ indexed_field =
     (λ e h. record { index_fits = h.0; word_fits = h.1 })
     (λ e h. (h.index_fits, h.word_fits))
 
-FitIndexed : List (ℕ × Word) → Type 0
+abbrev FitIndexed : List (ℕ × Word) → Type 0
 FitIndexed indexed = (length indexed ≤ max_globals) × AllByRecursion FitsIndexed indexed
 
 indexed_words_field : IsField (items 2 indexed_word) (λ indexed. (length indexed ≤ max_globals)
@@ -71,10 +71,11 @@ indexed_again : (index : ℕ) (es : List (ℕ × Word)) → counts_from index (n
     → indexed_from index (words_alone es) ≡ es
 unfolding indexed_from counts_from
 indexed_again index [] h = refl
-indexed_again index ((i, w) ∷ es) h =
-    let p = both (eqb i index) (counts_from (suc index) (numbers es)) h in
-    let same : i ≡ index = eqb-true i index p.0 in
-    rw same (ap (λ (more : List (ℕ × Word)). (index, w) ∷ more) (indexed_again (suc index) es p.1))
+indexed_again index (e ∷ es) h =
+    let p = both (eqb e.0 index) (counts_from (suc index) (numbers es)) h in
+    let same : e.0 ≡ index = eqb-true e.0 index p.0 in
+    ap (λ (i : ℕ). (i, e.1) ∷ indexed_from (suc index) (words_alone es)) (sym same)
+    ∙ ap (λ (more : List (ℕ × Word)). e ∷ more) (indexed_again (suc index) es p.1)
 
 they_count : (index : ℕ) (ws : List Word) → counts_from index (numbers (indexed_from index ws)) ≡ true
 unfolding indexed_from counts_from
@@ -119,7 +120,7 @@ all_globals_field =
 
 some_globals_field : IsField (items 2 indexed_word) (λ (es : List (ℕ × Word)). FitIndexed es × IsTrue (do_rise (numbers es)))
     some_globals_at
-unfolding some_globals_at FitIndexed
+unfolding some_globals_at
 some_globals_field = checked_field (λ (es : List (ℕ × Word)). do_rise (numbers es)) indexed_words_field
 
 added_field : IsField added FitsModule added_at
@@ -144,7 +145,7 @@ added_field =
 
 change_takes : (tag : ℕ) (bytes : List ℕ) (x : ModuleChange × List ℕ) → IsBytes bytes → change_case tag bytes ≡ Some x
     → HasCase module_change FitsChange tag bytes x
-unfolding change_case FitIndexed
+unfolding change_case
 change_takes zero bytes x ok e = bare_takes module_change FitsChange 0 Unchanged refl tt bytes x ok e
 change_takes (suc zero) bytes x ok e =
     case_takes module_change FitsChange 1 (λ (m : Loaded). Added m) added_field (λ m h. (refl, h)) bytes x ok e
@@ -157,7 +158,7 @@ change_takes (suc (suc (suc zero))) bytes x ok e =
 change_takes (suc (suc (suc (suc n)))) bytes x ok e = absurd cc
 
 change_again : (change : ModuleChange) → FitsChange change → IsCase module_change change_case change
-unfolding change_case FitIndexed
+unfolding change_case
 change_again Unchanged h = record { tag = 0; small = omega arith; body = []; spelled = refl; read = λ rest. refl }
 change_again (Added m) h = record {
   tag = 1;
