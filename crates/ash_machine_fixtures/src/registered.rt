@@ -1,4 +1,5 @@
-//! What is registered: `Counter` and `Tally`, as the program registers them, `Buffer`, and `Odd`, a kind that answers badly.
+//! What is registered: `Counter` and `Tally`, as the program registers them, `Buffer`, and `Odd`, a kind that answers
+//! badly.
 
 use ash_registry::{Registry, RegistryFault};
 use std::alloc::Global;
