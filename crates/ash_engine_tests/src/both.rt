@@ -65,8 +65,8 @@ pub struct Compared {
     pub events: String,
 }
 
-/// What boxes noted while a request was handled: what they answered, the numbers of those that went, and whether one had
-/// no memory.
+/// What boxes noted while a request was handled: what they answered, the numbers of those that went, whether one had no
+/// memory, and whether a note is missing.
 #[derive(Drop)]
 struct Noted {
     records: VecDeque<HostRecord>,
@@ -248,8 +248,8 @@ fn found_of<B: HostObject>(
 }
 
 impl<B: HostObject> Both<B> {
-    /// What a request does on both. There is no state after it if a host had no memory, or if the plain evaluator has no
-    /// step.
+    /// What a request does on both. There is no state after it if a host had no memory, or if the plain evaluator has
+    /// no step.
     pub fn handle(
         self,
         alloc: Global,
