@@ -10,5 +10,5 @@ returns-in_err-write g c =
 
 pub returns : goal.returns
 returns g c = record {
-  line = writes-then g.K.Sink.outlet g.met.K.Sink.is_outlet _ _ _ c.args.text.now (10 ∷ []) c.«write-result».result c.in_ok-write.ensures.written c.«write-result».ensures.written;
+  line = writes-then g.K.Sink.outlet g.met.K.Sink.is_outlet _ _ _ c.args.text.now (10 ∷ []) c.write-2.result c.in_ok-write.ensures.written c.write-2.ensures.written;
 }
