@@ -80,3 +80,21 @@ read -r -t 10 left <&"$replies"
 verdict $? "a conversation over a pipe: $loaded/$value/$left"
 exec {replies}<&- {requests}>&-
 wait
+
+# A reply comes while the next request is not whole: of a line a part is there, and of a load the line without its source.
+coproc talk { "$ashd" try --budget 1000 --counters 0; }
+exec {replies}<&"${talk[0]}" {requests}>&"${talk[1]}"
+printf 'seq\nse' >&"$requests"
+read -r -t 10 first <&"$replies"
+printf 'q\nseq\nload m 10\nint' >&"$requests"
+read -r -t 10 second <&"$replies"
+read -r -t 10 third <&"$replies"
+printf ' n = 7;\nload k 0\n' >&"$requests"
+read -r -t 10 loaded <&"$replies"
+printf '\nquit\n' >&"$requests"
+read -r -t 10 empty <&"$replies"
+read -r -t 10 left <&"$replies"
+[ "$first/$second/$third/$loaded/$empty/$left" = "ok 0/ok 0/ok 0/ok seq 1/ok seq 2/ok" ]
+verdict $? "requests that come in parts: $first/$second/$third/$loaded/$empty/$left"
+exec {replies}<&- {requests}>&-
+wait

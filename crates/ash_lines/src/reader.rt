@@ -78,6 +78,10 @@ impl<R: Read + Drop> Source for Reader<R> {
             }
         }
     }
+
+    fn ready(&self) -> &[u8] {
+        self.reader.buffer()
+    }
 }
 
 /// Reads one byte.

@@ -29,26 +29,34 @@ pub enum LineReply {
     LineTooLong,
 }
 
-/// Writes the reply to a line, as a line, and flushes it.
+/// Writes the reply to a line, as a line. It may stay buffered until the sink is flushed.
 pub fn write_line_reply<K: Sink>(output: &mut K, reply: &LineReply) -> Result<(), WriteFault>
-    ensures line { WritesAndFlushes K.outlet output.old (reply_line (line_reply_of reply.now))
+    ensures line { Writes K.outlet output.old (reply_line (line_reply_of reply.now))
         result output.new }
 {
     match reply {
         LineReply::Host(reply) => write_reply_line(output, reply),
-        LineReply::Quit => write_line(output, b"ok"),
-        LineReply::BadRequest => write_line(output, b"refused 601 BadRequest"),
-        LineReply::LineTooLong => write_line(output, b"refused 602 LineTooLong"),
+        LineReply::Quit => buffer_line(output, b"ok"),
+        LineReply::BadRequest => buffer_line(output, b"refused 601 BadRequest"),
+        LineReply::LineTooLong => buffer_line(output, b"refused 602 LineTooLong"),
     }
 }
 
-/// Writes a reply of the host as a line, and flushes it.
+/// Writes a reply of the host as a line.
 fn write_reply_line<K: Sink>(output: &mut K, reply: &Reply<SourceFault>) -> Result<(), WriteFault>
-    ensures line { WritesAndFlushes K.outlet output.old
+    ensures line { Writes K.outlet output.old
         (reply_text (reply_seen fault_of reply.now) ++ 10 ∷ []) result output.new }
 {
     write_reply(output, reply)?;
-    end_line(output)
+    output.write(b"\n")
+}
+
+/// Writes a text as a line.
+fn buffer_line<K: Sink>(output: &mut K, text: &[u8]) -> Result<(), WriteFault>
+    ensures line { Writes K.outlet output.old (text.now ++ 10 ∷ []) result output.new }
+{
+    output.write(text)?;
+    output.write(b"\n")
 }
 
 /// Writes the refusal of a source as a line, and flushes it.

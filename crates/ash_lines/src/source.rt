@@ -37,5 +37,8 @@ pub trait Source {
     fn next(&mut self) -> Result<Option<u8>, ReadFault>
         ensures byte { ReadsNext feed self.old result self.new };
 
+    /// The next bytes, as far as they can be had without waiting for them.
+    fn ready(&self) -> &[u8];
+
     ghost is_feed: { IsFeed feed };
 }

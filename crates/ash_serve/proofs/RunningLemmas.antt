@@ -15,13 +15,15 @@ use Rattle.ash_serve.specs.Serving.{EndsBetweenRequests, Quits, run_state, servi
 use Rattle.ash_serve.specs.StreamRuns.{Run, KnownState, RunEnds, ReadsPrefix, ReadsProperPrefix, ReadsAll, GoOn}
 use Rattle.ash_serve.specs.StreamRuns.{EndsWithQuit}
 use Rattle.ash_lines.specs.Reader.{left_of, allowance_of, max_input_bytes, reader_feed, reader_is_feed}
-use Rattle.ash_lines.specs.Writer.{writer_outlet, writer_is_outlet, appends-onward}
+use Rattle.ash_lines.specs.Writer.{writer_outlet, writer_is_outlet}
 use Rattle.ash_lines.specs.declared.reader.Reader.{Reader}
 use Rattle.ash_lines.specs.declared.writer.Writer.{Writer}
 use Rattle.ash_lines.specs.declared.source.ReadFault.TheVariants as read_faults
 use Rattle.ash_serve.specs.declared.fault.RunFault.{RunFault}
 use Rattle.ash_serve.specs.declared.fault.RunFault.TheVariants as faults
-use Rattle.ash_serve.proofs.ServingLemmas.{log-more, consists-more, replies-more}
+use Rattle.ash_lines.specs.Sink.{Outlet, IsOutlet, Accepts, WritesAll, FailsPartway}
+use Rattle.ash_lines.proofs.SinkLemmas.{accepts-fails, accepts-flushes}
+use Rattle.ash_serve.proofs.ServingLemmas.{log-more, consists-more, replies-more, text-more}
 
 reads_prefix : (input left : Option (List ℕ)) (read : List ℕ) → Consumes input left read → ReadsPrefix input read
 reads_prefix None left read h = tt
@@ -82,84 +84,124 @@ run-nil remaining contents handles before last a log = record {
   bounded = omega (arith, log.took.1, a);
 }
 
-pub run_ends : {R W H : Type 0} (remaining : R → Option (List ℕ)) (contents : W → Option (List ℕ)) (handles : RequestRelation H) (before after : RunState (Reader R) (Writer W) H) (input : Option (List ℕ)) (r : Result (Unit {0}) RunFault) → left_of remaining before.input ≡ input → allowance_of before.input ≡ max_input_bytes → Serves (serving-over remaining contents handles) before r after → RunEnds handles (run_state input (contents before.output.writer.now) before.host) r (contents after.output.writer.now) after.host
-run_ends {H = H} remaining contents handles before after input (Ok x) e a w =
+-- bytes that a writer took went out, if nothing was buffered before, nor is afterwards
+all-out : {W : Type 0} (contents : W → Option (List ℕ)) (s t : Writer W) (bytes : List ℕ) → s.buffer.items ≡ [] → t.buffer.items ≡ [] → Accepts (writer_outlet contents) s bytes t → Appends (contents s.writer.now) (contents t.writer.now) bytes
+all-out contents s t bytes n m h =
+    let e : bytes ≡ h.out = ap (λ (y : List ℕ). y ++ bytes) (sym n) ∙ (h.whole ∙ (ap (λ (y : List ℕ). h.out ++ y) m ∙ append-nil h.out)) in
+    subst (λ (y : List ℕ). Appends (contents s.writer.now) (contents t.writer.now) y) (sym e) h.written.0
+
+-- bytes and all before them went out
+flushed-line : {K : Type 0} (outlet : Outlet K) (s t : K) (bytes : List ℕ) → WritesAll outlet s bytes t → Accepts outlet s bytes t
+flushed-line outlet s t bytes w =
+    record { out = outlet.buffered s ++ bytes; written = w.written; whole = sym (ap (λ (y : List ℕ). (outlet.buffered s ++ bytes) ++ y) w.empty ∙ append-nil (outlet.buffered s ++ bytes)) }
+
+-- all that was buffered went out
+flushed : {K : Type 0} (outlet : Outlet K) → IsOutlet outlet → (s t u : K) (bytes : List ℕ) → Accepts outlet s bytes t → WritesAll outlet t [] u → Accepts outlet s bytes u
+flushed outlet io s t u bytes h k = flushed-line outlet s u bytes (accepts-flushes outlet io s t u bytes (Ok tt) h k)
+
+all-flushed : {R W H : Type 0} (remaining : R → Option (List ℕ)) (contents : W → Option (List ℕ)) (handles : RequestRelation H) (before last : RunState (Reader R) (Writer W) H) (t : Writer W) → before.output.buffer.items ≡ [] → (log : Log (serving-over remaining contents handles) before last) → WritesAll (writer_outlet contents) last.output [] t → Appends (contents before.output.writer.now) (contents t.writer.now) (text_of log.replies)
+all-flushed remaining contents handles before last t n log x =
+    all-out contents before.output t (text_of log.replies) n x.empty (flushed (writer_outlet contents) (writer_is_outlet contents) before.output last.output t (text_of log.replies) log.written x)
+
+-- a prefix of the replies so far and of what was being written went out
+part-out : {R W H : Type 0} (remaining : R → Option (List ℕ)) (contents : W → Option (List ℕ)) (handles : RequestRelation H) (before last : RunState (Reader R) (Writer W) H) (t : Writer W) (bytes : List ℕ) → before.output.buffer.items ≡ [] → (log : Log (serving-over remaining contents handles) before last) → FailsPartway (writer_outlet contents) last.output bytes t → (out : List ℕ) × (lost : List ℕ) × (text_of log.replies ++ bytes ≡ out ++ lost) × Appends (contents before.output.writer.now) (contents t.writer.now) out
+part-out remaining contents handles before last t bytes n log x =
+    let f = accepts-fails (writer_outlet contents) (writer_is_outlet contents) before.output last.output t (text_of log.replies) bytes log.written x in
+    (f.out, f.lost, ap (λ (y : List ℕ). y ++ (text_of log.replies ++ bytes)) (sym n) ∙ f.whole, f.broke.0)
+
+pub run_ends : {R W H : Type 0} (remaining : R → Option (List ℕ)) (contents : W → Option (List ℕ)) (handles : RequestRelation H) (before after : RunState (Reader R) (Writer W) H) (input : Option (List ℕ)) (r : Result (Unit {0}) RunFault) → left_of remaining before.input ≡ input → allowance_of before.input ≡ max_input_bytes → before.output.buffer.items ≡ [] → Serves (serving-over remaining contents handles) before r after → RunEnds handles (run_state input (contents before.output.writer.now) before.host) r (contents after.output.writer.now) after.host
+run_ends {H = H} remaining contents handles before after input (Ok x) e a n w =
     let last = w.0 in let log = w.1.log in
     ⊎_elim
-    (λ (over : EndsBetweenRequests (reader_feed remaining) last after).
+    (λ (over : EndsBetweenRequests (serving-over remaining contents handles) last after).
     let whole = (reader_is_feed remaining).onward before.input last.input after.input log.read [] log.took over.took in
     let from : Consumes input (left_of remaining after.input) log.read = subst (λ (y : Option (List ℕ)). Consumes y (left_of remaining after.input) log.read) e (subst (λ (y : List ℕ). Consumes (left_of remaining before.input) (left_of remaining after.input) y) (append-nil log.read) whole.0) in
     let run = run-nil remaining contents handles before last a log in
-    let all : (run : Run handles before.host last.host) × ReadsPrefix input run.read × Appends (contents before.output.writer.now) (contents last.output.writer.now) (text_of run.replies) × (run.rest ≡ []) × ((ReadsAll input run.read × GoOn run.lines) ⊎ EndsWithQuit run.lines)
-    = (run, reads_prefix input (left_of remaining after.input) log.read from, log.written.0, refl, inl (reads_all input (left_of remaining after.input) log.read from over.ended, w.1.on)) in
-    subst (λ (y : H). (run : Run handles before.host y) × ReadsPrefix input run.read × Appends (contents before.output.writer.now) (contents after.output.writer.now) (text_of run.replies) × (run.rest ≡ []) × ((ReadsAll input run.read × GoOn run.lines) ⊎ EndsWithQuit run.lines)) (sym over.host_same)
-    (subst (λ (y : Writer _). (run : Run handles before.host last.host) × ReadsPrefix input run.read × Appends (contents before.output.writer.now) (contents y.writer.now) (text_of run.replies) × (run.rest ≡ []) × ((ReadsAll input run.read × GoOn run.lines) ⊎ EndsWithQuit run.lines)) (sym over.output_same) all))
+    let all : (run : Run handles before.host last.host) × ReadsPrefix input run.read × Appends (contents before.output.writer.now) (contents after.output.writer.now) (text_of run.replies) × (run.rest ≡ []) × ((ReadsAll input run.read × GoOn run.lines) ⊎ EndsWithQuit run.lines)
+    = (run, reads_prefix input (left_of remaining after.input) log.read from, all-flushed remaining contents handles before last after.output n log over.flushed, refl, inl (reads_all input (left_of remaining after.input) log.read from over.ended, w.1.on)) in
+    subst (λ (y : H). (run : Run handles before.host y) × ReadsPrefix input run.read × Appends (contents before.output.writer.now) (contents after.output.writer.now) (text_of run.replies) × (run.rest ≡ []) × ((ReadsAll input run.read × GoOn run.lines) ⊎ EndsWithQuit run.lines)) (sym over.host_same) all)
     (λ (left : Quits (serving-over remaining contents handles) last after).
-    let more = log-more (serving-over remaining contents handles) (reader_is_feed remaining) (writer_is_outlet contents) before last after Quit QuitReply log left.handled left.written in (
+    let accepted = flushed-line (writer_outlet contents) last.output after.output (reply_line QuitReply) left.written in
+    let more = log-more (serving-over remaining contents handles) (reader_is_feed remaining) (writer_is_outlet contents) before last after Quit QuitReply log left.handled accepted in (
       run-nil remaining contents handles before after a more,
       reads_prefix input (left_of remaining after.input) more.read (subst (λ (y : Option (List ℕ)). Consumes y (left_of remaining after.input) more.read) e more.took.0),
-      more.written.0,
+      all-out contents before.output after.output (text_of more.replies) n left.written.empty more.written,
       refl,
       inr (log.lines, refl, w.1.on),
     ))
     w.2
-run_ends remaining contents handles before after input (Err faults.Truncated) e a w =
+run_ends remaining contents handles before after input (Err faults.Truncated) e a n w =
     let last = w.0 in let log = w.1.log in let cut = w.2 in
     let whole = (reader_is_feed remaining).onward before.input last.input after.input log.read cut.rest log.took cut.took in
     let from : Consumes input (left_of remaining after.input) (log.read ++ cut.rest) = subst (λ (y : Option (List ℕ)). Consumes y (left_of remaining after.input) (log.read ++ cut.rest)) e whole.0 in
-    rw (cut.host_same, cut.output_same) (run-of remaining contents handles before last after.input cut.rest a log cut.took, reads_all input (left_of remaining after.input) (log.read ++ cut.rest) from cut.ended, log.written.0, cut.cut, w.1.on)
-run_ends remaining contents handles before after input (Err (faults.Read read_faults.TooLong)) e a w =
+    let wrote = all-flushed remaining contents handles before last after.output n log cut.flushed in
+    rw cut.host_same (run-of remaining contents handles before last after.input cut.rest a log cut.took, reads_all input (left_of remaining after.input) (log.read ++ cut.rest) from cut.ended, wrote, cut.cut, w.1.on)
+run_ends remaining contents handles before after input (Err (faults.Read read_faults.TooLong)) e a n w =
     let last = w.0 in let log = w.1.log in let f = w.2 in
     let whole = (reader_is_feed remaining).onward before.input last.input after.input log.read f.rest log.took f.faults.0 in
     let from : Consumes input (left_of remaining after.input) (log.read ++ f.rest) = subst (λ (y : Option (List ℕ)). Consumes y (left_of remaining after.input) (log.read ++ f.rest)) e whole.0 in
-    rw (f.host_same, f.output_same) (run-of remaining contents handles before last after.input f.rest a log f.faults.0, reads_proper_prefix input (left_of remaining after.input) (log.read ++ f.rest) from (has-more after.input.extra (reader_remaining remaining after.input.reader) f.faults.2), log.written.0, f.unfinished, omega (arith, whole.1, a, f.faults.1), w.1.on)
-run_ends remaining contents handles before after input (Err (faults.Read read_faults.Failed)) e a w =
+    let wrote = all-flushed remaining contents handles before last after.output n log f.flushed in
+    rw f.host_same (run-of remaining contents handles before last after.input f.rest a log f.faults.0, reads_proper_prefix input (left_of remaining after.input) (log.read ++ f.rest) from (has-more after.input.extra (reader_remaining remaining after.input.reader) f.faults.2), wrote, f.unfinished, omega (arith, whole.1, a, f.faults.1), w.1.on)
+run_ends remaining contents handles before after input (Err (faults.Read read_faults.Failed)) e a n w =
     let last = w.0 in let log = w.1.log in let f = w.2 in let end = f.faults.0 in
     let whole = (reader_is_feed remaining).onward before.input last.input end log.read f.rest log.took f.faults.1 in
     let from : Consumes input (left_of remaining end) (log.read ++ f.rest) = subst (λ (y : Option (List ℕ)). Consumes y (left_of remaining end) (log.read ++ f.rest)) e whole.0 in
-    rw (f.host_same, f.output_same) (run-of remaining contents handles before last end f.rest a log f.faults.1, reads_prefix input (left_of remaining end) (log.read ++ f.rest) from, log.written.0, f.unfinished, w.1.on)
-run_ends remaining contents handles before after input (Err faults.Write) e a w =
-    let last = w.0 in let log = w.1.log in let line = w.2.0 in let line_reply = w.2.1 in let served = w.2.2 in let stops = w.2.3 in
-    let whole = (reader_is_feed remaining).onward before.input last.input after.input log.read served.bytes log.took served.took in (
+    let wrote = all-flushed remaining contents handles before last after.output n log f.flushed in
+    rw f.host_same (run-of remaining contents handles before last end f.rest a log f.faults.1, reads_prefix input (left_of remaining end) (log.read ++ f.rest) from, wrote, f.unfinished, w.1.on)
+run_ends remaining contents handles before after input (Err faults.Write) e a n (last, gone, inl f) =
+    let log = gone.log in let served = f.handled in
+    let whole = (reader_is_feed remaining).onward before.input last.input after.input log.read served.bytes log.took served.took in
+    let part = part-out remaining contents handles before last after.output (reply_line f.reply) n log f.failed in (
       record {
         read = log.read ++ served.bytes;
-        lines = log.lines ++ line ∷ [];
+        lines = log.lines ++ f.line ∷ [];
         rest = [];
-        replies = log.replies ++ line_reply ∷ [];
-        consists = subst (λ (y : List ℕ). ConsistsOf y (log.lines ++ line ∷ []) []) (sym (append_assoc log.read served.bytes []) ∙ append-nil (log.read ++ served.bytes))
-            (consists-more log.lines (log.read ++ (served.bytes ++ [])) (served.bytes ++ []) [] line (log.consists (served.bytes ++ [])) (served.spells []));
-        handled = replies-more handles log.lines log.replies before.host last.host after.host line line_reply log.handled served.handled;
+        replies = log.replies ++ f.reply ∷ [];
+        consists = subst (λ (y : List ℕ). ConsistsOf y (log.lines ++ f.line ∷ []) []) (sym (append_assoc log.read served.bytes []) ∙ append-nil (log.read ++ served.bytes))
+            (consists-more log.lines (log.read ++ (served.bytes ++ [])) (served.bytes ++ []) [] f.line (log.consists (served.bytes ++ [])) (served.spells []));
+        handled = replies-more handles log.lines log.replies before.host last.host after.host f.line f.reply log.handled served.handled;
         bounded = omega (arith, whole.1, a);
       },
       reads_prefix input (left_of remaining after.input) (log.read ++ served.bytes) (subst (λ (y : Option (List ℕ)). Consumes y (left_of remaining after.input) (log.read ++ served.bytes)) e whole.0),
-      refl,
-      log.replies,
-      line_reply,
-      stops.out,
-      stops.lost,
-      refl,
-      appends-onward (contents before.output.writer.now) (contents last.output.writer.now) (contents after.output.writer.now) (text_of log.replies) stops.out log.written.0 stops.broke.0,
-      sym (ap (λ (y : List ℕ). y ++ reply_line line_reply) log.empty) ∙ stops.whole,
-      (log.lines, line, refl, w.1.on),
+      part.0,
+      part.1,
+      text-more log.replies f.reply ∙ part.2,
+      part.3,
+      inr (log.lines, f.line, refl, gone.on),
     )
-run_ends remaining contents handles before after input (Err faults.NoMemory) e a w = (w.2, subst (λ (y : Writer _). Keeps (contents before.output.writer.now) (contents y.writer.now)) (sym w.1) (keeps_all (contents before.output.writer.now)))
+run_ends remaining contents handles before after input (Err faults.Write) e a n (last, gone, inr f) =
+    let log = gone.log in
+    let whole = (reader_is_feed remaining).onward before.input last.input f.reached log.read f.rest log.took f.took in
+    let from = subst (λ (y : Option (List ℕ)). Consumes y (left_of remaining f.reached) (log.read ++ f.rest)) e whole.0 in
+    let part = part-out remaining contents handles before last after.output [] n log f.failed in
+    rw f.host_same (
+      run-of remaining contents handles before last f.reached f.rest a log f.took,
+      reads_prefix input (left_of remaining f.reached) (log.read ++ f.rest) from,
+      part.0,
+      part.1,
+      sym (append-nil (text_of log.replies)) ∙ part.2,
+      part.3,
+      inl gone.on,
+    )
+run_ends remaining contents handles before after input (Err faults.NoMemory) e a n w = (w.2, subst (λ (y : Writer _). Keeps (contents before.output.writer.now) (contents y.writer.now)) (sym w.1) (keeps_all (contents before.output.writer.now)))
 
 -- a run writes to the same writer to its end
 pub serves_name : {R W H : Type 0} (remaining : R → Option (List ℕ)) (contents : W → Option (List ℕ)) (handles : RequestRelation H) (before after : RunState (Reader R) (Writer W) H) (r : Result (Unit {0}) RunFault) → Serves (serving-over remaining contents handles) before r after → after.output.writer.ghost_name ≡ before.output.writer.ghost_name
 serves_name remaining contents handles before after (Ok x) w =
     ⊎_elim
-    (λ (over : EndsBetweenRequests (reader_feed remaining) w.0 after). ap (λ (y : Writer _). y.writer.ghost_name) over.output_same ∙ w.1.log.written.1)
-    (λ (left : Quits (serving-over remaining contents handles) w.0 after). left.written.written.1 ∙ w.1.log.written.1)
+    (λ (over : EndsBetweenRequests (serving-over remaining contents handles) w.0 after). over.flushed.written.1 ∙ w.1.log.written.written.1)
+    (λ (left : Quits (serving-over remaining contents handles) w.0 after). left.written.written.1 ∙ w.1.log.written.written.1)
     w.2
-serves_name remaining contents handles before after (Err faults.Truncated) w = ap (λ (y : Writer _). y.writer.ghost_name) w.2.output_same ∙ w.1.log.written.1
-serves_name remaining contents handles before after (Err (faults.Read fault)) w = ap (λ (y : Writer _). y.writer.ghost_name) w.2.output_same ∙ w.1.log.written.1
-serves_name remaining contents handles before after (Err faults.Write) w = w.2.3.broke.1 ∙ w.1.log.written.1
+serves_name remaining contents handles before after (Err faults.Truncated) w = w.2.flushed.written.1 ∙ w.1.log.written.written.1
+serves_name remaining contents handles before after (Err (faults.Read fault)) w = w.2.flushed.written.1 ∙ w.1.log.written.written.1
+serves_name remaining contents handles before after (Err faults.Write) (last, gone, inl f) = f.failed.broke.1 ∙ gone.log.written.written.1
+serves_name remaining contents handles before after (Err faults.Write) (last, gone, inr f) = f.failed.broke.1 ∙ gone.log.written.written.1
 serves_name remaining contents handles before after (Err faults.NoMemory) w = ap (λ (y : Writer _). y.writer.ghost_name) w.1
 
 -- the run, where the writer is lent as `old` and ends as `new`
-pub run_writes : {R W H : Type 0} (remaining : R → Option (List ℕ)) (contents : W → Option (List ℕ)) (handles : RequestRelation H) (before after : RunState (Reader R) (Writer W) H) (input : Option (List ℕ)) (r : Result (Unit {0}) RunFault) (old new : W) → left_of remaining before.input ≡ input → allowance_of before.input ≡ max_input_bytes → before.output.writer.now ≡ old → (after.output.writer.ghost_name ≡ before.output.writer.ghost_name → new ≡ after.output.writer.now) → Serves (serving-over remaining contents handles) before r after → RunEnds handles (run_state input (contents old) before.host) r (contents new) after.host
-run_writes remaining contents handles before after input r old new e a b f w =
-    let ends = run_ends remaining contents handles before after input r e a w in
+pub run_writes : {R W H : Type 0} (remaining : R → Option (List ℕ)) (contents : W → Option (List ℕ)) (handles : RequestRelation H) (before after : RunState (Reader R) (Writer W) H) (input : Option (List ℕ)) (r : Result (Unit {0}) RunFault) (old new : W) → left_of remaining before.input ≡ input → allowance_of before.input ≡ max_input_bytes → before.output.buffer.items ≡ [] → before.output.writer.now ≡ old → (after.output.writer.ghost_name ≡ before.output.writer.ghost_name → new ≡ after.output.writer.now) → Serves (serving-over remaining contents handles) before r after → RunEnds handles (run_state input (contents old) before.host) r (contents new) after.host
+run_writes remaining contents handles before after input r old new e a n b f w =
+    let ends = run_ends remaining contents handles before after input r e a n w in
     subst (λ (y : _). RunEnds handles (run_state input (contents y) before.host) r (contents new) after.host) b
     (subst (λ (y : _). RunEnds handles (run_state input (contents before.output.writer.now) before.host) r (contents y) after.host) (sym (f (serves_name remaining contents handles before after r w))) ends)
 

@@ -5,7 +5,7 @@ use Rattle.ash_requests.specs.Requests.{Request, Load, Reply}
 use Rattle.ash_sources.specs.SourceFaults.{SourceFault}
 use Rattle.ash_lines.specs.Source.{Feed, Faults}
 use Rattle.ash_lines.specs.Reading.{source_prefix}
-use Rattle.ash_lines.specs.Sink.{Outlet, WritesAll, FailsPartway}
+use Rattle.ash_lines.specs.Sink.{Outlet, Accepts, WritesAll, FailsPartway}
 use Rattle.ash_lines.specs.Lines.{Line, HostRequest, Quit, BadRequest, LineTooLong, ContinuesRun, Cut, Whole, next}
 use Rattle.ash_lines.specs.Lines.{ConsistsOf, is_unfinished}
 use Rattle.ash_lines.specs.ReplyText.{LineReply, HostReply, QuitReply, BadRequestReply, LineTooLongReply, line_reply_of}
@@ -137,47 +137,66 @@ handling_of serving = handling_with serving.feed serving.handles
 abbrev pub without_output : {S K H : Type 0} → RunState S K H → RequestState S H
 without_output state = request_state state.input state.host
 
--- The input ended, and no request began.
-pub record EndsBetweenRequests {S K H : Type 0} (feed : Feed S) (before after : RunState S K H)
+-- The input ended, and no request began. What was buffered went out.
+pub record EndsBetweenRequests {S K H : Type 0} (serving : Serving S K H) (before after : RunState S K H)
     : Type 0 where
-  pub took : feed.reads before.input [] after.input
-  pub ended : feed.ended after.input
-  pub output_same : after.output ≡ before.output
+  pub took : serving.feed.reads before.input [] after.input
+  pub ended : serving.feed.ended after.input
+  pub flushed : WritesAll serving.outlet before.output [] after.output
   pub host_same : after.host ≡ before.host
 
--- The input ended inside a request.
-pub record EndsInsideRequest {S K H : Type 0} (feed : Feed S) (before after : RunState S K H)
+-- The input ended inside a request. What was buffered went out.
+pub record EndsInsideRequest {S K H : Type 0} (serving : Serving S K H) (before after : RunState S K H)
     : Type 0 where
   pub rest : List ℕ
   pub cut : next rest ≡ Cut
-  pub took : feed.reads before.input rest after.input
-  pub ended : feed.ended after.input
-  pub output_same : after.output ≡ before.output
+  pub took : serving.feed.reads before.input rest after.input
+  pub ended : serving.feed.ended after.input
+  pub flushed : WritesAll serving.outlet before.output [] after.output
   pub host_same : after.host ≡ before.host
 
--- The source failed inside a request, or before it.
-pub record InputFails {S K H : Type 0} (feed : Feed S) (fault : ReadFault)
+-- The source failed inside a request, or before it. What was buffered went out.
+pub record InputFails {S K H : Type 0} (serving : Serving S K H) (fault : ReadFault)
     (before after : RunState S K H) : Type 0 where
   pub rest : List ℕ
   pub unfinished : is_unfinished (next rest) ≡ true
-  pub faults : Faults feed before.input rest fault after.input
-  pub output_same : after.output ≡ before.output
+  pub faults : Faults serving.feed before.input rest fault after.input
+  pub flushed : WritesAll serving.outlet before.output [] after.output
   pub host_same : after.host ≡ before.host
 
--- How a fault ended a run: the input ended inside a request or failed, or the reply could not be
--- written.
+-- One more request was handled, and then a write failed.
+pub record ReplyFails {S K H : Type 0} (serving : Serving S K H) (before after : RunState S K H)
+    : Type 0 where
+  pub line : Line
+  pub reply : LineReply
+  pub handled : HandlesLine (handling_of serving) (without_output before) line reply (without_output after)
+  pub failed : FailsPartway serving.outlet before.output (reply_line reply) after.output
+
+-- More bytes were read, which are no request, and then a write of what was buffered failed.
+pub record FlushFails {S K H : Type 0} (serving : Serving S K H) (before after : RunState S K H)
+    : Type 0 where
+  pub rest : List ℕ
+  pub reached : S
+  pub took : serving.feed.reads before.input rest reached
+  pub failed : FailsPartway serving.outlet before.output [] after.output
+  pub host_same : after.host ≡ before.host
+
+-- How a fault ended a run: the input ended inside a request or failed, or a write failed.
 abbrev pub EndsByFault : {S K H : Type 0} → Serving S K H → RunState S K H → RunFault
     → RunState S K H → Type 0
-EndsByFault serving before faults.Truncated after = EndsInsideRequest serving.feed before after
-EndsByFault serving before (faults.Read fault) after = InputFails serving.feed fault before after
-EndsByFault serving before faults.Write after =
-    (line : Line) × (reply : LineReply)
-    × HandlesLine (handling_of serving) (without_output before) line reply (without_output after)
-    × FailsPartway serving.outlet before.output (reply_line reply) after.output
+EndsByFault serving before faults.Truncated after = EndsInsideRequest serving before after
+EndsByFault serving before (faults.Read fault) after = InputFails serving fault before after
+EndsByFault serving before faults.Write after = ReplyFails serving before after ⊎ FlushFails serving before after
 EndsByFault serving before faults.NoMemory after = ⊥
 
+-- The end of a run: what was buffered went out, and the run ends so; or a write failed.
+abbrev pub Closes : {K : Type 0} → Outlet K → K → Result (Unit {0}) RunFault → Result (Unit {0}) RunFault → K
+    → Type 0
+Closes outlet old end result new =
+    (WritesAll outlet old [] new × (result ≡ end)) ⊎ (FailsPartway outlet old [] new × (result ≡ Err faults.Write))
+
 -- A run so far: the bytes that were read, the requests of which they consist, and the replies to
--- these, which went out.
+-- these, which went out or are buffered.
 pub record Log {S K H : Type 0} (serving : Serving S K H) (before after : RunState S K H)
     : Type 0 where
   pub read : List ℕ
@@ -186,8 +205,7 @@ pub record Log {S K H : Type 0} (serving : Serving S K H) (before after : RunSta
   pub took : serving.feed.reads before.input read after.input
   pub consists : (more : List ℕ) → ConsistsOf (read ++ more) lines more
   pub handled : RepliesToAll serving.handles before.host lines replies after.host
-  pub written : serving.outlet.writes before.output (text_of replies) after.output
-  pub empty : serving.outlet.buffered after.output ≡ []
+  pub written : Accepts serving.outlet before.output (text_of replies) after.output
 
 -- A run so far in which no request was `quit`.
 pub record OngoingLog {S K H : Type 0} (serving : Serving S K H) (before after : RunState S K H)
@@ -209,7 +227,7 @@ abbrev pub Serves : {S K H : Type 0} → Serving S K H → RunState S K H
     → Result (Unit {0}) RunFault → RunState S K H → Type 0
 Serves {S} {K} {H} serving before (Ok _) after =
     (last : RunState S K H) × OngoingLog serving before last
-    × (EndsBetweenRequests serving.feed last after ⊎ Quits serving last after)
+    × (EndsBetweenRequests serving last after ⊎ Quits serving last after)
 Serves serving before (Err faults.NoMemory) after =
     (after.input ≡ before.input) × (after.output ≡ before.output) × (after.host ≡ before.host)
 Serves {S} {K} {H} serving before (Err fault) after =

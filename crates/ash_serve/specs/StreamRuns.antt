@@ -55,17 +55,16 @@ GoOn lines = AllByRecursion ContinuesRun lines
 abbrev pub EndsWithQuit : List Line → Type 0
 EndsWithQuit lines = (others : List Line) × (lines ≡ others ++ Quit ∷ []) × GoOn others
 
--- None of the requests but the last is `quit`.
+-- None of the requests is `quit`, except the last, which may be.
 abbrev pub GoOnToLast : List Line → Type 0
-GoOnToLast lines = (others : List Line) × (last : Line) × (lines ≡ others ++ last ∷ []) × GoOn others
+GoOnToLast lines = GoOn lines ⊎ ((others : List Line) × (last : Line) × (lines ≡ others ++ last ∷ []) × GoOn others)
 
 -- a host, with the bytes that are left to read and those that are written, where these are known
 abbrev pub KnownState : Type 0 → Type 0
 KnownState H = RunState (Option (List ℕ)) (Option (List ℕ)) H
 
 -- How a run ended, by its outcome, with this output and this host. What was written is the text of
--- the replies. Where a write failed it is that of all but the last, and a prefix of the last: no
--- request was handled before the replies to those before it were written.
+-- the replies. If a write failed it is a prefix of that text.
 abbrev pub RunEnds : {H : Type 0} → RequestRelation H → KnownState H
     → Result (Unit {0}) RunFault → Option (List ℕ) → H → Type 0
 RunEnds handles before (Ok _) output host =
@@ -85,10 +84,8 @@ RunEnds handles before (Err (faults.Read read_faults.Failed)) output host =
     × Appends before.output output (text_of run.replies)
     × (is_unfinished (next run.rest) ≡ true) × GoOn run.lines
 RunEnds handles before (Err faults.Write) output host =
-    (run : Run handles before.host host) × ReadsPrefix before.input run.read × (run.rest ≡ [])
-    × (written : List LineReply) × (last : LineReply) × (out : List ℕ) × (lost : List ℕ)
-    × (run.replies ≡ written ++ last ∷ [])
-    × Appends before.output output (text_of written ++ out) × (reply_line last ≡ out ++ lost)
-    × GoOnToLast run.lines
+    (run : Run handles before.host host) × ReadsPrefix before.input run.read
+    × (out : List ℕ) × (lost : List ℕ) × (text_of run.replies ≡ out ++ lost)
+    × Appends before.output output out × GoOnToLast run.lines
 RunEnds handles before (Err faults.NoMemory) output host =
     (host ≡ before.host) × Keeps before.output output

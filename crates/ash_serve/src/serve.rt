@@ -1,19 +1,21 @@
 //! The loop over a source and a sink.
 
 ghost use Rattle.std.specs.Prelude.{◌≡◌, []};
-ghost use Rattle.ash_lines.specs.ReplyText.{line_reply_of};
-ghost use Rattle.ash_serve.specs.Serving.{Serves, ends_run, run_state, serving_with};
+ghost use Rattle.ash_lines.specs.ReplyText.{line_reply_of, reply_line};
+ghost use Rattle.ash_lines.specs.Sink.{Writes};
+ghost use Rattle.ash_serve.specs.Serving.{Closes, Serves, ends_run, run_state, serving_with};
 
 use crate::fault::RunFault;
 use crate::handler::RequestHandler;
 use crate::session::Session;
 use ash_lines::reply::{LineReply, write_line_reply};
-use ash_lines::sink::Sink;
+use ash_lines::sink::{Sink, WriteFault};
 use ash_lines::source::Source;
 use std::alloc::Global;
 
-/// Reads requests, has the host handle each with this budget in ticks, and writes each reply, flushed, before the next
-/// request is read. Ends at the end of the input between two requests, or when the reply to `quit` is written.
+/// Reads requests, has the host handle each with this budget in ticks, and writes the replies in order. They are flushed
+/// before anything is read that may have to be waited for, and at the end. Ends at the end of the input between two
+/// requests, or when the reply to `quit` is written.
 pub fn serve<S: Source, K: Sink, H: RequestHandler>(
     alloc: Global,
     input: &mut S,
@@ -28,15 +30,50 @@ pub fn serve<S: Source, K: Sink, H: RequestHandler>(
 {
     let mut session = Session::new(alloc, budget)?;
     'requests: loop {
-        let Some(reply) = session.handle_next(input, host)? else {
-            return Ok(());
+        let reply = match session.handle_next(input, host) {
+            Ok(Some(reply)) => reply,
+            Ok(None) => return close(output, Ok(())),
+            Err(fault) => return close(output, Err(fault)),
         };
-        write_line_reply(output, &reply)?;
+        write_reply(input, output, &reply)?;
         let ends = ends_run(&reply);
         drop(reply);
         if ends {
-            return Ok(());
+            return close(output, Ok(()));
         }
+    }
+}
+
+/// Writes a reply. What is buffered is flushed unless the next request lies ready.
+fn write_reply<S: Source, K: Sink>(
+    input: &S,
+    output: &mut K,
+    reply: &LineReply,
+) -> Result<(), WriteFault>
+    ensures written { Writes K.outlet output.old (reply_line (line_reply_of reply.now)) result
+        output.new }
+{
+    write_line_reply(output, reply)?;
+    if is_request(input.ready()) {
+        Ok(())
+    } else {
+        output.flush()
+    }
+}
+
+/// Whether these bytes begin with a whole request. Of a load they may have no more than the first line, so it counts
+/// as none.
+fn is_request(bytes: &[u8]) -> bool {
+    bytes.contains(&b'\n') && !bytes.starts_with(b"load ")
+}
+
+/// Ends a run: what is buffered is written out.
+fn close<K: Sink>(output: &mut K, end: Result<(), RunFault>) -> Result<(), RunFault>
+    ensures closes { Closes K.outlet output.old end result output.new }
+{
+    match output.flush() {
+        Ok(()) => end,
+        Err(WriteFault) => Err(RunFault::Write),
     }
 }
 

@@ -7,12 +7,12 @@ returns-in-Host g c = record { line = rw c.in-Host.is c.write_reply_line.ensures
 
 pub returns-in-Quit : goal.returns-in-Quit
 unfolding reply_line
-returns-in-Quit g c = record { line = rw c.in-Quit.is c.write_line.ensures.line }
+returns-in-Quit g c = record { line = rw c.in-Quit.is c.buffer_line.ensures.line }
 
 pub returns-in-BadRequest : goal.returns-in-BadRequest
 unfolding reply_line
-returns-in-BadRequest g c = record { line = rw c.in-BadRequest.is c.write_line-in-BadRequest.ensures.line }
+returns-in-BadRequest g c = record { line = rw c.in-BadRequest.is c.buffer_line-in-BadRequest.ensures.line }
 
 pub returns-in-LineTooLong : goal.returns-in-LineTooLong
 unfolding reply_line
-returns-in-LineTooLong g c = record { line = rw c.in-LineTooLong.is c.write_line-in-LineTooLong.ensures.line }
+returns-in-LineTooLong g c = record { line = rw c.in-LineTooLong.is c.buffer_line-in-LineTooLong.ensures.line }

@@ -3,7 +3,7 @@ use Rattle.std.proofs.lemmas.Result.{err_from_is_err_and}
 use Rattle.ash_requests.specs.RequestViews.{reply_seen}
 use Rattle.ash_sources.specs.SourceFaults.{fault_of}
 use Rattle.ash_lines.specs.ReplyText.{reply_text}
-use Rattle.ash_lines.proofs.SinkLemmas.{fails-more, writes_line-then}
+use Rattle.ash_lines.proofs.SinkLemmas.{fails-more, writes-then}
 use Rattle.ash_lines.proofs.reply.write_reply_line.Goals as goal
 
 pub returns-in_err-write_reply : goal.returns-in_err-write_reply
@@ -13,5 +13,5 @@ returns-in_err-write_reply g c =
 
 pub returns : goal.returns
 returns g c = record {
-  line = writes_line-then g.K.Sink.outlet g.met.K.Sink.is_outlet _ _ _ (reply_text (reply_seen fault_of c.args.reply.now)) (10 ∷ []) c.end_line.result c.in_ok-write_reply.ensures.text c.end_line.ensures.line;
+  line = writes-then g.K.Sink.outlet g.met.K.Sink.is_outlet _ _ _ (reply_text (reply_seen fault_of c.args.reply.now)) (10 ∷ []) c.write.result c.in_ok-write_reply.ensures.text c.write.ensures.written;
 }
