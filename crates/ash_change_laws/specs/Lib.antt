@@ -1,0 +1,2 @@
+pub mod UncalledServices
+pub mod MarkedObjects
