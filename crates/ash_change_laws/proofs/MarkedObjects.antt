@@ -5,15 +5,17 @@ use Rattle.std.specs.Option.{option_map}
 use Rattle.std.specs.Map.{keys_of}
 use Rattle.std.proofs.lemmas.Bool.{eqb-true}
 use Rattle.ash_host.specs.declared.host_object.HostObject.{Ghosts}
-use Rattle.ash_host.specs.Objects.{object_at, Lives, AreNumbered}
+use Rattle.ash_host.specs.Objects.{Plain, object_at, Lives, AreNumbered}
 use Rattle.ash_slots.specs.declared.body.Body.{Body}
 use Rattle.ash_objects.specs.Table.{Living, Table, body_of}
 use Rattle.ash_objects.specs.Marking.{marked_of, without_marks, settled_object}
 use Rattle.ash_objects.proofs.Marks.{object_at-mapped}
 use Rattle.ash_soundness.proofs.Values.{none_in}
+use Rattle.ash_object_ranks.specs.ShownTables.{SlotNames, body_shown, objects_shown}
+use Rattle.ash_object_ranks.proofs.ShownTables.{living_shown, shown_at}
 use Rattle.ash_run_steps.specs.Following.{KeepsMarks, HasGone}
 use Rattle.ash_run_steps.specs.RunStates.{bare_living}
-use Rattle.ash_change_laws.specs.MarkedObjects.{IsSettled, MarksName, MarksNameChanges, ClearsMarks, SettledIsClear}
+use Rattle.ash_change_laws.specs.MarkedObjects.{IsSettled, MarksName, MarksNameChanges, ClearsMarks, SettledIsClear, KeepNames, NamesObjects, MarksNameObjects}
 
 -- numbers in lists
 
@@ -41,23 +43,24 @@ module _ {B : Type 0} where
   -- an object that has a mark is listed
   marked_there : (n : ℕ) (l : List (ℕ × Living B)) (o : Living B) → object_at n l ≡ Some o → o.touched ≡ true → Contains (flagged l) n
   marked_there n [] o at yes = absurd (cc)
-  marked_there n (e ∷ l) o at yes = subst (λ (ns : List ℕ). Contains ns n) (sym (cons_flagged e l)) (go (nat_eq n e.0) refl at)
+  marked_there n (e ∷ l) o at yes = subst (λ (ns : List ℕ). Contains ns n) (sym (cons_flagged e l)) (go (nat_eq n e.0) refl at (λ found. marked_there n l o found yes))
     where
       further : (t : Bool) → Contains (flagged l) n → Contains (cond t (e.0 ∷ flagged l) (flagged l)) n
       further true is = later_in n e.0 (flagged l) is
       further false is = is
 
-      go : (b : Bool) → nat_eq n e.0 ≡ b → cond b (Some e.1) (object_at n l) ≡ Some o → Contains (cond (e.1).touched (e.0 ∷ flagged l) (flagged l)) n
-      go true is found =
+      go : (b : Bool) → nat_eq n e.0 ≡ b → cond b (Some e.1) (object_at n l) ≡ Some o → (object_at n l ≡ Some o → Contains (flagged l) n)
+          → Contains (cond (e.1).touched (e.0 ∷ flagged l) (flagged l)) n
+      go true is found later =
           let one : e.1 ≡ o = cc in
           let flag : (e.1).touched ≡ true = ap (λ (x : Living B). x.touched) one ∙ yes in
           subst (λ (t : Bool). Contains (cond t (e.0 ∷ flagged l) (flagged l)) n) (sym flag) (here_in n e.0 (flagged l) (sym (eqb-true n e.0 is)))
-      go false is found = further (e.1).touched (marked_there n l o found yes)
+      go false is found later = further (e.1).touched (later found)
 
   -- what is listed lives
   marked_lives : (n : ℕ) (l : List (ℕ × Living B)) → Contains (flagged l) n → Lives l n
   marked_lives n [] is = absurd (none_in n is)
-  marked_lives n (e ∷ l) is = go (nat_eq n e.0) refl (subst (λ (ns : List ℕ). Contains ns n) (cons_flagged e l) is)
+  marked_lives n (e ∷ l) is = go (nat_eq n e.0) refl (subst (λ (ns : List ℕ). Contains ns n) (cons_flagged e l) is) (marked_lives n l)
     where
       further : nat_eq n e.0 ≡ false → (t : Bool) → Contains (cond t (e.0 ∷ flagged l) (flagged l)) n → Contains (flagged l) n
       further apart true is =
@@ -70,9 +73,10 @@ module _ {B : Type 0} where
           apart_from same = let no = apart in grind (same, no)
       further apart false is = is
 
-      go : (b : Bool) → nat_eq n e.0 ≡ b → Contains (cond (e.1).touched (e.0 ∷ flagged l) (flagged l)) n → IsSome (cond b (Some e.1) (object_at n l))
-      go true same there = refl
-      go false apart there = marked_lives n l (further apart (e.1).touched there)
+      go : (b : Bool) → nat_eq n e.0 ≡ b → Contains (cond (e.1).touched (e.0 ∷ flagged l) (flagged l)) n → (Contains (flagged l) n → Lives l n)
+          → IsSome (cond b (Some e.1) (object_at n l))
+      go true same there later = refl
+      go false apart there later = later (further apart (e.1).touched there)
 
   -- what an object is, whoever holds it
   bare_body : (o p : Living B) → bare_living o ≡ bare_living p → p.body ≡ o.body
@@ -148,3 +152,17 @@ marks_name_changes G old new settled numbered keeps = marks_name old new settled
 
 pub settled_is_clear : {B : Type 0} (G : Ghosts B) → SettledIsClear G
 settled_is_clear G table = clears_marks table
+
+-- objects as states have them
+
+module _ {B : Type 0} (G : Ghosts B) where
+  shown_by_body : (names : SlotNames) (o : Option (Living B)) → option_map (living_shown G names) o ≡ option_map (body_shown G names) (option_map (λ (x : Living B). x.body) o)
+  shown_by_body names None = refl
+  shown_by_body names (Some o) = refl
+
+  shown_of : (names : SlotNames) (n : ℕ) (table : Table B) → object_at n (objects_shown G names table.objects) ≡ option_map (body_shown G names) (body_of n table)
+  shown_of names n table = shown_at G names n table.objects ∙ shown_by_body names (object_at n table.objects)
+
+  pub marks_name_objects : MarksNameObjects G
+  marks_name_objects names later old new marks keeps n unmarked stays =
+      keeps n ∙ shown_of names n new ∙ ap (option_map (body_shown G names)) (marks.all n unmarked stays) ∙ sym (shown_of names n old)

@@ -1,9 +1,10 @@
 -- The objects that a table marks, and the numbers that it keeps of those that went, are all that changed.
-use Rattle.std.specs.Prelude.{◌≡◌, ◌×◌, ℕ, false, List, [], Contains, Option, None, IfSome}
+use Rattle.std.specs.Prelude.{◌≡◌, ℕ, false, List, [], Contains, Option, None, IfSome}
 use Rattle.ash_host.specs.declared.host_object.HostObject.{Ghosts}
 use Rattle.ash_host.specs.Objects.{object_at, Lives, AreNumbered}
 use Rattle.ash_objects.specs.Table.{Table, body_of}
 use Rattle.ash_objects.specs.Marking.{marked_of, without_marks}
+use Rattle.ash_object_ranks.specs.ShownTables.{SlotNames, objects_shown}
 use Rattle.ash_run_steps.specs.Following.{KeepsMarks}
 
 module _ {B : Type 0} where
@@ -34,3 +35,18 @@ module _ {B : Type 0} where
 
   abbrev pub SettledIsClear : Ghosts B → Type 0
   SettledIsClear G = (table : Table B) → ClearsMarks table
+
+  -- Modules that came or went gave no object that lives another module by name.
+  abbrev pub KeepNames : Ghosts B → SlotNames → SlotNames → Table B → Type 0
+  KeepNames G names later table = (number : ℕ) → object_at number (objects_shown G later table.objects)
+      ≡ object_at number (objects_shown G names table.objects)
+
+  -- What is neither marked nor gone is in the state after a request what it was in the state before.
+  abbrev pub NamesObjects : Ghosts B → SlotNames → SlotNames → Table B → Table B → Type 0
+  NamesObjects G names later old new =
+      (number : ℕ) → (Contains (marked_of new) number → ⊥) → (Contains new.gone number → ⊥)
+      → object_at number (objects_shown G later new.objects) ≡ object_at number (objects_shown G names old.objects)
+
+  abbrev pub MarksNameObjects : Ghosts B → Type 0
+  MarksNameObjects G = (names later : SlotNames) (old new : Table B) → MarksName old new
+      → KeepNames G names later new → NamesObjects G names later old new

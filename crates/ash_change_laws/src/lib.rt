@@ -2,8 +2,8 @@
 //! events, and objects that it made, changed or took away are those that the table marks or keeps as gone. So a record
 //! of what a request changed needs these alone, and everything else is as it was.
 //!
-//! The definitions are in `specs/`: `UncalledServices` (services that were not called) and `MarkedObjects` (objects that
-//! have no mark). The crate has laws and no code.
+//! The definitions are in `specs/`: `UncalledServices` (services that were not called), `MarkedObjects` (objects that have
+//! no mark) and `ChangedStates` (what a request changed, by names). The crate has laws and no code.
 #![tactic(auto)]
 
 pub mod laws;
