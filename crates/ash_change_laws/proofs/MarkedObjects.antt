@@ -1,21 +1,21 @@
 -- What has no mark is what it was.
 use Rattle.std.proofs.Common.{◌≡◌, ◌<◌, ◌≤◌, ◌⊎◌, ℕ, zero, suc, Bool, true, false, cond, List, [], ◌∷◌, length, refl, sym, ap, ◌∙◌, subst, arith, nat_eq, inl, inr, get_or, filter}
-use Rattle.std.specs.Prelude.{Option, Some, None, Contains, IfSome, IsSome, is_some}
+use Rattle.std.specs.Prelude.{Option, Some, None, Contains, IfSome, IsSome}
 use Rattle.std.specs.Option.{option_map}
 use Rattle.std.specs.Map.{keys_of}
 use Rattle.std.proofs.lemmas.Bool.{eqb-true, eq-eqb}
 use Rattle.ash_host.specs.declared.host_object.HostObject.{Ghosts}
-use Rattle.ash_host.specs.Objects.{Plain, object_at, Lives, AreNumbered}
+use Rattle.ash_host.specs.Objects.{object_at, Lives, AreNumbered}
 use Rattle.ash_slots.specs.declared.body.Body.{Body}
 use Rattle.ash_objects.specs.Table.{Living, Table, body_of}
-use Rattle.ash_objects.specs.Marking.{marked_of, without_marks, settled_object}
+use Rattle.ash_objects.specs.Marking.{marked_of, settled_object}
 use Rattle.ash_objects.proofs.Marks.{object_at-mapped}
 use Rattle.ash_soundness.proofs.Values.{none_in}
 use Rattle.ash_object_ranks.specs.ShownTables.{SlotNames, body_shown, objects_shown}
 use Rattle.ash_object_ranks.proofs.ShownTables.{living_shown, shown_at}
 use Rattle.ash_run_steps.specs.Following.{KeepsMarks, HasGone}
 use Rattle.ash_run_steps.specs.RunStates.{bare_living}
-use Rattle.ash_change_laws.specs.MarkedObjects.{IsSettled, MarksName, MarksNameChanges, ClearsMarks, SettledIsClear, KeepNames, NamesObjects, MarksNameObjects}
+use Rattle.ash_change_laws.specs.MarkedObjects.{IsSettled, MarksName, MarksNameChanges, ClearsMarks, SettledIsClear, MarksNameObjects}
 
 -- numbers in lists
 

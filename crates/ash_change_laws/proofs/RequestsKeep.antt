@@ -9,10 +9,9 @@ use Rattle.ash_meaning.specs.Releases.{sweep}
 use Rattle.ash_meaning.specs.Classes.{Program, Entry, FreeFunction, entry_of}
 use Rattle.ash_meaning.specs.Ends.{End, Finished, Threw, Aborted, Outcome, call_entry, call_function, load_module}
 use Rattle.ash_requests.specs.States.{LoadedModule, State, Hosts, Embedding, without_module, world_of}
-use Rattle.ash_requests.specs.Requests.{Request, Reply, Value, ShownAs, Number, Done, Refused}
-use Rattle.ash_requests.specs.StepLaws.{events_of_reply}
+use Rattle.ash_requests.specs.Requests.{Reply, Value, ShownAs, Number, Done, Refused}
 use Rattle.ash_requests.specs.Tasks.{Task, Initialize, Invoke, Remove, Read, Show, Count, Rewrite, TaskResult, task_of}
-use Rattle.ash_requests.specs.Steps.{Step, replied, after_load_with, after_load, after_call, after_discard, perform, unless_refused, step}
+use Rattle.ash_requests.specs.Steps.{Step, replied, after_load_with, after_load, after_call, after_discard, perform, unless_refused}
 use Rattle.ash_change_laws.specs.UncalledServices.{IsCalled, KeepsUncalled, StepKeepsUncalled, StepsKeepUncalled}
 use Rattle.ash_change_laws.proofs.Keeping.{keeps_same, keeps_then}
 use Rattle.ash_change_laws.proofs.RunsKeep.{runs_keep, swept_keeps}
