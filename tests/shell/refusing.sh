@@ -1,4 +1,6 @@
-# What objects.sh and boxes.sh share: tests of a crate whose allocations are refused in turn.
+# What objects.sh, boxes.sh and machine.sh share: tests of a crate whose allocations are refused in turn, up to the one
+# of the number $most.
+most=1000
 
 # refuse NUMBER TEST: runs a test with the allocation of this number refused; whether it passed
 refuse() {
@@ -10,7 +12,7 @@ refuse() {
 # refuse_in_turn TEST: refuses each allocation of a test in turn, until a run meets no refusal
 refuse_in_turn() {
     local untouched=1 number
-    for number in $(seq 1 1000); do
+    for number in $(seq 1 "$most"); do
         refuse "$number" "$1"
         verdict $? "$1, allocation $number refused: $(head -c 300 "$scratch/error")"
         [ -e "$scratch/refused" ] || { untouched=0; break; }
