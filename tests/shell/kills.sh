@@ -91,19 +91,26 @@ answered() {
     echo "${last:-$2}"
 }
 
-# Three of four kills come after a first reply, so that the process is at work, and the others whenever it is.
-number=2
-for round in $(seq 150); do
+# kill_in_time ROUND STORE COUNTERS CALL: serves a store with this call again and again, and snapshots between, and kills the process
+# at a random time. In three of four rounds that comes after a first reply, so that the process is at work. The replies are in
+# $scratch/replies.
+kill_in_time() {
+    local process
     : > "$scratch/replies"
-    yes "$(printf 'call m f 1\n%.0s' {1..6})
-snapshot" 2> /dev/null | "$ashd" serve "$many" --budget 1000 --counters 2 > "$scratch/replies" 2> "$scratch/error" &
-    killed_id=$!
-    if [ $((round % 4)) -ne 0 ]; then
-        until [ -s "$scratch/replies" ] || ! kill -0 "$killed_id" 2> /dev/null; do sleep 0.002; done
+    yes "$(printf "$4\n%.0s" {1..6})
+snapshot" 2> /dev/null | "$ashd" serve "$2" --budget 1000 --counters "$3" > "$scratch/replies" 2> "$scratch/error" &
+    process=$!
+    if [ $(($1 % 4)) -ne 0 ]; then
+        until [ -s "$scratch/replies" ] || ! kill -0 "$process" 2> /dev/null; do sleep 0.002; done
     fi
     delay 30
-    kill -KILL "$killed_id" 2> /dev/null
-    { wait "$killed_id"; } 2> /dev/null
+    kill -KILL "$process" 2> /dev/null
+    { wait "$process"; } 2> /dev/null
+}
+
+number=2
+for round in $(seq 150); do
+    kill_in_time "$round" "$many" 2 'call m f 1'
     last=$(answered "$scratch/replies" "$number")
     found=$(printf 'seq\nget m n\n' | "$ashd" serve "$many" --budget 1000 --counters 2 2>&1 | tr '\n' ' ')
     number=${found#ok }
@@ -126,16 +133,7 @@ ends "serve a host that counts" 0 "" serve "$counts" --budget 1000 --counters 1
 holds "a host that counts" 'ok seq 1'
 number=1
 for round in $(seq 50); do
-    : > "$scratch/replies"
-    yes "$(printf 'call m f\n%.0s' {1..6})
-snapshot" 2> /dev/null | "$ashd" serve "$counts" --budget 1000 --counters 32 > "$scratch/replies" 2> "$scratch/error" &
-    killed_id=$!
-    if [ $((round % 4)) -ne 0 ]; then
-        until [ -s "$scratch/replies" ] || ! kill -0 "$killed_id" 2> /dev/null; do sleep 0.002; done
-    fi
-    delay 30
-    kill -KILL "$killed_id" 2> /dev/null
-    { wait "$killed_id"; } 2> /dev/null
+    kill_in_time "$round" "$counts" 32 'call m f'
     last=$(sed '$d' "$scratch/replies" | sed -n 's/.* seq \([0-9]*\).*/\1/p' | tail -n 1)
     found=$(printf 'seq\nget m n\nobject 1\n' | "$ashd" serve "$counts" --budget 1000 --counters 2 2>&1 | tr '\n' ' ')
     before=$number

@@ -1,5 +1,5 @@
-# What objects.sh, boxes.sh and machine.sh share: tests of a crate whose allocations are refused in turn, up to the one
-# of the number $most.
+# What objects.sh, boxes.sh, machine.sh and crashes.sh share: tests of a crate whose allocations are refused in turn, up to
+# the one of the number $most.
 most=1000
 
 # refuse NUMBER TEST: runs a test with the allocation of this number refused; whether it passed
