@@ -23,7 +23,7 @@ use Rattle.ash_serve.specs.declared.fault.RunFault.{RunFault}
 use Rattle.ash_serve.specs.declared.fault.RunFault.TheVariants as faults
 use Rattle.ash_lines.specs.Sink.{Outlet, IsOutlet, Accepts, WritesAll, FailsPartway}
 use Rattle.ash_lines.proofs.SinkLemmas.{accepts-fails, accepts-flushes}
-use Rattle.ash_serve.proofs.ServingLemmas.{log-more, consists-more, replies-more, text-more}
+use Rattle.ash_serve.proofs.ServingLemmas.{log-more, consists-more, replies-more, text-more, all-accepted}
 
 reads_prefix : (input left : Option (List ℕ)) (read : List ℕ) → Consumes input left read → ReadsPrefix input read
 reads_prefix None left read h = tt
@@ -90,14 +90,9 @@ all-out contents s t bytes n m h =
     let e : bytes ≡ h.out = ap (λ (y : List ℕ). y ++ bytes) (sym n) ∙ (h.whole ∙ (ap (λ (y : List ℕ). h.out ++ y) m ∙ append-nil h.out)) in
     subst (λ (y : List ℕ). Appends (contents s.writer.now) (contents t.writer.now) y) (sym e) h.written.0
 
--- bytes and all before them went out
-flushed-line : {K : Type 0} (outlet : Outlet K) (s t : K) (bytes : List ℕ) → WritesAll outlet s bytes t → Accepts outlet s bytes t
-flushed-line outlet s t bytes w =
-    record { out = outlet.buffered s ++ bytes; written = w.written; whole = sym (ap (λ (y : List ℕ). (outlet.buffered s ++ bytes) ++ y) w.empty ∙ append-nil (outlet.buffered s ++ bytes)) }
-
 -- all that was buffered went out
 flushed : {K : Type 0} (outlet : Outlet K) → IsOutlet outlet → (s t u : K) (bytes : List ℕ) → Accepts outlet s bytes t → WritesAll outlet t [] u → Accepts outlet s bytes u
-flushed outlet io s t u bytes h k = flushed-line outlet s u bytes (accepts-flushes outlet io s t u bytes (Ok tt) h k)
+flushed outlet io s t u bytes h k = all-accepted outlet s u bytes (accepts-flushes outlet io s t u bytes (Ok tt) h k)
 
 all-flushed : {R W H : Type 0} (remaining : R → Option (List ℕ)) (contents : W → Option (List ℕ)) (handles : RequestRelation H) (before last : RunState (Reader R) (Writer W) H) (t : Writer W) → before.output.buffer.items ≡ [] → (log : Log (serving-over remaining contents handles) before last) → WritesAll (writer_outlet contents) last.output [] t → Appends (contents before.output.writer.now) (contents t.writer.now) (text_of log.replies)
 all-flushed remaining contents handles before last t n log x =
@@ -121,7 +116,7 @@ run_ends {H = H} remaining contents handles before after input (Ok x) e a n w =
     = (run, reads_prefix input (left_of remaining after.input) log.read from, all-flushed remaining contents handles before last after.output n log over.flushed, refl, inl (reads_all input (left_of remaining after.input) log.read from over.ended, w.1.on)) in
     subst (λ (y : H). (run : Run handles before.host y) × ReadsPrefix input run.read × Appends (contents before.output.writer.now) (contents after.output.writer.now) (text_of run.replies) × (run.rest ≡ []) × ((ReadsAll input run.read × GoOn run.lines) ⊎ EndsWithQuit run.lines)) (sym over.host_same) all)
     (λ (left : Quits (serving-over remaining contents handles) last after).
-    let accepted = flushed-line (writer_outlet contents) last.output after.output (reply_line QuitReply) left.written in
+    let accepted = all-accepted (writer_outlet contents) last.output after.output (reply_line QuitReply) left.written in
     let more = log-more (serving-over remaining contents handles) (reader_is_feed remaining) (writer_is_outlet contents) before last after Quit QuitReply log left.handled accepted in (
       run-nil remaining contents handles before after a more,
       reads_prefix input (left_of remaining after.input) more.read (subst (λ (y : Option (List ℕ)). Consumes y (left_of remaining after.input) more.read) e more.took.0),

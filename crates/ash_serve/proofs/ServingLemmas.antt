@@ -4,7 +4,8 @@ use Rattle.std.proofs.Common.{append_assoc, Option, Some, None, Result, Ok, Err,
 use Rattle.std.proofs.lemmas.List.{append-nil}
 use Rattle.std.specs.List.{AllByRecursion}
 use Rattle.ash_lines.specs.Source.{Feed, Faults, IsFeed}
-use Rattle.ash_lines.specs.Sink.{Outlet, IsOutlet, Accepts, WritesAll, FailsPartway}
+use Rattle.ash_lines.specs.Sink.{Outlet, IsOutlet, Accepts, WritesAll, FailsPartway, Writes, Flushes}
+use Rattle.ash_lines.specs.declared.sink.WriteFault.{WriteFault}
 use Rattle.ash_lines.proofs.SinkLemmas.{accepts-nil, accepts-then, accepts-fails, accepts-flushes}
 use Rattle.ash_lines.specs.declared.source.ReadFault.{ReadFault}
 use Rattle.ash_lines.specs.declared.source.ReadFault.TheVariants.{TooLong, Failed}
@@ -157,3 +158,13 @@ accepts-then-fails outlet io s t u bytes h k = subst (λ (y : List ℕ). FailsPa
 pub serves_quit : {S K H : Type 0} (serving : Serving S K H) → IsOutlet serving.outlet → (before last after : RunState S K H) (middle : K) (reply : code.LineReply) (r : Result (Unit {0}) RunFault) → OngoingLog serving before last → ends_run (line_reply_of reply) ≡ true → HandlesNext (handling_of serving) (without_output last) (Ok (Some reply)) (without_output after) → Accepts serving.outlet last.output (reply_line (line_reply_of reply)) middle → Closes serving.outlet middle (Ok tt) r after.output → Serves serving before r after
 serves_quit serving io before last after middle reply r log e w x (inl y) = rw y.1 (last, log, inr (quit_ends serving last after reply e w (accepts-flushes serving.outlet io last.output middle after.output (reply_line (line_reply_of reply)) (Ok tt) x y.0)))
 serves_quit serving io before last after middle reply r log e w x (inr y) = rw y.1 (serves_reply serving before last after reply log w (accepts-then-fails serving.outlet io last.output middle after.output (reply_line (line_reply_of reply)) x y.0))
+
+-- bytes and all before them went out
+pub all-accepted : {K : Type 0} (outlet : Outlet K) (s t : K) (bytes : List ℕ) → WritesAll outlet s bytes t → Accepts outlet s bytes t
+all-accepted outlet s t bytes w =
+    record { out = outlet.buffered s ++ bytes; written = w.written; whole = sym (ap (λ (y : List ℕ). (outlet.buffered s ++ bytes) ++ y) w.empty ∙ append-nil (outlet.buffered s ++ bytes)) }
+
+-- written, and then flushed
+pub writes-flushes : {K : Type 0} (outlet : Outlet K) → IsOutlet outlet → (s t u : K) (bytes : List ℕ) (r : Result (Unit {0}) WriteFault) → Accepts outlet s bytes t → Flushes outlet t r u → Writes outlet s bytes r u
+writes-flushes outlet io s t u bytes (Ok x) h k = all-accepted outlet s u bytes (accepts-flushes outlet io s t u bytes (Ok x) h k)
+writes-flushes outlet io s t u bytes (Err x) h k = accepts-then-fails outlet io s t u bytes h k
