@@ -4,7 +4,7 @@ use ash_disk::Disk;
 use ash_durable::{CreateFault, Host, OpenFault, OpenRefused, StoreFault};
 use ash_host::{Counter, HostObject, NoMemory, Tally};
 use ash_lines::reply::{LineReply, write_line_reply};
-use ash_lines::sink::WriteFault;
+use ash_lines::sink::{Sink, WriteFault};
 use ash_lines::writer::Writer;
 use ash_machine_fixtures::lines::{arguments_of, request_of};
 use ash_machine_fixtures::registered::registry;
@@ -65,7 +65,10 @@ fn write_reply(
 ) -> Result<Result<(), WriteFault>, AllocError> {
     let buffer = Vec::with_capacity(alloc, MAX_BUFFERED_BYTES)?;
     let mut writer = Writer::new(bytes, buffer);
-    Ok(write_line_reply(&mut writer, &LineReply::Host(reply)))
+    match write_line_reply(&mut writer, &LineReply::Host(reply)) {
+        Ok(()) => Ok(writer.flush()),
+        Err(fault) => Ok(Err(fault)),
+    }
 }
 
 /// What a host replies, as the line that is written of it. A line that can't be written is as one for which there is no

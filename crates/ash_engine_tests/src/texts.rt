@@ -3,7 +3,7 @@
 use ash_host::{ElementTag, Event, Word};
 use ash_image::stored::{StoredBody, StoredModule, StoredObject, StoredState, words_of};
 use ash_lines::reply::{LineReply, write_line_reply};
-use ash_lines::sink::WriteFault;
+use ash_lines::sink::{Sink, WriteFault};
 use ash_lines::writer::Writer;
 use ash_machine_fixtures::words::{write_bytes, write_events, write_types, write_words};
 use ash_plain_data::object::{Elements, Object};
@@ -25,7 +25,10 @@ fn write_reply(
 ) -> Result<Result<(), WriteFault>, AllocError> {
     let buffer = Vec::with_capacity(alloc, MAX_BUFFERED_BYTES)?;
     let mut writer = Writer::new(bytes, buffer);
-    Ok(write_line_reply(&mut writer, &LineReply::Host(reply)))
+    match write_line_reply(&mut writer, &LineReply::Host(reply)) {
+        Ok(()) => Ok(writer.flush()),
+        Err(fault) => Ok(Err(fault)),
+    }
 }
 
 /// A reply as the program writes it, without the end of the line.

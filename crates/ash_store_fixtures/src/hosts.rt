@@ -6,7 +6,7 @@ use ash_disk::{Disk, FuseDisk, MemoryDisk, Survives};
 use ash_durable::{Host, StoreFault};
 use ash_host::{HostObject, Tally, Word};
 use ash_lines::reply::{LineReply, write_line_reply};
-use ash_lines::sink::WriteFault;
+use ash_lines::sink::{Sink, WriteFault};
 use ash_lines::writer::Writer;
 use ash_registry::Registry;
 use ash_requests::{Arg, Reply, Request};
@@ -45,7 +45,10 @@ fn write_reply(
 ) -> Result<Result<(), WriteFault>, AllocError> {
     let buffer = Vec::with_capacity(alloc, MAX_BUFFERED_BYTES)?;
     let mut writer = Writer::new(bytes, buffer);
-    Ok(write_line_reply(&mut writer, &LineReply::Host(reply)))
+    match write_line_reply(&mut writer, &LineReply::Host(reply)) {
+        Ok(()) => Ok(writer.flush()),
+        Err(fault) => Ok(Err(fault)),
+    }
 }
 
 /// What a host replies, as the line that is written of it, with its line feed.
