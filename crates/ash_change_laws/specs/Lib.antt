@@ -1,3 +1,0 @@
-pub mod UncalledServices
-pub mod MarkedObjects
-pub mod ChangedStates
