@@ -22,6 +22,7 @@ pub mod FunctionCode
 pub mod Constructing
 pub mod EmittedBranches
 pub mod EmittedRows
+pub mod SimpleLaws
 pub mod StoredCode
 pub mod FieldCode
 pub mod EmittedFields

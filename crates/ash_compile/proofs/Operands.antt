@@ -1,12 +1,14 @@
 -- Emitted code whose values stay where they are, or go where they are wanted.
 use Rattle.std.proofs.Common.{◌≡◌, ◌≤◌, ◌<◌, ◌^◌, ◌⊎◌, inl, inr, ℕ, ◌+◌, ℤ, pos, List, length, refl, sym, ap, ◌∙◌, subst, arith, true}
-use Rattle.std.specs.Prelude.{Option, Some, None, slice_get, slice_index_or, ◌-ℤ◌, ◌+ℤ◌}
+use Rattle.std.specs.Prelude.{Option, Some, None, Result, Ok, Err, slice_get, slice_index_or, ◌-ℤ◌, ◌+ℤ◌}
 use Rattle.std.specs.Int.{w32}
 use Rattle.std.proofs.lemmas.Int.{int_wrap_fits}
 use Rattle.std.proofs.lemmas.Int.{ints as signed}
 use Rattle.ash_host.specs.declared.word.Word.{Word}
 use Rattle.ash_host.specs.declared.word.Word.TheVariants as words
 use Rattle.ash_host.specs.Objects.{handle}
+use Rattle.ash_integers.specs.declared.arithmetic.DivisionFault.{DivisionFault}
+use Rattle.ash_integers.specs.declared.arithmetic.DivisionFault.TheVariants as faults
 use Rattle.ash_integers.specs.declared.int_type.IntType.{IntType}
 use Rattle.ash_integers.specs.declared.int_type.IntType.TheVariants as ints
 use Rattle.ash_typed.specs.declared.types.VarType.{VarType}
@@ -26,7 +28,8 @@ use Rattle.ash_meaning.specs.Activity.{Activity}
 use Rattle.ash_meaning.specs.Runs.{Run, Progress, Done, onward, give, ◌>>=◌}
 use Rattle.ash_meaning.specs.CallMeaning.{Calls}
 use Rattle.ash_meaning.specs.Locations.{Local}
-use Rattle.ash_meaning.specs.OperatorMeaning.{word_at, operate, calculate, converted_to}
+use Rattle.ash_meaning.specs.OperatorMeaning.{word_at, operate, calculate, calculated_by as by, give_or_raise, holds}
+use Rattle.ash_meaning.specs.OperatorMeaning.{converted_to, altered}
 use Rattle.ash_integers.specs.Integers.{number_at}
 use Rattle.ash_meaning.specs.ExpressionMeaning.{expression, store}
 use Rattle.ash_soundness.proofs.Values.{given_lives}
@@ -43,7 +46,7 @@ use Rattle.ash_compile.specs.Operands.{ComputesIn, EmitsIn, EmitsInto, ReadsLoca
 use Rattle.ash_compile.specs.Operands.{IsSimple, Calculates, Operates, IsAddition}
 use Rattle.ash_compile.specs.Operands as operands
 use Rattle.ash_compile.proofs.Phrases.{given_keeps, calculated_keeps, none_held}
-use Rattle.ash_compile.proofs.KeptLocals.{KeepsLocals, done_keeps, keeps_give}
+use Rattle.ash_compile.proofs.KeptLocals.{KeepsLocals, done_keeps, keeps_give, keeps_then}
 use Rattle.ash_compile.proofs.Emission.{HasAt, keeps_itself, keeps_on, put_keeps, put_one, put_within, suits_before}
 use Rattle.ash_compile.proofs.Emission.{stands_before, stands_after, has_put}
 use Rattle.ash_compile.proofs.Emitted.{typed_local, typed_left, typed_right, typed_converted}
@@ -56,10 +59,28 @@ use Rattle.ash_compile.proofs.OperandCode.{computes_in_as, own_local, none_into,
 
 -- expressions
 
+outcome_keeps : (r : Result Word DivisionFault) → KeepsLocals (give_or_raise r)
+outcome_keeps (Ok word) = keeps_give word
+outcome_keeps (Err faults.ByZero) = record { keeps = λ a. refl }
+outcome_keeps (Err faults.Overflow) = record { keeps = λ a. refl }
+
+keeps_operate : (o : Operation) (l r : Word) → KeepsLocals (operate o l r)
+keeps_operate (operations.Calculate c) l r = outcome_keeps (by c.operator c.of l r)
+keeps_operate (operations.Compare comparator of) l r = keeps_give (words.Bool (holds comparator of l r))
+
 pub simple_keeps : (calls : Calls) (e : Expr) → IsSimple e → KeepsLocals (expression calls e)
 simple_keeps calls _ (operands.number {t = t} {n = n}) = keeps_give (word_at t (pos n))
 simple_keeps calls _ (operands.truth {b = b}) = keeps_give (words.Bool b)
 simple_keeps calls _ (operands.local {n = n}) = record { keeps = λ a. refl }
+simple_keeps calls _ (operands.converted {conversion = conversion} {e = e} simple) =
+    keeps_then (expression calls e) (λ word. give (converted_to conversion.to word)) (simple_keeps calls e simple)
+    (λ word. keeps_give (converted_to conversion.to word))
+simple_keeps calls _ (operands.altered {change = change} {e = e} simple) =
+    keeps_then (expression calls e) (λ word. give (altered change word)) (simple_keeps calls e simple)
+    (λ word. keeps_give (altered change word))
+simple_keeps calls _ (operands.operated {o = o} {a = a} {b = b} left right) =
+    keeps_then (expression calls a) (λ l. expression calls b >>= operate o l) (simple_keeps calls a left)
+    (λ l. keeps_then (expression calls b) (operate o l) (simple_keeps calls b right) (λ r. keeps_operate o l r))
 
 plain_none : (of : VarType) → IsPlain of → HasNoHandle of
 plain_none _ truth = no_handle_in_bool

@@ -8,6 +8,8 @@ use Rattle.ash_integers.specs.declared.int_type.IntType.{IntType}
 use Rattle.ash_integers.specs.declared.int_type.IntType.TheVariants as ints
 use Rattle.ash_typed.specs.declared.types.VarType.{VarType}
 use Rattle.ash_typed.specs.declared.types.VarType.TheVariants as vars
+use Rattle.ash_typed.specs.declared.tree.operations.Change.{Change}
+use Rattle.ash_typed.specs.declared.tree.operations.Conversion.{Conversion}
 use Rattle.ash_typed.specs.declared.tree.operations.Variable.TheVariants as variables
 use Rattle.ash_typed.specs.declared.tree.operations.Calculator.{Calculator}
 use Rattle.ash_typed.specs.declared.tree.operations.Calculator.TheVariants as calculators
@@ -19,7 +21,7 @@ use Rattle.ash_typed.specs.declared.tree.operations.Operands.TheVariants as oper
 use Rattle.ash_typed.specs.declared.tree.operations.Operation.{Operation}
 use Rattle.ash_typed.specs.declared.tree.operations.Operation.TheVariants as operations
 use Rattle.ash_typed.specs.TypeOf.{ValueType}
-use Rattle.ash_typed.specs.TypedTree.{Expr, Number, Truth, Read, Operate, Assign, Stored}
+use Rattle.ash_typed.specs.TypedTree.{Expr, Number, Truth, Read, Convert, Alter, Operate, Assign, Stored}
 use Rattle.ash_typed.specs.SoundExpressions.{IsWellTyped}
 use Rattle.ash_meaning.specs.Activity.{Activity}
 use Rattle.ash_meaning.specs.Runs.{Run, Done}
@@ -45,11 +47,14 @@ pub data IsPlain : VarType → Type 0 where
 pub data ReadsLocal : Expr → ℕ → Type 0 where
   reads_local : {n : ℕ} {of : VarType} → IsPlain of → ReadsLocal (Read (Stored (variables.Local n of))) n
 
--- A literal, or a local that is read: nothing is written.
+-- Literals, locals that are read, and operators: nothing is written.
 pub data IsSimple : Expr → Type 0 where
   number : {t : IntType} {n : ℕ} → IsSimple (Number t n)
   truth : {b : Bool} → IsSimple (Truth b)
   local : {n : ℕ} {of : VarType} → IsSimple (Read (Stored (variables.Local n of)))
+  converted : {conversion : Conversion} {e : Expr} → IsSimple e → IsSimple (Convert conversion e)
+  altered : {change : Change} {e : Expr} → IsSimple e → IsSimple (Alter change e)
+  operated : {o : Operation} {a b : Expr} → IsSimple a → IsSimple b → IsSimple (Operate o a b)
 
 -- operators
 

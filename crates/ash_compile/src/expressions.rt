@@ -18,8 +18,9 @@ ghost use Rattle.ash_compile.specs.Arguments.{EmitsArguments};
 ghost use Rattle.ash_compile.specs.declared.builder.CodeBuilder.{CodeBuilder as Written};
 
 use crate::builder::CodeBuilder;
-use crate::operators::{addend_of, is_simple, local_read, operating};
+use crate::operators::{addend_of, local_read, operating};
 use crate::places::{Spot, spot_of_member, spot_of_variable};
+use crate::simple::is_simple;
 use ash_code::instruction::Instruction;
 use ash_host::Word;
 use ash_integers::{IntType, word_from};

@@ -3,8 +3,8 @@
 //! `specs/Stretches.antt` says when a stretch of code does what a phrase does, and `specs/Emission.antt` what emitted
 //! code does, wherever it stands.
 //!
-//! In reading order: `layout`, `builder`, `operators`, `expressions`, `places`, `calls`, `effects`, `blocks`, `bodies`,
-//! `continues`, `looping`, `switching`, `initializers`, `frames`, `classes`, `module`.
+//! In reading order: `layout`, `builder`, `operators`, `simple`, `expressions`, `places`, `calls`, `effects`, `blocks`,
+//! `bodies`, `continues`, `looping`, `switching`, `initializers`, `frames`, `classes`, `module`.
 #![tactic(auto)]
 
 mod blocks;
@@ -22,4 +22,5 @@ mod looping;
 pub mod module;
 pub mod operators;
 pub mod places;
+mod simple;
 mod switching;

@@ -1,11 +1,11 @@
-//! What is simple in an operator: operands that need no code, and instructions that say more than `Calculate`.
+//! What is special in an operator: operands that need no code, and instructions that say more than `Calculate`.
 
 ghost use Rattle.std.specs.Prelude.{IsTrue, IfSome};
 ghost use Rattle.ash_typed.specs.declared.tree.operations.Operation.TheVariants as operations;
 ghost use Rattle.ash_typed.specs.TypedTree.{Expr as ExprData, Number, Read, Stored};
 ghost use Rattle.ash_typed.specs.TypedTreeViews.{expr_of, chained, all_chained};
 ghost use Rattle.ash_code.specs.Performing.{of_int};
-ghost use Rattle.ash_compile.specs.Operands.{IsPlain, ReadsLocal, IsSimple, IsInt, Adds, AddsTo, IsAddition};
+ghost use Rattle.ash_compile.specs.Operands.{IsPlain, ReadsLocal, IsInt, Adds, AddsTo, IsAddition};
 ghost use Rattle.ash_compile.specs.Operands.{Calculates, Operates, ComparesBy, Compares, ComparesLocals};
 
 use ash_code::instruction::Instruction;
@@ -43,28 +43,6 @@ pub fn local_read(expr: &Expr) -> Option<usize>
     match &*expr.kind {
         ExprKind::Variable(variable) => plain_local(*variable),
         _ => None,
-    }
-}
-
-/// Whether a variable is a local.
-fn is_local(variable: Variable) -> bool
-    ensures simple { IsTrue result → IsSimple (Read (Stored variable)) }
-{
-    match variable {
-        Variable::Local { .. } => true,
-        Variable::Global { .. } => false,
-    }
-}
-
-/// Whether an expression is a literal or a local that is read. Others may be simple as well.
-pub fn is_simple(expr: &Expr) -> bool
-    ensures simple { IsTrue result → IsSimple (expr_of expr.now) }
-{
-    match &*expr.kind {
-        ExprKind::Number { .. } => true,
-        ExprKind::Bool(_) => true,
-        ExprKind::Variable(variable) => is_local(*variable),
-        _ => false,
     }
 }
 
