@@ -16,12 +16,12 @@ use Rattle.ash_code.specs.declared.instruction.Instruction.TheVariants as i
 use Rattle.ash_code.specs.Controls.{Caller, Control, Window}
 use Rattle.ash_code.specs.Performing.{Setting, GoesOn, go, go_to}
 use Rattle.ash_code.specs.Running.{step}
-use Rattle.ash_compile.specs.Stretches.{continued, Arrives, with_slots, Fits, Holds, Has, Computes}
+use Rattle.ash_compile.specs.Stretches.{continued, Arrives, with_slots, Fits, Has}
 use Rattle.ash_compile.specs.Performances.{here, HasLocals, Exits, Acts, Decides, Outs, Performs, Reaches}
 use Rattle.ash_compile.proofs.Simulation.{continued_then, steps_on, goes_by, step_is, then_is}
-use Rattle.ash_compile.proofs.Statements.{arrives_then, ticks_first, ticked_stands, released_frame, fits_there, held_there, below_there}
+use Rattle.ash_compile.proofs.Statements.{arrives_then, ticks_first, ticked_stands, released_frame, fits_there, below_there}
 use Rattle.ash_compile.proofs.Statements.{LeadsTo}
-use Rattle.ash_compile.specs.Operands.{Affects}
+use Rattle.ash_compile.specs.Operands.{ComputesIn, Affects}
 
 -- objects have ranks where a phrase is done
 abbrev pub RanksAfter : {A : Type 0} → Setting → (Activity → Type 0) → Run A → Type 0
@@ -109,10 +109,10 @@ module _ (s : Setting) (Good : Activity → Type 0) (function room : ℕ) where
 
   -- a condition: its value is tested where its full expression ends
 
-  pub decides : (p : Run Word) (from mid unmet count : ℕ) → Computes s Good function room p from mid count
-      → Has s Good function room mid (i.Branch count unmet) → RanksAfter s Good p
+  pub decides : (p : Run Word) (from mid unmet count left : ℕ) → ComputesIn s Good function room p from mid count left
+      → Has s Good function room mid (i.Branch left unmet) → RanksAfter s Good p
       → Decides s Good function room (condition p) from (mid + 1) unmet count
-  decides p from mid unmet count computes branches ranks = record {
+  decides p from mid unmet count left computes branches ranks = record {
     comes = λ callers size slots a rest long stands good when_true when_false.
         let start = here function from count slots callers in
         arrives_then s start a (full p a) (λ word. give (is_true word)) rest
@@ -124,9 +124,10 @@ module _ (s : Setting) (Good : Activity → Type 0) (function room : ℕ) where
         arrives_then s c b (releases.end_expression b) (λ _. give v) (λ v b. rest (is_true v) b)
         (goes_by s c b (releases.end_expression b) (λ _. here function (if is_true v then mid + 1 else unmet) count next callers)
         (λ _ d. rest (is_true v) d)
-        (ends_branch mid unmet count count next callers b (is_true v) (ranks a b v good ran) branches (ap is_true held.value))
+        (ends_branch mid unmet left count next callers b (is_true v) (ranks a b v good ran) branches (ap is_true held.value))
         (λ u d ended.
-        let there = ended_stands size count next b d ended (held_there size count count slots next callers v a b stands held) in
+        let there = ended_stands size count next b d ended (below_there size count count slots next callers a b stands
+        (record { long = held.long; kept = held.kept; locals = held.locals })) in
         let done : condition p a ≡ Done (is_true v) d
         = then_is (full p a) v d (λ word. give (is_true word)) _
         (then_is (p a) v b (λ x. releases.end_expression >> give x) _ ran

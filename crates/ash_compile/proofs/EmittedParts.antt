@@ -18,11 +18,12 @@ use Rattle.ash_compile.specs.declared.builder.CodeBuilder.{CodeBuilder}
 use Rattle.ash_compile.specs.declared.bodies.Condition.TheVariants as conditions
 use Rattle.ash_compile.specs.Performances.{Acts, Decides}
 use Rattle.ash_compile.specs.Emission.{code_of, end_of, Keeps, Puts, Scene, IsScene, Suits, Good, Stands, DoesExpression, Emits, calls_of}
-use Rattle.ash_compile.specs.Operands.{Affects}
+use Rattle.ash_compile.specs.Operands.{Affects, EmitsIn}
 use Rattle.ash_compile.specs.EmittedStatements.{EmitsEvaluation, EmitsFull, EmitsEvaluations, EmitsVariable}
 use Rattle.ash_compile.specs.EmittedStatements.{EmitsVariables, EmitsHead}
 use Rattle.ash_compile.specs.EmittedStatements.{Tests, DoesActs}
 use Rattle.ash_compile.proofs.Emission.{HasAt, keeps_on, put_keeps, put_one, put_there, put_within, suits_before, stands_before, stands_after, has_put}
+use Rattle.ash_compile.proofs.Operands.{DoesIn}
 use Rattle.ash_compile.proofs.TypedStatements.{ranked_of}
 use Rattle.ash_compile.proofs.StatementCode.{does_evaluation, does_no_steps, does_steps, does_condition}
 use Rattle.ash_compile.proofs.BlockCode.{with_types, still_scene, beginning, begins_fitting, does_zero, does_value}
@@ -87,30 +88,29 @@ more_evaluations old mid new e es slot first rest = record {
 
 -- conditions
 
--- A truth value in its slot is tested.
-pub truth_tests : (start old new : CodeBuilder) (e : Expr) (slot at : ℕ) → Emits start old e slot
-    → Puts old new slot (i.Branch slot 0) → at ≡ end_of old
-    → Tests start new e slot (record { at = at; condition = conditions.Truth slot })
-truth_tests start old new e slot at emits puts at_is = record {
+-- A truth value is tested where it is.
+pub truth_tests : (start old new : CodeBuilder) (e : Expr) (slot left at : ℕ) → EmitsIn start old e slot left
+    → Puts old new slot (i.Branch left 0) → at ≡ end_of old
+    → Tests start new e slot (record { at = at; condition = conditions.Truth left })
+truth_tests start old new e slot left at emits puts at_is = record {
   keeps = keeps_on start old new emits.keeps last;
   later = omega (arith, at_is, (emits.keeps).longer);
   end = one ∙ ap (λ (n : ℕ). n + 1) (sym at_is);
   does = λ s unmet scene is typed stands has suits.
       subst (λ (to : ℕ). Decides s.setting (Good s) s.function s.room (condition (calls_of s) e) (end_of start) to unmet
       (length (s.env).locals)) (sym one)
-      (does_condition s scene (ranked_of s scene) e (end_of start) (end_of old) unmet typed
-      (subst (λ (n : ℕ). DoesExpression s e (end_of start) (end_of old) n) is
+      (does_condition s scene (ranked_of s scene) e (end_of start) (end_of old) unmet left typed
+      (subst (λ (n : ℕ). DoesIn s (expression (calls_of s) e) (end_of start) (end_of old) n left) is
       (emits.does s _ scene typed
       (λ k low high. stands k low (omega (arith, high, at_is)) ∙ last.same k high) (suits_before s old new last suits)))
-      (subst (λ (n : ℕ). HasAt s (end_of old) (i.Branch n unmet)) is
-      (subst (λ (n : ℕ). HasAt s n (i.Branch slot unmet)) at_is has)));
+      (subst (λ (n : ℕ). HasAt s n (i.Branch left unmet)) at_is has));
 }
   where
     one : end_of new ≡ end_of old + 1
-    one = put_one old new slot (i.Branch slot 0) puts
+    one = put_one old new slot (i.Branch left 0) puts
 
     last : Keeps old new
-    last = put_keeps old new slot (i.Branch slot 0) puts
+    last = put_keeps old new slot (i.Branch left 0) puts
 
 -- variables
 

@@ -9,6 +9,7 @@ use Rattle.ash_typed.specs.StatementTree.{Stmt, Empty, Evaluate, Break, Continue
 use Rattle.ash_typed.specs.SoundExpressions.{fits}
 use Rattle.ash_typed.specs.SoundStatements.{TypedScope, IsSoundStmt, IsEvaluated}
 use Rattle.ash_typed.specs.SoundStatements as typing
+use Rattle.ash_meaning.specs.ExpressionMeaning.{expression}
 use Rattle.ash_meaning.specs.StatementMeaning.{statement}
 use Rattle.ash_meaning.specs.StatementMeaning as meaning
 use Rattle.ash_code.specs.declared.instruction.Instruction.{Instruction}
@@ -16,10 +17,12 @@ use Rattle.ash_code.specs.declared.instruction.Instruction.TheVariants as i
 use Rattle.ash_compile.specs.declared.builder.CodeBuilder.{CodeBuilder}
 use Rattle.ash_compile.specs.declared.bodies.Scope.{Scope}
 use Rattle.ash_compile.specs.Performances.{Exits}
-use Rattle.ash_compile.specs.Emission.{code_of, end_of, Keeps, Puts, Scene, IsScene, Suits, Good, Stands, DoesExpression, Emits, calls_of}
+use Rattle.ash_compile.specs.Emission.{code_of, end_of, Keeps, Puts, Scene, IsScene, Suits, Good, Stands, calls_of}
+use Rattle.ash_compile.specs.Operands.{EmitsIn}
 use Rattle.ash_compile.specs.EmittedStatements.{with_jumps, shown, IsIn, typed_scope}
 use Rattle.ash_compile.specs.EmittedStatements.{DoesFlow, DoesActs, EmitsStatement, EmitsEvaluation, LeavesBlocks, frame_end}
 use Rattle.ash_compile.proofs.Emission.{HasAt, keeps_on, put_keeps, put_one, suits_before, stands_before, stands_after, has_put}
+use Rattle.ash_compile.proofs.Operands.{DoesIn}
 use Rattle.ash_compile.proofs.TypedStatements.{ranked_of}
 use Rattle.ash_compile.proofs.StatementCode.{does_empty, does_evaluate, does_return, does_return_value, does_break, does_continue}
 use Rattle.ash_compile.proofs.Leaving as leaving
@@ -105,11 +108,12 @@ return_nothing old mid new line scope j is ticks ends =
     later : Keeps mid new
     later = put_keeps mid new scope.locals j ends
 
-pub return_value : (old mid last new : CodeBuilder) (line : ℕ) (e : Expr) (scope : Scope)
-    → Puts old mid scope.locals (i.Tick line) → Emits mid last e scope.locals → Puts last new scope.locals (i.Return scope.locals)
+pub return_value : (old mid last new : CodeBuilder) (line : ℕ) (e : Expr) (scope : Scope) (left : ℕ)
+    → Puts old mid scope.locals (i.Tick line) → EmitsIn mid last e scope.locals left
+    → Puts last new scope.locals (i.Return left)
     → (breaks continues : List ℕ)
     → EmitsStatement (with_jumps old breaks continues) (with_jumps new breaks continues) (Return line (Some e)) scope
-return_value old mid last new line e scope ticks emits returns =
+return_value old mid last new line e scope left ticks emits returns =
     plain old new (Return line (Some e)) scope
     (keeps_on old mid new (put_keeps old mid scope.locals (i.Tick line) ticks) (keeps_on mid last new emits.keeps end))
     (λ s exits result b c scene inside sound stands suits. by_sound s exits result b c scene inside sound stands suits)
@@ -118,7 +122,7 @@ return_value old mid last new line e scope ticks emits returns =
     one = put_one old mid scope.locals (i.Tick line) ticks
 
     end : Keeps last new
-    end = put_keeps last new scope.locals (i.Return scope.locals) returns
+    end = put_keeps last new scope.locals (i.Return left) returns
 
     by_sound : (s : Scene) (exits : Exits) (result : Option VarType) (b c : Bool) → IsScene s → IsIn scope s exits result
         → IsSoundStmt (typed_scope s result b c) (Return line (Some e))
@@ -127,17 +131,16 @@ return_value old mid last new line e scope ticks emits returns =
         (length (s.env).locals)
     by_sound s exits result b c scene inside (typing.return_value {of = of} is (fits typed subtype)) stands suits =
         let later = stands_before s last new (end_of old) end stands in
-        does_return_value s scene (ranked_of s scene) exits line e (end_of old) (end_of last) (end_of new)
+        does_return_value s scene (ranked_of s scene) exits line e (end_of old) (end_of last) (end_of new) left
         (has_put s old mid (end_of old) scope.locals (i.Tick line) (omega arith) ticks
         (stands_before s mid last (end_of old) emits.keeps later))
-        (subst (λ (n : ℕ). DoesExpression s e n (end_of last) (length (s.env).locals)) one
-        (subst (λ (n : ℕ). DoesExpression s e (end_of mid) (end_of last) n) inside.locals
+        (subst (λ (n : ℕ). DoesIn s (expression (calls_of s) e) n (end_of last) (length (s.env).locals) left) one
+        (subst (λ (n : ℕ). DoesIn s (expression (calls_of s) e) (end_of mid) (end_of last) n left) inside.locals
         (emits.does s _ scene typed
         (stands_after s (code_of last) (end_of old) (end_of mid) (end_of last) (omega (arith, one)) later)
         (suits_before s last new end suits))))
-        (subst (λ (n : ℕ). HasAt s (end_of last) (i.Return n)) inside.locals
-        (has_put s last new (end_of old) scope.locals (i.Return scope.locals) (omega (arith, one, (emits.keeps).longer)) returns
-        stands))
+        (has_put s last new (end_of old) scope.locals (i.Return left) (omega (arith, one, (emits.keeps).longer)) returns
+        stands)
         ((inside.returns).value of is)
 
 -- `break` and `continue`

@@ -16,7 +16,8 @@ use Rattle.ash_code.specs.Controls.{Caller, Control, Window, with_count}
 use Rattle.ash_code.specs.Performing.{Setting, Next, GoesOn, go, return_to}
 use Rattle.ash_code.specs.Running.{step, after, denote}
 use Rattle.ash_code.specs.Arrivals.{end_of}
-use Rattle.ash_compile.specs.Stretches.{continued, Arrives, Leaves, with_locals, Holds, Has, Computes}
+use Rattle.ash_compile.specs.Stretches.{continued, Arrives, Leaves, with_locals, Has}
+use Rattle.ash_compile.specs.Operands.{ComputesIn}
 use Rattle.ash_compile.specs.Performances.{here, HasLocals, Exit, Exits, Jumps, Outs, Performs}
 use Rattle.ash_compile.proofs.Simulation.{steps_on, goes_by, step_is, then_is}
 use Rattle.ash_compile.proofs.Statements.{arrives_then, ticks_first, ticked_stands, ticked_locals, released_frame}
@@ -158,15 +159,15 @@ module _ (s : Setting) (Good : Activity → Type 0) (function room : ℕ) where
 
   -- `return`
 
-  pub returns_value : (exits : Exits) (Begun : Activity → Type 0) (p : Run Word) (line from at to count more : ℕ)
+  pub returns_value : (exits : Exits) (Begun : Activity → Type 0) (p : Run Word) (line from at to count more left : ℕ)
       → Has s Good function room from (i.Tick line)
       → LeadsTo Good (tick line) Begun
-      → Computes s Begun function room p (from + 1) at count
-      → Has s Good function room at (i.Return count)
+      → ComputesIn s Begun function room p (from + 1) at count left
+      → Has s Good function room at (i.Return left)
       → ((v this : Word) → exits.gives (Some v) this ≡ Some v)
       → Performs s Good function room exits (tick line >> (p >>= (λ word. give (Returned (Some word))))) from to count
       more
-  returns_value exits Begun p line from at to count more has_tick ticked computes has_return gives = record {
+  returns_value exits Begun p line from at to count more left has_tick ticked computes has_return gives = record {
     comes = λ callers size slots a rest long stands good outs.
         ticks_first s Good function room line (p >>= (λ word. give (Returned (Some word)))) from count slots callers a rest
         has_tick (λ b ran.
@@ -178,7 +179,7 @@ module _ (s : Setting) (Good : Activity → Type 0) (function room : ℕ) where
         let w : Window = record { slots = next; count = count; callers = callers } in
         let c = here function at count next callers in
         leaves_at s (Some v) c d (rest (Returned (Some v)) d)
-        (step_is s Good function room w d at (i.Return count) has_return
+        (step_is s Good function room w d at (i.Return left) has_return
         ∙ ap (λ (x : Word). return_to s (Some x) c callers d) held.value)
         (subst (λ (x : Option Word). Leaves s x c d (rest (Returned (Some v)) d)) (gives v (d.frame).this)
         (outs.returned (Some v) d next (d.frame).locals at count

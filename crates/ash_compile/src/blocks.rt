@@ -6,8 +6,8 @@ ghost use Rattle.ash_typed.specs.TypedTreeViews.{expr_of, chained, all_chained};
 ghost use Rattle.ash_typed.specs.BodyViews.{value_of, head_of};
 ghost use Rattle.ash_meaning.specs.OperatorMeaning.{zero_of};
 ghost use Rattle.ash_code.specs.declared.instruction.Instruction.TheVariants as i;
-ghost use Rattle.ash_compile.specs.Emission.{Puts, Emits};
-ghost use Rattle.ash_compile.specs.Operands.{Compares};
+ghost use Rattle.ash_compile.specs.Emission.{Puts};
+ghost use Rattle.ash_compile.specs.Operands.{Compares, EmitsIn};
 ghost use Rattle.ash_compile.specs.declared.builder.CodeBuilder.{CodeBuilder as Written};
 ghost use Rattle.ash_compile.specs.EmittedStatements.{EmitsVariable, EmitsVariables, EmitsHead, EmitsEvaluation, EmitsFull};
 ghost use Rattle.ash_compile.specs.EmittedStatements.{EmitsEvaluations, Tests};
@@ -88,8 +88,8 @@ impl CodeBuilder {
         match &*expr.kind {
             ExprKind::Chain { first, operands } => self.chain_condition(first, operands, slot),
             _ => {
-                self.expression(expr, slot)?;
-                self.truth(slot)
+                let at = self.value(expr, slot)?;
+                self.truth(at, slot)
             }
         }
     }
@@ -106,14 +106,14 @@ impl CodeBuilder {
     {
         match operands.split_last() {
             None => {
-                self.expression(first, slot)?;
-                self.truth(slot)
+                let at = self.value(first, slot)?;
+                self.truth(at, slot)
             }
             Some((last, before)) => match comparison_of(last.operation) {
                 Some(comparison) => self.comparing(first, before, last, comparison, slot),
                 None => {
                     self.chain(first, operands, slot, slot)?;
-                    self.truth(slot)
+                    self.truth(slot, slot)
                 }
             },
         }
@@ -145,12 +145,12 @@ impl CodeBuilder {
         Ok(Branch { at, condition })
     }
 
-    /// The branch of a condition that has its truth value in a slot.
-    fn truth(&mut self, slot: usize) -> Result<Branch, AllocError>
-        ensures emits { IfOk result (λ branch. (start : Written) (e : ExprData) → Emits start self.old e slot
+    /// The branch of a condition that has its truth value in a slot: its own, or that of a local.
+    fn truth(&mut self, value: usize, slot: usize) -> Result<Branch, AllocError>
+        ensures emits { IfOk result (λ branch. (start : Written) (e : ExprData) → EmitsIn start self.old e slot value
             → Tests start self.new e slot branch) }
     {
-        let condition = Condition::Truth { slot };
+        let condition = Condition::Truth { slot: value };
         let at = self.here();
         self.put(slot, branch_to(condition, 0))?;
         Ok(Branch { at, condition })

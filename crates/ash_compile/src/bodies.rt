@@ -374,8 +374,8 @@ impl CodeBuilder {
         match value {
             None => self.put(scope.locals, function_end(scope.constructs)),
             Some(expr) => {
-                self.expression(expr, scope.locals)?;
-                self.put(scope.locals, Instruction::Return { from: scope.locals })
+                let from = self.value(expr, scope.locals)?;
+                self.put(scope.locals, Instruction::Return { from })
             }
         }
     }

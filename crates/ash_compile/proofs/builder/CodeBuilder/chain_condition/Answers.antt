@@ -4,18 +4,19 @@ use Rattle.ash_typed.specs.TypedTree.{Expr}
 use Rattle.ash_typed.specs.TypedTreeViews.{expr_of, all_chained}
 use Rattle.ash_compile.specs.EmittedStatements.{Tests}
 use Rattle.ash_compile.proofs.Emitted.{if_ok}
+use Rattle.ash_compile.proofs.Operands.{emits_in}
 use Rattle.ash_compile.proofs.EmittedRows.{empty_is, chained_after}
 use Rattle.ash_compile.proofs.builder.CodeBuilder.chain_condition.Goals as goal
 
-pub returns-in_ok-expression-in-None : goal.returns-in_ok-expression-in-None
-returns-in_ok-expression-in-None c =
+pub returns-in_ok-at-in-None : goal.returns-in_ok-at-in-None
+returns-in_ok-at-in-None c =
     let first = expr_of c.args.first.now in
     record {
       emits = if_ok c.truth.result
           (λ branch tests.
           subst (λ (os : List operand_code.Operand). Tests c.args.self.now c.truth.new.self (all_chained first os) c.args.slot
           branch) (empty_is c.args.operands.now c.in-None.ensures.cases)
-          (tests c.args.self.now first c.in_ok-expression-in-None.ensures.emits))
+          (tests c.args.self.now first c.in_ok-at-in-None.ensures.emits))
           c.truth.ensures.emits;
     }
 
@@ -36,6 +37,7 @@ pub returns-in_ok-chain-in-None-comparison_of : goal.returns-in_ok-chain-in-None
 returns-in_ok-chain-in-None-comparison_of c = record {
   emits = if_ok c.truth-in-None-comparison_of.result
       (λ branch tests. tests c.args.self.now (all_chained (expr_of c.args.first.now) c.args.operands.now)
-      ((c.in_ok-chain-in-None-comparison_of.ensures.emits).in_slot refl))
+      (emits_in c.args.self.now c.chain.new.self (all_chained (expr_of c.args.first.now) c.args.operands.now) c.args.slot
+      ((c.in_ok-chain-in-None-comparison_of.ensures.emits).in_slot refl)))
       c.truth-in-None-comparison_of.ensures.emits;
 }

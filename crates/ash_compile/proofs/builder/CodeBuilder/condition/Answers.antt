@@ -17,9 +17,9 @@ returns-in-Chain c = record {
       c.chain_condition.ensures.emits;
 }
 
-pub returns-in_ok-expression-in_default : goal.returns-in_ok-expression-in_default
-returns-in_ok-expression-in_default c = record {
+pub returns-in_ok-at-in_default : goal.returns-in_ok-at-in_default
+returns-in_ok-at-in_default c = record {
   emits = if_ok c.truth.result
-      (λ branch tests. tests c.args.self.now (expr_of c.args.expr.now) c.in_ok-expression-in_default.ensures.emits)
+      (λ branch tests. tests c.args.self.now (expr_of c.args.expr.now) c.in_ok-at-in_default.ensures.emits)
       c.truth.ensures.emits;
 }
