@@ -13,10 +13,12 @@ use Rattle.ash_compile.specs.declared.builder.CodeBuilder.{CodeBuilder}
 use Rattle.ash_compile.specs.declared.places.Spot.{Spot}
 use Rattle.ash_compile.specs.declared.places.Spot.TheVariants as spots
 use Rattle.ash_compile.specs.Emission.{code_of, end_of, Keeps, Puts, DoesExpression, Emits}
-use Rattle.ash_compile.specs.Places.{spot_of_variable, spot_of_member, reading, writing, EmitsPlace}
+use Rattle.ash_compile.specs.Places.{spot_of_variable, spot_of_member, reading, writing, EmitsPlace, EmitsTarget}
+use Rattle.ash_compile.specs.Operands.{EmitsIn}
 use Rattle.ash_compile.proofs.Emission.{keeps_itself, keeps_on, put_keeps, put_one, suits_before, stands_before, stands_after}
-use Rattle.ash_compile.proofs.Emission.{has_put, emits_then, emits_both}
-use Rattle.ash_compile.proofs.PlaceCode.{variable_place, member_place, element_place, does_read, does_assign}
+use Rattle.ash_compile.proofs.Emission.{has_put, emits_then}
+use Rattle.ash_compile.proofs.PlaceCode.{variable_place, member_place, element_named, element_place}
+use Rattle.ash_compile.proofs.PlaceCode.{does_read, does_assign}
 
 -- types of parts
 
@@ -94,25 +96,60 @@ read_member start old new e m slot first puts =
     (λ s of from at scene typed does has.
     does_read s (Held e m) (typed_read typed).0 (spot_of_member m slot) from at slot scene
     (λ n is. absurd (no_local m slot n is)) does.within
-    (member_place s e m (typed_read typed).0 from at slot scene (typed_read typed).1 does) has)
+    ((member_place s e m (typed_read typed).0 from at slot scene (typed_read typed).1 does).comes) has)
 
-pub read_element : (start mid old new : CodeBuilder) (a i : Expr) (e : Element) (slot : ℕ) → Emits start mid a slot
-    → Emits mid old i (slot + 1) → Puts old new slot (reading (spots.Element slot (slot + 1)) slot)
+pub read_element : (start mid old new : CodeBuilder) (a i : Expr) (e : Element) (slot index : ℕ)
+    → Emits start mid a slot
+    → EmitsIn mid old i (slot + 1) index → Puts old new slot (reading (spots.Element slot index) slot)
     → Emits start new (Read (Indexed a i e)) slot
-read_element start mid old new a i e slot first second puts =
-    emits_both start mid old new a i (Read (Indexed a i e)) slot (reading (spots.Element slot (slot + 1)) slot) first
-    second puts
-    (λ s of typed. typed_array (typed_read typed).1) (λ s of typed. typed_index (typed_read typed).1)
-    (λ s of from between at scene typed left right has.
-    does_read s (Indexed a i e) (typed_read typed).0 (spots.Element slot (slot + 1)) from at slot scene
-    (λ n is. absurd (cc)) left.within
-    (element_place s a i e (typed_read typed).0 from between at slot scene (typed_read typed).1 left right) has)
+read_element start mid old new a i e slot index first second puts =
+    let last = put_keeps old new slot (reading (spots.Element slot index) slot) puts in
+    let later = keeps_on mid old new second.keeps last in
+    record {
+      keeps = keeps_on start mid new first.keeps later;
+      does = λ s of scene typed stands suits.
+          let at = (typed_read typed).1 in
+          let left = first.does s (typed_array at).0 scene (typed_array at).1
+          (stands_before s mid new (end_of start) later stands) (suits_before s mid new later suits) in
+          subst (λ (to : ℕ). DoesExpression s (Read (Indexed a i e)) (end_of start) to slot)
+          (sym (put_one old new slot (reading (spots.Element slot index) slot) puts))
+          (does_read s (Indexed a i e) (typed_read typed).0 (spots.Element slot index) (end_of start) (end_of old) slot scene
+          (λ n is. absurd (cc)) left.within
+          (element_named s a i e (typed_read typed).0 (end_of start) (end_of mid) (end_of old) slot index scene at left
+          (second.does s (typed_index at).0 scene (typed_index at).1
+          (stands_after s (code_of old) (end_of start) (end_of mid) (end_of old) (first.keeps).longer
+          (stands_before s old new (end_of start) last stands)) (suits_before s old new last suits)))
+          (has_put s old new (end_of start) slot (reading (spots.Element slot index) slot)
+          (omega (arith, (first.keeps).longer, (second.keeps).longer)) puts stands));
+    }
+
+-- places that are written once
+
+pub target : (old new : CodeBuilder) (place : Place) (spot : Spot) (slot : ℕ) → EmitsPlace old new place spot slot
+    → EmitsTarget old new place spot slot
+target old new place spot slot emits = record {
+  keeps = emits.keeps;
+  does = λ s of scene at stands suits. (emits.does s of scene at stands suits).comes;
+}
+
+pub element_target : (start mid new : CodeBuilder) (a i : Expr) (e : Element) (slot index : ℕ) → Emits start mid a slot
+    → EmitsIn mid new i (slot + 1) index → EmitsTarget start new (Indexed a i e) (spots.Element slot index) slot
+element_target start mid new a i e slot index first second = record {
+  keeps = keeps_on start mid new first.keeps second.keeps;
+  does = λ s of scene at stands suits.
+      element_named s a i e of (end_of start) (end_of mid) (end_of new) slot index scene at
+      (first.does s (typed_array at).0 scene (typed_array at).1 (stands_before s mid new (end_of start) second.keeps
+      stands)
+      (suits_before s mid new second.keeps suits))
+      (second.does s (typed_index at).0 scene (typed_index at).1
+      (stands_after s (code_of new) (end_of start) (end_of mid) (end_of new) (first.keeps).longer stands) suits);
+}
 
 -- what is stored
 
 pub assign : (start mid old new : CodeBuilder) (place : Place) (e : Expr) (spot : Spot) (slot : ℕ)
     → Emits start mid e slot
-    → EmitsPlace mid old place spot (slot + 1) → Puts old new slot (writing spot slot)
+    → EmitsTarget mid old place spot (slot + 1) → Puts old new slot (writing spot slot)
     → Emits start new (Assign place e) slot
 assign start mid old new place e spot slot first second puts =
     let last = put_keeps old new slot (writing spot slot) puts in

@@ -40,6 +40,7 @@ pub mod Remaining
 pub mod PlaceGuards
 pub mod PlaceSteps
 pub mod PlaceLocals
+pub mod InSlots
 pub mod PlaceCode
 pub mod OperandCode
 pub mod EmittedPlaces

@@ -122,36 +122,6 @@ module _ (s : Setting) (Good : Activity → Type 0) (function room : ℕ) where
   abbrev pub ReceivesIn : ℕ → ℕ → (Word → Run Word) → Type 0
   ReceivesIn slot to R = (w : Window) (a : Activity) → Fits w a → Good a → w.count ≤ slot → Receives w.count slot to R
 
-  -- the same value in its own slot
-
-  pub computes_in : (run : Run Word) (from to slot : ℕ) → Computes s Good function room run from to slot
-      → In run from to slot slot
-  computes_in run from to slot does = record {
-    comes = λ w a rest low long fits good goes.
-        does.comes w a rest low long fits good (λ word b slots ran held.
-        goes word b slots ran (record {
-          long = held.long;
-          kept = held.kept;
-          there = inl refl;
-          value = held.value;
-          locals = held.locals;
-        }));
-  }
-
-  pub computes_there : (run : Run Word) (from to slot : ℕ) → slot < room → In run from to slot slot
-      → Computes s Good function room run from to slot
-  computes_there run from to slot within does = record {
-    within = within;
-    comes = λ w a rest low long fits good goes.
-        does.comes w a rest low long fits good (λ word b slots ran held.
-        goes word b slots ran (record {
-          long = held.long;
-          kept = held.kept;
-          value = held.value;
-          locals = held.locals;
-        }));
-  }
-
   -- a phrase that is another one in activities that are good
   pub computes_in_as : (p q : Run Word) (from to slot at : ℕ) → ((a : Activity) → Good a → p a ≡ q a)
       → In p from to slot at → In q from to slot at

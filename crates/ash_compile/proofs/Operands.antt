@@ -54,7 +54,8 @@ use Rattle.ash_compile.proofs.EmittedPlaces.{typed_given}
 use Rattle.ash_compile.proofs.Typed.{evaluates, stays_good, alive_of, local_there, local_value, HasNoHandle}
 use Rattle.ash_compile.proofs.Typed.{no_handle_in_bool, no_handle_in_integer}
 use Rattle.ash_compile.proofs.PlaceSteps.{locals_below}
-use Rattle.ash_compile.proofs.OperandCode.{Receives, in_slot, in_local, given_on, ReceivesIn, computes_in, computes_there}
+use Rattle.ash_compile.proofs.InSlots.{computes_in, computes_there}
+use Rattle.ash_compile.proofs.OperandCode.{Receives, in_slot, in_local, given_on, ReceivesIn}
 use Rattle.ash_compile.proofs.OperandCode.{computes_in_as, own_local, none_into, one_into, two_into}
 
 -- expressions

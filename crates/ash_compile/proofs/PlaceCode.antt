@@ -38,7 +38,9 @@ use Rattle.ash_compile.specs.declared.places.Spot.TheVariants as spots
 use Rattle.ash_compile.specs.Stretches.{continued, Arrives, with_slots, Fits, Holds}
 use Rattle.ash_compile.specs.Emission.{Scene, IsScene, Good, DoesExpression, calls_of}
 use Rattle.ash_compile.specs.Places.{spot_of_variable, spot_of_member, located, reading, writing, LiesIn, Bears}
-use Rattle.ash_compile.specs.Places.{local, global, field, property, element, HoldsBelow, DoesPlace}
+use Rattle.ash_compile.specs.Places.{local, global, field, property, element, HoldsBelow, NamesPlace, DoesPlace}
+use Rattle.ash_compile.specs.Operands.{ComputesIn}
+use Rattle.ash_compile.proofs.InSlots.{computes_in}
 use Rattle.ash_compile.proofs.Simulation.{continued_then, then_is, goes_by, step_is, puts, refits}
 use Rattle.ash_compile.proofs.Phrases.{grouped}
 use Rattle.ash_compile.proofs.Emission.{HasAt}
@@ -174,13 +176,12 @@ module _ (s : Scene) where
   }
 
   -- The array of an element is tested after its index.
-  pub element_place : (array index : Expr) (e : Element) (of : VarType) (from mid to slot : ℕ) → IsScene s
+  pub element_named : (array index : Expr) (e : Element) (of : VarType) (from mid to slot at : ℕ) → IsScene s
       → HasPlace s.env (Indexed array index e) of → DoesExpression s array from mid slot
-      → DoesExpression s index mid to (slot + 1)
-      → DoesPlace s (Indexed array index e) of (spots.Element slot (slot + 1)) from to slot
-  element_place array index e _ from mid to slot scene (typing.element first second) does next = record {
-    lies = (omega arith, does.within, omega arith, next.within);
-    comes = λ w a rest low long fits good goes.
+      → ComputesIn s.setting (Good s) s.function s.room (expression (calls_of s) index) mid to (slot + 1) at
+      → NamesPlace s (Indexed array index e) of (spots.Element slot at) from to slot
+  element_named array index e _ from mid to slot at scene (typing.element first second) does next =
+      λ w a rest low long fits good goes.
         subst (λ (o : Option Outcome). At from w a o)
         (sym (continued_then (expression (calls_of s) array a)
         (λ handle. expression (calls_of s) index >>= element_at handle) rest))
@@ -212,7 +213,16 @@ module _ (s : Scene) where
         })
         (goes_more left.goes right.goes)
         (element (carried_as _ d x (slice_index_or more slot words.Null) array_is
-        (carry (well_of s b still) right.goes left.carried)))))))));
+        (carry (well_of s b still) right.goes left.carried)))))))))
+
+  pub element_place : (array index : Expr) (e : Element) (of : VarType) (from mid to slot : ℕ) → IsScene s
+      → HasPlace s.env (Indexed array index e) of → DoesExpression s array from mid slot
+      → DoesExpression s index mid to (slot + 1)
+      → DoesPlace s (Indexed array index e) of (spots.Element slot (slot + 1)) from to slot
+  element_place array index e of from mid to slot scene at does next = record {
+    lies = (omega arith, does.within, omega arith, next.within);
+    comes = element_named array index e of from mid to slot (slot + 1) scene at does
+        (computes_in s.setting (Good s) s.function s.room (expression (calls_of s) index) mid to (slot + 1) next);
   }
 
   -- one instruction at a place
@@ -263,14 +273,14 @@ module _ (s : Scene) where
 
   -- What is read at a place.
   pub does_read : (place : Place) (of : VarType) (spot : Spot) (from at slot : ℕ) → IsScene s
-      → ((n : ℕ) → spot ≡ spots.Local n → HasNoHandle of) → slot < s.room → DoesPlace s place of spot from at slot
+      → ((n : ℕ) → spot ≡ spots.Local n → HasNoHandle of) → slot < s.room → NamesPlace s place of spot from at slot
       → HasAt s at (reading spot slot) → DoesExpression s (Read place) from (at + 1) slot
   does_read place of spot from at slot scene none within does has = record {
     within = within;
     comes = λ w a rest low long fits good goes.
         subst (λ (o : Option Outcome). At from w a o)
         (sym (continued_twice (location (calls_of s) place a) read give_held rest))
-        (does.comes w a (λ l b. continued (onward (read l b) give_held) rest) low long fits good
+        (does w a (λ l b. continued (onward (read l b) give_held) rest) low long fits good
         (λ b slots was held went bears.
         subst (λ (o : Option Outcome). At at (with_slots slots w) b o)
         (continued_then (located spot slots b) (λ l. read l >>= give_held) rest)
@@ -286,7 +296,7 @@ module _ (s : Scene) where
   -- The right side comes before the place.
   pub does_assign : (place : Place) (of : VarType) (e : Expr) (given : ValueType) (spot : Spot) (from mid at slot : ℕ)
       → IsScene s
-      → IsWellTyped s.env e given → DoesExpression s e from mid slot → DoesPlace s place of spot mid at (slot + 1)
+      → IsWellTyped s.env e given → DoesExpression s e from mid slot → NamesPlace s place of spot mid at (slot + 1)
       → HasAt s at (writing spot slot) → DoesExpression s (Assign place e) from (at + 1) slot
   does_assign place of e given spot from mid at slot scene typed first second has = record {
     within = first.within;
@@ -300,7 +310,7 @@ module _ (s : Scene) where
         let still = stays_good s e given a b word scene typed good ran in
         subst (λ (o : Option Outcome). At mid (with_slots slots w) b o)
         (sym (continued_then (location (calls_of s) place b) (store word) rest))
-        (second.comes (with_slots slots w) b (λ l d. continued (store word l d) rest) (omega (arith, low))
+        (second (with_slots slots w) b (λ l d. continued (store word l d) rest) (omega (arith, low))
         (omega (arith, long, held.long)) (refits w slot word slots a b fits held) still
         (λ d more was also went bears.
         let carried = carry (well_of s b still) went left.carried in

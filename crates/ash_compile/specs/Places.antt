@@ -114,22 +114,27 @@ pub record HoldsBelow (old : Window) (slot : ℕ) (slots : List Word) (b : Activ
   pub kept : (k : ℕ) → old.count ≤ k → k < slot → slice_index_or slots k Null ≡ slice_index_or old.slots k Null
   pub locals : (b.frame).locals ≡ take old.count slots
 
--- From here to there the code computes what a place names into slots from one on. What is left of the place is the
--- test of them.
+-- From here to there the code computes what a place names into slots, and keeps those before one. What is left of the
+-- place is the test of them.
+abbrev pub NamesPlace : Scene → Place → VarType → Spot → ℕ → ℕ → ℕ → Type 0
+NamesPlace s place of spot from to slot =
+    (w : Window) (a : Activity) (rest : Location → Activity → Option Outcome)
+    → w.count ≤ slot
+    → s.room ≤ length w.slots
+    → Fits w a
+    → Good s a
+    → ((b : Activity) (slots : List Word)
+    → location (calls_of s) place a ≡ located spot slots b
+    → HoldsBelow w slot slots b
+    → Goes s.context s.env s.envs a b
+    → Bears s b slots spot of
+    → Arrives s.setting (control s.function to (with_slots slots w)) b (continued (located spot slots b) rest))
+    → Arrives s.setting (control s.function from w) a (continued (location (calls_of s) place a) rest)
+
+-- The same, where the slots are from one on.
 pub record DoesPlace (s : Scene) (place : Place) (of : VarType) (spot : Spot) (from to slot : ℕ) : Type 0 where
   pub lies : LiesIn slot s.room spot
-  pub comes : (w : Window) (a : Activity) (rest : Location → Activity → Option Outcome)
-      → w.count ≤ slot
-      → s.room ≤ length w.slots
-      → Fits w a
-      → Good s a
-      → ((b : Activity) (slots : List Word)
-      → location (calls_of s) place a ≡ located spot slots b
-      → HoldsBelow w slot slots b
-      → Goes s.context s.env s.envs a b
-      → Bears s b slots spot of
-      → Arrives s.setting (control s.function to (with_slots slots w)) b (continued (located spot slots b) rest))
-      → Arrives s.setting (control s.function from w) a (continued (location (calls_of s) place a) rest)
+  pub comes : NamesPlace s place of spot from to slot
 
 -- The code has grown by that of a place: wherever it stands, it does what the place does if that has a type there.
 pub record EmitsPlace (old new : CodeBuilder) (place : Place) (spot : Spot) (slot : ℕ) : Type 0 where
@@ -140,3 +145,13 @@ pub record EmitsPlace (old new : CodeBuilder) (place : Place) (spot : Spot) (slo
       → Stands s (code_of new) (end_of old) (end_of new)
       → Suits s new
       → DoesPlace s place of spot (end_of old) (end_of new) slot
+
+-- The code has grown by that of a place which is written once, wherever it stands: an index may be in the slot of a local.
+pub record EmitsTarget (old new : CodeBuilder) (place : Place) (spot : Spot) (slot : ℕ) : Type 0 where
+  pub keeps : Keeps old new
+  pub does : (s : Scene) (of : VarType)
+      → IsScene s
+      → HasPlace s.env place of
+      → Stands s (code_of new) (end_of old) (end_of new)
+      → Suits s new
+      → NamesPlace s place of spot (end_of old) (end_of new) slot

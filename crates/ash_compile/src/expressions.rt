@@ -12,7 +12,7 @@ ghost use Rattle.ash_typed.specs.TypedTreeViews.{expr_of, place_of, linked, all_
 ghost use Rattle.ash_typed.specs.TypedTreeViews.{all_lazies};
 ghost use Rattle.ash_meaning.specs.OperatorMeaning.{word_at};
 ghost use Rattle.ash_compile.specs.Emission.{Emits, lazy_jump, read_local};
-ghost use Rattle.ash_compile.specs.Places.{EmitsPlace};
+ghost use Rattle.ash_compile.specs.Places.{EmitsPlace, EmitsTarget};
 ghost use Rattle.ash_compile.specs.Operands.{IsSimple, EmitsIn, EmitsInto};
 ghost use Rattle.ash_compile.specs.Arguments.{EmitsArguments};
 ghost use Rattle.ash_compile.specs.declared.builder.CodeBuilder.{CodeBuilder as Written};
@@ -135,7 +135,7 @@ impl CodeBuilder {
             ExprKind::Assign { place, value } => {
                 self.expression(value, slot)?;
                 let next = after(slot)?;
-                let spot = self.place(place, next)?;
+                let spot = self.target(place, next)?;
                 self.assignment(spot, slot)
             }
             ExprKind::Update {
@@ -426,8 +426,8 @@ impl CodeBuilder {
             Link::Member(member) => self.read_member(*member, slot),
             Link::Index { index, .. } => {
                 let next = after(slot)?;
-                self.expression(index, next)?;
-                self.read_element(slot, next)
+                let index = self.value(index, next)?;
+                self.read_element(slot, index)
             }
             Link::Invoke {
                 method,
@@ -457,6 +457,22 @@ impl CodeBuilder {
                     index: next,
                 })
             }
+        }
+    }
+
+    /// Appends the code of what a place names that is written once. Its index is where its value is.
+    #[cycle(expressions)]
+    fn target(&mut self, place: &Place, slot: usize) -> Result<Spot, AllocError>
+        ensures emits { IfOk result (λ spot. EmitsTarget self.old self.new (place_of place.now) spot slot) }
+    {
+        match place {
+            Place::Element { array, index, .. } => {
+                self.expression(array, slot)?;
+                let next = after(slot)?;
+                let index = self.value(index, next)?;
+                Ok(Spot::Element { array: slot, index })
+            }
+            _ => self.place(place, slot),
         }
     }
 

@@ -9,7 +9,8 @@ ghost use Rattle.ash_typed.specs.TypedTree.{Update, Count};
 ghost use Rattle.ash_compile.specs.Emission.{Emits};
 ghost use Rattle.ash_compile.specs.Conversions.{Converts};
 ghost use Rattle.ash_compile.specs.Places.{spot_of_variable, spot_of_member, reading, writing, slot_of_old};
-ghost use Rattle.ash_compile.specs.Places.{slot_of_new, EmitsPlace};
+ghost use Rattle.ash_compile.specs.Places.{slot_of_new, EmitsPlace, EmitsTarget};
+ghost use Rattle.ash_compile.specs.Operands.{EmitsIn};
 ghost use Rattle.ash_compile.specs.declared.builder.CodeBuilder.{CodeBuilder as Written};
 
 use crate::builder::CodeBuilder;
@@ -129,12 +130,11 @@ impl CodeBuilder {
         self.put(slot, reading(spot_of_member(member, slot), slot))
     }
 
-    /// Reads an element of the array in a slot, by the index in the next one.
+    /// Reads an element of the array in a slot, by the index in another one.
     pub fn read_element(&mut self, slot: usize, index: usize) -> Result<(), AllocError>
-        requires next { index ≡ slot + 1 }
         ensures emits { IfOk result (λ u. (start mid : Written) (a i : ExprData) (of : ElementType)
             → Emits start mid a slot
-            → Emits mid self.old i (slot + 1) → Emits start self.new (Read (Indexed a i of)) slot) }
+            → EmitsIn mid self.old i (slot + 1) index → Emits start self.new (Read (Indexed a i of)) slot) }
     {
         self.put(slot, reading(Spot::Element { array: slot, index }, slot))
     }
@@ -143,7 +143,7 @@ impl CodeBuilder {
     pub fn assignment(&mut self, spot: Spot, slot: usize) -> Result<(), AllocError>
         ensures emits { IfOk result (λ u. (start mid : Written) (place : PlaceData) (e : ExprData)
             → Emits start mid e slot
-            → EmitsPlace mid self.old place spot (slot + 1) → Emits start self.new (Assign place e) slot) }
+            → EmitsTarget mid self.old place spot (slot + 1) → Emits start self.new (Assign place e) slot) }
     {
         self.put(slot, writing(spot, slot))
     }

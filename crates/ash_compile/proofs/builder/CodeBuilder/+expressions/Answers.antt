@@ -11,7 +11,7 @@ use Rattle.ash_code.specs.declared.instruction.Instruction.{Instruction}
 use Rattle.ash_typed.specs.TypedTree.{Expr, Lazily, Call, Invoke, exprs, converted}
 use Rattle.ash_typed.specs.TypedTreeViews.{expr_of, place_of, linked, all_linked, chained, all_chained, all_lazies}
 use Rattle.ash_compile.specs.Emission.{Puts, Leads, Emits, end_of, lazy_jump}
-use Rattle.ash_compile.specs.Places.{EmitsPlace}
+use Rattle.ash_compile.specs.Places.{EmitsPlace, EmitsTarget}
 use Rattle.ash_compile.proofs.Emitted.{if_ok, of_kind}
 use Rattle.ash_compile.proofs.Emitted as emitted
 use Rattle.ash_compile.proofs.EmittedBranches as branches
@@ -335,7 +335,7 @@ expression-returns-in_ok-spot-in-Assign t c = record {
       (λ u then. of_kind c.args.self.now c.assignment.new.self c.args.expr.now.kind.value _ _ c.args.slot (sym c.deref.ensures ∙ c.in-Assign.is) (refl)
       (then c.args.self.now c.expression-in-Assign.new.self (place_of c.in-Assign.place) (expr_of c.in-Assign.value)
       c.in_ok-expression-in-Assign.ensures.emits
-      (subst (λ (k : ℕ). EmitsPlace c.expression-in-Assign.new.self c.place.new.self (place_of c.in-Assign.place) c.in_ok-spot-in-Assign.spot k)
+      (subst (λ (k : ℕ). EmitsTarget c.expression-in-Assign.new.self c.target.new.self (place_of c.in-Assign.place) c.in_ok-spot-in-Assign.spot k)
       c.in_ok-next-in-Assign.ensures.next c.in_ok-spot-in-Assign.ensures.emits)))
       c.assignment.ensures.emits;
 }
@@ -372,12 +372,12 @@ link-returns-in-Member t c = record {
   emits = rw c.in-Member.is (if_ok c.read_member.result (λ u emits. emits) c.read_member.ensures.emits);
 }
 
-pub link-returns-in_ok-expression-in-Index : goal.link-returns-in_ok-expression-in-Index
-link-returns-in_ok-expression-in-Index t c = record {
+pub link-returns-in_ok-index-in-Index : goal.link-returns-in_ok-index-in-Index
+link-returns-in_ok-index-in-Index t c = record {
   emits = rw c.in-Index.is (if_ok c.read_element.result
       (λ u then start e first.
       then start c.args.self.now e (expr_of c.in-Index.index) c.in-Index.of first
-      (subst (λ (r : ℕ). Emits c.args.self.now c.expression.new.self (expr_of c.in-Index.index) r) c.in_ok-next-in-Index.ensures.next c.in_ok-expression-in-Index.ensures.emits))
+      (subst (λ (r : ℕ). EmitsIn c.args.self.now c.value.new.self (expr_of c.in-Index.index) r c.in_ok-index-in-Index.index) c.in_ok-next-in-Index.ensures.next c.in_ok-index-in-Index.ensures.emits))
       c.read_element.ensures.emits);
 }
 
@@ -401,6 +401,23 @@ place-returns-in_ok-expression-in-Element-2 t c = record {
       (expr_of c.in-Element.index) c.in-Element.of c.args.slot c.in_ok-expression-in-Element.ensures.emits
       (subst (λ (r : ℕ). Emits c.expression-in-Element.new.self c.expression-in-Element-2.new.self (expr_of c.in-Element.index) r)
       c.in_ok-next-in-Element.ensures.next c.in_ok-expression-in-Element-2.ensures.emits));
+}
+
+pub target-returns-in_ok-index-in-Element : goal.target-returns-in_ok-index-in-Element
+target-returns-in_ok-index-in-Element t c = record {
+  emits = rw c.in-Element.is
+      (places.element_target c.args.self.now c.expression.new.self c.value.new.self (expr_of c.in-Element.array)
+      (expr_of c.in-Element.index) c.in-Element.of c.args.slot c.in_ok-index-in-Element.index
+      c.in_ok-expression-in-Element.ensures.emits
+      (subst (λ (r : ℕ). EmitsIn c.expression.new.self c.value.new.self (expr_of c.in-Element.index) r
+      c.in_ok-index-in-Element.index) c.in_ok-next-in-Element.ensures.next c.in_ok-index-in-Element.ensures.emits));
+}
+
+pub target-returns-in_default : goal.target-returns-in_default
+target-returns-in_default t c = record {
+  emits = if_ok c.place.result
+      (λ spot emits. places.target c.args.self.now c.place.new.self (place_of c.args.place.now) spot c.args.slot emits)
+      c.place.ensures.emits;
 }
 
 pub expression-returns-in_ok-arguments-in-Call : goal.expression-returns-in_ok-arguments-in-Call

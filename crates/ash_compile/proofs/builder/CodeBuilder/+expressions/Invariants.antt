@@ -49,6 +49,9 @@ decreases-link l = 8 * size-Link l.link.now
 abbrev pub decreases-place : goal.decreases-place
 decreases-place l = 8 * size-Place l.place.now
 
+abbrev pub decreases-target : goal.decreases-target
+decreases-target l = 8 * size-Place l.place.now + 2
+
 abbrev pub decreases-invoke : goal.decreases-invoke
 decreases-invoke l = 8 * most size-Expr l.arguments.now + 2
 

@@ -12,9 +12,7 @@ pub returns : goal.returns
 returns c = record {
   emits = if_ok c.put.result
       (λ u puts start mid a i of first second.
-      emitted.read_element start mid c.args.self.now c.put.new.self a i of c.args.slot first second
-      (subst (λ (j : Instruction). Puts c.args.self.now c.put.new.self c.args.slot j)
-      (c.reading.ensures.reads ∙ ap (λ (k : ℕ). reading (spots.Element c.args.slot k) c.args.slot) c.requires.next)
-      puts))
+      emitted.read_element start mid c.args.self.now c.put.new.self a i of c.args.slot c.args.index first second
+      (subst (λ (j : Instruction). Puts c.args.self.now c.put.new.self c.args.slot j) c.reading.ensures.reads puts))
       c.put.ensures.puts;
 }
