@@ -11,6 +11,8 @@ use Rattle.ash_integers.specs.declared.arithmetic.DivisionFault.{DivisionFault}
 use Rattle.ash_integers.specs.declared.arithmetic.DivisionFault.TheVariants as faults
 use Rattle.ash_integers.specs.declared.int_type.IntType.{IntType}
 use Rattle.ash_integers.specs.declared.int_type.IntType.TheVariants as ints
+use Rattle.ash_typed.specs.declared.tree.expressions.ExprKind.{ExprKind}
+use Rattle.ash_typed.specs.TypedTreeViews.{expr_in}
 use Rattle.ash_typed.specs.declared.types.VarType.{VarType}
 use Rattle.ash_typed.specs.declared.types.VarType.TheVariants as vars
 use Rattle.ash_typed.specs.declared.tree.operations.Calculation.{Calculation}
@@ -108,6 +110,12 @@ emits_in old new e slot emits = record {
       computes_in s.setting (Good s) s.function s.room (expression (calls_of s) e) (end_of old) (end_of new) slot
       (emits.does s of scene typed stands suits);
 }
+
+-- what the code's tree stands for
+pub of_kind_in : (old new : CodeBuilder) (k l : ExprKind) (e : Expr) (slot at : ℕ) → k ≡ l → expr_in l ≡ e
+    → EmitsIn old new e slot at → EmitsIn old new (expr_in k) slot at
+of_kind_in old new k l e slot at is means emits =
+    subst (λ (x : Expr). EmitsIn old new x slot at) (sym (ap expr_in is ∙ means)) emits
 
 pub local_there_in : (old : CodeBuilder) (e : Expr) (n slot : ℕ) → ReadsLocal e n → EmitsIn old old e slot n
 local_there_in old _ n slot (reads_local {of = of} plain) = record {

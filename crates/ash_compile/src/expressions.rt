@@ -236,7 +236,21 @@ impl CodeBuilder {
     {
         match local_read(expr) {
             Some(local) => Ok(local),
-            None => {
+            None => self.computed(expr, slot),
+        }
+    }
+
+    /// The same of an operand that is no local. One that is converted is read where it is.
+    #[cycle(expressions)]
+    fn computed(&mut self, expr: &Expr, slot: usize) -> Result<usize, AllocError>
+        ensures emits { IfOk result (λ at. EmitsIn self.old self.new (expr_of expr.now) slot at) }
+    {
+        match &*expr.kind {
+            ExprKind::Convert { conversion, value } => {
+                let at = self.value(value, slot)?;
+                self.converted(*conversion, at, slot)
+            }
+            _ => {
                 self.expression(expr, slot)?;
                 Ok(slot)
             }

@@ -61,10 +61,19 @@ value-returns-in-Some t c = record {
       c.in-Some.ensures.reads;
 }
 
-pub value-returns-in_ok-expression-in-None : goal.value-returns-in_ok-expression-in-None
-value-returns-in_ok-expression-in-None t c = record {
+pub computed-returns-in_ok-at-in-Convert : goal.computed-returns-in_ok-at-in-Convert
+computed-returns-in_ok-at-in-Convert t c = record {
+  emits = if_ok c.converted.result
+      (λ at emits. operands.of_kind_in c.args.self.now c.converted.new.self c.args.expr.now.kind.value _ _ c.args.slot at
+      (sym c.deref.ensures ∙ c.in-Convert.is) refl
+      (emits c.args.self.now (expr_of c.in-Convert.value) c.in_ok-at-in-Convert.ensures.emits))
+      c.converted.ensures.emits;
+}
+
+pub computed-returns-in_ok-expression-in_default : goal.computed-returns-in_ok-expression-in_default
+computed-returns-in_ok-expression-in_default t c = record {
   emits = operands.emits_in c.args.self.now c.expression.new.self (expr_of c.args.expr.now) c.args.slot
-      c.in_ok-expression-in-None.ensures.emits;
+      c.in_ok-expression-in_default.ensures.emits;
 }
 
 pub left-returns-clause-emits : goal.left-returns-clause-emits

@@ -20,16 +20,19 @@ decreases-conditional l =
     8 * max (size-Expr l.condition.now) (max (size-Expr l.then.now) (size-Expr l.otherwise.now)) + 1
 
 abbrev pub decreases-chain : goal.decreases-chain
-decreases-chain l = 8 * max (size-Expr l.first.now) (most size-Operand l.operands.now) + 4
+decreases-chain l = 8 * max (size-Expr l.first.now) (most size-Operand l.operands.now) + 5
 
 abbrev pub decreases-row : goal.decreases-row
-decreases-row l = 8 * max (size-Expr l.first.now) (most size-Operand l.operands.now) + 3
+decreases-row l = 8 * max (size-Expr l.first.now) (most size-Operand l.operands.now) + 4
 
 abbrev pub decreases-left : goal.decreases-left
-decreases-left l = 8 * size-Expr l.expr.now + 2
+decreases-left l = 8 * size-Expr l.expr.now + 3
 
 abbrev pub decreases-value : goal.decreases-value
-decreases-value l = 8 * size-Expr l.expr.now + 1
+decreases-value l = 8 * size-Expr l.expr.now + 2
+
+abbrev pub decreases-computed : goal.decreases-computed
+decreases-computed l = 8 * size-Expr l.expr.now + 1
 
 abbrev pub decreases-lazy_row : goal.decreases-lazy_row
 decreases-lazy_row l = 8 * max (size-Expr l.first.now) (most size-Expr l.others.now) + 3
