@@ -2,9 +2,8 @@
 use Rattle.std.proofs.Common.{◌≡◌, ◌≤◌, ◌<◌, ℕ, zero, suc, ◌+◌, List, ◌∷◌, take, drop, length, refl, sym, ap, ◌∙◌}
 use Rattle.std.proofs.Common.{subst, arith}
 use Rattle.std.proofs.Common.{true, Bool, nat_lt, length-drop}
-use Rattle.std.specs.Prelude.{Option, Some, slice_get, slice_index_or, slice_set, ◌&&◌}
+use Rattle.std.specs.Prelude.{Option, Some, slice_get, slice_index_or, ◌&&◌}
 use Rattle.std.proofs.lemmas.Bool.Decides.{nat_tests}
-use Rattle.std.proofs.lemmas.List.{length-set, get_or-set_same, get_or-set_other, take-set-le}
 use Rattle.ash_host.specs.declared.word.Word.{Word}
 use Rattle.ash_host.specs.declared.word.Word.TheVariants as words
 use Rattle.ash_typed.specs.declared.types.VarType.{VarType}
@@ -12,7 +11,7 @@ use Rattle.ash_typed.specs.Modules.{Function}
 use Rattle.ash_typed.specs.TypedTree.{Expr, exprs}
 use Rattle.ash_typed.specs.SoundExpressions.{TypedEnvironment, AreSoundArguments}
 use Rattle.ash_meaning.specs.Activity.{Activity}
-use Rattle.ash_meaning.specs.Runs.{Run, Progress, Done, Ended, NoStep, onward, found, ◌>>=◌, ◌>>◌}
+use Rattle.ash_meaning.specs.Runs.{Run, Progress, Done, onward, found, ◌>>=◌, ◌>>◌}
 use Rattle.ash_meaning.specs.Frames.{tick, demand_frame, max_frames}
 use Rattle.ash_meaning.specs.CallMeaning.{call as call_meaning}
 use Rattle.ash_meaning.specs.Classes.{ModuleCallee, FreeFunction, Entry, entry_of, entry_of_function}
@@ -25,15 +24,17 @@ use Rattle.ash_run_steps.specs.GuardedSteps.{are_alive}
 use Rattle.ash_code.specs.declared.code.FunctionCode.{FunctionCode}
 use Rattle.ash_code.specs.declared.instruction.Instruction.TheVariants as i
 use Rattle.ash_code.specs.Controls.{Window, control}
-use Rattle.ash_code.specs.Performing.{Setting, call, enter_at, put}
+use Rattle.ash_code.specs.Performing.{Setting, call, enter_at}
 use Rattle.ash_code.specs.Running.{step}
 use Rattle.ash_compile.specs.Stretches.{continued, Arrives, with_slots, Fits, Holds, Has, Computes}
 use Rattle.ash_compile.specs.Performances.{Enters}
 use Rattle.ash_compile.specs.Arguments.{HoldsAll, ComputesAll, DoesArguments}
 use Rattle.ash_compile.specs.Layout.{index_of}
+use Rattle.ash_compile.specs.Operands.{HoldsAt, ComputesAt}
 use Rattle.ash_compile.specs.Callees.{room_for, IsCallee, a_function, HasCallee, given_by, Entering}
 use Rattle.ash_compile.specs.Emission.{Scene, IsScene, Good, calls_of}
-use Rattle.ash_compile.proofs.Simulation.{continued_then, then_is, step_is, puts, refits}
+use Rattle.ash_compile.proofs.InSlots.{computes_own}
+use Rattle.ash_compile.proofs.Simulation.{continued_then, then_is, step_is, refits}
 use Rattle.ash_compile.proofs.Emission.{HasAt, greatest_within}
 use Rattle.ash_compile.proofs.Arguments.{all_refit, argued, argued_good, arguments_long}
 use Rattle.ash_compile.proofs.Calling.{Returns, entered_at, framed, calls_there, enters_there}
@@ -50,15 +51,14 @@ held_then w slot count ws slots more v b d first second = record {
   locals = second.locals;
 }
 
--- A value moved to the slot before it.
-pub held_moved : (w : Window) (slot : ℕ) (v : Word) (slots : List Word) (b : Activity) → w.count ≤ slot
-    → slot < length w.slots → Holds w (slot + 1) v slots b → Holds w slot v (slice_set slots slot v) b
-held_moved w slot v slots b low within held = record {
-  long = length-set slots slot v ∙ held.long;
-  kept = λ k lower below.
-      get_or-set_other slots slot k v words.Null (omega (arith, below)) ∙ held.kept k lower (omega (arith, below));
-  value = get_or-set_same slots slot v words.Null (omega (arith, within, held.long));
-  locals = held.locals ∙ sym (take-set-le w.count slots slot v low);
+-- A value in the slot after that of its expression.
+pub behind : (w : Window) (slot : ℕ) (v : Word) (slots : List Word) (b : Activity) → Holds w (slot + 1) v slots b
+    → HoldsAt w slot (slot + 1) v slots b
+behind w slot v slots b held = record {
+  long = held.long;
+  kept = λ k lower below. held.kept k lower (omega (arith, below));
+  value = held.value;
+  locals = held.locals;
 }
 
 -- phrases with arguments
@@ -86,19 +86,18 @@ module _ (s : Setting) (Good : Activity → Type 0) (function room : ℕ) where
   }
 
   -- An object, then arguments, then what is done with their values.
-  pub by_object : (p : Run Word) (q : Run (List Word)) (f : Word → List Word → Run Word) (from mid at to slot count : ℕ)
+  pub by_object_at : (p : Run Word) (q : Run (List Word)) (f : Word → List Word → Run Word) (from mid at to slot out count : ℕ)
       → Computes s Good function room p from mid slot
       → ComputesAll s Good function room q mid at (slot + 1) count
       → ((a b : Activity) (v : Word) → Good a → p a ≡ Done v b → Good b)
       → ((w : Window) (a b d : Activity) (handle : Word) (ws : List Word) (rest : Word → Activity → Option Outcome)
       → w.count ≤ slot → room ≤ length w.slots → Fits w d → Good a → p a ≡ Done handle b → q b ≡ Done ws d
       → slice_index_or w.slots slot words.Null ≡ handle → take count (drop (slot + 1) w.slots) ≡ ws
-      → ((v : Word) (e : Activity) (slots : List Word) → f handle ws d ≡ Done v e → Holds w slot v slots e
+      → ((v : Word) (e : Activity) (slots : List Word) → f handle ws d ≡ Done v e → HoldsAt w slot out v slots e
       → Arrives s (control function to (with_slots slots w)) e (rest v e))
       → Arrives s (control function at w) d (continued (f handle ws d) rest))
-      → Computes s Good function room (p >>= (λ handle. q >>= f handle)) from to slot
-  by_object p q f from mid at to slot count first second keeps does = record {
-    within = first.within;
+      → ComputesAt s Good function room (p >>= (λ handle. q >>= f handle)) from to slot out
+  by_object_at p q f from mid at to slot out count first second keeps does = record {
     comes = λ w a rest low long fits good goes.
         subst (λ (o : Option Outcome). Arrives s (control function from w) a o)
         (sym (continued_then (p a) (λ handle. q >>= f handle) rest))
@@ -122,6 +121,26 @@ module _ (s : Setting) (Good : Activity → Type 0) (function room : ℕ) where
           locals = stays.locals;
         }))))));
   }
+
+  -- The same, where the value comes into the slot of the object.
+  pub by_object : (p : Run Word) (q : Run (List Word)) (f : Word → List Word → Run Word) (from mid at to slot count : ℕ)
+      → Computes s Good function room p from mid slot
+      → ComputesAll s Good function room q mid at (slot + 1) count
+      → ((a b : Activity) (v : Word) → Good a → p a ≡ Done v b → Good b)
+      → ((w : Window) (a b d : Activity) (handle : Word) (ws : List Word) (rest : Word → Activity → Option Outcome)
+      → w.count ≤ slot → room ≤ length w.slots → Fits w d → Good a → p a ≡ Done handle b → q b ≡ Done ws d
+      → slice_index_or w.slots slot words.Null ≡ handle → take count (drop (slot + 1) w.slots) ≡ ws
+      → ((v : Word) (e : Activity) (slots : List Word) → f handle ws d ≡ Done v e → Holds w slot v slots e
+      → Arrives s (control function to (with_slots slots w)) e (rest v e))
+      → Arrives s (control function at w) d (continued (f handle ws d) rest))
+      → Computes s Good function room (p >>= (λ handle. q >>= f handle)) from to slot
+  by_object p q f from mid at to slot count first second keeps does =
+      computes_own s Good function room (p >>= (λ handle. q >>= f handle)) from to slot first.within
+      (by_object_at p q f from mid at to slot slot count first second keeps
+      (λ w a b d handle ws rest low long fits good ran run held are goes.
+      does w a b d handle ws rest low long fits good ran run held are (λ v e slots made stays.
+      goes v e slots made
+      (record { long = stays.long; kept = stays.kept; value = stays.value; locals = stays.locals }))))
 
 -- calls of what the module has
 
@@ -274,34 +293,6 @@ module _ (s : Scene) (scene : IsScene s) where
             ((s.setting.names).functions index) f.line this own good.0 room this_is own_values
 
 -- what was done, of a value and an activity
-
-abbrev DoneAt : {A : Type 0} → (A → Activity → Type 0) → Progress A → Type 0
-DoneAt P (Done v b) = P v b
-DoneAt P (Ended e b) = Unit {0}
-DoneAt P NoStep = Unit {0}
-
-done_at : {A : Type 0} (P : A → Activity → Type 0) (p : Progress A) (v w : A) (b d : Activity) → p ≡ Done v b → p
-    ≡ Done w d
-    → P v b → P w d
-done_at P p v w b d first second here = subst (λ q. DoneAt P q) (sym first ∙ second) here
-
-module _ (s : Setting) (Good : Activity → Type 0) (function room : ℕ) where
-  -- A value is moved to the slot before it.
-  pub moves_back : (w : Window) (slot at : ℕ) (v : Word) (after : List Word) (e : Activity)
-      (rest : Word → Activity → Option Outcome)
-      → Has s Good function room at (i.Move (slot + 1) slot)
-      → w.count ≤ slot → slot < length w.slots → Holds w (slot + 1) v after e
-      → ((slots : List Word) → Holds w slot v slots e → Arrives s (control function (at + 1) (with_slots slots w)) e
-      (rest v e))
-      → Arrives s (control function at (with_slots after w)) e (rest v e)
-  moves_back w slot at v after e rest has low within held go =
-      puts s Good function room (with_slots after w) at slot e (Done v e) rest
-      (step_is s Good function room (with_slots after w) e at (i.Move (slot + 1) slot) has
-      ∙ ap (λ (x : Word). put slot (control function at (with_slots after w)) x e) held.value) low
-      (λ u d is.
-      done_at (λ x y. Arrives s (control function (at + 1) (with_slots (slice_set after slot x) w)) y (rest x y))
-      (Done v e) v u
-      e d refl is (go (slice_set after slot v) (held_moved w slot v after e low within held)))
 
 -- a row of slots is there
 pub row_within : (slot count room : ℕ) → slot < room → (0 < count → slot + count ≤ room) → slot + count ≤ room

@@ -22,7 +22,7 @@ use Rattle.ash_code.specs.Performing.{Setting, Next, GoesOn, go, go_to, go_if}
 use Rattle.ash_code.specs.Running.{step}
 use Rattle.ash_compile.specs.Stretches.{continued, Arrives, with_slots, Has}
 use Rattle.ash_compile.specs.Performances.{here, HasLocals, Decides}
-use Rattle.ash_compile.specs.Operands.{ComputesIn}
+use Rattle.ash_compile.specs.Operands.{ComputesAt, ComputesIn}
 use Rattle.ash_compile.proofs.Simulation.{goes_by, step_is, then_is}
 use Rattle.ash_compile.proofs.Statements.{arrives_then, fits_there, ticked_stands, LeadsTo}
 use Rattle.ash_compile.proofs.Loops.{came}
@@ -73,7 +73,7 @@ module _ (s : Setting) (Good : Activity → Type 0) (function room : ℕ) where
   pub compares : (comparison : Comparison) (p q : Run Word) (f : Word → Word → Word)
       (from mid at left right unmet count : ℕ)
       → ComputesIn s Good function room p from mid count left
-      → ComputesIn s Good function room q mid at (count + 1) right
+      → ComputesAt s Good function room q mid at (count + 1) right
       → Has s Good function room at (i.BranchUnless comparison left right unmet)
       → ((a b : Activity) (v : Word) → Good a → p a ≡ Done v b → Good b)
       → (left ≡ count) ⊎ ((b d : Activity) (v : Word) → q b ≡ Done v d → (d.frame).locals ≡ (b.frame).locals)

@@ -21,7 +21,7 @@ use Rattle.ash_compile.specs.Performances.{here, HasLocals, Exits, Acts, Decides
 use Rattle.ash_compile.proofs.Simulation.{continued_then, steps_on, goes_by, step_is, then_is}
 use Rattle.ash_compile.proofs.Statements.{arrives_then, ticks_first, ticked_stands, released_frame, fits_there, below_there}
 use Rattle.ash_compile.proofs.Statements.{LeadsTo}
-use Rattle.ash_compile.specs.Operands.{ComputesIn, Affects}
+use Rattle.ash_compile.specs.Operands.{ComputesAt, Affects}
 
 -- objects have ranks where a phrase is done
 abbrev pub RanksAfter : {A : Type 0} → Setting → (Activity → Type 0) → Run A → Type 0
@@ -109,7 +109,7 @@ module _ (s : Setting) (Good : Activity → Type 0) (function room : ℕ) where
 
   -- a condition: its value is tested where its full expression ends
 
-  pub decides : (p : Run Word) (from mid unmet count left : ℕ) → ComputesIn s Good function room p from mid count left
+  pub decides : (p : Run Word) (from mid unmet count left : ℕ) → ComputesAt s Good function room p from mid count left
       → Has s Good function room mid (i.Branch left unmet) → RanksAfter s Good p
       → Decides s Good function room (condition p) from (mid + 1) unmet count
   decides p from mid unmet count left computes branches ranks = record {

@@ -39,7 +39,7 @@ use Rattle.ash_compile.specs.declared.builder.CodeBuilder.{CodeBuilder}
 use Rattle.ash_compile.specs.Stretches.{Fits}
 use Rattle.ash_compile.specs.Emission.{code_of, end_of, Keeps, Puts, Scene, IsScene, Suits, Good, Stands, Emits, calls_of}
 use Rattle.ash_compile.specs.Places.{HoldsBelow}
-use Rattle.ash_compile.specs.Operands.{HoldsIn, ComputesIn, Affects, EmitsIn, EmitsInto, EmitsEffect, Calculates}
+use Rattle.ash_compile.specs.Operands.{HoldsIn, ComputesIn, Affects, EmitsAt, EmitsIn, EmitsInto, EmitsEffect, Calculates}
 use Rattle.ash_compile.specs.Operands.{Adds, AddsTo, IsAddition}
 use Rattle.ash_typed.specs.declared.tree.expressions.ExprKind.{ExprKind}
 use Rattle.ash_typed.specs.TypedTreeViews.{expr_in}
@@ -51,20 +51,23 @@ use Rattle.ash_compile.proofs.Emission.{HasAt, keeps_on, put_keeps, put_one, put
 use Rattle.ash_compile.proofs.PlaceGuards.{Well, well_of}
 use Rattle.ash_compile.proofs.UpdateCode.{IsRight, right_operand, integer_alive}
 use Rattle.ash_compile.proofs.EmittedUpdates.{typed_updated, typed_operand, typed_right}
-use Rattle.ash_compile.proofs.OperandCode.{below_in, computes_in_as, none_into, one_into}
-use Rattle.ash_compile.proofs.Operands.{DoesIn, calculated_by, receives_local, emits_in, adds_number, number_keeps}
+use Rattle.ash_compile.proofs.OperandCode.{below_at, computes_in_as, none_into, one_into}
+use Rattle.ash_compile.proofs.Operands.{DoesAt, DoesIn, calculated_by, receives_local, emits_at, emits_in, adds_number, number_keeps}
 
 -- what is left of a value
 
-pub effect_of : (old new : CodeBuilder) (e : Expr) (slot at : ℕ) → EmitsIn old new e slot at → EmitsEffect old new e slot
-effect_of old new e slot at emits = record {
+pub effect_at : (old new : CodeBuilder) (e : Expr) (slot at : ℕ) → EmitsAt old new e slot at → EmitsEffect old new e slot
+effect_at old new e slot at emits = record {
   keeps = emits.keeps;
   does = λ s of scene typed stands suits. record {
     comes = λ w a rest low long fits good goes.
         (emits.does s of scene typed stands suits).comes w a rest low long fits good (λ word b slots ran held.
-        goes word b slots ran (below_in w slot at word slots b held));
+        goes word b slots ran (below_at w slot at word slots b held));
   };
 }
+
+pub effect_of : (old new : CodeBuilder) (e : Expr) (slot at : ℕ) → EmitsIn old new e slot at → EmitsEffect old new e slot
+effect_of old new e slot at emits = effect_at old new e slot at (emits_at old new e slot at emits)
 
 -- `op=` at a local
 
@@ -130,7 +133,7 @@ does_update_local : (s : Scene) (c : Calculation) (n : ℕ) (e : Expr) (given : 
     (j : Instruction)
     → IsScene s → slice_get (s.env).locals n ≡ Some (vars.Integer c.of) → IsWellTyped s.env e given
     → IsShift c.operator ⊎ (given ≡ value (vars.Integer c.of)) → slot < s.room
-    → DoesIn s (expression (calls_of s) e) from at slot right → HasAt s at j → Calculates j c n right n
+    → DoesAt s (expression (calls_of s) e) from at slot right → HasAt s at j → Calculates j c n right n
     → DoesIn s (expression (calls_of s) (Update (Stored (variables.Local n (vars.Integer c.of))) c.of c e)) from (at + 1)
     slot n
 does_update_local s c n e given from at slot right j scene there typed given_is within first has by =
@@ -193,7 +196,7 @@ typed_there (typing.local is) = (refl, is)
 
 pub update_effect : (start old new : CodeBuilder) (place : Place) (c : Calculation) (e : Expr) (n slot right : ℕ)
     (j : Instruction)
-    → IsLocalPlace place n → EmitsIn start old e slot right → Puts old new slot j → Calculates j c n right n
+    → IsLocalPlace place n → EmitsAt start old e slot right → Puts old new slot j → Calculates j c n right n
     → EmitsEffect start new (Update place c.of c e) slot
 update_effect start old new _ c e n slot right j (IsLocalPlace.local_place {of = of}) first puts by =
     let last = put_keeps old new slot j puts in

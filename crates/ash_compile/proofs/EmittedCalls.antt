@@ -26,6 +26,7 @@ use Rattle.ash_typed.specs.SoundOperations as operations
 use Rattle.ash_typed.specs.SoundOperations.{IsMethod, IsTarget, parameters_of_array_method}
 use Rattle.ash_typed.specs.SoundExpressions as typing
 use Rattle.ash_typed.specs.SoundExpressions.{TypedEnvironment, IsWellTyped, AreSoundArguments}
+use Rattle.ash_meaning.specs.ExpressionMeaning.{expression}
 use Rattle.ash_meaning.specs.Classes.{Program, Method as ClassMethod, element_of}
 use Rattle.ash_soundness.specs.WellFormed.{declared, IsNamed}
 use Rattle.ash_soundness.proofs.Entries.{mapped}
@@ -35,7 +36,9 @@ use Rattle.ash_compile.specs.declared.builder.CodeBuilder.{CodeBuilder}
 use Rattle.ash_compile.specs.declared.layout.Layout.{Layout}
 use Rattle.ash_compile.specs.Layout.{index_of, IsLayout}
 use Rattle.ash_compile.specs.Arguments.{DoesArguments, EmitsArguments}
-use Rattle.ash_compile.specs.Emission.{code_of, end_of, Puts, Scene, IsScene, Suits, DoesExpression, Emits}
+use Rattle.ash_compile.specs.Emission.{code_of, end_of, Puts, Scene, IsScene, Suits, Good, DoesExpression, Emits, calls_of}
+use Rattle.ash_compile.specs.Operands.{ComputesAt, EmitsAt, EmitsResult}
+use Rattle.ash_compile.proofs.Operands.{emits_at, emits_in, move_into}
 use Rattle.ash_compile.proofs.Emission.{HasAt, keeps_on, put_keeps, put_one, put_greatest, suits_before}
 use Rattle.ash_compile.proofs.Emission.{stands_before, stands_after, has_put}
 use Rattle.ash_compile.proofs.CallCode.{does_function}
@@ -67,47 +70,35 @@ emits_call start old new es f slot j first puts sound does = record {
       (has_put s old new (end_of start) slot j (first.keeps).longer puts stands));
 }
 
--- an object, then arguments, then an instruction that leaves its value behind the object, which is moved there
-pub emits_method : (start mid old put new : CodeBuilder) (e : Expr) (es : List Expr) (f : Expr) (slot : ℕ)
-    (j : Instruction)
-    → Emits start mid e slot → EmitsArguments mid old es (slot + 1) → Puts old put (slot + 1) j
-    → Puts put new slot (i.Move (slot + 1) slot)
+-- an object, then arguments, then an instruction that leaves its value in the slot after that of the object
+pub emits_method : (start mid old new : CodeBuilder) (e : Expr) (es : List Expr) (f : Expr) (slot : ℕ) (j : Instruction)
+    → Emits start mid e slot → EmitsArguments mid old es (slot + 1) → Puts old new (slot + 1) j
     → ((s : Scene) (of : ValueType) → IsWellTyped s.env f of → (x : ValueType) × IsWellTyped s.env e x)
     → ((s : Scene) (of : ValueType) → IsWellTyped s.env f of
     → (parameters : List VarType) × AreSoundArguments s.env parameters (exprs es))
     → ((s : Scene) (of : ValueType) (from between at : ℕ) → IsScene s → IsWellTyped s.env f of → Suits s new
     → slot + 1 < s.greatest → DoesExpression s e from between slot → DoesArguments s es between at (slot + 1)
-    → HasAt s at j → HasAt s (at + 1) (i.Move (slot + 1) slot)
-    → DoesExpression s f from (at + 1 + 1) slot)
-    → Emits start new f slot
-emits_method start mid old put new e es f slot j first second call move object sound does = record {
-  keeps = keeps_on start mid new first.keeps (keeps_on mid old new second.keeps (keeps_on old put new
-      (put_keeps old put (slot + 1) j call) (put_keeps put new slot (i.Move (slot + 1) slot) move)));
+    → HasAt s at j
+    → ComputesAt s.setting (Good s) s.function s.room (expression (calls_of s) f) from (at + 1) slot (slot + 1))
+    → EmitsAt start new f slot (slot + 1)
+emits_method start mid old new e es f slot j first second call object sound does = record {
+  keeps = keeps_on start mid new first.keeps (keeps_on mid old new second.keeps (put_keeps old new (slot + 1) j call));
   does = λ s of scene typed stands suits.
-      let last = put_keeps put new slot (i.Move (slot + 1) slot) move in
-      let called = put_keeps old put (slot + 1) j call in
-      let later = keeps_on old put new called last in
-      let all = keeps_on mid old new second.keeps later in
-      let at_call = put_one old put (slot + 1) j call in
-      let at_move = put_one put new slot (i.Move (slot + 1) slot) move in
+      let last = put_keeps old new (slot + 1) j call in
+      let all = keeps_on mid old new second.keeps last in
       let inner = object s of typed in
       let row = sound s of typed in
-      let before = stands_before s old new (end_of start) later stands in
-      let half = stands_before s put new (end_of start) last stands in
-      let half_suits = suits_before s put new last suits in
-      subst (λ (to : ℕ). DoesExpression s f (end_of start) to slot) (sym (at_move ∙ ap (λ (n : ℕ). n + 1) at_call))
-      (does s of (end_of start) (end_of mid) (end_of old) scene typed suits
-      (put_greatest s old put (slot + 1) j call half_suits)
+      let before = stands_before s old new (end_of start) last stands in
+      subst (λ (to : ℕ). ComputesAt s.setting (Good s) s.function s.room (expression (calls_of s) f) (end_of start) to slot
+      (slot + 1)) (sym (put_one old new (slot + 1) j call))
+      (does s of (end_of start) (end_of mid) (end_of old) scene typed suits (put_greatest s old new (slot + 1) j call suits)
       (first.does s inner.0 scene inner.1 (stands_before s mid new (end_of start) all stands)
       (suits_before s mid new all suits))
       (second.does s row.0 scene row.1
       (stands_after s (code_of old) (end_of start) (end_of mid) (end_of old) (first.keeps).longer before)
-      (suits_before s old new later suits))
-      (has_put s old put (end_of start) (slot + 1) j
-      (omega (arith, (first.keeps).longer, (second.keeps).longer)) call half)
-      (subst (λ (n : ℕ). HasAt s n (i.Move (slot + 1) slot)) at_call
-      (has_put s put new (end_of start) slot (i.Move (slot + 1) slot)
-      (omega (arith, (first.keeps).longer, (second.keeps).longer, at_call)) move stands)));
+      (suits_before s old new last suits))
+      (has_put s old new (end_of start) (slot + 1) j (omega (arith, (first.keeps).longer, (second.keeps).longer)) call
+      stands));
 }
 
 -- what typing says of calls
@@ -205,28 +196,28 @@ method_is s o class place result other ps scene (operations.of_class {c = cs} {n
           (ap (λ (x : Signature). x.parameters) is);
     }
 
-pub method : (start mid old put new : CodeBuilder) (class place index : ℕ) (result : Option VarType) (e : Expr)
+pub method : (start mid old new : CodeBuilder) (class place index : ℕ) (result : Option VarType) (e : Expr)
     (ps : List VarType) (es : List Expr) (slot : ℕ)
     → Emits start mid e slot → EmitsArguments mid old es (slot + 1)
     → ((number : ℕ) (m : Module) → IsLayout number m old.layout → class < length m.classes
     → index ≡ index_of m (ClassMethod class place))
-    → Puts old put (slot + 1) (i.CallMethod index slot (slot + 1)) → Puts put new slot (i.Move (slot + 1) slot)
-    → Emits start new (Invoke e (methods.Script class place result) ps (exprs es)) slot
-method start mid old put new class place index result e ps es slot first second is call move =
-    emits_method start mid old put new e es (Invoke e (methods.Script class place result) ps (exprs es)) slot
-    (i.CallMethod index slot (slot + 1)) first second call move
+    → Puts old new (slot + 1) (i.CallMethod index slot (slot + 1))
+    → EmitsAt start new (Invoke e (methods.Script class place result) ps (exprs es)) slot (slot + 1)
+method start mid old new class place index result e ps es slot first second is call =
+    emits_method start mid old new e es (Invoke e (methods.Script class place result) ps (exprs es)) slot
+    (i.CallMethod index slot (slot + 1)) first second call
     (λ s of typed. (_, (typed_invoked typed).typed)) (λ s of typed. (ps, (typed_invoked typed).args))
-    (λ s of from between at scene typed suits under object does has moves.
+    (λ s of from between at scene typed suits under object does has.
     let invoked = typed_invoked typed in
     let f = method_is s invoked.object class place result invoked.result ps scene invoked.is in
     let layout = subst (λ (l : Layout). IsLayout ((s.setting).code).module ((s.context).program).tree l)
-    (move.layout ∙ call.layout) suits.layout in
+    call.layout suits.layout in
     does_method s scene class place f.source f.method e es from between at slot f.there f.here
     (subst (λ (o : ObjectType). IsWellTyped s.env e (value (vars.Handle o))) (object_is invoked.is) invoked.typed)
     (subst (λ (types : List VarType). AreSoundArguments s.env types (exprs es)) f.takes invoked.args) under object does
     (subst (λ (n : ℕ). HasAt s at (i.CallMethod n slot (slot + 1)))
     (is ((s.setting).code).module ((s.context).program).tree layout
-    (slice_get_within (((s.context).program).tree).classes class f.source f.there)) has) moves)
+    (slice_get_within (((s.context).program).tree).classes class f.source f.there)) has))
 
 -- services and what hosts construct
 
@@ -418,23 +409,23 @@ host_is : {s : ModuleSignatures} {o : ObjectType} {id : ℕ} {result other : Opt
     → IsMethod s o (methods.Host id result) ps other → (kind : ℕ) × (o ≡ objects.Host kind)
 host_is (operations.of_host offered) = (_, refl)
 
-pub host_method : (start mid old put new : CodeBuilder) (id : ℕ) (result : Option VarType) (e : Expr)
+pub host_method : (start mid old new : CodeBuilder) (id : ℕ) (result : Option VarType) (e : Expr)
     (ps : List VarType)
     (es : List Expr) (slot count : ℕ)
     → Emits start mid e slot → EmitsArguments mid old es (slot + 1) → length es ≡ count
-    → Puts old put (slot + 1) (i.CallHost slot id result (slot + 1) count) → Puts put new slot (i.Move (slot + 1) slot)
-    → Emits start new (Invoke e (methods.Host id result) ps (exprs es)) slot
-host_method start mid old put new id result e ps es slot count first second long call move =
-    emits_method start mid old put new e es (Invoke e (methods.Host id result) ps (exprs es)) slot
-    (i.CallHost slot id result (slot + 1) count) first second call move
+    → Puts old new (slot + 1) (i.CallHost slot id result (slot + 1) count)
+    → EmitsAt start new (Invoke e (methods.Host id result) ps (exprs es)) slot (slot + 1)
+host_method start mid old new id result e ps es slot count first second long call =
+    emits_method start mid old new e es (Invoke e (methods.Host id result) ps (exprs es)) slot
+    (i.CallHost slot id result (slot + 1) count) first second call
     (λ s of typed. (_, (typed_invoked typed).typed)) (λ s of typed. (ps, (typed_invoked typed).args))
-    (λ s of from between at scene typed suits under object does has moves.
+    (λ s of from between at scene typed suits under object does has.
     let invoked = typed_invoked typed in
     let host = host_is invoked.is in
     does_host_method s scene host.0 id result e es ps from between at slot
     (subst (λ (o : ObjectType). IsWellTyped s.env e (value (vars.Handle o))) host.1 invoked.typed) invoked.args under
     object does
-    (subst (λ (n : ℕ). HasAt s at (i.CallHost slot id result (slot + 1) n)) (sym long) has) moves)
+    (subst (λ (n : ℕ). HasAt s at (i.CallHost slot id result (slot + 1) n)) (sym long) has))
 
 -- methods that interfaces declare
 
@@ -456,17 +447,16 @@ interface_is : {s : ModuleSignatures} {o : ObjectType} {interface method : ℕ} 
     → o ≡ objects.Interface interface
 interface_is (operations.of_interface at here) = refl
 
-pub through : (start mid old put new : CodeBuilder) (interface method : ℕ) (result : Option VarType) (e : Expr)
+pub through : (start mid old new : CodeBuilder) (interface method : ℕ) (result : Option VarType) (e : Expr)
     (ps : List VarType) (es : List Expr) (slot : ℕ)
     → Emits start mid e slot → EmitsArguments mid old es (slot + 1)
-    → Puts old put (slot + 1) (i.CallInterface interface method slot (slot + 1))
-    → Puts put new slot (i.Move (slot + 1) slot)
-    → Emits start new (Invoke e (methods.Interface interface method result) ps (exprs es)) slot
-through start mid old put new interface method result e ps es slot first second call move =
-    emits_method start mid old put new e es (Invoke e (methods.Interface interface method result) ps (exprs es)) slot
-    (i.CallInterface interface method slot (slot + 1)) first second call move
+    → Puts old new (slot + 1) (i.CallInterface interface method slot (slot + 1))
+    → EmitsAt start new (Invoke e (methods.Interface interface method result) ps (exprs es)) slot (slot + 1)
+through start mid old new interface method result e ps es slot first second call =
+    emits_method start mid old new e es (Invoke e (methods.Interface interface method result) ps (exprs es)) slot
+    (i.CallInterface interface method slot (slot + 1)) first second call
     (λ s of typed. (_, (typed_invoked typed).typed)) (λ s of typed. (ps, (typed_invoked typed).args))
-    (λ s of from between at scene typed suits under object does has moves.
+    (λ s of from between at scene typed suits under object does has.
     let invoked = typed_invoked typed in
     let d = declared_is invoked.is in
     does_through s scene interface method d.all d.one
@@ -475,5 +465,22 @@ through start mid old put new interface method result e ps es slot first second 
     at slot
     (subst (λ (o : ObjectType). IsWellTyped s.env e (value (vars.Handle o))) (interface_is invoked.is) invoked.typed)
     (subst (λ (types : List VarType). AreSoundArguments s.env types (exprs es)) d.takes invoked.args) under object
-    does has
-    moves)
+    does has)
+
+-- results
+
+pub result_at : (start new : CodeBuilder) (e : Expr) (slot at : ℕ) → EmitsResult start new e slot at
+    → EmitsAt start new e slot at
+result_at start new e slot _ (EmitsResult.own emits) = emits_at start new e slot slot (emits_in start new e slot emits)
+result_at start new e slot _ (EmitsResult.next emits) = emits
+
+-- A result is in its slot, or is moved there.
+pub settled : (start new : CodeBuilder) (e : Expr) (slot at : ℕ) → EmitsResult start new e slot at → at ≡ slot
+    → Emits start new e slot
+settled start new e slot _ (EmitsResult.own emits) is = emits
+settled start new e slot _ (EmitsResult.next emits) is = absurd (omega (arith, is))
+
+pub moved : (start old new : CodeBuilder) (e : Expr) (slot at : ℕ) → EmitsResult start old e slot at
+    → Puts old new slot (i.Move at slot) → Emits start new e slot
+moved start old new e slot at result puts =
+    (move_into start old new e slot at slot (result_at start old e slot at result) puts).in_slot refl

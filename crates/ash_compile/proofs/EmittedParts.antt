@@ -18,12 +18,12 @@ use Rattle.ash_compile.specs.declared.builder.CodeBuilder.{CodeBuilder}
 use Rattle.ash_compile.specs.declared.bodies.Condition.TheVariants as conditions
 use Rattle.ash_compile.specs.Performances.{Acts, Decides}
 use Rattle.ash_compile.specs.Emission.{code_of, end_of, Keeps, Puts, Scene, IsScene, Suits, Good, Stands, DoesExpression, Emits, calls_of}
-use Rattle.ash_compile.specs.Operands.{Affects, EmitsIn}
+use Rattle.ash_compile.specs.Operands.{Affects, EmitsAt}
 use Rattle.ash_compile.specs.EmittedStatements.{EmitsEvaluation, EmitsFull, EmitsEvaluations, EmitsVariable}
 use Rattle.ash_compile.specs.EmittedStatements.{EmitsVariables, EmitsHead}
 use Rattle.ash_compile.specs.EmittedStatements.{Tests, DoesActs}
 use Rattle.ash_compile.proofs.Emission.{HasAt, keeps_on, put_keeps, put_one, put_there, put_within, suits_before, stands_before, stands_after, has_put}
-use Rattle.ash_compile.proofs.Operands.{DoesIn}
+use Rattle.ash_compile.proofs.Operands.{DoesAt}
 use Rattle.ash_compile.proofs.TypedStatements.{ranked_of}
 use Rattle.ash_compile.proofs.StatementCode.{does_evaluation, does_no_steps, does_steps, does_condition}
 use Rattle.ash_compile.proofs.BlockCode.{with_types, still_scene, beginning, begins_fitting, does_zero, does_value}
@@ -89,7 +89,7 @@ more_evaluations old mid new e es slot first rest = record {
 -- conditions
 
 -- A truth value is tested where it is.
-pub truth_tests : (start old new : CodeBuilder) (e : Expr) (slot left at : ℕ) → EmitsIn start old e slot left
+pub truth_tests : (start old new : CodeBuilder) (e : Expr) (slot left at : ℕ) → EmitsAt start old e slot left
     → Puts old new slot (i.Branch left 0) → at ≡ end_of old
     → Tests start new e slot (record { at = at; condition = conditions.Truth left })
 truth_tests start old new e slot left at emits puts at_is = record {
@@ -100,7 +100,7 @@ truth_tests start old new e slot left at emits puts at_is = record {
       subst (λ (to : ℕ). Decides s.setting (Good s) s.function s.room (condition (calls_of s) e) (end_of start) to unmet
       (length (s.env).locals)) (sym one)
       (does_condition s scene (ranked_of s scene) e (end_of start) (end_of old) unmet left typed
-      (subst (λ (n : ℕ). DoesIn s (expression (calls_of s) e) (end_of start) (end_of old) n left) is
+      (subst (λ (n : ℕ). DoesAt s (expression (calls_of s) e) (end_of start) (end_of old) n left) is
       (emits.does s _ scene typed
       (λ k low high. stands k low (omega (arith, high, at_is)) ∙ last.same k high) (suits_before s old new last suits)))
       (subst (λ (n : ℕ). HasAt s n (i.Branch left unmet)) at_is has));

@@ -14,7 +14,7 @@ use Rattle.ash_compile.specs.declared.places.Spot.{Spot}
 use Rattle.ash_compile.specs.declared.places.Spot.TheVariants as spots
 use Rattle.ash_compile.specs.Emission.{code_of, end_of, Keeps, Puts, DoesExpression, Emits}
 use Rattle.ash_compile.specs.Places.{spot_of_variable, spot_of_member, reading, writing, EmitsPlace, EmitsTarget}
-use Rattle.ash_compile.specs.Operands.{EmitsIn}
+use Rattle.ash_compile.specs.Operands.{EmitsAt}
 use Rattle.ash_compile.proofs.Emission.{keeps_itself, keeps_on, put_keeps, put_one, suits_before, stands_before, stands_after}
 use Rattle.ash_compile.proofs.Emission.{has_put, emits_then}
 use Rattle.ash_compile.proofs.PlaceCode.{variable_place, member_place, element_named, element_place}
@@ -100,7 +100,7 @@ read_member start old new e m slot first puts =
 
 pub read_element : (start mid old new : CodeBuilder) (a i : Expr) (e : Element) (slot index : ℕ)
     → Emits start mid a slot
-    → EmitsIn mid old i (slot + 1) index → Puts old new slot (reading (spots.Element slot index) slot)
+    → EmitsAt mid old i (slot + 1) index → Puts old new slot (reading (spots.Element slot index) slot)
     → Emits start new (Read (Indexed a i e)) slot
 read_element start mid old new a i e slot index first second puts =
     let last = put_keeps old new slot (reading (spots.Element slot index) slot) puts in
@@ -133,7 +133,7 @@ target old new place spot slot emits = record {
 }
 
 pub element_target : (start mid new : CodeBuilder) (a i : Expr) (e : Element) (slot index : ℕ) → Emits start mid a slot
-    → EmitsIn mid new i (slot + 1) index → EmitsTarget start new (Indexed a i e) (spots.Element slot index) slot
+    → EmitsAt mid new i (slot + 1) index → EmitsTarget start new (Indexed a i e) (spots.Element slot index) slot
 element_target start mid new a i e slot index first second = record {
   keeps = keeps_on start mid new first.keeps second.keeps;
   does = λ s of scene at stands suits.

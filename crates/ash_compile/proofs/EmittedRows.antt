@@ -36,6 +36,15 @@ pub lazy_end : (op : Lazy) (e f : Expr) (xs : List expr_code.Expr) (k : ℕ) →
     → all_lazies op e (drop k xs) ≡ f → e ≡ f
 lazy_end op e f xs k over is = sym (ap (all_lazies op e) (drop_all k xs over)) ∙ is
 
+pub none_linked : (ls : List link_code.Link) → length ls ≡ 0 → [] ≡ ls
+none_linked [] none = refl
+none_linked (l ∷ ls) none = absurd (omega (arith, none))
+
+pub linked_after : (e : Expr) (ls : List link_code.Link) (l : link_code.Link)
+    → all_linked e (ls ++ l ∷ []) ≡ linked (all_linked e ls) l
+linked_after e [] l = refl
+linked_after e (x ∷ ls) l = linked_after (linked e x) ls l
+
 pub link_step : (e : Expr) (ls : List link_code.Link) (k : ℕ) (l : link_code.Link) → k < length ls → l ≡ get_or ls k l
     → all_linked (linked e l) (drop (k + 1) ls) ≡ all_linked e (drop k ls)
 link_step e ls k l low is =

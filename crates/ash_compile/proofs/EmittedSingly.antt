@@ -18,11 +18,11 @@ use Rattle.ash_compile.specs.declared.builder.CodeBuilder.{CodeBuilder}
 use Rattle.ash_compile.specs.declared.bodies.Scope.{Scope}
 use Rattle.ash_compile.specs.Performances.{Exits}
 use Rattle.ash_compile.specs.Emission.{code_of, end_of, Keeps, Puts, Scene, IsScene, Suits, Good, Stands, calls_of}
-use Rattle.ash_compile.specs.Operands.{EmitsIn}
+use Rattle.ash_compile.specs.Operands.{EmitsAt}
 use Rattle.ash_compile.specs.EmittedStatements.{with_jumps, shown, IsIn, typed_scope}
 use Rattle.ash_compile.specs.EmittedStatements.{DoesFlow, DoesActs, EmitsStatement, EmitsEvaluation, LeavesBlocks, frame_end}
 use Rattle.ash_compile.proofs.Emission.{HasAt, keeps_on, put_keeps, put_one, suits_before, stands_before, stands_after, has_put}
-use Rattle.ash_compile.proofs.Operands.{DoesIn}
+use Rattle.ash_compile.proofs.Operands.{DoesAt}
 use Rattle.ash_compile.proofs.TypedStatements.{ranked_of}
 use Rattle.ash_compile.proofs.StatementCode.{does_empty, does_evaluate, does_return, does_return_value, does_break, does_continue}
 use Rattle.ash_compile.proofs.Leaving as leaving
@@ -109,7 +109,7 @@ return_nothing old mid new line scope j is ticks ends =
     later = put_keeps mid new scope.locals j ends
 
 pub return_value : (old mid last new : CodeBuilder) (line : ℕ) (e : Expr) (scope : Scope) (left : ℕ)
-    → Puts old mid scope.locals (i.Tick line) → EmitsIn mid last e scope.locals left
+    → Puts old mid scope.locals (i.Tick line) → EmitsAt mid last e scope.locals left
     → Puts last new scope.locals (i.Return left)
     → (breaks continues : List ℕ)
     → EmitsStatement (with_jumps old breaks continues) (with_jumps new breaks continues) (Return line (Some e)) scope
@@ -134,8 +134,8 @@ return_value old mid last new line e scope left ticks emits returns =
         does_return_value s scene (ranked_of s scene) exits line e (end_of old) (end_of last) (end_of new) left
         (has_put s old mid (end_of old) scope.locals (i.Tick line) (omega arith) ticks
         (stands_before s mid last (end_of old) emits.keeps later))
-        (subst (λ (n : ℕ). DoesIn s (expression (calls_of s) e) n (end_of last) (length (s.env).locals) left) one
-        (subst (λ (n : ℕ). DoesIn s (expression (calls_of s) e) (end_of mid) (end_of last) n left) inside.locals
+        (subst (λ (n : ℕ). DoesAt s (expression (calls_of s) e) n (end_of last) (length (s.env).locals) left) one
+        (subst (λ (n : ℕ). DoesAt s (expression (calls_of s) e) (end_of mid) (end_of last) n left) inside.locals
         (emits.does s _ scene typed
         (stands_after s (code_of last) (end_of old) (end_of mid) (end_of last) (omega (arith, one)) later)
         (suits_before s last new end suits))))

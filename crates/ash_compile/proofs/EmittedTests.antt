@@ -30,12 +30,12 @@ use Rattle.ash_compile.specs.declared.bodies.Branch.{Branch}
 use Rattle.ash_compile.specs.declared.bodies.Condition.TheVariants as conditions
 use Rattle.ash_compile.specs.Performances.{Decides}
 use Rattle.ash_compile.specs.Emission.{code_of, end_of, Keeps, Puts, Scene, IsScene, Good, Stands, calls_of}
-use Rattle.ash_compile.specs.Operands.{EmitsIn, IsSimple, ComparesBy, Compares}
+use Rattle.ash_compile.specs.Operands.{EmitsAt, EmitsIn, IsSimple, ComparesBy, Compares}
 use Rattle.ash_compile.specs.Operands as simple
 use Rattle.ash_compile.specs.EmittedStatements.{Tests, NextTurn}
 use Rattle.ash_compile.proofs.Emission.{HasAt, keeps_on, put_keeps, put_one, suits_before, stands_before, stands_after}
 use Rattle.ash_compile.proofs.Emitted.{typed_left, typed_right}
-use Rattle.ash_compile.proofs.Operands.{DoesIn, unmoved, reads_there}
+use Rattle.ash_compile.proofs.Operands.{DoesAt, DoesIn, unmoved, reads_there}
 use Rattle.ash_compile.proofs.Simulation.{then_is}
 use Rattle.ash_compile.proofs.Typed.{stays_good}
 use Rattle.ash_compile.proofs.TypedStatements.{ranked_of}
@@ -61,7 +61,7 @@ does_comparison : (s : Scene) (o : Operation) (comparison : Comparison) (a b : E
     → IsScene s → IsWellTyped s.env (Operate o a b) (value vars.Bool)
     → Compares o comparison
     → DoesIn s (expression (calls_of s) a) from mid (length (s.env).locals) left
-    → DoesIn s (expression (calls_of s) b) mid at (length (s.env).locals + 1) right
+    → DoesAt s (expression (calls_of s) b) mid at (length (s.env).locals + 1) right
     → HasAt s at (i.BranchUnless comparison left right unmet)
     → (left ≡ length (s.env).locals) ⊎ IsSimple b
     → Decides s.setting (Good s) s.function s.room (condition (calls_of s) (Operate o a b)) from (at + 1) unmet
@@ -79,7 +79,7 @@ does_comparison s _ comparison a b from mid at left right unmet scene typed
 
 pub comparison_tests : (start mid old new : CodeBuilder) (o : Operation) (comparison : Comparison) (a b : Expr)
     (slot left right at : ℕ)
-    → EmitsIn start mid a slot left → EmitsIn mid old b (slot + 1) right
+    → EmitsIn start mid a slot left → EmitsAt mid old b (slot + 1) right
     → Puts old new slot (i.BranchUnless comparison left right 0)
     → Compares o comparison → (left ≡ slot) ⊎ IsSimple b → at ≡ end_of old
     → Tests start new (Operate o a b) slot (record { at = at; condition = conditions.Comparison comparison left right })
@@ -96,7 +96,7 @@ comparison_tests start mid old new o comparison a b slot left right at first sec
       (subst (λ (n : ℕ). DoesIn s (expression (calls_of s) a) (end_of start) (end_of mid) n left) is
       (first.does s (typed_left typed).0 scene (typed_left typed).1
       (stands_before s mid old (end_of start) second.keeps early) (suits_before s mid new later suits)))
-      (subst (λ (n : ℕ). DoesIn s (expression (calls_of s) b) (end_of mid) (end_of old) (n + 1) right) is
+      (subst (λ (n : ℕ). DoesAt s (expression (calls_of s) b) (end_of mid) (end_of old) (n + 1) right) is
       (second.does s (typed_right typed).0 scene (typed_right typed).1
       (stands_after s (code_of old) (end_of start) (end_of mid) (end_of old) (first.keeps).longer early)
       (suits_before s old new last suits)))

@@ -19,14 +19,14 @@ use Rattle.ash_run_steps.specs.HostGuards.{is_there, invoke_host as invoke_guard
 use Rattle.ash_code.specs.declared.instruction.Instruction.TheVariants as i
 use Rattle.ash_code.specs.Controls.{control, word_at}
 use Rattle.ash_code.specs.Performing.{Next, put}
-use Rattle.ash_compile.specs.Stretches.{Computes}
+use Rattle.ash_compile.specs.Operands.{ComputesAt}
 use Rattle.ash_compile.specs.Arguments.{DoesArguments}
 use Rattle.ash_compile.specs.Emission.{Scene, IsScene, Good, DoesExpression, calls_of}
 use Rattle.ash_compile.proofs.Simulation.{step_is, stored}
 use Rattle.ash_compile.proofs.Emission.{HasAt, greatest_within}
 use Rattle.ash_compile.proofs.Typed.{stays_good}
 use Rattle.ash_compile.proofs.KeptLocals.{done_keeps, keeps_invoke_host}
-use Rattle.ash_compile.proofs.CallCode.{by_object, moves_back}
+use Rattle.ash_compile.proofs.CallCode.{by_object_at, behind}
 use Rattle.ash_compile.proofs.MethodCode.{ready, on_object}
 use Rattle.ash_compile.proofs.HostCode.{grouped_guards, puts_guarded}
 use Rattle.ash_compile.proofs.PlaceGuards.{host_there}
@@ -40,15 +40,15 @@ module _ (s : Scene) (scene : IsScene s) where
       → DoesExpression s e from mid slot
       → DoesArguments s es mid at (slot + 1)
       → HasAt s at (i.CallHost slot id result (slot + 1) (length es))
-      → HasAt s (at + 1) (i.Move (slot + 1) slot)
-      → Computes s.setting (Good s) s.function s.room
+      → ComputesAt s.setting (Good s) s.function s.room
       (expression (calls_of s) e >>= (λ handle. arguments (calls_of s) (exprs es) >>= (λ ws. object_of handle
-      >>= (λ number. invoke_host (hosts.Object number) id result ws)))) from (at + 1 + 1) slot
-  does_host_method kind id result e es types from mid at slot typed sound under object does has moves =
-      by_object s.setting (Good s) s.function s.room (expression (calls_of s) e) (arguments (calls_of s) (exprs es))
+      >>= (λ number. invoke_host (hosts.Object number) id result ws)))) from (at + 1) slot
+      (slot + 1)
+  does_host_method kind id result e es types from mid at slot typed sound under object does has =
+      by_object_at s.setting (Good s) s.function s.room (expression (calls_of s) e) (arguments (calls_of s) (exprs es))
       (λ handle ws. object_of handle >>= (λ number. invoke_host (hosts.Object number) id result ws)) from mid at
-      (at + 1 + 1)
-      slot (length es) object does
+      (at + 1)
+      slot (slot + 1) (length es) object does
       (λ a b v good ran. stays_good s e (value (vars.Handle (objects.Host kind))) a b v scene typed good ran)
       (λ w a b d handle ws rest low long fits good ran run held are goes.
       let c = control s.function at w in
@@ -71,11 +71,9 @@ module _ (s : Scene) (scene : IsScene s) where
       (put (slot + 1) c)) are)
       (host_there number kind shape d at_shape of_kind) (omega (arith, low))
       (λ v x called.
-      moves_back s.setting (Good s) s.function s.room w slot (at + 1) v
-      (slice_set w.slots (slot + 1) v) x rest moves low
-      (omega (arith, object.within, long))
+      goes v x (slice_set w.slots (slot + 1) v)
+      (ap (λ (h : Word). onward (object_of h d) (λ n. invoke_host (hosts.Object n) id result ws)) is ∙ called)
+      (behind w slot v (slice_set w.slots (slot + 1) v) x
       (stored s.setting (Good s) s.function s.room w (slot + 1) v d x (omega (arith, low))
       (omega (arith, under, greatest_within s scene, long)) fits
-      (done_keeps (invoke_host target id result ws) d x v (keeps_invoke_host target id result ws) called))
-      (λ slots last. goes v x slots
-      (ap (λ (h : Word). onward (object_of h d) (λ n. invoke_host (hosts.Object n) id result ws)) is ∙ called) last))))
+      (done_keeps (invoke_host target id result ws) d x v (keeps_invoke_host target id result ws) called)))))

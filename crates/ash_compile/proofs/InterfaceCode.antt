@@ -31,6 +31,7 @@ use Rattle.ash_code.specs.Performing.{Next, own_name, classes_of, call}
 use Rattle.ash_code.specs.Steps.{method_of, found as found_guarded}
 use Rattle.ash_compile.specs.Stretches.{continued, Arrives, Computes}
 use Rattle.ash_compile.specs.Callees.{a_method}
+use Rattle.ash_compile.specs.Operands.{ComputesAt}
 use Rattle.ash_compile.specs.Arguments.{DoesArguments}
 use Rattle.ash_compile.specs.Emission.{Scene, IsScene, Good, DoesExpression, calls_of}
 use Rattle.ash_compile.proofs.Simulation.{step_is}
@@ -38,7 +39,7 @@ use Rattle.ash_compile.proofs.Emission.{HasAt, greatest_within}
 use Rattle.ash_compile.proofs.Typed.{stays_good}
 use Rattle.ash_compile.proofs.Arguments.{arguments_long}
 use Rattle.ash_compile.proofs.Callees.{entry_there}
-use Rattle.ash_compile.proofs.CallCode.{by_object, row_within, moves_back, does_call, call_is}
+use Rattle.ash_compile.proofs.CallCode.{by_object_at, row_within, behind, does_call, call_is}
 use Rattle.ash_compile.proofs.MethodCode.{ready, on_object}
 use Rattle.ash_compile.proofs.Tables.{finds_method}
 
@@ -87,13 +88,13 @@ module _ (s : Scene) (scene : IsScene s) (interface method : ℕ) (all : List Si
       → DoesExpression s e from mid slot
       → DoesArguments s es mid at (slot + 1)
       → HasAt s at (i.CallInterface interface method slot (slot + 1))
-      → HasAt s (at + 1) (i.Move (slot + 1) slot)
-      → Computes s.setting (Good s) s.function s.room
+      → ComputesAt s.setting (Good s) s.function s.room
       (expression (calls_of s) e >>= (λ handle. arguments (calls_of s) (exprs es) >>= (λ ws. object_of handle
-      >>= (λ number. call_through (calls_of s) interface method number ws)))) from (at + 1 + 1) slot
-  does_through e es from mid at slot typed sound under object does has moves =
-      by_object s.setting (Good s) s.function s.room (expression (calls_of s) e) (arguments (calls_of s) (exprs es))
-      (λ handle ws. object_of handle >>= calls ws) from mid at (at + 1 + 1) slot (length es) object does
+      >>= (λ number. call_through (calls_of s) interface method number ws)))) from (at + 1) slot
+      (slot + 1)
+  does_through e es from mid at slot typed sound under object does has =
+      by_object_at s.setting (Good s) s.function s.room (expression (calls_of s) e) (arguments (calls_of s) (exprs es))
+      (λ handle ws. object_of handle >>= calls ws) from mid at (at + 1) slot (slot + 1) (length es) object does
       (λ a b v good ran. stays_good s e (value (vars.Handle (objects.Interface interface))) a b v scene typed good ran)
       (λ w a b d handle ws rest low long fits good ran run held are goes.
       let c = control s.function at w in
@@ -132,10 +133,8 @@ module _ (s : Scene) (scene : IsScene s) (interface method : ℕ) (all : List Si
       (ap (λ (n : ℕ). take n (drop (slot + 1) w.slots)) (sym count) ∙ are) (is_this at_shape lists.of)
       (subst (λ (ts : List VarType). AreValues (s.context).program (d.world).objects ts ws) types got.values) enters
       (λ x word after called keeps.
-      moves_back s.setting (Good s) s.function s.room w slot (at + 1) word after x rest moves low
-      (omega (arith, object.within, long)) keeps
-      (λ slots last. goes word x slots
-      (ap (λ (h : Word). onward (object_of h d) (calls ws)) is ∙ same ∙ called) last)))))
+      goes word x after (ap (λ (h : Word). onward (object_of h d) (calls ws)) is ∙ same ∙ called)
+      (behind w slot word after x keeps)))))
     where
       calls : List Word → ℕ → Run Word
       calls ws number = call_through (calls_of s) interface method number ws

@@ -17,7 +17,7 @@ use Rattle.ash_code.specs.Performing.{Setting, Next, GoesOn, go, return_to}
 use Rattle.ash_code.specs.Running.{step, after, denote}
 use Rattle.ash_code.specs.Arrivals.{end_of}
 use Rattle.ash_compile.specs.Stretches.{continued, Arrives, Leaves, with_locals, Has}
-use Rattle.ash_compile.specs.Operands.{ComputesIn}
+use Rattle.ash_compile.specs.Operands.{ComputesAt}
 use Rattle.ash_compile.specs.Performances.{here, HasLocals, Exit, Exits, Jumps, Outs, Performs}
 use Rattle.ash_compile.proofs.Simulation.{steps_on, goes_by, step_is, then_is}
 use Rattle.ash_compile.proofs.Statements.{arrives_then, ticks_first, ticked_stands, ticked_locals, released_frame}
@@ -162,7 +162,7 @@ module _ (s : Setting) (Good : Activity → Type 0) (function room : ℕ) where
   pub returns_value : (exits : Exits) (Begun : Activity → Type 0) (p : Run Word) (line from at to count more left : ℕ)
       → Has s Good function room from (i.Tick line)
       → LeadsTo Good (tick line) Begun
-      → ComputesIn s Begun function room p (from + 1) at count left
+      → ComputesAt s Begun function room p (from + 1) at count left
       → Has s Good function room at (i.Return left)
       → ((v this : Word) → exits.gives (Some v) this ≡ Some v)
       → Performs s Good function room exits (tick line >> (p >>= (λ word. give (Returned (Some word))))) from to count

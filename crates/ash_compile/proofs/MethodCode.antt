@@ -32,6 +32,7 @@ use Rattle.ash_code.specs.Running.{step}
 use Rattle.ash_compile.specs.Stretches.{continued, Arrives, Computes}
 use Rattle.ash_compile.specs.Layout.{index_of}
 use Rattle.ash_compile.specs.Callees.{a_method}
+use Rattle.ash_compile.specs.Operands.{ComputesAt}
 use Rattle.ash_compile.specs.Arguments.{DoesArguments}
 use Rattle.ash_compile.specs.Emission.{Scene, IsScene, Good, DoesExpression, calls_of}
 use Rattle.ash_compile.proofs.Simulation.{step_is, steps_out}
@@ -39,7 +40,7 @@ use Rattle.ash_compile.proofs.Emission.{HasAt, greatest_within}
 use Rattle.ash_compile.proofs.Typed.{evaluates, stays_good}
 use Rattle.ash_compile.proofs.Arguments.{argued, argued_good, arguments_long}
 use Rattle.ash_compile.proofs.Callees.{entry_there}
-use Rattle.ash_compile.proofs.CallCode.{by_object, row_within, moves_back, does_call, call_is}
+use Rattle.ash_compile.proofs.CallCode.{by_object_at, row_within, behind, does_call, call_is}
 
 -- What an object and arguments are once both are computed.
 pub record AreReady (s : Scene) (o : ObjectType) (types : List VarType) (d : Activity) (handle : Word) (ws : List Word)
@@ -82,7 +83,7 @@ module _ (s : Scene) (scene : IsScene s) where
   on_object w slot at d _ next run rest (to_object {number = number} {shape = shape} there fits) is does go =
       go number shape there fits refl (does ∙ ap (λ (x : Word). guarded_onward (Some (object_of x d)) next) is)
 
-  -- A method of a class, whose value comes into the slot of the object.
+  -- A method of a class, whose value comes into the slot after that of the object.
   pub does_method : (class place : ℕ) (k : Class) (f : Function) (e : Expr) (es : List Expr) (from mid at slot : ℕ)
       → slice_get (((s.context).program).tree).classes class ≡ Some k
       → slice_get k.methods place ≡ Some f
@@ -92,13 +93,13 @@ module _ (s : Scene) (scene : IsScene s) where
       → DoesExpression s e from mid slot
       → DoesArguments s es mid at (slot + 1)
       → HasAt s at (i.CallMethod (index_of ((s.context).program).tree (Method class place)) slot (slot + 1))
-      → HasAt s (at + 1) (i.Move (slot + 1) slot)
-      → Computes s.setting (Good s) s.function s.room
+      → ComputesAt s.setting (Good s) s.function s.room
       (expression (calls_of s) e >>= (λ handle. arguments (calls_of s) (exprs es) >>= (λ ws. object_of handle
-      >>= (λ number. call_meaning (calls_of s) (Method class place) (words.Object number) ws)))) from (at + 1 + 1) slot
-  does_method class place k f e es from mid at slot there here typed sound under object does has moves =
-      by_object s.setting (Good s) s.function s.room (expression (calls_of s) e) (arguments (calls_of s) (exprs es))
-      (λ handle ws. object_of handle >>= calls ws) from mid at (at + 1 + 1) slot (length es) object does
+      >>= (λ number. call_meaning (calls_of s) (Method class place) (words.Object number) ws)))) from (at + 1) slot
+      (slot + 1)
+  does_method class place k f e es from mid at slot there here typed sound under object does has =
+      by_object_at s.setting (Good s) s.function s.room (expression (calls_of s) e) (arguments (calls_of s) (exprs es))
+      (λ handle ws. object_of handle >>= calls ws) from mid at (at + 1) slot (slot + 1) (length es) object does
       (λ a b v good ran. stays_good s e (value (vars.Handle (objects.Class class))) a b v scene typed good ran)
       (λ w a b d handle ws rest low long fits good ran run held are goes.
       let c = control s.function at w in
@@ -115,10 +116,8 @@ module _ (s : Scene) (scene : IsScene s) where
       (ap (λ (n : ℕ). take n (drop (slot + 1) w.slots)) (sym count) ∙ are)
       (is_this at_shape of_class) got.values stepped
       (λ x word after called keeps.
-      moves_back s.setting (Good s) s.function s.room w slot (at + 1) word after x rest moves low
-      (omega (arith, object.within, long)) keeps
-      (λ slots last. goes word x slots
-      (ap (λ (h : Word). onward (object_of h d) (calls ws)) is ∙ same ∙ called) last)))))
+      goes word x after (ap (λ (h : Word). onward (object_of h d) (calls ws)) is ∙ same ∙ called)
+      (behind w slot word after x keeps)))))
     where
       index : ℕ
       index = index_of ((s.context).program).tree (Method class place)

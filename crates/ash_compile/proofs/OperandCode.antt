@@ -22,7 +22,7 @@ use Rattle.ash_code.specs.Performing.{Setting, Next, GoesOn, perform, put, go}
 use Rattle.ash_code.specs.Running.{step}
 use Rattle.ash_compile.specs.Stretches.{continued, Arrives, with_slots, Fits, Has, Holds, Computes}
 use Rattle.ash_compile.specs.Places.{HoldsBelow}
-use Rattle.ash_compile.specs.Operands.{HoldsIn, ComputesIn}
+use Rattle.ash_compile.specs.Operands.{HoldsAt, HoldsIn, ComputesAt, ComputesIn}
 use Rattle.ash_compile.proofs.Simulation.{continued_then, then_is, frame_in, goes_by, step_is, off}
 use Rattle.ash_compile.proofs.Phrases.{none_held, local_in}
 use Rattle.ash_compile.proofs.PlaceGuards.{lt_true}
@@ -95,15 +95,19 @@ pub below_in : (w : Window) (slot at : ℕ) (word : Word) (slots : List Word) (b
     → HoldsBelow w slot slots b
 below_in w slot at word slots b held = record { long = held.long; kept = held.kept; locals = held.locals }
 
+pub below_at : (w : Window) (slot at : ℕ) (word : Word) (slots : List Word) (b : Activity) → HoldsAt w slot at word slots b
+    → HoldsBelow w slot slots b
+below_at w slot at word slots b held = record { long = held.long; kept = held.kept; locals = held.locals }
+
 stays_low : (w : Window) (slot left right : ℕ) (l r : Word) (slots more : List Word) (b d : Activity)
-    → HoldsIn w slot left l slots b → HoldsIn (with_slots slots w) (slot + 1) right r more d → w.count ≤ slot
+    → HoldsIn w slot left l slots b → HoldsAt (with_slots slots w) (slot + 1) right r more d → w.count ≤ slot
     → left ≡ slot → slice_index_or more left words.Null ≡ l
 stays_low w slot left right l r slots more b d held also low same =
     also.kept left (omega (arith, low, same)) (omega (arith, same)) ∙ held.value
 
 -- The value of the left operand is still where it was after the right one, if the local that has it is the same.
 pub stays_in : (w : Window) (slot left right : ℕ) (l r : Word) (slots more : List Word) (b d : Activity)
-    → HoldsIn w slot left l slots b → HoldsIn (with_slots slots w) (slot + 1) right r more d → w.count ≤ slot
+    → HoldsIn w slot left l slots b → HoldsAt (with_slots slots w) (slot + 1) right r more d → w.count ≤ slot
     → (left ≡ slot) ⊎ ((d.frame).locals ≡ (b.frame).locals) → slice_index_or more left words.Null ≡ l
 stays_in w slot left right l r slots more b d held also low (inl same) =
     stays_low w slot left right l r slots more b d held also low same
@@ -118,6 +122,9 @@ stays_in w slot left right l r slots more b d held also low (inr same) =
 module _ (s : Setting) (Good : Activity → Type 0) (function room : ℕ) where
   abbrev In : Run Word → ℕ → ℕ → ℕ → ℕ → Type 0
   In run from to slot at = ComputesIn s Good function room run from to slot at
+
+  abbrev At : Run Word → ℕ → ℕ → ℕ → ℕ → Type 0
+  At run from to slot at = ComputesAt s Good function room run from to slot at
 
   abbrev pub ReceivesIn : ℕ → ℕ → (Word → Run Word) → Type 0
   ReceivesIn slot to R = (w : Window) (a : Activity) → Fits w a → Good a → w.count ≤ slot → Receives w.count slot to R
@@ -202,7 +209,7 @@ module _ (s : Setting) (Good : Activity → Type 0) (function room : ℕ) where
 
   pub one_into : (p : Run Word) (f : Word → Run Word) (R : Word → Run Word) (i : Instruction)
       (from at slot left to : ℕ) → slot < room
-      → In p from at slot left → Has s Good function room at i
+      → At p from at slot left → Has s Good function room at i
       → ReceivesIn slot to R
       → ((w : Window) (a b : Activity) (l : Word) → Good a → p a ≡ Done l b → Fits w b
       → slice_index_or w.slots left words.Null ≡ l
@@ -214,9 +221,9 @@ module _ (s : Setting) (Good : Activity → Type 0) (function room : ℕ) where
     comes = λ w a rest low long fits good goes.
         subst (λ (o : Option Outcome). Arrives s (control function from w) a o) (sym (continued_twice (p a) f R rest))
         (first.comes w a (λ l b. continued (onward (f l b) R) rest) low long fits good (λ l b slots ran held.
-        let here = refits_below w slot slots a b fits (below_in w slot left l slots b held) in
+        let here = refits_below w slot slots a b fits (below_at w slot left l slots b held) in
         put_last w at slot to slots b R (f l b) rest (receives w a fits good low)
-        (below_in w slot left l slots b held) here (omega (arith, within, long))
+        (below_at w slot left l slots b held) here (omega (arith, within, long))
         (step_is s Good function room (with_slots slots w) b at i has
         ∙ does (with_slots slots w) a b l good ran here held.value)
         (λ v e run. (same l v b e run, alive a e v good (then_is (p a) l b f _ ran run)))
@@ -226,7 +233,7 @@ module _ (s : Setting) (Good : Activity → Type 0) (function room : ℕ) where
 
   pub two_into : (p q : Run Word) (f : Word → Word → Run Word) (R : Word → Run Word) (i : Instruction)
       (from mid at slot left right to : ℕ) → slot < room
-      → In p from mid slot left → In q mid at (slot + 1) right → Has s Good function room at i
+      → In p from mid slot left → At q mid at (slot + 1) right → Has s Good function room at i
       → ReceivesIn slot to R
       → ((a b : Activity) (v : Word) → Good a → p a ≡ Done v b → Good b)
       → (left ≡ slot) ⊎ ((b d : Activity) (v : Word) → q b ≡ Done v d → (d.frame).locals ≡ (b.frame).locals)
@@ -249,7 +256,7 @@ module _ (s : Setting) (Good : Activity → Type 0) (function room : ℕ) where
             (second.comes (with_slots slots w) b (λ r d. continued (onward (f l r d) R) rest) (omega (arith, low))
             (omega (arith, long, held.long)) here (keeps a b l good ran) (λ r d more run also.
             let there = refits_below (with_slots slots w) (slot + 1) more b d here
-            (below_in (with_slots slots w) (slot + 1) right r more d also) in
+            (below_at (with_slots slots w) (slot + 1) right r more d also) in
             let unmoved : (left ≡ slot) ⊎ ((d.frame).locals ≡ (b.frame).locals)
             = elim stays [ inl own ↦ inl own | inr kept ↦ inr (kept b d r run) ] in
             put_last w at slot to more d R (f l r d) rest (receives w a fits good low)

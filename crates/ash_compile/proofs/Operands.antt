@@ -44,7 +44,8 @@ use Rattle.ash_code.specs.Performing.{Setting, perform, put, of_int}
 use Rattle.ash_compile.specs.declared.builder.CodeBuilder.{CodeBuilder}
 use Rattle.ash_compile.specs.Stretches.{Fits}
 use Rattle.ash_compile.specs.Emission.{code_of, end_of, Keeps, Puts, Scene, IsScene, Suits, Good, Stands, Emits, calls_of}
-use Rattle.ash_compile.specs.Operands.{ComputesIn, EmitsIn, EmitsInto, ReadsLocal, reads_local, IsPlain, truth, integer}
+use Rattle.ash_compile.specs.Operands.{ComputesAt, ComputesIn, EmitsAt, EmitsIn, EmitsInto, ReadsLocal, reads_local}
+use Rattle.ash_compile.specs.Operands.{IsPlain, truth, integer}
 use Rattle.ash_compile.specs.Operands.{IsSimple, Calculates, Operates, IsAddition}
 use Rattle.ash_compile.specs.Operands as operands
 use Rattle.ash_compile.proofs.Phrases.{given_keeps, calculated_keeps, none_held}
@@ -56,7 +57,7 @@ use Rattle.ash_compile.proofs.EmittedPlaces.{typed_given}
 use Rattle.ash_compile.proofs.Typed.{evaluates, stays_good, alive_of, local_there, local_value, HasNoHandle}
 use Rattle.ash_compile.proofs.Typed.{no_handle_in_bool, no_handle_in_integer}
 use Rattle.ash_compile.proofs.PlaceSteps.{locals_below}
-use Rattle.ash_compile.proofs.InSlots.{computes_in, computes_there}
+use Rattle.ash_compile.proofs.InSlots.{computes_at, computes_in, computes_there}
 use Rattle.ash_compile.proofs.OperandCode.{Receives, in_slot, in_local, given_on, ReceivesIn}
 use Rattle.ash_compile.proofs.OperandCode.{computes_in_as, own_local, none_into, one_into, two_into}
 
@@ -98,6 +99,9 @@ alive_given s e of a b v scene typed good ran =
 abbrev pub DoesIn : Scene → Run Word → ℕ → ℕ → ℕ → ℕ → Type 0
 DoesIn s run from to slot at = ComputesIn s.setting (Good s) s.function s.room run from to slot at
 
+abbrev pub DoesAt : Scene → Run Word → ℕ → ℕ → ℕ → ℕ → Type 0
+DoesAt s run from to slot at = ComputesAt s.setting (Good s) s.function s.room run from to slot at
+
 abbrev pub ReceivesAt : Scene → ℕ → ℕ → (Word → Run Word) → Type 0
 ReceivesAt s slot to R = ReceivesIn s.setting (Good s) s.function s.room slot to R
 
@@ -111,11 +115,24 @@ emits_in old new e slot emits = record {
       (emits.does s of scene typed stands suits);
 }
 
+pub emits_at : (old new : CodeBuilder) (e : Expr) (slot at : ℕ) → EmitsIn old new e slot at → EmitsAt old new e slot at
+emits_at old new e slot at emits = record {
+  keeps = emits.keeps;
+  does = λ s of scene typed stands suits.
+      computes_at s.setting (Good s) s.function s.room (expression (calls_of s) e) (end_of old) (end_of new) slot at
+      (emits.does s of scene typed stands suits);
+}
+
 -- what the code's tree stands for
 pub of_kind_in : (old new : CodeBuilder) (k l : ExprKind) (e : Expr) (slot at : ℕ) → k ≡ l → expr_in l ≡ e
     → EmitsIn old new e slot at → EmitsIn old new (expr_in k) slot at
 of_kind_in old new k l e slot at is means emits =
     subst (λ (x : Expr). EmitsIn old new x slot at) (sym (ap expr_in is ∙ means)) emits
+
+pub of_kind_at : (old new : CodeBuilder) (k l : ExprKind) (e : Expr) (slot at : ℕ) → k ≡ l → expr_in l ≡ e
+    → EmitsAt old new e slot at → EmitsAt old new (expr_in k) slot at
+of_kind_at old new k l e slot at is means emits =
+    subst (λ (x : Expr). EmitsAt old new x slot at) (sym (ap expr_in is ∙ means)) emits
 
 pub local_there_in : (old : CodeBuilder) (e : Expr) (n slot : ℕ) → ReadsLocal e n → EmitsIn old old e slot n
 local_there_in old _ n slot (reads_local {of = of} plain) = record {
@@ -190,11 +207,11 @@ into_one old new e slot to j puts does =
     (has_put s old new (end_of old) slot j (omega arith) puts stands) receives))
 
 -- an expression, then an instruction with its value
-into_then : (start old new : CodeBuilder) (e f : Expr) (slot left to : ℕ) (j : Instruction) → EmitsIn start old e slot left
+into_then : (start old new : CodeBuilder) (e f : Expr) (slot left to : ℕ) (j : Instruction) → EmitsAt start old e slot left
     → Puts old new slot j
     → ((s : Scene) (of : ValueType) → IsWellTyped s.env f of → (inner : ValueType) × IsWellTyped s.env e inner)
     → ((s : Scene) (of : ValueType) (R : Word → Run Word) (from at : ℕ) → IsScene s → IsWellTyped s.env f of
-    → slot < s.room → DoesIn s (expression (calls_of s) e) from at slot left → HasAt s at j → ReceivesAt s slot to R
+    → slot < s.room → DoesAt s (expression (calls_of s) e) from at slot left → HasAt s at j → ReceivesAt s slot to R
     → DoesIn s (expression (calls_of s) f >>= R) from (at + 1) slot to)
     → EmitsInto start new f slot to
 into_then start old new e f slot left to j first puts inner does =
@@ -211,13 +228,13 @@ into_then start old new e f slot left to j first puts inner does =
 
 -- two expressions, then an instruction with their values
 into_both : (start mid old new : CodeBuilder) (a b f : Expr) (slot left right to : ℕ) (j : Instruction)
-    → EmitsIn start mid a slot left → EmitsIn mid old b (slot + 1) right
+    → EmitsIn start mid a slot left → EmitsAt mid old b (slot + 1) right
     → Puts old new slot j
     → ((s : Scene) (of : ValueType) → IsWellTyped s.env f of → (x : ValueType) × IsWellTyped s.env a x)
     → ((s : Scene) (of : ValueType) → IsWellTyped s.env f of → (x : ValueType) × IsWellTyped s.env b x)
     → ((s : Scene) (of : ValueType) (R : Word → Run Word) (from between at : ℕ) → IsScene s → IsWellTyped s.env f of
     → slot < s.room → DoesIn s (expression (calls_of s) a) from between slot left
-    → DoesIn s (expression (calls_of s) b) between at (slot + 1) right → HasAt s at j → ReceivesAt s slot to R
+    → DoesAt s (expression (calls_of s) b) between at (slot + 1) right → HasAt s at j → ReceivesAt s slot to R
     → DoesIn s (expression (calls_of s) f >>= R) from (at + 1) slot to)
     → EmitsInto start new f slot to
 into_both start mid old new a b f slot left right to j first second puts typed_a typed_b does =
@@ -276,7 +293,7 @@ unmoved s b left slot (inr simple) =
 -- The left operand is where it was if the right one writes nothing.
 pub operate_into : (start mid old new : CodeBuilder) (o : Operation) (a b : Expr) (slot left right to : ℕ)
     (j : Instruction)
-    → EmitsIn start mid a slot left → EmitsIn mid old b (slot + 1) right → Puts old new slot j
+    → EmitsIn start mid a slot left → EmitsAt mid old b (slot + 1) right → Puts old new slot j
     → Operates j o left right to → (left ≡ slot) ⊎ IsSimple b → EmitsInto start new (Operate o a b) slot to
 operate_into start mid old new o a b slot left right to j first second puts operates stays =
     into_both start mid old new a b (Operate o a b) slot left right to j first second puts
@@ -334,7 +351,7 @@ pub add_into : (start old new : CodeBuilder) (o : Operation) (a b : Expr) (numbe
     → EmitsIn start old a slot left → Puts old new slot (i.AddNumber left number to) → IsAddition o b number
     → EmitsInto start new (Operate o a b) slot to
 add_into start old new o a b number slot left to first puts adds =
-    into_then start old new a (Operate o a b) slot left to (i.AddNumber left number to) first puts
+    into_then start old new a (Operate o a b) slot left to (i.AddNumber left number to) (emits_at start old a slot left first) puts
     (λ s of typed. typed_left typed)
     (λ s of R from at scene typed within one has receives.
     one_into s.setting (Good s) s.function s.room (expression (calls_of s) a)
@@ -371,7 +388,8 @@ pub convert_in : (start old new : CodeBuilder) (conversion : Conversion) (e : Ex
     → EmitsIn start new (Convert conversion e) slot slot
 convert_in start old new conversion e slot left first puts =
     emits_in start new (Convert conversion e) slot
-    ((into_then start old new e (Convert conversion e) slot left slot (i.Convert conversion.to left slot) first puts
+    ((into_then start old new e (Convert conversion e) slot left slot (i.Convert conversion.to left slot)
+    (emits_at start old e slot left first) puts
     (λ s of typed. typed_converted typed)
     (λ s of R from at scene typed within one has receives.
     one_into s.setting (Good s) s.function s.room (expression (calls_of s) e)
@@ -384,7 +402,7 @@ convert_in start old new conversion e slot left first puts =
 
 -- a value that is there already
 
-pub move_into : (start old new : CodeBuilder) (e : Expr) (slot from to : ℕ) → EmitsIn start old e slot from
+pub move_into : (start old new : CodeBuilder) (e : Expr) (slot from to : ℕ) → EmitsAt start old e slot from
     → Puts old new slot (i.Move from to) → EmitsInto start new e slot to
 move_into start old new e slot from to first puts =
     into_then start old new e e slot from to (i.Move from to) first puts (λ s of typed. (of, typed))

@@ -39,8 +39,8 @@ use Rattle.ash_compile.specs.Stretches.{continued, Arrives, with_slots, Fits, Ho
 use Rattle.ash_compile.specs.Emission.{Scene, IsScene, Good, DoesExpression, calls_of}
 use Rattle.ash_compile.specs.Places.{spot_of_variable, spot_of_member, located, reading, writing, LiesIn, Bears}
 use Rattle.ash_compile.specs.Places.{local, global, field, property, element, HoldsBelow, NamesPlace, DoesPlace}
-use Rattle.ash_compile.specs.Operands.{ComputesIn}
-use Rattle.ash_compile.proofs.InSlots.{computes_in}
+use Rattle.ash_compile.specs.Operands.{ComputesAt}
+use Rattle.ash_compile.proofs.InSlots.{computes_at, computes_in}
 use Rattle.ash_compile.proofs.Simulation.{continued_then, then_is, goes_by, step_is, puts, refits}
 use Rattle.ash_compile.proofs.Phrases.{grouped}
 use Rattle.ash_compile.proofs.Emission.{HasAt}
@@ -178,7 +178,7 @@ module _ (s : Scene) where
   -- The array of an element is tested after its index.
   pub element_named : (array index : Expr) (e : Element) (of : VarType) (from mid to slot at : ℕ) → IsScene s
       → HasPlace s.env (Indexed array index e) of → DoesExpression s array from mid slot
-      → ComputesIn s.setting (Good s) s.function s.room (expression (calls_of s) index) mid to (slot + 1) at
+      → ComputesAt s.setting (Good s) s.function s.room (expression (calls_of s) index) mid to (slot + 1) at
       → NamesPlace s (Indexed array index e) of (spots.Element slot at) from to slot
   element_named array index e _ from mid to slot at scene (typing.element first second) does next =
       λ w a rest low long fits good goes.
@@ -222,7 +222,8 @@ module _ (s : Scene) where
   element_place array index e of from mid to slot scene at does next = record {
     lies = (omega arith, does.within, omega arith, next.within);
     comes = element_named array index e of from mid to slot (slot + 1) scene at does
-        (computes_in s.setting (Good s) s.function s.room (expression (calls_of s) index) mid to (slot + 1) next);
+        (computes_at s.setting (Good s) s.function s.room (expression (calls_of s) index) mid to (slot + 1) (slot + 1)
+        (computes_in s.setting (Good s) s.function s.room (expression (calls_of s) index) mid to (slot + 1) next));
   }
 
   -- one instruction at a place

@@ -24,7 +24,7 @@ use Rattle.ash_meaning.specs.StatementMeaning.{statement, statements, condition,
 use Rattle.ash_code.specs.declared.instruction.Instruction.{Instruction}
 use Rattle.ash_code.specs.declared.instruction.Instruction.TheVariants as i
 use Rattle.ash_compile.specs.Stretches.{Has}
-use Rattle.ash_compile.specs.Operands.{ComputesIn, Affects}
+use Rattle.ash_compile.specs.Operands.{ComputesAt, Affects}
 use Rattle.ash_compile.specs.Performances.{Exits, Acts, Decides, Performs, Reaches, Lands}
 use Rattle.ash_compile.specs.Emission.{Scene, IsScene, Good, calls_of}
 use Rattle.ash_compile.proofs.Statements as code
@@ -60,10 +60,10 @@ module _ (s : Scene) (scene : IsScene s) (ranked : IsRanked s) where
   abbrev pub DoesTest : Run Bool → ℕ → ℕ → ℕ → Type 0
   DoesTest run from met unmet = Decides s.setting (Ready s) s.function s.room run from met unmet locals
 
-  ready_in : (e : Expr) (from to slot left : ℕ)
-      → ComputesIn s.setting (Good s) s.function s.room (expression (calls_of s) e) from to slot left
-      → ComputesIn s.setting (Ready s) s.function s.room (expression (calls_of s) e) from to slot left
-  ready_in e from to slot left does = record {
+  ready_at : (e : Expr) (from to slot left : ℕ)
+      → ComputesAt s.setting (Good s) s.function s.room (expression (calls_of s) e) from to slot left
+      → ComputesAt s.setting (Ready s) s.function s.room (expression (calls_of s) e) from to slot left
+  ready_at e from to slot left does = record {
     comes = λ w a rest low long fits good. does.comes w a rest low long fits good;
   }
 
@@ -104,12 +104,12 @@ module _ (s : Scene) (scene : IsScene s) (ranked : IsRanked s) where
       (leads_by (evaluate (calls_of s) e) (spends_evaluate s scene e typed)) second
 
   pub does_condition : (e : Expr) (from mid unmet left : ℕ) → IsSoundCondition s.env e
-      → ComputesIn s.setting (Good s) s.function s.room (expression (calls_of s) e) from mid locals left
+      → ComputesAt s.setting (Good s) s.function s.room (expression (calls_of s) e) from mid locals left
       → HasAt mid (i.Branch left unmet)
       → DoesTest (condition (calls_of s) e) from (mid + 1) unmet
   does_condition e from mid unmet left typed does has =
       conditions.decides s.setting (Ready s) s.function s.room (expression (calls_of s) e) from mid unmet locals left
-      (ready_in e from mid locals left does) has (ranks_after e _ typed)
+      (ready_at e from mid locals left does) has (ranks_after e _ typed)
 
   pub does_no_condition : (at unmet : ℕ) → DoesTest (condition_or_true (calls_of s) None) at at unmet
   does_no_condition at unmet = conditions.always s.setting (Ready s) s.function s.room at unmet locals
@@ -172,13 +172,13 @@ module _ (s : Scene) (scene : IsScene s) (ranked : IsRanked s) where
 
   pub does_return_value : (exits : Exits) (line : ℕ) (e : Expr) (from at to left : ℕ)
       → HasAt from (i.Tick line)
-      → ComputesIn s.setting (Good s) s.function s.room (expression (calls_of s) e) (from + 1) at locals left
+      → ComputesAt s.setting (Good s) s.function s.room (expression (calls_of s) e) (from + 1) at locals left
       → HasAt at (i.Return left)
       → ((v this : Word) → exits.gives (Some v) this ≡ Some v)
       → Does exits (statement (calls_of s) s.depth (Return line (Some e))) from to
   does_return_value exits line e from at to left has does has_return gives =
       leaving.returns_value s.setting (Ready s) s.function s.room exits (Ready s) (expression (calls_of s) e) line from at to
-      locals locals left has (ticked line) (ready_in e (from + 1) at locals left does) has_return gives
+      locals locals left has (ticked line) (ready_at e (from + 1) at locals left does) has_return gives
 
   pub does_return : (exits : Exits) (line from to : ℕ)
       → HasAt from (i.Tick line)

@@ -117,7 +117,25 @@ pub record HoldsIn (old : Window) (slot at : ℕ) (word : Word) (slots : List Wo
   pub value : slice_index_or slots at Null ≡ word
   pub locals : (b.frame).locals ≡ take old.count slots
 
+-- The same, if the value may be in any slot: what is computed next may take it.
+pub record HoldsAt (old : Window) (slot at : ℕ) (word : Word) (slots : List Word) (b : Activity) : Type 0 where
+  pub long : length slots ≡ length old.slots
+  pub kept : (k : ℕ) → old.count ≤ k → k < slot → slice_index_or slots k Null ≡ slice_index_or old.slots k Null
+  pub value : slice_index_or slots at Null ≡ word
+  pub locals : (b.frame).locals ≡ take old.count slots
+
 module _ (s : Setting) (Good : Activity → Type 0) (function room : ℕ) where
+  -- The code from one place to another does what an expression does, and has its value in any slot.
+  pub record ComputesAt (run : Run Word) (from to slot at : ℕ) : Type 0 where
+    pub comes : (w : Window) (a : Activity) (rest : Word → Activity → Option Outcome)
+        → w.count ≤ slot
+        → room ≤ length w.slots
+        → Fits w a
+        → Good a
+        → ((word : Word) (b : Activity) (slots : List Word) → run a ≡ Done word b → HoldsAt w slot at word slots b
+        → Arrives s (control function to (with_slots slots w)) b (rest word b))
+        → Arrives s (control function from w) a (continued (run a) rest)
+
   -- The code from one place to another does what an expression does, and has its value in a slot.
   pub record ComputesIn (run : Run Word) (from to slot at : ℕ) : Type 0 where
     pub comes : (w : Window) (a : Activity) (rest : Word → Activity → Option Outcome)
@@ -157,6 +175,17 @@ pub record EmitsIn (old new : CodeBuilder) (e : Expr) (slot at : ℕ) : Type 0 w
   pub keeps : Keeps old new
   pub does : Wherever old new e
       (λ s. ComputesIn s.setting (Good s) s.function s.room (expression (calls_of s) e) (end_of old) (end_of new) slot at)
+
+-- The same, if the value may be in any slot.
+pub record EmitsAt (old new : CodeBuilder) (e : Expr) (slot at : ℕ) : Type 0 where
+  pub keeps : Keeps old new
+  pub does : Wherever old new e
+      (λ s. ComputesAt s.setting (Good s) s.function s.room (expression (calls_of s) e) (end_of old) (end_of new) slot at)
+
+-- The value of a call is in the slot of its expression, or in the next one.
+pub data EmitsResult (old new : CodeBuilder) (e : Expr) (slot : ℕ) : ℕ → Type 0 where
+  own : Emits old new e slot → EmitsResult old new e slot slot
+  next : EmitsAt old new e slot (slot + 1) → EmitsResult old new e slot (slot + 1)
 
 -- The code has grown by that of an expression, whose value is not used.
 pub record EmitsEffect (old new : CodeBuilder) (e : Expr) (slot : ℕ) : Type 0 where

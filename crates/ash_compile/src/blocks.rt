@@ -7,7 +7,7 @@ ghost use Rattle.ash_typed.specs.BodyViews.{value_of, head_of};
 ghost use Rattle.ash_meaning.specs.OperatorMeaning.{zero_of};
 ghost use Rattle.ash_code.specs.declared.instruction.Instruction.TheVariants as i;
 ghost use Rattle.ash_compile.specs.Emission.{Puts};
-ghost use Rattle.ash_compile.specs.Operands.{Compares, EmitsIn};
+ghost use Rattle.ash_compile.specs.Operands.{Compares, EmitsAt};
 ghost use Rattle.ash_compile.specs.declared.builder.CodeBuilder.{CodeBuilder as Written};
 ghost use Rattle.ash_compile.specs.EmittedStatements.{EmitsVariable, EmitsVariables, EmitsHead, EmitsEvaluation, EmitsFull};
 ghost use Rattle.ash_compile.specs.EmittedStatements.{EmitsEvaluations, Tests};
@@ -88,7 +88,7 @@ impl CodeBuilder {
         match &*expr.kind {
             ExprKind::Chain { first, operands } => self.chain_condition(first, operands, slot),
             _ => {
-                let at = self.value(expr, slot)?;
+                let at = self.last_value(expr, slot)?;
                 self.truth(at, slot)
             }
         }
@@ -106,7 +106,7 @@ impl CodeBuilder {
     {
         match operands.split_last() {
             None => {
-                let at = self.value(first, slot)?;
+                let at = self.last_value(first, slot)?;
                 self.truth(at, slot)
             }
             Some((last, before)) => match comparison_of(last.operation) {
@@ -134,7 +134,7 @@ impl CodeBuilder {
         let left = self.row(first, before, &last.value, slot)?;
         let left = self.conversion_before(last.before, left, slot)?;
         let next = one_more(slot)?;
-        let right = self.value(&last.value, next)?;
+        let right = self.last_value(&last.value, next)?;
         let condition = Condition::Comparison {
             comparison,
             left,
@@ -145,9 +145,9 @@ impl CodeBuilder {
         Ok(Branch { at, condition })
     }
 
-    /// The branch of a condition that has its truth value in a slot: its own, or that of a local.
+    /// The branch of a condition that has its truth value in a slot.
     fn truth(&mut self, value: usize, slot: usize) -> Result<Branch, AllocError>
-        ensures emits { IfOk result (λ branch. (start : Written) (e : ExprData) → EmitsIn start self.old e slot value
+        ensures emits { IfOk result (λ branch. (start : Written) (e : ExprData) → EmitsAt start self.old e slot value
             → Tests start self.new e slot branch) }
     {
         let condition = Condition::Truth { slot: value };

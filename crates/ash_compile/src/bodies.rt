@@ -374,7 +374,7 @@ impl CodeBuilder {
         match value {
             None => self.put(scope.locals, function_end(scope.constructs)),
             Some(expr) => {
-                let from = self.value(expr, scope.locals)?;
+                let from = self.last_value(expr, scope.locals)?;
                 self.put(scope.locals, Instruction::Return { from })
             }
         }

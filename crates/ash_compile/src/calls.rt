@@ -3,7 +3,8 @@
 ghost use Rattle.std.specs.Prelude.{◌≡◌, ◌+◌, List, length, IfOk};
 ghost use Rattle.ash_typed.specs.declared.types.VarType.{VarType as VarTypeData};
 ghost use Rattle.ash_typed.specs.TypedTree.{Expr as ExprData, Call, Invoke, exprs};
-ghost use Rattle.ash_compile.specs.Emission.{Puts, Emits};
+ghost use Rattle.ash_compile.specs.Emission.{Emits};
+ghost use Rattle.ash_compile.specs.Operands.{EmitsResult};
 ghost use Rattle.ash_compile.specs.Arguments.{EmitsArguments};
 ghost use Rattle.ash_compile.specs.declared.builder.CodeBuilder.{CodeBuilder as Written};
 
@@ -77,19 +78,19 @@ impl CodeBuilder {
         }
     }
 
-    /// Calls a method of the object in a slot, where it leaves its value. Its arguments are in so many slots from the
-    /// next one on.
+    /// Calls a method of the object in a slot. Its arguments are in so many slots from the next one on. Its value is in
+    /// the slot that is given back.
     pub(crate) fn method(
         &mut self,
         method: Method,
         slot: usize,
         first: usize,
         count: usize,
-    ) -> Result<(), AllocError>
+    ) -> Result<usize, AllocError>
         requires next { first ≡ slot + 1 }
-        ensures emits { IfOk result (λ u. (start mid : Written) (e : ExprData) (parameters : List VarTypeData)
+        ensures emits { IfOk result (λ at. (start mid : Written) (e : ExprData) (parameters : List VarTypeData)
             (es : List ExprData) → Emits start mid e slot → EmitsArguments mid self.old es (slot + 1)
-            → length es ≡ count → Emits start self.new (Invoke e method parameters (exprs es)) slot) }
+            → length es ≡ count → EmitsResult start self.new (Invoke e method parameters (exprs es)) slot at) }
     {
         match method {
             Method::Script { class, method, .. } => {
@@ -99,7 +100,8 @@ impl CodeBuilder {
                     object: slot,
                     at: first,
                 };
-                self.put_and_move(call, first, slot)
+                self.put(first, call)?;
+                Ok(first)
             }
             Method::Interface {
                 interface,
@@ -112,7 +114,8 @@ impl CodeBuilder {
                     object: slot,
                     at: first,
                 };
-                self.put_and_move(call, first, slot)
+                self.put(first, call)?;
+                Ok(first)
             }
             Method::Host { id, result } => {
                 let call = Instruction::CallHost {
@@ -122,24 +125,25 @@ impl CodeBuilder {
                     at: first,
                     count,
                 };
-                self.put_and_move(call, first, slot)
+                self.put(first, call)?;
+                Ok(first)
             }
-            Method::Array(method) => self.array_method(method, slot, first),
+            Method::Array(method) => {
+                self.array_method(method, slot, first)?;
+                Ok(slot)
+            }
         }
     }
 
-    /// Appends an instruction that leaves its value in a slot, and moves that to another one.
-    fn put_and_move(
-        &mut self,
-        instruction: Instruction,
-        from: usize,
-        to: usize,
-    ) -> Result<(), AllocError>
-        ensures puts { IfOk result (λ u. (mid : Written) × Puts self.old mid from instruction
-            × Puts mid self.new to (Instruction.Move from to)) }
+    /// Moves the value of a call to the slot of its expression, unless it is there.
+    pub(crate) fn settle(&mut self, at: usize, slot: usize) -> Result<(), AllocError>
+        ensures emits { IfOk result (λ u. (start : Written) (e : ExprData) → EmitsResult start self.old e slot at
+            → Emits start self.new e slot) }
     {
-        self.put(from, instruction)?;
-        self.put(to, Instruction::Move { from, to })
+        if at == slot {
+            return Ok(());
+        }
+        self.put(slot, Instruction::Move { from: at, to: slot })
     }
 
     /// Calls a method of the array in a slot.

@@ -109,7 +109,10 @@ impl CodeBuilder {
                 Some(to) => self.put(slot, counting(*step, *of, to)),
                 None => self.expression(expr, slot),
             },
-            _ => self.expression(expr, slot),
+            _ => {
+                self.last_value(expr, slot)?;
+                Ok(())
+            }
         }
     }
 
@@ -120,7 +123,7 @@ impl CodeBuilder {
         match &*expr.kind {
             ExprKind::Chain { first, operands } => self.chain(first, operands, slot, to),
             _ => {
-                let from = self.value(expr, slot)?;
+                let from = self.last_value(expr, slot)?;
                 self.put(slot, Instruction::Move { from, to })
             }
         }
@@ -147,7 +150,7 @@ impl CodeBuilder {
                 },
             ),
             None => {
-                let right = self.value(value, slot)?;
+                let right = self.last_value(value, slot)?;
                 self.put(slot, calculating(calculation, local, right, local))
             }
         }

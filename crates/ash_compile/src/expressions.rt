@@ -13,7 +13,7 @@ ghost use Rattle.ash_typed.specs.TypedTreeViews.{all_lazies};
 ghost use Rattle.ash_meaning.specs.OperatorMeaning.{word_at};
 ghost use Rattle.ash_compile.specs.Emission.{Emits, lazy_jump, read_local};
 ghost use Rattle.ash_compile.specs.Places.{EmitsPlace, EmitsTarget};
-ghost use Rattle.ash_compile.specs.Operands.{IsSimple, EmitsIn, EmitsInto};
+ghost use Rattle.ash_compile.specs.Operands.{IsSimple, EmitsIn, EmitsAt, EmitsInto, EmitsResult};
 ghost use Rattle.ash_compile.specs.Arguments.{EmitsArguments};
 ghost use Rattle.ash_compile.specs.declared.builder.CodeBuilder.{CodeBuilder as Written};
 
@@ -290,7 +290,7 @@ impl CodeBuilder {
             Some(number) => self.put(slot, Instruction::AddNumber { left, number, to }),
             None => {
                 let next = after(slot)?;
-                let right = self.value(&operand.value, next)?;
+                let right = self.last_value(&operand.value, next)?;
                 self.put(slot, operating(operand.operation, left, right, to))
             }
         }
@@ -311,7 +311,7 @@ impl CodeBuilder {
     {
         match operands.split_last() {
             None => {
-                let from = self.value(first, slot)?;
+                let from = self.last_value(first, slot)?;
                 self.put(slot, Instruction::Move { from, to })
             }
             Some((last, before)) => {
@@ -440,14 +440,70 @@ impl CodeBuilder {
             Link::Member(member) => self.read_member(*member, slot),
             Link::Index { index, .. } => {
                 let next = after(slot)?;
-                let index = self.value(index, next)?;
+                let index = self.last_value(index, next)?;
                 self.read_element(slot, index)
             }
             Link::Invoke {
                 method,
                 arguments,
                 ..
+            } => {
+                let at = self.invoke(*method, arguments, slot)?;
+                self.settle(at, slot)
+            }
+        }
+    }
+
+    /// The same of the last link. Its value is in the slot that is given back.
+    #[cycle(expressions)]
+    fn last_link(&mut self, link: &Link, slot: usize) -> Result<usize, AllocError>
+        ensures emits { IfOk result (λ at. (start : Written) (e : ExprData) → Emits start self.old e slot
+            → EmitsAt start self.new (linked e link.now) slot at) }
+    {
+        match link {
+            Link::Invoke {
+                method,
+                arguments,
+                ..
             } => self.invoke(*method, arguments, slot),
+            _ => {
+                self.link(link, slot)?;
+                Ok(slot)
+            }
+        }
+    }
+
+    /// What links make of the value of an expression. Its value is in the slot that is given back.
+    #[cycle(expressions)]
+    fn path_result(
+        &mut self,
+        base: &Expr,
+        links: &[Link],
+        slot: usize,
+    ) -> Result<usize, AllocError>
+        ensures emits { IfOk result (λ at. EmitsAt self.old self.new (all_linked (expr_of base.now) links.now) slot at) }
+    {
+        match links.split_last() {
+            None => {
+                self.expression(base, slot)?;
+                Ok(slot)
+            }
+            Some((last, before)) => {
+                self.path(base, before, slot)?;
+                self.last_link(last, slot)
+            }
+        }
+    }
+
+    /// Computes an operand after which no other one is computed. Its value is in the slot that is given back: a local
+    /// stays in its own, and what a method gives is where that leaves it.
+    #[cycle(expressions)]
+    pub fn last_value(&mut self, expr: &Expr, slot: usize) -> Result<usize, AllocError>
+        ensures emits { IfOk result (λ at. EmitsAt self.old self.new (expr_of expr.now) slot at) }
+    {
+        match &*expr.kind {
+            ExprKind::Path { base, links } => self.path_result(base, links, slot),
+            _ => self.value(expr, slot),
         }
     }
 
@@ -483,7 +539,7 @@ impl CodeBuilder {
             Place::Element { array, index, .. } => {
                 self.expression(array, slot)?;
                 let next = after(slot)?;
-                let index = self.value(index, next)?;
+                let index = self.last_value(index, next)?;
                 Ok(Spot::Element { array: slot, index })
             }
             _ => self.place(place, slot),
@@ -503,12 +559,18 @@ impl CodeBuilder {
         Ok(())
     }
 
-    /// What a method makes of the object in a slot. Its arguments are in the slots after that.
+    /// What a method makes of the object in a slot. Its arguments are in the slots after that, its value is in the slot
+    /// that is given back.
     #[cycle(expressions)]
-    fn invoke(&mut self, method: Method, arguments: &[Expr], slot: usize) -> Result<(), AllocError>
-        ensures emits { IfOk result (λ u. (start : Written) (e : ExprData) (parameters : List VarTypeData)
+    fn invoke(
+        &mut self,
+        method: Method,
+        arguments: &[Expr],
+        slot: usize,
+    ) -> Result<usize, AllocError>
+        ensures emits { IfOk result (λ at. (start : Written) (e : ExprData) (parameters : List VarTypeData)
             → Emits start self.old e slot
-            → Emits start self.new (Invoke e method parameters (exprs (map expr_of arguments.now))) slot) }
+            → EmitsResult start self.new (Invoke e method parameters (exprs (map expr_of arguments.now))) slot at) }
     {
         let first = after(slot)?;
         self.arguments(arguments, first)?;

@@ -10,7 +10,7 @@ ghost use Rattle.ash_compile.specs.Emission.{Emits};
 ghost use Rattle.ash_compile.specs.Conversions.{Converts};
 ghost use Rattle.ash_compile.specs.Places.{spot_of_variable, spot_of_member, reading, writing, slot_of_old};
 ghost use Rattle.ash_compile.specs.Places.{slot_of_new, EmitsPlace, EmitsTarget};
-ghost use Rattle.ash_compile.specs.Operands.{EmitsIn};
+ghost use Rattle.ash_compile.specs.Operands.{EmitsAt};
 ghost use Rattle.ash_compile.specs.declared.builder.CodeBuilder.{CodeBuilder as Written};
 
 use crate::builder::CodeBuilder;
@@ -134,7 +134,7 @@ impl CodeBuilder {
     pub fn read_element(&mut self, slot: usize, index: usize) -> Result<(), AllocError>
         ensures emits { IfOk result (λ u. (start mid : Written) (a i : ExprData) (of : ElementType)
             → Emits start mid a slot
-            → EmitsIn mid self.old i (slot + 1) index → Emits start self.new (Read (Indexed a i of)) slot) }
+            → EmitsAt mid self.old i (slot + 1) index → Emits start self.new (Read (Indexed a i of)) slot) }
     {
         self.put(slot, reading(Spot::Element { array: slot, index }, slot))
     }

@@ -18,12 +18,14 @@ use Rattle.ash_compile.proofs.EmittedBranches as branches
 use Rattle.ash_compile.proofs.EmittedPlaces as places
 use Rattle.ash_compile.proofs.CastCode as casts
 use Rattle.ash_compile.proofs.Operands as operands
-use Rattle.ash_compile.specs.Operands.{EmitsIn, EmitsInto, IsAddition}
+use Rattle.ash_compile.specs.Operands.{EmitsAt, EmitsIn, EmitsInto, IsAddition}
+use Rattle.ash_compile.proofs.EmittedCalls as calls
 use Rattle.std.proofs.Common.{ℤ, to_z, of_z}
 use Rattle.std.specs.Int.{w32}
 use Rattle.std.proofs.lemmas.Int.{to_z-of_z}
 use mir.Val.{SFits}
 use Rattle.ash_compile.proofs.EmittedRows.{empty_is, chained_after, chain_step, chain_end, lazy_step, lazy_end, link_step, link_end}
+use Rattle.ash_compile.proofs.EmittedRows.{none_linked, linked_after}
 use Rattle.ash_compile.proofs.EmittedRows.{argument_step, argument_end}
 use Rattle.ash_compile.specs.Arguments.{EmitsArguments}
 use Rattle.ash_compile.proofs.Arguments.{no_code, one_argument}
@@ -102,11 +104,11 @@ pub operand-returns-in_ok-right-in-None : goal.operand-returns-in_ok-right-in-No
 operand-returns-in_ok-right-in-None t c = record {
   emits = if_ok c.put-in-None.result
       (λ u puts start e stays first.
-      operands.operate_into start c.conversion_before.new.self c.value.new.self c.put-in-None.new.self
+      operands.operate_into start c.conversion_before.new.self c.last_value.new.self c.put-in-None.new.self
       c.args.operand.now.operation (converted c.args.operand.now.before e) (expr_of c.args.operand.now.value)
       c.args.slot c.in_ok-left.left c.in_ok-right-in-None.right c.args.to c.operating.result
       (c.in_ok-left.ensures.emits start e first)
-      (subst (λ (n : ℕ). EmitsIn c.conversion_before.new.self c.value.new.self (expr_of c.args.operand.now.value) n
+      (subst (λ (n : ℕ). EmitsAt c.conversion_before.new.self c.last_value.new.self (expr_of c.args.operand.now.value) n
       c.in_ok-right-in-None.right) c.in_ok-next-in-None.ensures.next c.in_ok-right-in-None.ensures.emits)
       puts c.operating.ensures.operates (operands.stays_on c.in_ok-left.ensures.there stays))
       c.put-in-None.ensures.puts;
@@ -149,7 +151,7 @@ chain-returns-in_ok-from-in-None t c =
           (λ u puts.
           subst (λ (os : List operand_code.Operand). EmitsInto c.args.self.now c.put.new.self (all_chained first os)
           c.args.slot c.args.to) (empty_is c.args.operands.now c.in-None.ensures.cases)
-          (operands.move_into c.args.self.now c.value.new.self c.put.new.self first c.args.slot c.in_ok-from-in-None.from
+          (operands.move_into c.args.self.now c.last_value.new.self c.put.new.self first c.args.slot c.in_ok-from-in-None.from
           c.args.to c.in_ok-from-in-None.ensures.emits puts))
           c.put.ensures.puts;
     }
@@ -311,15 +313,77 @@ invoke-returns t c = record {
       c.method.ensures.emits;
 }
 
-pub link-returns-in-Invoke : goal.link-returns-in-Invoke
-link-returns-in-Invoke t c = record {
-  emits = if_ok c.invoke.result
-      (λ u next start e first.
-      subst (λ (x : Expr). Emits start c.invoke.new.self x c.args.slot)
+pub link-returns-in_ok-at-in-Invoke : goal.link-returns-in_ok-at-in-Invoke
+link-returns-in_ok-at-in-Invoke t c = record {
+  emits = if_ok c.settle.result
+      (λ u settles start e first.
+      subst (λ (x : Expr). Emits start c.settle.new.self x c.args.slot)
       (sym (ap (λ (l : link_code.Link). linked e l) c.in-Invoke.is ∙ invoke_is e c.in-Invoke.method c.in-Invoke.parameters c.in-Invoke.arguments))
-      (subst (λ (xs : List expr_code.Expr). Emits start c.invoke.new.self (Invoke e c.in-Invoke.method (c.in-Invoke.parameters).items (exprs (map expr_of xs))) c.args.slot)
-      c.deref.ensures.value (next start e (c.in-Invoke.parameters).items first)))
+      (subst (λ (xs : List expr_code.Expr). Emits start c.settle.new.self (Invoke e c.in-Invoke.method (c.in-Invoke.parameters).items (exprs (map expr_of xs))) c.args.slot)
+      c.deref.ensures.value
+      (settles start _ (c.in_ok-at-in-Invoke.ensures.emits start e (c.in-Invoke.parameters).items first))))
+      c.settle.ensures.emits;
+}
+
+pub last_link-returns-in-Invoke : goal.last_link-returns-in-Invoke
+last_link-returns-in-Invoke t c = record {
+  emits = if_ok c.invoke.result
+      (λ at next start e first.
+      subst (λ (x : Expr). EmitsAt start c.invoke.new.self x c.args.slot at)
+      (sym (ap (λ (l : link_code.Link). linked e l) c.in-Invoke.is ∙ invoke_is e c.in-Invoke.method c.in-Invoke.parameters c.in-Invoke.arguments))
+      (subst (λ (xs : List expr_code.Expr). EmitsAt start c.invoke.new.self (Invoke e c.in-Invoke.method (c.in-Invoke.parameters).items (exprs (map expr_of xs))) c.args.slot at)
+      c.deref.ensures.value
+      (calls.result_at start c.invoke.new.self _ c.args.slot at (next start e (c.in-Invoke.parameters).items first))))
       c.invoke.ensures.emits;
+}
+
+pub last_link-returns-in_ok-link-in_default : goal.last_link-returns-in_ok-link-in_default
+last_link-returns-in_ok-link-in_default t c = record {
+  emits = λ start e first.
+      let x = linked e c.args.link.now in
+      operands.emits_at start c.link.new.self x c.args.slot c.args.slot
+      (operands.emits_in start c.link.new.self x c.args.slot (c.in_ok-link-in_default.ensures.emits start e first));
+}
+
+pub path_result-returns-in_ok-expression-in-None : goal.path_result-returns-in_ok-expression-in-None
+path_result-returns-in_ok-expression-in-None t c =
+    let base = expr_of c.args.base.now in
+    record {
+      emits = subst (λ (ls : List link_code.Link). EmitsAt c.args.self.now c.expression.new.self (all_linked base ls)
+          c.args.slot c.args.slot) (none_linked c.args.links.now c.in-None.ensures.cases)
+          (operands.emits_at c.args.self.now c.expression.new.self base c.args.slot c.args.slot
+          (operands.emits_in c.args.self.now c.expression.new.self base c.args.slot
+          c.in_ok-expression-in-None.ensures.emits));
+    }
+
+pub path_result-returns-in_ok-path-in-Some : goal.path_result-returns-in_ok-path-in-Some
+path_result-returns-in_ok-path-in-Some t c =
+    let base = expr_of c.args.base.now in
+    record {
+      emits = if_ok c.last_link.result
+          (λ at next.
+          subst (λ (x : Expr). EmitsAt c.args.self.now c.last_link.new.self x c.args.slot at)
+          (sym (ap (all_linked base) (c.in-Some.ensures.cases).0
+          ∙ linked_after base c.in-Some.before.now c.in-Some.last.now))
+          (next c.args.self.now (all_linked base c.in-Some.before.now) c.in_ok-path-in-Some.ensures.emits))
+          c.last_link.ensures.emits;
+    }
+
+pub last_value-returns-in-Path : goal.last_value-returns-in-Path
+last_value-returns-in-Path t c = record {
+  emits = if_ok c.path_result.result
+      (λ at emits. operands.of_kind_at c.args.self.now c.path_result.new.self c.args.expr.now.kind.value _ _ c.args.slot at
+      (sym c.deref.ensures ∙ c.in-Path.is) (path_is c.in-Path.base c.in-Path.links)
+      (subst (λ (ls : List link_code.Link). EmitsAt c.args.self.now c.path_result.new.self
+      (all_linked (expr_of c.in-Path.base) ls) c.args.slot at) c.deref-in-Path.ensures.value emits))
+      c.path_result.ensures.emits;
+}
+
+pub last_value-returns-in_default : goal.last_value-returns-in_default
+last_value-returns-in_default t c = record {
+  emits = if_ok c.value.result
+      (λ at emits. operands.emits_at c.args.self.now c.value.new.self (expr_of c.args.expr.now) c.args.slot at emits)
+      c.value.ensures.emits;
 }
 
 pub expression-returns-in-Path : goal.expression-returns-in-Path
@@ -386,7 +450,7 @@ link-returns-in_ok-index-in-Index t c = record {
   emits = rw c.in-Index.is (if_ok c.read_element.result
       (λ u then start e first.
       then start c.args.self.now e (expr_of c.in-Index.index) c.in-Index.of first
-      (subst (λ (r : ℕ). EmitsIn c.args.self.now c.value.new.self (expr_of c.in-Index.index) r c.in_ok-index-in-Index.index) c.in_ok-next-in-Index.ensures.next c.in_ok-index-in-Index.ensures.emits))
+      (subst (λ (r : ℕ). EmitsAt c.args.self.now c.last_value.new.self (expr_of c.in-Index.index) r c.in_ok-index-in-Index.index) c.in_ok-next-in-Index.ensures.next c.in_ok-index-in-Index.ensures.emits))
       c.read_element.ensures.emits);
 }
 
@@ -415,10 +479,10 @@ place-returns-in_ok-expression-in-Element-2 t c = record {
 pub target-returns-in_ok-index-in-Element : goal.target-returns-in_ok-index-in-Element
 target-returns-in_ok-index-in-Element t c = record {
   emits = rw c.in-Element.is
-      (places.element_target c.args.self.now c.expression.new.self c.value.new.self (expr_of c.in-Element.array)
+      (places.element_target c.args.self.now c.expression.new.self c.last_value.new.self (expr_of c.in-Element.array)
       (expr_of c.in-Element.index) c.in-Element.of c.args.slot c.in_ok-index-in-Element.index
       c.in_ok-expression-in-Element.ensures.emits
-      (subst (λ (r : ℕ). EmitsIn c.expression.new.self c.value.new.self (expr_of c.in-Element.index) r
+      (subst (λ (r : ℕ). EmitsAt c.expression.new.self c.last_value.new.self (expr_of c.in-Element.index) r
       c.in_ok-index-in-Element.index) c.in_ok-next-in-Element.ensures.next c.in_ok-index-in-Element.ensures.emits));
 }
 

@@ -49,6 +49,15 @@ decreases-path l = 8 * max (size-Expr l.base.now) (most size-Link l.links.now) +
 abbrev pub decreases-link : goal.decreases-link
 decreases-link l = 8 * size-Link l.link.now
 
+abbrev pub decreases-last_link : goal.decreases-last_link
+decreases-last_link l = 8 * size-Link l.link.now + 1
+
+abbrev pub decreases-path_result : goal.decreases-path_result
+decreases-path_result l = 8 * max (size-Expr l.base.now) (most size-Link l.links.now) + 3
+
+abbrev pub decreases-last_value : goal.decreases-last_value
+decreases-last_value l = 8 * size-Expr l.expr.now + 3
+
 abbrev pub decreases-place : goal.decreases-place
 decreases-place l = 8 * size-Place l.place.now
 

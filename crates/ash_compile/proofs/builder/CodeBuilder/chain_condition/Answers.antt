@@ -4,7 +4,7 @@ use Rattle.ash_typed.specs.TypedTree.{Expr}
 use Rattle.ash_typed.specs.TypedTreeViews.{expr_of, all_chained}
 use Rattle.ash_compile.specs.EmittedStatements.{Tests}
 use Rattle.ash_compile.proofs.Emitted.{if_ok}
-use Rattle.ash_compile.proofs.Operands.{emits_in}
+use Rattle.ash_compile.proofs.Operands.{emits_at, emits_in}
 use Rattle.ash_compile.proofs.EmittedRows.{empty_is, chained_after}
 use Rattle.ash_compile.proofs.builder.CodeBuilder.chain_condition.Goals as goal
 
@@ -37,7 +37,9 @@ pub returns-in_ok-chain-in-None-comparison_of : goal.returns-in_ok-chain-in-None
 returns-in_ok-chain-in-None-comparison_of c = record {
   emits = if_ok c.truth-in-None-comparison_of.result
       (λ branch tests. tests c.args.self.now (all_chained (expr_of c.args.first.now) c.args.operands.now)
+      (emits_at c.args.self.now c.chain.new.self (all_chained (expr_of c.args.first.now) c.args.operands.now) c.args.slot
+      c.args.slot
       (emits_in c.args.self.now c.chain.new.self (all_chained (expr_of c.args.first.now) c.args.operands.now) c.args.slot
-      ((c.in_ok-chain-in-None-comparison_of.ensures.emits).in_slot refl)))
+      ((c.in_ok-chain-in-None-comparison_of.ensures.emits).in_slot refl))))
       c.truth-in-None-comparison_of.ensures.emits;
 }

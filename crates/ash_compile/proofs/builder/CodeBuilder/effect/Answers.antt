@@ -73,9 +73,8 @@ returns-in-None-local_in-2 c = record {
       c.expression-in-None-local_in-2.ensures.emits;
 }
 
-pub returns-in_default : goal.returns-in_default
-returns-in_default c = record {
-  emits = if_ok c.expression-in_default.result
-      (λ u emits. effects.plain_effect c.args.self.now c.expression-in_default.new.self (expr_of c.args.expr.now) c.args.slot emits)
-      c.expression-in_default.ensures.emits;
+pub returns-in_ok-last_value-in_default : goal.returns-in_ok-last_value-in_default
+returns-in_ok-last_value-in_default c = record {
+  emits = effects.effect_at c.args.self.now c.last_value.new.self (expr_of c.args.expr.now) c.args.slot
+      c.in_ok-last_value-in_default.field-0 c.in_ok-last_value-in_default.ensures.emits;
 }

@@ -26,7 +26,7 @@ returns-in_ok-from-in-Some c = record {
       (λ u puts breaks continues. subst (λ (o : Option Expr). EmitsStatement (with_jumps c.args.self.now breaks continues)
       (with_jumps c.put-in-Some.new.self breaks continues) (Return c.args.line o) c.args.scope)
       (sym (ap (λ (o : Option expr_code.Expr). option_map expr_of o) c.in-Some.is))
-      (singly.return_value c.args.self.now c.tick.new.self c.value.new.self c.put-in-Some.new.self c.args.line
+      (singly.return_value c.args.self.now c.tick.new.self c.last_value.new.self c.put-in-Some.new.self c.args.line
       (expr_of c.in-Some.expr) c.args.scope c.in_ok-from-in-Some.from c.in_ok-tick.ensures.puts
       c.in_ok-from-in-Some.ensures.emits puts breaks continues))
       c.put-in-Some.ensures.puts;

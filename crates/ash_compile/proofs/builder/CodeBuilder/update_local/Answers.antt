@@ -27,7 +27,7 @@ pub returns-in_ok-right-in-None : goal.returns-in_ok-right-in-None
 returns-in_ok-right-in-None c = record {
   emits = if_ok c.put-in-None.result
       (λ u puts place there.
-      effects.update_effect c.args.self.now c.value.new.self c.put-in-None.new.self place c.args.calculation
+      effects.update_effect c.args.self.now c.last_value.new.self c.put-in-None.new.self place c.args.calculation
       (expr_of c.args.value.now) c.args.local c.args.slot c.in_ok-right-in-None.right c.calculating.result there
       c.in_ok-right-in-None.ensures.emits puts c.calculating.ensures.calculates)
       c.put-in-None.ensures.puts;

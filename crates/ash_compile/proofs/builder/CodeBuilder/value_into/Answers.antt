@@ -30,7 +30,7 @@ pub returns-in_ok-from-in_default : goal.returns-in_ok-from-in_default
 returns-in_ok-from-in_default c = record {
   emits = if_ok c.put.result
       (λ u puts.
-      operands.move_into c.args.self.now c.value.new.self c.put.new.self (expr_of c.args.expr.now) c.args.slot
+      operands.move_into c.args.self.now c.last_value.new.self c.put.new.self (expr_of c.args.expr.now) c.args.slot
       c.in_ok-from-in_default.from c.args.to c.in_ok-from-in_default.ensures.emits puts)
       c.put.ensures.puts;
 }
