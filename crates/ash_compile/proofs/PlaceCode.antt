@@ -182,38 +182,38 @@ module _ (s : Scene) where
       → NamesPlace s (Indexed array index e) of (spots.Element slot at) from to slot
   element_named array index e _ from mid to slot at scene (typing.element first second) does next =
       λ w a rest low long fits good goes.
-        subst (λ (o : Option Outcome). At from w a o)
-        (sym (continued_then (expression (calls_of s) array a)
-        (λ handle. expression (calls_of s) index >>= element_at handle) rest))
-        (does.comes w a (λ x b. continued (onward (expression (calls_of s) index b) (element_at x)) rest) low long fits
-        good
-        (λ x b slots ran held.
-        let left = evaluates s array _ a b x scene first good ran in
-        let still = stays_good s array _ a b x scene first good ran in
-        subst (λ (o : Option Outcome). At mid (with_slots slots w) b o)
-        (sym (continued_then (expression (calls_of s) index b) (element_at x) rest))
-        (next.comes (with_slots slots w) b (λ i d. continued (element_at x i d) rest) (omega (arith, low))
-        (omega (arith, long, held.long)) (refits w slot x slots a b fits held) still
-        (λ i d more run also.
-        let right = evaluates s index _ b d i scene second still run in
-        let array_is = also.kept slot low (omega arith) ∙ held.value in
-        subst (λ (y : Word). At to (with_slots more w) d (continued (element_at y i d) rest)) array_is
-        (subst (λ (j : Word). At to (with_slots more w) d
-        (continued (element_at (slice_index_or more slot words.Null) j d) rest)) also.value
-        (goes d more
-        (then_is (expression (calls_of s) array a) x b (λ handle. expression (calls_of s) index >>= element_at handle)
-        _ ran
-        (then_is (expression (calls_of s) index b) i d (element_at x) _ run
-        (ap (λ (y : Word). element_at y i d) (sym array_is)
-        ∙ ap (λ (j : Word). element_at (slice_index_or more slot words.Null) j d) (sym also.value))))
-        (record {
-          long = also.long ∙ held.long;
-          kept = λ k lower under. also.kept k lower (omega (arith, under)) ∙ held.kept k lower under;
-          locals = also.locals;
-        })
-        (goes_more left.goes right.goes)
-        (element (carried_as _ d x (slice_index_or more slot words.Null) array_is
-        (carry (well_of s b still) right.goes left.carried)))))))))
+      subst (λ (o : Option Outcome). At from w a o)
+      (sym (continued_then (expression (calls_of s) array a)
+      (λ handle. expression (calls_of s) index >>= element_at handle) rest))
+      (does.comes w a (λ x b. continued (onward (expression (calls_of s) index b) (element_at x)) rest) low long fits
+      good
+      (λ x b slots ran held.
+      let left = evaluates s array _ a b x scene first good ran in
+      let still = stays_good s array _ a b x scene first good ran in
+      subst (λ (o : Option Outcome). At mid (with_slots slots w) b o)
+      (sym (continued_then (expression (calls_of s) index b) (element_at x) rest))
+      (next.comes (with_slots slots w) b (λ i d. continued (element_at x i d) rest) (omega (arith, low))
+      (omega (arith, long, held.long)) (refits w slot x slots a b fits held) still
+      (λ i d more run also.
+      let right = evaluates s index _ b d i scene second still run in
+      let array_is = also.kept slot low (omega arith) ∙ held.value in
+      subst (λ (y : Word). At to (with_slots more w) d (continued (element_at y i d) rest)) array_is
+      (subst (λ (j : Word). At to (with_slots more w) d
+      (continued (element_at (slice_index_or more slot words.Null) j d) rest)) also.value
+      (goes d more
+      (then_is (expression (calls_of s) array a) x b (λ handle. expression (calls_of s) index >>= element_at handle)
+      _ ran
+      (then_is (expression (calls_of s) index b) i d (element_at x) _ run
+      (ap (λ (y : Word). element_at y i d) (sym array_is)
+      ∙ ap (λ (j : Word). element_at (slice_index_or more slot words.Null) j d) (sym also.value))))
+      (record {
+        long = also.long ∙ held.long;
+        kept = λ k lower under. also.kept k lower (omega (arith, under)) ∙ held.kept k lower under;
+        locals = also.locals;
+      })
+      (goes_more left.goes right.goes)
+      (element (carried_as _ d x (slice_index_or more slot words.Null) array_is
+      (carry (well_of s b still) right.goes left.carried)))))))))
 
   pub element_place : (array index : Expr) (e : Element) (of : VarType) (from mid to slot : ℕ) → IsScene s
       → HasPlace s.env (Indexed array index e) of → DoesExpression s array from mid slot

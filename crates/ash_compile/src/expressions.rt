@@ -475,12 +475,7 @@ impl CodeBuilder {
 
     /// What links make of the value of an expression. Its value is in the slot that is given back.
     #[cycle(expressions)]
-    fn path_result(
-        &mut self,
-        base: &Expr,
-        links: &[Link],
-        slot: usize,
-    ) -> Result<usize, AllocError>
+    fn path_result(&mut self, base: &Expr, links: &[Link], slot: usize) -> Result<usize, AllocError>
         ensures emits { IfOk result (λ at. EmitsAt self.old self.new (all_linked (expr_of base.now) links.now) slot at) }
     {
         match links.split_last() {
