@@ -76,4 +76,4 @@ module _ (s : Scene) (scene : IsScene s) where
       (behind w slot v (slice_set w.slots (slot + 1) v) x
       (stored s.setting (Good s) s.function s.room w (slot + 1) v d x (omega (arith, low))
       (omega (arith, under, greatest_within s scene, long)) fits
-      (done_keeps (invoke_host target id result ws) d x v (keeps_invoke_host target id result ws) called)))))
+      (done_keeps (invoke_host target id result ws) d x v (keeps_invoke_host target id result ws) called))))))
