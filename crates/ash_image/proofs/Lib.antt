@@ -1,9 +1,12 @@
 pub mod Appended
 pub mod BodyLaws
+pub mod DeltaLaws
 pub mod ExampleLaws
 pub mod FieldLaws
 pub mod ImageLaws
+pub mod IndexedLaws
 pub mod ItemLoop
+pub mod LeadingLaws
 pub mod ImageLengths
 pub mod Listed
 pub mod MoveLaws

@@ -9,9 +9,14 @@
 //! reached, `stored` what is read, `parts` what is written, with `lengths`. `examples` are images written by hand.
 #![tactic(auto)]
 
+mod changed_modules;
+pub mod delta;
+pub mod delta_examples;
+pub mod delta_parts;
 pub mod examples;
 mod fields;
 pub mod image;
+mod leading;
 mod lengths;
 mod limits;
 mod modules;
@@ -23,5 +28,6 @@ mod reaching;
 mod rules;
 mod services;
 pub mod stored;
+pub mod stored_delta;
 pub mod version;
 mod words;
