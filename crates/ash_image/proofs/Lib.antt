@@ -1,6 +1,7 @@
 pub mod Appended
 pub mod BodyLaws
 pub mod DeltaLaws
+pub mod DeltaLengths
 pub mod ExampleLaws
 pub mod FieldLaws
 pub mod ImageLaws

@@ -17,9 +17,10 @@
 //!     tag            u8     2, it leads from a state to the next
 //!     delta                 all of the bytes after the tag
 
-ghost use Rattle.std.specs.Prelude.{◌≡◌, ◌++◌, ◌<◌, ◌^◌, ◌∷◌, length, OnOk, IfOk, IfSome, IsOk};
+ghost use Rattle.std.specs.Prelude.{◌≡◌, ◌++◌, ◌<◌, ◌≤◌, ◌^◌, length, OnOk, IfOk, IfSome};
 ghost use Rattle.std.specs.Prelude.{ℕ, List, Some, option_map, IsTrue};
 ghost use Rattle.std.specs.List.{flat_map, AllByRecursion};
+ghost use Rattle.ash_host.specs.Limits.{max_objects};
 ghost use Rattle.ash_host.specs.Objects.{numbers};
 ghost use Rattle.ash_image.specs.Fields.{ReturnsField, times_at, number_at, number, items, whole};
 ghost use Rattle.ash_image.specs.Image.{do_rise, service};
@@ -34,6 +35,7 @@ ghost use Rattle.ash_image.specs.declared.version.Version.{Version};
 ghost use Rattle.ash_image.specs.declared.version.Version.TheVariants.{Two};
 
 use crate::changed_modules::{change_of, write_change};
+use crate::delta_lengths::delta_length;
 use crate::delta_parts::{DeltaParts, ServiceParts};
 use crate::fields::{ReadError, u16_at, u32_at, u64_at, write_u8, write_u16, write_u32, write_u64};
 use crate::limits::MAX_SERVICES;
@@ -323,23 +325,30 @@ fn write_delta_into(out: &mut Vec<u8>, parts: DeltaParts<'_>) -> Result<(), Allo
     write_objects(out, parts.put)
 }
 
-/// A delta, in version 2.
+/// A delta, in version 2. Its memory is taken at once.
 pub fn write_delta(alloc: Global, parts: DeltaParts<'_>) -> Result<Vec<u8>, AllocError>
     requires fits { FitsDelta Two (delta_in parts) }
     // It is read again.
     ensures written { IfOk result (λ bytes. IsDelta bytes.items Two (delta_in parts.entry)) }
+    // It fits into a record, if no more objects are gone than live at most.
+    ensures short { length parts.gone.now ≤ max_objects
+        → IfOk result (λ bytes. length bytes.items < 2 ^ 28) }
 {
-    let mut bytes = Vec::new(alloc);
+    let mut bytes = Vec::with_capacity(alloc, delta_length(parts))?;
     write_delta_into(&mut bytes, parts)?;
     Ok(bytes)
 }
 
-/// The body of a record that leads from a state to the next: a tag, and the delta in version 2.
+/// The body of a record that leads from a state to the next: a tag, and the delta in version 2. Its
+/// memory is taken at once.
 pub fn write_delta_body(alloc: Global, parts: DeltaParts<'_>) -> Result<Vec<u8>, AllocError>
     requires fits { FitsDelta Two (delta_in parts) }
     ensures written { IfOk result (λ body. IsDeltaBody body.items Two (delta_in parts.entry)) }
+    // It fits into a record, if no more objects are gone than live at most.
+    ensures short { length parts.gone.now ≤ max_objects
+        → IfOk result (λ body. length body.items < 2 ^ 28) }
 {
-    let mut body = Vec::new(alloc);
+    let mut body = Vec::with_capacity(alloc, 1 + delta_length(parts))?;
     write_u8(&mut body, DELTA_TAG)?;
     write_delta_into(&mut body, parts)?;
     Ok(body)

@@ -12,6 +12,7 @@
 mod changed_modules;
 pub mod delta;
 pub mod delta_examples;
+mod delta_lengths;
 pub mod delta_parts;
 pub mod examples;
 mod fields;
