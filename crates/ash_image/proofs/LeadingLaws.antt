@@ -1,22 +1,55 @@
--- Values that are set one after the other, at indexes that rise, are as a list says.
-use Rattle.std.proofs.Common.{◌≡◌, ℕ, zero, suc, ◌+◌, ◌<◌, ◌≤◌, Bool, true, false, eqb, List, [], ◌∷◌, length, map, drop, set}
-use Rattle.std.proofs.Common.{nat_eq, Option, Some, None, refl, sym, ap, ◌∙◌, subst, inl, inr, arith}
-use Rattle.std.specs.Prelude.{IsSome}
-use Rattle.std.specs.Option.{unwrap_or}
+-- What is listed is applied from the last on.
+use Rattle.std.proofs.Common.{◌≡◌, ℕ, zero, suc, ◌+◌, ◌<◌, ◌||◌, Bool, true, false, cond, nat_eq, List, [], ◌∷◌, ◌++◌, length}
+use Rattle.std.proofs.Common.{map, drop, get_or, set, Option, Some, None, refl, sym, subst, ap, ◌∙◌, ◌≤◌, add-one, arith}
+use Rattle.std.specs.Option.{unwrap_or, option_map, option_or}
 use Rattle.std.specs.List.{AllByRecursion}
-use Rattle.std.proofs.lemmas.Bool.{eqb-true, eq-eqb, cases_lt}
-use Rattle.ash_host.specs.Objects.{object_at, numbers}
-use Rattle.ash_host.proofs.Order.{object_here, object_later, none_after}
-use Rattle.std.proofs.Common.{get_or, add-one}
+use Rattle.std.specs.Map.{lookup}
+use Rattle.std.specs.BTreeMap.{BTreeMap, is_at, get}
+use Rattle.std.specs.Ordering.{nat_cmp}
+use Rattle.std.proofs.lemmas.Bool.{eqb-true}
+use Rattle.std.proofs.lemmas.Bool.Decides.{nat_tests}
+use Rattle.std.proofs.lemmas.List.{map-append, drop_all}
 use Rattle.std.proofs.Math.Seq.{drop-cons}
-use Rattle.std.proofs.lemmas.List.{drop_all}
-use Rattle.ash_host.specs.declared.word.Word.{Word}
-use Rattle.ash_image.specs.declared.stored_delta.IndexedWord.{IndexedWord}
-use Rattle.ash_image.specs.DeltaViews.{indexed_of, all_indexed}
-use Rattle.ash_image.specs.Image.{do_rise}
-use Rattle.ash_image.specs.Leading.{values_from, values_after, AreThere}
-use Rattle.ash_image.proofs.Listed.{all_map_at}
-use Rattle.ash_image.proofs.OrderLaws.{increasing, tail_rises}
+use Rattle.ash_host.specs.Objects.{Plain, object_at}
+use Rattle.ash_host.specs.Reach.{is_among}
+use Rattle.ash_host.proofs.Order.{object_here, object_later}
+use Rattle.ash_image.specs.declared.stored.StoredBody.{StoredBody}
+use Rattle.ash_image.specs.declared.stored.StoredObject.{StoredObject}
+use Rattle.ash_image.specs.ImageObjectViews.{plain_of}
+use Rattle.ash_image.specs.SnapshotViews.{object_of, objects_of}
+use Rattle.ash_image.specs.Leading.{values_from, values_after, AreThere, bodies_of}
+
+-- ---- values at indexes
+
+-- what comes first counts
+first_counts : {A : Type 0} (n : ℕ) (l : List (ℕ × A)) (e : ℕ × A)
+    → object_at n (l ++ e ∷ []) ≡ option_or (object_at n l) (object_at n (e ∷ []))
+first_counts n [] e = refl
+first_counts {A} n (f ∷ l) e =
+    go (nat_eq n f.0) refl (first_counts n l e)
+  where
+    go : (b : Bool) → nat_eq n f.0 ≡ b
+        → object_at n (l ++ e ∷ []) ≡ option_or (object_at n l) (object_at n (e ∷ []))
+        → cond b (Some f.1) (object_at n (l ++ e ∷ []))
+        ≡ option_or (cond b (Some f.1) (object_at n l)) (object_at n (e ∷ []))
+    go true is later = refl
+    go false is later = later
+
+unwrapped : {A : Type 0} (a b : Option A) (w : A) → unwrap_or (option_or a b) w ≡ unwrap_or a (unwrap_or b w)
+unwrapped None b w = refl
+unwrapped (Some v) b w = refl
+
+-- the last that is listed may be applied first
+last_first : {A : Type 0} (k : ℕ) (l : List (ℕ × A)) (e : ℕ × A) (vs : List A)
+    → values_from k (l ++ e ∷ []) vs ≡ values_from k l (values_from k (e ∷ []) vs)
+unfolding values_from
+last_first k l e [] = refl
+last_first {A} k l e (v ∷ vs) =
+    let head : unwrap_or (object_at k (l ++ e ∷ [])) v ≡ unwrap_or (object_at k l) (unwrap_or (object_at k (e ∷ [])) v) =
+        ap (λ (o : Option A). unwrap_or o v) (first_counts k l e) ∙ unwrapped (object_at k l) (object_at k (e ∷ [])) v in
+    let tail = last_first (suc k) l e vs in
+    ap (λ (x : A). x ∷ values_from (suc k) (l ++ e ∷ []) vs) head
+    ∙ ap (λ (xs : List A). unwrap_or (object_at k l) (unwrap_or (object_at k (e ∷ [])) v) ∷ xs) tail
 
 -- nothing is listed
 pub nothing_listed : {A : Type 0} (k : ℕ) (vs : List A) → values_from k [] vs ≡ vs
@@ -29,84 +62,165 @@ apart m n true e not = absurd (not (eqb-true m n e))
 apart m n false e not = refl
 
 -- what is listed before the first index is not met
-passed_over : {A : Type 0} (k i : ℕ) (v : A) (rest : List (ℕ × A)) (vs : List A) → i < k
-    → values_from k ((i, v) ∷ rest) vs ≡ values_from k rest vs
+passed_over : {A : Type 0} (k i : ℕ) (v : A) (vs : List A) → i < k → values_from k ((i, v) ∷ []) vs ≡ vs
 unfolding values_from
-passed_over k i v rest [] below = refl
-passed_over {A} k i v rest (w ∷ ws) below =
+passed_over k i v [] below = refl
+passed_over {A} k i v (w ∷ ws) below =
     let other : nat_eq k i ≡ false = apart k i (nat_eq k i) refl (λ same. omega (arith, below, same)) in
-    rw (object_later k (i, v) rest other)
-    (ap (λ (more : List A). unwrap_or (object_at k rest) w ∷ more) (passed_over (suc k) i v rest ws (omega arith)))
+    rw (object_later k (i, v) [] other)
+    (ap (λ (more : List A). w ∷ more) (passed_over (suc k) i v ws (omega (arith, below))))
 
--- what is listed first may be set first
-set_first : {A : Type 0} (k j i : ℕ) (v : A) (rest : List (ℕ × A)) (vs : List A) → i ≡ k + j
-    → object_at i rest ≡ None → j < length vs → values_from k ((i, v) ∷ rest) vs ≡ values_from k rest (set vs j v)
+-- one value is set
+set_one : {A : Type 0} (k j i : ℕ) (v : A) (vs : List A) → i ≡ k + j → j < length vs
+    → values_from k ((i, v) ∷ []) vs ≡ set vs j v
 unfolding values_from
-set_first k j i v rest [] is none within = absurd (omega (arith, within))
-set_first {A} k zero i v rest (w ∷ ws) is none within =
+set_one k j i v [] is within = absurd (omega (arith, within))
+set_one {A} k zero i v (w ∷ ws) is within =
     let same : k ≡ i = omega (arith, is) in
-    let here : object_at k ((i, v) ∷ rest) ≡ Some v =
-    ap (λ (n : ℕ). object_at n ((i, v) ∷ rest)) same ∙ object_here (i, v) rest in
-    let nothing : object_at k rest ≡ None = ap (λ (n : ℕ). object_at n rest) same ∙ none in
-    rw (here, nothing) (ap (λ (more : List A). v ∷ more) (passed_over (suc k) i v rest ws (omega (arith, is))))
-set_first {A} k (suc j) i v rest (w ∷ ws) is none within =
+    let here : object_at k ((i, v) ∷ []) ≡ Some v =
+        ap (λ (n : ℕ). object_at n ((i, v) ∷ [])) same ∙ object_here (i, v) [] in
+    rw here (ap (λ (more : List A). v ∷ more) (passed_over (suc k) i v ws (omega (arith, is))))
+set_one {A} k (suc j) i v (w ∷ ws) is within =
     let other : nat_eq k i ≡ false = apart k i (nat_eq k i) refl (λ same. omega (arith, is, same)) in
-    rw (object_later k (i, v) rest other)
-    (ap (λ (more : List A). unwrap_or (object_at k rest) w ∷ more)
-    (set_first (suc k) j i v rest ws (omega (arith, is)) none (omega (arith, within))))
+    rw (object_later k (i, v) [] other)
+    (ap (λ (more : List A). w ∷ more) (set_one (suc k) j i v ws (omega (arith, is)) (omega (arith, within))))
 
--- a number below all others is not among them
-not_later : {A : Type 0} (i : ℕ) (v : A) (rest : List (ℕ × A)) → do_rise (numbers ((i, v) ∷ rest)) ≡ true
-    → object_at i rest ≡ None
-not_later {A} i v rest rise =
-    go (object_at i rest) refl
-  where
-    go : (o : Option A) → object_at i rest ≡ o → o ≡ None
-    go (Some w) is =
-        let other = none_after (i, v) rest i (increasing (numbers ((i, v) ∷ rest)) rise) (rw is refl) in
-        let same = eq-eqb i i refl in
-        absurd cc
-    go None is = refl
+last_there : {A : Type 0} (P : A → Type 0) (l : List A) (e : A) → AllByRecursion P (l ++ e ∷ []) → AllByRecursion P l × P e
+last_there P [] e all = (tt, all.0)
+last_there P (f ∷ l) e all =
+    let later = last_there P l e all.1 in
+    ((all.0, later.0), later.1)
 
--- one value more is set
-pub set_next : {A : Type 0} (i : ℕ) (v : A) (rest : List (ℕ × A)) (vs goal : List A)
-    → do_rise (numbers ((i, v) ∷ rest)) ≡ true → i < length vs → values_after ((i, v) ∷ rest) vs ≡ goal
-    → values_after rest (set vs i v) ≡ goal
-set_next i v rest vs goal rise within so_far =
-    sym (set_first 0 i i v rest vs refl (not_later i v rest rise) within) ∙ so_far
+-- the last of what is listed is set
+pub set_last : {A B : Type 0} (see : B → ℕ × A) (all left : List B) (e : B) (vs new goal : List A) (count : ℕ)
+    → all ≡ left ++ e ∷ [] → AreThere (map see all) count → count ≡ length vs
+    → new ≡ set vs (see e).0 (see e).1 → values_after (map see all) vs ≡ goal
+    → values_after (map see left) new ≡ goal
+set_last {A} {B} see all left e vs new goal count is there size set_is so_far =
+    let split : map see all ≡ map see left ++ see e ∷ [] = ap (map see) is ∙ map-append see left (e ∷ []) in
+    let parts = last_there (λ (x : ℕ × A). x.0 < count) (map see left) (see e)
+        (subst (λ (l : List (ℕ × A)). AreThere l count) split there) in
+    let within : (see e).0 < count = parts.1 in
+    let one : values_from 0 (see e ∷ []) vs ≡ set vs (see e).0 (see e).1 =
+        set_one 0 (see e).0 (see e).0 (see e).1 vs refl (omega (arith, within, size)) in
+    ap (λ (ws : List A). values_after (map see left) ws) (set_is ∙ sym one)
+    ∙ sym (last_first 0 (map see left) (see e) vs)
+    ∙ sym (ap (λ (l : List (ℕ × A)). values_after l vs) split) ∙ so_far
 
--- ---- words with their indexes
-
-rise_left : (words : List IndexedWord) (k : ℕ) → do_rise (numbers (all_indexed words)) ≡ true
-    → do_rise (numbers (all_indexed (drop k words))) ≡ true
-rise_left words zero rise = rise
-rise_left [] (suc k) rise = refl
-rise_left (w ∷ words) (suc k) rise = rise_left words k (tail_rises w.index (numbers (all_indexed words)) rise)
-
--- the index of a word that is listed is there
-pub word_there : (words : List IndexedWord) (i count : ℕ) (w : IndexedWord) → i < length words → w ≡ get_or words i w
-    → AreThere (all_indexed words) count → w.index < count
-word_there words i count w within is there =
-    subst (λ (v : IndexedWord). v.index < count) (sym is)
-    (all_map_at (λ (e : ℕ × Word). e.0 < count) indexed_of words i w there within)
-
--- one word more is set
-pub set_next_word : (words : List IndexedWord) (i : ℕ) (w : IndexedWord) (vs new goal : List Word) → i < length words
-    → w ≡ get_or words i w → do_rise (numbers (all_indexed words)) ≡ true → w.index < length vs
-    → new ≡ set vs w.index w.word → values_after (all_indexed (drop i words)) vs ≡ goal
-    → values_after (all_indexed (drop (i + 1) words)) new ≡ goal
-set_next_word words i w vs new goal within is rise there set_is so_far =
-    let split : drop i words ≡ w ∷ drop (i + 1) words = drop-cons words i w within ∙ rw (sym is) (rw add-one refl) in
-    let rest = all_indexed (drop (i + 1) words) in
-    let rises : do_rise (numbers (indexed_of w ∷ rest)) ≡ true =
-    sym (ap (λ (more : List IndexedWord). do_rise (numbers (all_indexed more))) split) ∙ rise_left words i rise in
-    let from_here : values_after (indexed_of w ∷ rest) vs ≡ goal =
-    sym (ap (λ (more : List IndexedWord). values_after (all_indexed more) vs) split) ∙ so_far in
-    ap (λ (ws : List Word). values_after rest ws) set_is ∙ set_next w.index w.word rest vs goal rises there from_here
+-- the index that is listed last is there, and so are those before it
+pub left_there : {A B : Type 0} (see : B → ℕ × A) (all left : List B) (e : B) (count : ℕ) → all ≡ left ++ e ∷ []
+    → AreThere (map see all) count → AreThere (map see left) count × ((see e).0 < count)
+left_there {A} {B} see all left e count is there =
+    let split : map see all ≡ map see left ++ see e ∷ [] = ap (map see) is ∙ map-append see left (e ∷ []) in
+    last_there (λ (x : ℕ × A). x.0 < count) (map see left) (see e)
+    (subst (λ (l : List (ℕ × A)). AreThere l count) split there)
 
 -- nothing is left to set
-pub words_set : (words : List IndexedWord) (i : ℕ) (vs goal : List Word) → length words ≤ i
-    → values_after (all_indexed (drop i words)) vs ≡ goal → vs ≡ goal
-words_set words i vs goal past so_far =
-    sym (nothing_listed 0 vs)
-    ∙ sym (ap (λ (more : List IndexedWord). values_after (all_indexed more) vs) (drop_all i words past)) ∙ so_far
+pub none_left : {A B : Type 0} (see : B → ℕ × A) (left : List B) (vs goal : List A) → left ≡ []
+    → values_after (map see left) vs ≡ goal → vs ≡ goal
+none_left {A} {B} see left vs goal none so_far =
+    sym (nothing_listed 0 vs) ∙ sym (ap (λ (l : List B). values_after (map see l) vs) none) ∙ so_far
+
+-- ---- objects in a map
+
+is_at_eq : (x y : ℕ) → is_at (nat_cmp x) y ≡ nat_eq x y
+is_at_eq x y = grind (arith, nat_tests)
+
+abbrev entries_of : List (ℕ × StoredBody) → List (ℕ × Plain ℕ)
+entries_of es = map (λ (e : ℕ × StoredBody). (e.0, plain_of e.1)) es
+
+seen_at : (n : ℕ) (es : List (ℕ × StoredBody))
+    → object_at n (entries_of es) ≡ option_map plain_of (lookup (is_at (nat_cmp n)) es)
+seen_at n [] = refl
+seen_at n (e ∷ es) =
+    go (nat_eq n e.0) (is_at (nat_cmp n) e.0) (sym (is_at_eq n e.0)) (seen_at n es)
+  where
+    go : (b c : Bool) → b ≡ c
+        → object_at n (entries_of es) ≡ option_map plain_of (lookup (is_at (nat_cmp n)) es)
+        → cond b (Some (plain_of e.1)) (object_at n (entries_of es))
+        ≡ option_map plain_of (cond c (Some e.1) (lookup (is_at (nat_cmp n)) es))
+    go true true is later = refl
+    go true false is later = absurd cc
+    go false true is later = absurd cc
+    go false false is later = later
+
+-- what lives at each number after one was changed
+pub at_after : (old new : BTreeMap ℕ StoredBody) (k : ℕ) (w : Option StoredBody) (n : ℕ)
+    → ((q : ℕ) → get nat_cmp new q ≡ cond (is_at (nat_cmp k) q) w (get nat_cmp old q))
+    → object_at n (bodies_of new) ≡ cond (nat_eq k n) (option_map plain_of w) (object_at n (bodies_of old))
+at_after old new k w n updates =
+    seen_at n new.entries ∙ ap (option_map plain_of) (updates n)
+    ∙ go (is_at (nat_cmp k) n) (nat_eq k n) (is_at_eq k n)
+  where
+    go : (b c : Bool) → b ≡ c
+        → option_map plain_of (cond b w (get nat_cmp old n))
+        ≡ cond c (option_map plain_of w) (object_at n (bodies_of old))
+    go true true is = refl
+    go true false is = absurd cc
+    go false true is = absurd cc
+    go false false is = sym (seen_at n old.entries)
+
+flipped : (x y : ℕ) → nat_eq x y ≡ nat_eq y x
+flipped x y = grind (arith, nat_tests)
+
+-- one object more is gone
+pub gone_next : (old new : BTreeMap ℕ StoredBody) (gone : List ℕ) (i g n : ℕ) (goal : Option (Plain ℕ))
+    → i < length gone → g ≡ get_or gone i g
+    → ((q : ℕ) → get nat_cmp new q ≡ cond (is_at (nat_cmp g) q) None (get nat_cmp old q))
+    → cond (is_among (drop i gone) n) None (object_at n (bodies_of old)) ≡ goal
+    → cond (is_among (drop (i + 1) gone) n) None (object_at n (bodies_of new)) ≡ goal
+gone_next old new gone i g n goal within is updates so_far =
+    let split : drop i gone ≡ g ∷ drop (i + 1) gone = drop-cons gone i g within ∙ rw (sym is) (rw add-one refl) in
+    let rest = is_among (drop (i + 1) gone) n in
+    ap (λ (o : Option (Plain ℕ)). cond rest None o) (at_after old new g None n updates)
+    ∙ go rest (nat_eq g n) (nat_eq n g) (flipped g n)
+    ∙ sym (ap (λ (ns : List ℕ). cond (is_among ns n) None (object_at n (bodies_of old))) split) ∙ so_far
+  where
+    go : (r b c : Bool) → b ≡ c → cond r None (cond b None (object_at n (bodies_of old)))
+        ≡ cond (c || r) None (object_at n (bodies_of old))
+    go true true true is = refl
+    go true false false is = refl
+    go false true true is = refl
+    go false false false is = refl
+    go r true false is = absurd cc
+    go r false true is = absurd cc
+
+-- all that go are gone
+pub all_gone : (now : BTreeMap ℕ StoredBody) (gone : List ℕ) (i n : ℕ) (goal : Option (Plain ℕ)) → length gone ≤ i
+    → cond (is_among (drop i gone) n) None (object_at n (bodies_of now)) ≡ goal → object_at n (bodies_of now) ≡ goal
+all_gone now gone i n goal past so_far =
+    sym (ap (λ (ns : List ℕ). cond (is_among ns n) None (object_at n (bodies_of now))) (drop_all i gone past)) ∙ so_far
+
+either : {A : Type 0} (a b c : Option A) → option_or (option_or a b) c ≡ option_or a (option_or b c)
+either None b c = refl
+either (Some x) b c = refl
+
+-- the last of the objects is put
+pub put_last : (old new : BTreeMap ℕ StoredBody) (all left : List StoredObject) (o : StoredObject) (n : ℕ)
+    (goal : Option (Plain ℕ)) → all ≡ left ++ o ∷ []
+    → ((q : ℕ) → get nat_cmp new q ≡ cond (is_at (nat_cmp o.number) q) (Some o.body) (get nat_cmp old q))
+    → option_or (object_at n (objects_of all)) (object_at n (bodies_of old)) ≡ goal
+    → option_or (object_at n (objects_of left)) (object_at n (bodies_of new)) ≡ goal
+put_last old new all left o n goal is updates so_far =
+    let split : objects_of all ≡ objects_of left ++ object_of o ∷ [] =
+        ap (map object_of) is ∙ map-append object_of left (o ∷ []) in
+    let one : object_at n (bodies_of new) ≡ option_or (object_at n (object_of o ∷ [])) (object_at n (bodies_of old)) =
+        at_after old new o.number (Some o.body) n updates ∙ go (nat_eq o.number n) (nat_eq n o.number) (flipped o.number n) in
+    ap (λ (v : Option (Plain ℕ)). option_or (object_at n (objects_of left)) v) one
+    ∙ sym (either (object_at n (objects_of left)) (object_at n (object_of o ∷ [])) (object_at n (bodies_of old)))
+    ∙ sym (ap (λ (v : Option (Plain ℕ)). option_or v (object_at n (bodies_of old)))
+    (ap (λ (l : List (ℕ × Plain ℕ)). object_at n l) split ∙ first_counts n (objects_of left) (object_of o)))
+    ∙ so_far
+  where
+    go : (b c : Bool) → b ≡ c → cond b (Some (plain_of o.body)) (object_at n (bodies_of old))
+        ≡ option_or (cond c (Some (plain_of o.body)) None) (object_at n (bodies_of old))
+    go true true is = refl
+    go false false is = refl
+    go true false is = absurd cc
+    go false true is = absurd cc
+
+-- all objects are put
+pub all_put : (now : BTreeMap ℕ StoredBody) (left : List StoredObject) (n : ℕ) (goal : Option (Plain ℕ)) → left ≡ []
+    → option_or (object_at n (objects_of left)) (object_at n (bodies_of now)) ≡ goal → object_at n (bodies_of now) ≡ goal
+all_put now left n goal none so_far =
+    sym (ap (λ (l : List StoredObject). option_or (object_at n (objects_of l)) (object_at n (bodies_of now))) none) ∙ so_far

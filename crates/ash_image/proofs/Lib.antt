@@ -14,6 +14,7 @@ pub mod MoveLaws
 pub mod NameLaws
 pub mod Numbers
 pub mod ObjectLaws
+pub mod OneState
 pub mod OrderLaws
 pub mod RuleLaws
 pub mod SearchLaws

@@ -7,7 +7,7 @@ use Rattle.std.specs.List.{AllByRecursion}
 use Rattle.std.specs.Ordering.{is_eq}
 use Rattle.ash_host.specs.declared.word.Word.{Word}
 use Rattle.ash_host.specs.Objects.{Elements, Bools, Ints, Uints, Int64s, Uint64s, Handles, Hosts, Plain, Script, Array, Host}
-use Rattle.ash_host.specs.Objects.{object_at}
+use Rattle.ash_host.specs.Objects.{LiveObjects, object_at}
 use Rattle.ash_host.specs.Reach.{is_among}
 use Rattle.ash_image.specs.declared.version.Version.{Version}
 use Rattle.ash_image.specs.Snapshots.{Loaded, Snapshot}
@@ -75,56 +75,78 @@ pub record LeadModules (change : ModuleChange) (before after : List Loaded) : Ty
 abbrev pub name_there : List Loaded → ℕ → List ℕ
 name_there ms index = unwrap_or (option_map (λ (m : Loaded). m.name) (slice_get ms index)) []
 
--- what the elements of an array are, each module by its name
-abbrev pub elements_by_name : List Loaded → Elements ℕ → Elements (List ℕ)
-elements_by_name ms Bools = Bools
-elements_by_name ms Ints = Ints
-elements_by_name ms Uints = Uints
-elements_by_name ms Int64s = Int64s
-elements_by_name ms Uint64s = Uint64s
-elements_by_name ms (Handles owner place) = Handles (name_there ms owner) place
-elements_by_name ms (Hosts kind) = Hosts kind
+-- what the elements of an array are, its module known in another way
+abbrev pub elements_known : {M N : Type 0} → (M → N) → Elements M → Elements N
+elements_known known Bools = Bools
+elements_known known Ints = Ints
+elements_known known Uints = Uints
+elements_known known Int64s = Int64s
+elements_known known Uint64s = Uint64s
+elements_known known (Handles owner place) = Handles (known owner) place
+elements_known known (Hosts kind) = Hosts kind
 
--- what an object is, each module by its name
+-- what an object is, its module known in another way
+abbrev pub plain_known : {M N : Type 0} → (M → N) → Plain M → Plain N
+plain_known known (Script owner place fields) = Script (known owner) place fields
+plain_known known (Array of elements) = Array (elements_known known of) elements
+plain_known known (Host kind state) = Host kind state
+
+-- what an object is, its module by name
 abbrev pub by_name : List Loaded → Plain ℕ → Plain (List ℕ)
-by_name ms (Script owner place fields) = Script (name_there ms owner) place fields
-by_name ms (Array of elements) = Array (elements_by_name ms of) elements
-by_name ms (Host kind state) = Host kind state
+by_name ms = plain_known (name_there ms)
 
--- what lives at a number, each module by its name
-abbrev pub object_by_name : List Loaded → List (ℕ × Plain ℕ) → ℕ → Option (Plain (List ℕ))
+-- what lives at a number, its module by name
+abbrev pub object_by_name : List Loaded → LiveObjects ℕ → ℕ → Option (Plain (List ℕ))
 object_by_name ms objects number = option_map (by_name ms) (object_at number objects)
 
 -- what lives at a number that is not put
-abbrev pub kept_by_name : List ℕ → Snapshot → ℕ → Option (Plain (List ℕ))
-kept_by_name gone before number =
-    if is_among gone number then None else object_by_name before.modules before.objects number
+abbrev pub kept : List ℕ → LiveObjects (List ℕ) → ℕ → Option (Plain (List ℕ))
+kept gone before number = if is_among gone number then None else object_at number before
 
--- At each number lives what is put there; else nothing, if it is gone; else what lived there.
-abbrev pub LeadObjects : Delta → Snapshot → Snapshot → Type 0
-LeadObjects d before after = (number : ℕ) → object_by_name after.modules after.objects number
-    ≡ option_or (object_by_name after.modules d.put number) (kept_by_name d.gone before number)
+-- At each number lives what is put there; else nothing, if it is gone; else what lived there. What is put knows its
+-- module by the index after the request.
+abbrev pub LeadObjects : Delta → List Loaded → LiveObjects (List ℕ) → LiveObjects (List ℕ) → Type 0
+LeadObjects d modules before after = (number : ℕ) → object_at number after
+    ≡ option_or (object_by_name modules d.put number) (kept d.gone before number)
 
 -- states
 
+-- a snapshot in which each object has its module by name
+pub record NamedSnapshot : Type 0 where
+  pub registered : List ℕ
+  pub seq : ℕ
+  pub last : ℕ
+  pub services : List (ℕ × List ℕ)
+  pub modules : List Loaded
+  pub objects : LiveObjects (List ℕ)
+
+abbrev pub objects_named : List Loaded → LiveObjects ℕ → LiveObjects (List ℕ)
+objects_named ms objects = map (λ (e : ℕ × Plain ℕ). (e.0, by_name ms e.1)) objects
+
+abbrev pub named : Snapshot → NamedSnapshot
+named s = record {
+  registered = s.registered;
+  seq = s.seq;
+  last = s.last;
+  services = s.services;
+  modules = s.modules;
+  objects = objects_named s.modules s.objects;
+}
+
 -- The delta leads from one state to the other, whatever the rules of a state are.
-pub record Leads (d : Delta) (before after : Snapshot) : Type 0 where
+pub record Leads (d : Delta) (before after : NamedSnapshot) : Type 0 where
   pub registered : after.registered ≡ before.registered
   pub seq : after.seq ≡ d.seq
   pub last : after.last ≡ d.last
   pub services : LeadServices d.services before.services after.services
   pub modules : LeadModules d.change before.modules after.modules
-  pub objects : LeadObjects d before after
+  pub objects : LeadObjects d after.modules before.objects after.objects
 
 -- The delta leads to a state that has an image in the version.
 abbrev pub LeadsTo : Version → Delta → Snapshot → Snapshot → Type 0
-LeadsTo version d before after = Leads d before after × FitsVersion version after × KeepsRules after
+LeadsTo version d before after = Leads d (named before) (named after) × FitsVersion version after × KeepsRules after
 
 -- The bytes are the body of a record that leads from one state to the other: a tag, and a delta.
 abbrev pub IsDeltaBetween : List ℕ → Version → Snapshot → Snapshot → Type 0
 IsDeltaBetween body version before after = (bytes : List ℕ) × (d : Delta) × (body ≡ delta_tag ∷ bytes)
     × IsDelta bytes version d × LeadsTo version d before after
-
--- The bytes are damaged as the body of a record after a state: they lead from it nowhere.
-abbrev pub LeadsNowhere : List ℕ → Version → Snapshot → Type 0
-LeadsNowhere body version before = (after : Snapshot) → IsDeltaBetween body version before after → ⊥
