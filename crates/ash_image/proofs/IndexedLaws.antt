@@ -14,7 +14,7 @@ use Rattle.ash_image.specs.DeltaReading.{counts_from}
 use Rattle.ash_image.specs.DeltaViews.{all_indexed}
 
 -- whether the words from an index on have the indexes from there on
-pub counted_on : List IndexedWord → ℕ → Bool
+unfoldable pub counted_on : List IndexedWord → ℕ → Bool
 counted_on words i = counts_from i (numbers (all_indexed (drop i words)))
 
 at_index : (words : List IndexedWord) (i : ℕ) (w : IndexedWord) → i < length words

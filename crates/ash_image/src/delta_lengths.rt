@@ -41,7 +41,6 @@ fn indexed_length(words: &[IndexedWord]) -> usize
     total
 }
 
-#[tactic(auto, using(crate::proofs::DeltaLengths::added_length))]
 fn added_length(parts: ModuleParts<'_>) -> usize
     requires fits_module { FitsModule (module_in parts) }
     ensures exact { result ≡ length (added (module_in parts.entry)) }
