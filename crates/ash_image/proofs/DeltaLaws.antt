@@ -256,14 +256,17 @@ delta_field version =
       put = h.0.put;
       apart = h.1;
     })
-    (λ d h. (record {
-      seq = h.seq;
-      last = h.last;
-      services = h.services;
-      change = h.change;
-      gone = h.gone;
-      put = h.put;
-    }, h.apart))
+    (λ d h. (
+      record {
+        seq = h.seq;
+        last = h.last;
+        services = h.services;
+        change = h.change;
+        gone = h.gone;
+        put = h.put;
+      },
+      h.apart,
+    ))
 
 -- ---- what the readers promise
 

@@ -7,14 +7,12 @@ pub mod FieldLaws
 pub mod ImageLaws
 pub mod IndexedLaws
 pub mod ItemLoop
-pub mod LeadingLaws
 pub mod ImageLengths
 pub mod Listed
 pub mod MoveLaws
 pub mod NameLaws
 pub mod Numbers
 pub mod ObjectLaws
-pub mod OneState
 pub mod OrderLaws
 pub mod RuleLaws
 pub mod SearchLaws

@@ -20,7 +20,6 @@ pub mod delta_parts;
 pub mod examples;
 mod fields;
 pub mod image;
-mod leading;
 mod lengths;
 mod limits;
 mod modules;
