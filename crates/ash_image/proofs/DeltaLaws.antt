@@ -84,7 +84,7 @@ they_count index (w ∷ ws) =
     ap (λ (b : Bool). b && counts_from (suc index) (numbers (indexed_from (suc index) ws))) (eq-eqb index index refl)
     ∙ they_count (suc index) ws
 
-indexed_length : (index : ℕ) (ws : List Word) → length (indexed_from index ws) ≡ length ws
+pub indexed_length : (index : ℕ) (ws : List Word) → length (indexed_from index ws) ≡ length ws
 unfolding indexed_from
 indexed_length index [] = refl
 indexed_length index (w ∷ ws) = ap suc (indexed_length (suc index) ws)

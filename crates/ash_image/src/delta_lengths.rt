@@ -67,7 +67,6 @@ fn change_length(change: ChangeParts<'_>) -> usize
 }
 
 /// How many bytes a delta has.
-#[tactic(auto, using(crate::proofs::DeltaLengths::delta_length))]
 pub fn delta_length(parts: DeltaParts<'_>) -> usize
     requires fits { FitsDelta Two (delta_in parts) }
     ensures exact { result ≡ length (delta (delta_in parts.entry)) }
