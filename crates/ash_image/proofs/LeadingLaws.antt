@@ -1,23 +1,26 @@
 -- What is listed is applied from the last on.
-use Rattle.std.proofs.Common.{◌≡◌, ℕ, zero, suc, ◌+◌, ◌<◌, ◌||◌, Bool, true, false, cond, nat_eq, List, [], ◌∷◌, ◌++◌, length}
+use Rattle.std.proofs.Common.{◌≡◌, ℕ, zero, suc, ◌+◌, ◌<◌, ◌||◌, Bool, true, false, cond, nat_eq, ltb, List, [], ◌∷◌, ◌++◌, length}
 use Rattle.std.proofs.Common.{map, drop, get_or, set, Option, Some, None, refl, sym, subst, ap, ◌∙◌, ◌≤◌, add-one, arith}
 use Rattle.std.specs.Option.{unwrap_or, option_map, option_or}
-use Rattle.std.specs.List.{AllByRecursion}
+use Rattle.std.specs.List.{list_all, AllByRecursion}
 use Rattle.std.specs.Map.{lookup}
 use Rattle.std.specs.BTreeMap.{BTreeMap, is_at, get}
 use Rattle.std.specs.Ordering.{nat_cmp}
-use Rattle.std.proofs.lemmas.Bool.{eqb-true}
+use Rattle.std.proofs.lemmas.Bool.{eqb-true, ltb-true, lt-ltb}
 use Rattle.std.proofs.lemmas.Bool.Decides.{nat_tests}
 use Rattle.std.proofs.lemmas.List.{map-append, drop_all}
 use Rattle.std.proofs.Math.Seq.{drop-cons}
 use Rattle.ash_host.specs.Objects.{Plain, object_at}
 use Rattle.ash_host.specs.Reach.{is_among}
 use Rattle.ash_host.proofs.Order.{object_here, object_later}
-use Rattle.ash_image.specs.declared.stored.StoredBody.{StoredBody}
+use Rattle.ash_image.specs.declared.named_state.NamedObject.{NamedObject}
 use Rattle.ash_image.specs.declared.stored.StoredObject.{StoredObject}
 use Rattle.ash_image.specs.ImageObjectViews.{plain_of}
 use Rattle.ash_image.specs.SnapshotViews.{object_of, objects_of}
-use Rattle.ash_image.specs.Leading.{values_from, values_after, AreThere, bodies_of}
+use Rattle.ash_image.specs.Snapshots.{Loaded}
+use Rattle.ash_image.specs.Leading.{values_from, values_after, AreThere, by_name, object_by_name}
+use Rattle.ash_image.specs.NamedViews.{object_seen, objects_seen}
+use Rattle.ash_image.proofs.NameLaws.{both}
 
 -- ---- values at indexes
 
@@ -115,112 +118,148 @@ left_there {A} {B} see all left e count is there =
     last_there (λ (x : ℕ × A). x.0 < count) (map see left) (see e)
     (subst (λ (l : List (ℕ × A)). AreThere l count) split there)
 
--- nothing is left to set
-pub none_left : {A B : Type 0} (see : B → ℕ × A) (left : List B) (vs goal : List A) → left ≡ []
-    → values_after (map see left) vs ≡ goal → vs ≡ goal
-none_left {A} {B} see left vs goal none so_far =
-    sym (nothing_listed 0 vs) ∙ sym (ap (λ (l : List B). values_after (map see l) vs) none) ∙ so_far
+-- how many there are, by what is seen of each
+pub seen_length : {A B : Type 0} (see : A → B) (xs : List A) → length (map see xs) ≡ length xs
+seen_length see [] = refl
+seen_length see (x ∷ xs) = ap suc (seen_length see xs)
 
--- ---- objects in a map
+-- nothing is left to set
+pub none_left : {A B : Type 0} (see : B → ℕ × A) (left : List B) (vs goal : List A) → length left ≡ 0
+    → values_after (map see left) vs ≡ goal → vs ≡ goal
+none_left see [] vs goal none so_far = sym (nothing_listed 0 vs) ∙ so_far
+none_left see (x ∷ left) vs goal none so_far = absurd (omega (arith, none))
+
+-- ---- values in a map
 
 is_at_eq : (x y : ℕ) → is_at (nat_cmp x) y ≡ nat_eq x y
 is_at_eq x y = grind (arith, nat_tests)
 
-abbrev entries_of : List (ℕ × StoredBody) → List (ℕ × Plain ℕ)
-entries_of es = map (λ (e : ℕ × StoredBody). (e.0, plain_of e.1)) es
-
-seen_at : (n : ℕ) (es : List (ℕ × StoredBody))
-    → object_at n (entries_of es) ≡ option_map plain_of (lookup (is_at (nat_cmp n)) es)
-seen_at n [] = refl
-seen_at n (e ∷ es) =
-    go (nat_eq n e.0) (is_at (nat_cmp n) e.0) (sym (is_at_eq n e.0)) (seen_at n es)
-  where
-    go : (b c : Bool) → b ≡ c
-        → object_at n (entries_of es) ≡ option_map plain_of (lookup (is_at (nat_cmp n)) es)
-        → cond b (Some (plain_of e.1)) (object_at n (entries_of es))
-        ≡ option_map plain_of (cond c (Some e.1) (lookup (is_at (nat_cmp n)) es))
-    go true true is later = refl
-    go true false is later = absurd cc
-    go false true is later = absurd cc
-    go false false is later = later
-
--- what lives at each number after one was changed
-pub at_after : (old new : BTreeMap ℕ StoredBody) (k : ℕ) (w : Option StoredBody) (n : ℕ)
-    → ((q : ℕ) → get nat_cmp new q ≡ cond (is_at (nat_cmp k) q) w (get nat_cmp old q))
-    → object_at n (bodies_of new) ≡ cond (nat_eq k n) (option_map plain_of w) (object_at n (bodies_of old))
-at_after old new k w n updates =
-    seen_at n new.entries ∙ ap (option_map plain_of) (updates n)
-    ∙ go (is_at (nat_cmp k) n) (nat_eq k n) (is_at_eq k n)
-  where
-    go : (b c : Bool) → b ≡ c
-        → option_map plain_of (cond b w (get nat_cmp old n))
-        ≡ cond c (option_map plain_of w) (object_at n (bodies_of old))
-    go true true is = refl
-    go true false is = absurd cc
-    go false true is = absurd cc
-    go false false is = sym (seen_at n old.entries)
-
 flipped : (x y : ℕ) → nat_eq x y ≡ nat_eq y x
 flipped x y = grind (arith, nat_tests)
 
--- one object more is gone
-pub gone_next : (old new : BTreeMap ℕ StoredBody) (gone : List ℕ) (i g n : ℕ) (goal : Option (Plain ℕ))
-    → i < length gone → g ≡ get_or gone i g
-    → ((q : ℕ) → get nat_cmp new q ≡ cond (is_at (nat_cmp g) q) None (get nat_cmp old q))
-    → cond (is_among (drop i gone) n) None (object_at n (bodies_of old)) ≡ goal
-    → cond (is_among (drop (i + 1) gone) n) None (object_at n (bodies_of new)) ≡ goal
-gone_next old new gone i g n goal within is updates so_far =
-    let split : drop i gone ≡ g ∷ drop (i + 1) gone = drop-cons gone i g within ∙ rw (sym is) (rw add-one refl) in
-    let rest = is_among (drop (i + 1) gone) n in
-    ap (λ (o : Option (Plain ℕ)). cond rest None o) (at_after old new g None n updates)
-    ∙ go rest (nat_eq g n) (nat_eq n g) (flipped g n)
-    ∙ sym (ap (λ (ns : List ℕ). cond (is_among ns n) None (object_at n (bodies_of old))) split) ∙ so_far
-  where
-    go : (r b c : Bool) → b ≡ c → cond r None (cond b None (object_at n (bodies_of old)))
-        ≡ cond (c || r) None (object_at n (bodies_of old))
-    go true true true is = refl
-    go true false false is = refl
-    go false true true is = refl
-    go false false false is = refl
-    go r true false is = absurd cc
-    go r false true is = absurd cc
+module _ {X P : Type 0} (see : X → P) where
+  abbrev pub seen : List (ℕ × X) → List (ℕ × P)
+  seen es = map (λ (e : ℕ × X). (e.0, see e.1)) es
 
--- all that go are gone
-pub all_gone : (now : BTreeMap ℕ StoredBody) (gone : List ℕ) (i n : ℕ) (goal : Option (Plain ℕ)) → length gone ≤ i
-    → cond (is_among (drop i gone) n) None (object_at n (bodies_of now)) ≡ goal → object_at n (bodies_of now) ≡ goal
-all_gone now gone i n goal past so_far =
-    sym (ap (λ (ns : List ℕ). cond (is_among ns n) None (object_at n (bodies_of now))) (drop_all i gone past)) ∙ so_far
+  seen_at : (n : ℕ) (es : List (ℕ × X)) → object_at n (seen es) ≡ option_map see (lookup (is_at (nat_cmp n)) es)
+  seen_at n [] = refl
+  seen_at n (e ∷ es) =
+      go (nat_eq n e.0) (is_at (nat_cmp n) e.0) (sym (is_at_eq n e.0)) (seen_at n es)
+    where
+      go : (b c : Bool) → b ≡ c → object_at n (seen es) ≡ option_map see (lookup (is_at (nat_cmp n)) es)
+          → cond b (Some (see e.1)) (object_at n (seen es))
+          ≡ option_map see (cond c (Some e.1) (lookup (is_at (nat_cmp n)) es))
+      go true true is later = refl
+      go true false is later = absurd cc
+      go false true is later = absurd cc
+      go false false is later = later
+
+  -- what is at each number after one was changed
+  pub at_after : (old new : BTreeMap ℕ X) (k : ℕ) (w : Option X) (n : ℕ)
+      → ((q : ℕ) → get nat_cmp new q ≡ cond (is_at (nat_cmp k) q) w (get nat_cmp old q))
+      → object_at n (seen new.entries) ≡ cond (nat_eq k n) (option_map see w) (object_at n (seen old.entries))
+  at_after old new k w n updates =
+      seen_at n new.entries ∙ ap (option_map see) (updates n) ∙ go (is_at (nat_cmp k) n) (nat_eq k n) (is_at_eq k n)
+    where
+      go : (b c : Bool) → b ≡ c → option_map see (cond b w (get nat_cmp old n))
+          ≡ cond c (option_map see w) (object_at n (seen old.entries))
+      go true true is = refl
+      go true false is = absurd cc
+      go false true is = absurd cc
+      go false false is = sym (seen_at n old.entries)
+
+  -- one number more is gone
+  pub gone_next : (old new : BTreeMap ℕ X) (gone : List ℕ) (i d n : ℕ) (goal : Option P) → i < length gone
+      → ((q : ℕ) → get nat_cmp new q ≡ cond (is_at (nat_cmp (get_or gone i d)) q) None (get nat_cmp old q))
+      → cond (is_among (drop i gone) n) None (object_at n (seen old.entries)) ≡ goal
+      → cond (is_among (drop (i + 1) gone) n) None (object_at n (seen new.entries)) ≡ goal
+  gone_next old new gone i d n goal within updates so_far =
+      let g = get_or gone i d in
+      let split : drop i gone ≡ g ∷ drop (i + 1) gone = drop-cons gone i d within ∙ rw add-one refl in
+      let rest = is_among (drop (i + 1) gone) n in
+      ap (λ (o : Option P). cond rest None o) (at_after old new g None n updates)
+      ∙ go rest (nat_eq g n) (nat_eq n g) (flipped g n)
+      ∙ sym (ap (λ (ns : List ℕ). cond (is_among ns n) None (object_at n (seen old.entries))) split) ∙ so_far
+    where
+      go : (r b c : Bool) → b ≡ c → cond r None (cond b None (object_at n (seen old.entries)))
+          ≡ cond (c || r) None (object_at n (seen old.entries))
+      go true true true is = refl
+      go true false false is = refl
+      go false true true is = refl
+      go false false false is = refl
+      go r true false is = absurd cc
+      go r false true is = absurd cc
+
+  -- all that go are gone
+  pub all_gone : (now : BTreeMap ℕ X) (gone : List ℕ) (i n : ℕ) (goal : Option P) → length gone ≤ i
+      → cond (is_among (drop i gone) n) None (object_at n (seen now.entries)) ≡ goal
+      → object_at n (seen now.entries) ≡ goal
+  all_gone now gone i n goal past so_far =
+      sym (ap (λ (ns : List ℕ). cond (is_among ns n) None (object_at n (seen now.entries))) (drop_all i gone past)) ∙ so_far
+
+-- ---- objects that are put
 
 either : {A : Type 0} (a b c : Option A) → option_or (option_or a b) c ≡ option_or a (option_or b c)
 either None b c = refl
 either (Some x) b c = refl
 
+map_or : {A B : Type 0} (f : A → B) (a b : Option A)
+    → option_map f (option_or a b) ≡ option_or (option_map f a) (option_map f b)
+map_or f None b = refl
+map_or f (Some x) b = refl
+
 -- the last of the objects is put
-pub put_last : (old new : BTreeMap ℕ StoredBody) (all left : List StoredObject) (o : StoredObject) (n : ℕ)
-    (goal : Option (Plain ℕ)) → all ≡ left ++ o ∷ []
-    → ((q : ℕ) → get nat_cmp new q ≡ cond (is_at (nat_cmp o.number) q) (Some o.body) (get nat_cmp old q))
-    → option_or (object_at n (objects_of all)) (object_at n (bodies_of old)) ≡ goal
-    → option_or (object_at n (objects_of left)) (object_at n (bodies_of new)) ≡ goal
-put_last old new all left o n goal is updates so_far =
+pub put_last : (ms : List Loaded) (old new : BTreeMap ℕ NamedObject) (all left : List StoredObject) (o : StoredObject)
+    (named : NamedObject) (n : ℕ) (goal : Option (Plain (List ℕ))) → all ≡ left ++ o ∷ []
+    → object_seen named ≡ by_name ms (plain_of o.body)
+    → ((q : ℕ) → get nat_cmp new q ≡ cond (is_at (nat_cmp o.number) q) (Some named) (get nat_cmp old q))
+    → option_or (object_by_name ms (objects_of all) n) (object_at n (objects_seen old)) ≡ goal
+    → option_or (object_by_name ms (objects_of left) n) (object_at n (objects_seen new)) ≡ goal
+put_last ms old new all left o named n goal is same updates so_far =
     let split : objects_of all ≡ objects_of left ++ object_of o ∷ [] =
         ap (map object_of) is ∙ map-append object_of left (o ∷ []) in
-    let one : object_at n (bodies_of new) ≡ option_or (object_at n (object_of o ∷ [])) (object_at n (bodies_of old)) =
-        at_after old new o.number (Some o.body) n updates ∙ go (nat_eq o.number n) (nat_eq n o.number) (flipped o.number n) in
-    ap (λ (v : Option (Plain ℕ)). option_or (object_at n (objects_of left)) v) one
-    ∙ sym (either (object_at n (objects_of left)) (object_at n (object_of o ∷ [])) (object_at n (bodies_of old)))
-    ∙ sym (ap (λ (v : Option (Plain ℕ)). option_or v (object_at n (bodies_of old)))
-    (ap (λ (l : List (ℕ × Plain ℕ)). object_at n l) split ∙ first_counts n (objects_of left) (object_of o)))
-    ∙ so_far
+    let last = object_by_name ms (object_of o ∷ []) n in
+    let first = object_by_name ms (objects_of left) n in
+    let parts : object_by_name ms (objects_of all) n ≡ option_or first last =
+        ap (λ (l : List (ℕ × Plain ℕ)). object_by_name ms l n) split
+        ∙ ap (option_map (by_name ms)) (first_counts n (objects_of left) (object_of o))
+        ∙ map_or (by_name ms) (object_at n (objects_of left)) (object_at n (object_of o ∷ [])) in
+    let one : object_at n (objects_seen new) ≡ option_or last (object_at n (objects_seen old)) =
+        at_after object_seen old new o.number (Some named) n updates
+        ∙ ap (λ (p : Plain (List ℕ)). cond (nat_eq o.number n) (Some p) (object_at n (objects_seen old))) same
+        ∙ go (nat_eq o.number n) (nat_eq n o.number) (flipped o.number n) in
+    ap (λ (v : Option (Plain (List ℕ))). option_or first v) one
+    ∙ sym (either first last (object_at n (objects_seen old)))
+    ∙ sym (ap (λ (v : Option (Plain (List ℕ))). option_or v (object_at n (objects_seen old))) parts) ∙ so_far
   where
-    go : (b c : Bool) → b ≡ c → cond b (Some (plain_of o.body)) (object_at n (bodies_of old))
-        ≡ option_or (cond c (Some (plain_of o.body)) None) (object_at n (bodies_of old))
+    go : (b c : Bool) → b ≡ c
+        → cond b (Some (by_name ms (plain_of o.body))) (object_at n (objects_seen old))
+        ≡ option_or (option_map (by_name ms) (cond c (Some (plain_of o.body)) None)) (object_at n (objects_seen old))
     go true true is = refl
     go false false is = refl
     go true false is = absurd cc
     go false true is = absurd cc
 
 -- all objects are put
-pub all_put : (now : BTreeMap ℕ StoredBody) (left : List StoredObject) (n : ℕ) (goal : Option (Plain ℕ)) → left ≡ []
-    → option_or (object_at n (objects_of left)) (object_at n (bodies_of now)) ≡ goal → object_at n (bodies_of now) ≡ goal
-all_put now left n goal none so_far =
-    sym (ap (λ (l : List StoredObject). option_or (object_at n (objects_of l)) (object_at n (bodies_of now))) none) ∙ so_far
+pub all_put : (ms : List Loaded) (now : BTreeMap ℕ NamedObject) (left : List StoredObject) (n : ℕ)
+    (goal : Option (Plain (List ℕ))) → length left ≡ 0
+    → option_or (object_by_name ms (objects_of left) n) (object_at n (objects_seen now)) ≡ goal
+    → object_at n (objects_seen now) ≡ goal
+all_put ms now [] n goal none so_far = so_far
+all_put ms now (o ∷ left) n goal none so_far = absurd (omega (arith, none))
+
+-- ---- what is there
+
+-- indexes that pass the test are there
+pub they_are_there : {A : Type 0} (listed : List (ℕ × A)) (count : ℕ)
+    → list_all (λ (e : ℕ × A). ltb e.0 count) listed ≡ true → AreThere listed count
+they_are_there [] count h = tt
+they_are_there (e ∷ listed) count h =
+    let p = both (ltb e.0 count) (list_all (λ e. ltb e.0 count) listed) h in
+    (ltb-true e.0 count p.0, they_are_there listed count p.1)
+
+-- indexes that are there pass the test
+pub there_passes : {A : Type 0} (listed : List (ℕ × A)) (count : ℕ) → AreThere listed count
+    → list_all (λ (e : ℕ × A). ltb e.0 count) listed ≡ true
+there_passes [] count h = refl
+there_passes (e ∷ listed) count h = rw (lt-ltb e.0 count h.0) (there_passes listed count h.1)

@@ -10,6 +10,7 @@ pub mod ItemLoop
 pub mod LeadingLaws
 pub mod ImageLengths
 pub mod Listed
+pub mod ModuleLaws
 pub mod MoveLaws
 pub mod NameLaws
 pub mod Numbers

@@ -32,19 +32,34 @@ use Rattle.ash_image.proofs.NameLaws.{both}
 one_service : (a b : ℕ × List ℕ) → a.0 ≡ b.0 → a.1 ≡ b.1 → a ≡ b
 one_service a b p q = ap (λ (k : ℕ). (k, a.1)) p ∙ ap (λ (v : List ℕ). (b.0, v)) q
 
-services_same : (a b : List (ℕ × List ℕ)) → map (λ (s : ℕ × List ℕ). s.0) a ≡ map (λ (s : ℕ × List ℕ). s.0) b
-    → map (λ (s : ℕ × List ℕ). s.1) a ≡ map (λ (s : ℕ × List ℕ). s.1) b → a ≡ b
+head_is : {A : Type 0} (x y : A) (xs ys : List A) → x ∷ xs ≡ y ∷ ys → x ≡ y
+head_is x y xs ys same = cc
+
+tail_is : {A : Type 0} (x y : A) (xs ys : List A) → x ∷ xs ≡ y ∷ ys → xs ≡ ys
+tail_is x y xs ys same = cc
+
+one_list : {A : Type 0} (x y : A) (xs ys : List A) → x ≡ y → xs ≡ ys → x ∷ xs ≡ y ∷ ys
+one_list x y xs ys head tail = cc
+
+not_empty : {A : Type 0} (x : A) (xs : List A) → x ∷ xs ≡ [] → ⊥
+not_empty x xs same = absurd cc
+
+abbrev kinds_in : List (ℕ × List ℕ) → List ℕ
+kinds_in services = map (λ (s : ℕ × List ℕ). s.0) services
+
+abbrev states_in : List (ℕ × List ℕ) → List (List ℕ)
+states_in services = map (λ (s : ℕ × List ℕ). s.1) services
+
+services_same : (a b : List (ℕ × List ℕ)) → kinds_in a ≡ kinds_in b → states_in a ≡ states_in b → a ≡ b
 services_same [] [] kinds states = refl
-services_same [] (y ∷ b) kinds states = absurd cc
-services_same (x ∷ a) [] kinds states = absurd cc
+services_same [] (y ∷ b) kinds states = absurd (not_empty y.0 (kinds_in b) (sym kinds))
+services_same (x ∷ a) [] kinds states = absurd (not_empty x.0 (kinds_in a) kinds)
 services_same (x ∷ a) (y ∷ b) kinds states =
-    let kind : x.0 ≡ y.0 = cc in
-    let state : x.1 ≡ y.1 = cc in
-    let more_kinds : map (λ (s : ℕ × List ℕ). s.0) a ≡ map (λ (s : ℕ × List ℕ). s.0) b = cc in
-    let more_states : map (λ (s : ℕ × List ℕ). s.1) a ≡ map (λ (s : ℕ × List ℕ). s.1) b = cc in
-    let head = one_service x y kind state in
-    let tail = services_same a b more_kinds more_states in
-    cc
+    one_list x y a b
+    (one_service x y (head_is x.0 y.0 (kinds_in a) (kinds_in b) kinds)
+    (head_is x.1 y.1 (states_in a) (states_in b) states))
+    (services_same a b (tail_is x.0 y.0 (kinds_in a) (kinds_in b) kinds)
+    (tail_is x.1 y.1 (states_in a) (states_in b) states))
 
 -- ---- modules
 

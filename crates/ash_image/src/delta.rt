@@ -331,7 +331,7 @@ pub fn write_delta(alloc: Global, parts: DeltaParts<'_>) -> Result<Vec<u8>, Allo
     // It is read again.
     ensures written { IfOk result (λ bytes. IsDelta bytes.items Two (delta_in parts.entry)) }
     // It fits into a record, if no more objects are gone than live at most.
-    ensures short { length parts.gone.now ≤ max_objects
+    ensures short { length parts.entry.gone.now ≤ max_objects
         → IfOk result (λ bytes. length bytes.items < 2 ^ 28) }
 {
     let mut bytes = Vec::with_capacity(alloc, delta_length(parts))?;
@@ -345,7 +345,7 @@ pub fn write_delta_body(alloc: Global, parts: DeltaParts<'_>) -> Result<Vec<u8>,
     requires fits { FitsDelta Two (delta_in parts) }
     ensures written { IfOk result (λ body. IsDeltaBody body.items Two (delta_in parts.entry)) }
     // It fits into a record, if no more objects are gone than live at most.
-    ensures short { length parts.gone.now ≤ max_objects
+    ensures short { length parts.entry.gone.now ≤ max_objects
         → IfOk result (λ body. length body.items < 2 ^ 28) }
 {
     let mut body = Vec::with_capacity(alloc, 1 + delta_length(parts))?;

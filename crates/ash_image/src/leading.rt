@@ -79,6 +79,7 @@ fn are_services_there(listed: &[StoredService], count: usize) -> bool
 /// Puts a service into a state.
 fn set_service(services: &mut Vec<StoredHost>, service: StoredService)
     requires within { service.index < length services.old.items }
+    ensures same_length { length services.new.items ≡ length services.old.items }
     ensures kinds { map (λ s. s.0) (services_of services.new.items)
         ≡ map (λ s. s.0) (services_of services.old.items) }
     ensures states { map (λ s. s.1) (services_of services.new.items)
