@@ -84,7 +84,7 @@ they_count index (w ∷ ws) =
     ap (λ (b : Bool). b && counts_from (suc index) (numbers (indexed_from (suc index) ws))) (eq-eqb index index refl)
     ∙ they_count (suc index) ws
 
-indexed_length : (index : ℕ) (ws : List Word) → length (indexed_from index ws) ≡ length ws
+pub indexed_length : (index : ℕ) (ws : List Word) → length (indexed_from index ws) ≡ length ws
 unfolding indexed_from
 indexed_length index [] = refl
 indexed_length index (w ∷ ws) = ap suc (indexed_length (suc index) ws)
@@ -256,14 +256,17 @@ delta_field version =
       put = h.0.put;
       apart = h.1;
     })
-    (λ d h. (record {
-      seq = h.seq;
-      last = h.last;
-      services = h.services;
-      change = h.change;
-      gone = h.gone;
-      put = h.put;
-    }, h.apart))
+    (λ d h. (
+      record {
+        seq = h.seq;
+        last = h.last;
+        services = h.services;
+        change = h.change;
+        gone = h.gone;
+        put = h.put;
+      },
+      h.apart,
+    ))
 
 -- ---- what the readers promise
 

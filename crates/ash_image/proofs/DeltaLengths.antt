@@ -79,10 +79,10 @@ delta_length d =
     omega (
       arith,
       length-append (number 8 d.seq) (number 8 d.last ++ (items 2 service d.services ++ (module_change d.change
-      ++ (items 4 (number 8) d.gone ++ items 4 object d.put)))),
+          ++ (items 4 (number 8) d.gone ++ items 4 object d.put)))),
       number_length 8 d.seq,
       length-append (number 8 d.last) (items 2 service d.services ++ (module_change d.change
-      ++ (items 4 (number 8) d.gone ++ items 4 object d.put))),
+          ++ (items 4 (number 8) d.gone ++ items 4 object d.put))),
       number_length 8 d.last,
       length-append (items 2 service d.services) (module_change d.change ++ (items 4 (number 8) d.gone ++ items 4 object d.put)),
       items_length 2 service d.services,

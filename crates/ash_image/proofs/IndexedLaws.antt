@@ -14,7 +14,7 @@ use Rattle.ash_image.specs.DeltaReading.{counts_from}
 use Rattle.ash_image.specs.DeltaViews.{all_indexed}
 
 -- whether the words from an index on have the indexes from there on
-pub counted_on : List IndexedWord → ℕ → Bool
+unfoldable pub counted_on : List IndexedWord → ℕ → Bool
 counted_on words i = counts_from i (numbers (all_indexed (drop i words)))
 
 at_index : (words : List IndexedWord) (i : ℕ) (w : IndexedWord) → i < length words
@@ -65,7 +65,7 @@ written_on start out new words i w within so_far more =
     let len : length (take i words) ≡ i = omega (arith, length-take i words) in
     let here : (ℕ × Word) = (i, get_or words i w) in
     let grown : indexed_from 0 (take (i + 1) words) ≡ indexed_from 0 (take i words) ++ here ∷ [] =
-    ap (λ (ws : List Word). indexed_from 0 ws) (ap (λ (n : ℕ). take n words) add-one ∙ take-suc words i w within)
+    ap (λ (ws : List Word). indexed_from 0 ws) (ap (λ (n : ℕ). take n words) (add-one i) ∙ take-suc words i w within)
     ∙ from_append 0 (take i words) (get_or words i w)
     ∙ ap (λ (n : ℕ). indexed_from 0 (take i words) ++ (n, get_or words i w) ∷ []) len in
     let spelled : flat_map indexed_word (indexed_from 0 (take (i + 1) words))

@@ -84,7 +84,6 @@ fn indexed_words_of(alloc: Global, bytes: &[u8]) -> Result<(Vec<IndexedWord>, &[
 
 /// Whether indexes are those of all words, in order.
 fn are_all(words: &[IndexedWord]) -> bool
-    requires few { length words.now ≤ max_globals }
     ensures value { result ≡ counts_from 0 (numbers (all_indexed words.now)) }
 {
     for index in 0..words.len() {

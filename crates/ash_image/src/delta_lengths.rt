@@ -41,7 +41,6 @@ fn indexed_length(words: &[IndexedWord]) -> usize
     total
 }
 
-#[tactic(auto, using(crate::proofs::DeltaLengths::added_length))]
 fn added_length(parts: ModuleParts<'_>) -> usize
     requires fits_module { FitsModule (module_in parts) }
     ensures exact { result ≡ length (added (module_in parts.entry)) }
@@ -68,7 +67,6 @@ fn change_length(change: ChangeParts<'_>) -> usize
 }
 
 /// How many bytes a delta has.
-#[tactic(auto, using(crate::proofs::DeltaLengths::delta_length))]
 pub fn delta_length(parts: DeltaParts<'_>) -> usize
     requires fits { FitsDelta Two (delta_in parts) }
     ensures exact { result ≡ length (delta (delta_in parts.entry)) }

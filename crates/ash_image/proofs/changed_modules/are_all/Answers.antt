@@ -4,13 +4,13 @@ use Rattle.ash_image.proofs.changed_modules.are_all.Goals as goal
 
 pub loop-index-preserved : goal.loop-index-preserved
 loop-index-preserved c =
-    counts_on c.args.words.now c.loop-index.index _ _ c.loop-index-test.true (omega arith) c.loop-index.invariant
+    counts_on c.args.words.now c.loop-index.index _ _ c.loop-index-test.true c.if-words-index.false c.loop-index.invariant
 
 pub returns-then-words-index : goal.returns-then-words-index
 unfolding counted_on
 returns-then-words-index c = record {
   value =
-      counts_not c.args.words.now c.loop-index.index _ _ c.loop-index-test.true (λ same. omega (arith, same))
+      counts_not c.args.words.now c.loop-index.index _ _ c.loop-index-test.true c.if-words-index.true
       c.loop-index.invariant;
 }
 

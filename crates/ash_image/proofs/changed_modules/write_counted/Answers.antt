@@ -1,6 +1,12 @@
-use Rattle.std.proofs.Common.{arith}
+use Rattle.std.proofs.Common.{sym, arith}
+use Rattle.std.proofs.lemmas.List.{append-nil}
+use Rattle.ash_image.specs.Delta.{indexed_from}
 use Rattle.ash_image.proofs.IndexedLaws.{written_on, written_all}
 use Rattle.ash_image.proofs.changed_modules.write_counted.Goals as goal
+
+pub loop-index-init : goal.loop-index-init
+unfolding indexed_from
+loop-index-init c = sym (append-nil c.args.out.now.items)
 
 pub loop-index-preserved : goal.loop-index-preserved
 loop-index-preserved c =

@@ -6,6 +6,7 @@ use Rattle.ash_image.proofs.delta.delta_of.Goals as goal
 pub are_apart-requires : goal.are_apart-requires
 are_apart-requires c = record {
   rising =
-      put_rises c.args.version c.args.bytes.now (delta_of c.in_ok-delta.delta, c.in_ok-delta.rest.now)
-      (λ i. omega (arith, c.type_inv.bytes i)) c.in_ok-delta.ensures.field;
+      rw c.deref-2.ensures.value
+      (put_rises c.args.version c.args.bytes.now (delta_of c.in_ok-delta.delta, c.in_ok-delta.rest.now)
+      (λ i. omega (arith, c.type_inv.bytes i)) c.in_ok-delta.ensures.field);
 }
