@@ -62,7 +62,7 @@ pub written_on : (start out new : List ℕ) (words : List Word) (i : ℕ) (w : W
     → new ≡ out ++ indexed_word (i, get_or words i w)
     → new ≡ start ++ flat_map indexed_word (indexed_from 0 (take (i + 1) words))
 written_on start out new words i w within so_far more =
-    let len : length (take i words) ≡ i = omega (arith, length-take i words) in
+    let len : 0 + length (take i words) ≡ i = omega (arith, length-take i words) in
     let here : (ℕ × Word) = (i, get_or words i w) in
     let grown : indexed_from 0 (take (i + 1) words) ≡ indexed_from 0 (take i words) ++ here ∷ [] =
     ap (λ (ws : List Word). indexed_from 0 ws) (ap (λ (n : ℕ). take n words) (add-one i) ∙ take-suc words i w within)
