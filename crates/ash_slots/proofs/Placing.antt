@@ -210,3 +210,13 @@ module _ {B : Type 0} where
   entry_idle slot entries index entry a whole there none =
       let found = item_in entry.number slot entries index entry a there (entry_here slot entries index entry a whole there) in
       (entry.number, subst (λ (v : Option (SlotEntry B)). IsSomeAnd v (λ object. (object.slot ≡ slot) × ((object.item).count ≡ 0))) (sym found.0) (refl, none))
+
+  -- the object of an entry's number is in the entry's slot
+  pub led_to : (n slot : ℕ) (entries : Slab (Entry B)) (index : List (ℕ × ℕ)) (entry : Entry B)
+      → ArePlaced entries index → ((s : ℕ) → IfSome (get entries s) (λ e. object_at e.number index ≡ Some s))
+      → get entries slot ≡ Some entry → entry.number ≡ n
+      → option_map (λ object. object.slot) (object_at n (placed_in entries index)) ≡ Some slot
+  led_to n slot entries index entry a whole there same =
+      let led : object_at entry.number index ≡ Some slot = subst (λ (o : Option (Entry B)). IfSome o (λ e. object_at e.number index ≡ Some slot)) there (whole slot) in
+      subst (λ (m : ℕ). option_map (λ object. object.slot) (object_at m (placed_in entries index)) ≡ Some slot) same
+      (slots_of entry.number entries index a ∙ led)

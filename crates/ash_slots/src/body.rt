@@ -38,6 +38,7 @@ pub struct Array {
 
 impl<B> Body<B> {
     /// Whether it is a host object.
+    #[inline(always)]
     pub fn is_host(&self) -> bool
         ensures boxed { result ≡ is_boxed self.now }
     {
@@ -45,6 +46,7 @@ impl<B> Body<B> {
     }
 
     /// The words that it holds, in order; a host object holds none.
+    #[inline(always)]
     pub fn words(&self) -> &[Word]
         ensures words { result.now ≡ words_of self.now }
     {

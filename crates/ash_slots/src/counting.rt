@@ -8,6 +8,7 @@ use crate::store::Store;
 use ash_host::Word;
 
 /// Counts the object in a slot once more.
+#[inline(always)]
 pub fn increment_count<B>(store: &mut Store<B>, slot: usize)
     requires occupied { IsOccupied slot store.old.objects }
     requires fits { (number : ℕ) → counted number store.old.objects < 2 ^ 128 - 1 }
@@ -20,6 +21,7 @@ pub fn increment_count<B>(store: &mut Store<B>, slot: usize)
 }
 
 /// Counts the object in a slot once less. Where nothing is left the next sweep looks at it.
+#[inline(always)]
 pub fn decrement_count<B>(store: &mut Store<B>, slot: usize)
     requires counted { (number : ℕ) × IsIn number slot store.old.objects
         × (0 < counted number store.old.objects) }
@@ -36,6 +38,7 @@ pub fn decrement_count<B>(store: &mut Store<B>, slot: usize)
 }
 
 /// Counts the object that a word is a handle to once more, if it is one.
+#[inline(always)]
 pub fn add_ref<B>(store: &mut Store<B>, word: Word)
     requires alive { IfSome (handle word) (Lives store.old.objects) }
     requires fits { (number : ℕ) → counted number store.old.objects < 2 ^ 128 - 1 }
@@ -51,6 +54,7 @@ pub fn add_ref<B>(store: &mut Store<B>, word: Word)
 }
 
 /// Counts the object that a word is a handle to once less, if it is one.
+#[inline(always)]
 pub fn remove_ref<B>(store: &mut Store<B>, word: Word)
     requires counted { IfSome (handle word) (λ number. 0 < counted number store.old.objects) }
     ensures objects { store.new.objects

@@ -11,6 +11,7 @@ use crate::store::Store;
 use ash_host::Word;
 
 /// The word at a place of the object in a slot.
+#[inline(always)]
 pub fn read_word<B>(store: &Store<B>, slot: usize, place: usize) -> Word
     requires there { HasWordIn slot place store.now.objects }
     ensures word { (number : ℕ) → IsIn number slot store.now.objects
@@ -25,6 +26,7 @@ pub fn read_word<B>(store: &Store<B>, slot: usize, place: usize) -> Word
 }
 
 /// Writes a word at a place of the object in a slot, which touches it, and returns the word before.
+#[inline(always)]
 pub fn write_word<B>(store: &mut Store<B>, slot: usize, place: usize, word: Word) -> Word
     requires there { HasWordIn slot place store.old.objects }
     ensures before { (number : ℕ) → IsIn number slot store.old.objects

@@ -3,7 +3,7 @@
 //! ascending number, each in a slot of its own, that each call changes of that list exactly what its contract names,
 //! and that each object which lost its last count, or is new, is on the list of slots that the next sweep looks at.
 //!
-//! In reading order: `words` and `body` (what an object is), `entry` (what a store has of it), `store` (objects in
+//! In reading order: `words` and `body` (what an object is), `entry` (what a store has of it), `hints` and `store` (objects in
 //! slots), `counting` (the count of an object), `fields` and `elements` (its words), `calling` (its box).
 #![tactic(auto)]
 
@@ -13,6 +13,7 @@ mod counting;
 mod elements;
 mod entry;
 mod fields;
+mod hints;
 mod store;
 mod words;
 

@@ -10,6 +10,7 @@ ghost use Rattle.ash_slots.specs.Store.{IsIn, IsOccupied, AreStored, IsIdle};
 ghost use Rattle.ash_slots.specs.Store.{NoneWaits, change_in, with_waiting};
 
 use crate::entry::{Entry, Occupant};
+use crate::hints::Hints;
 use slab::Slab;
 use std::alloc::{AllocFailed, Global};
 use std::collections::BTreeMap;
@@ -24,6 +25,8 @@ pub struct Store<B> {
     index: BTreeMap<u64, usize>,
     /// The slots that the next sweep looks at. Each entry has room in it.
     idle: Vec<usize>,
+    /// Where a number is looked for before the index is asked.
+    hints: Hints,
 }
 
 impl<B> Model for Store<B> {
@@ -54,11 +57,49 @@ impl<B> Store<B> {
             entries: Slab::new(alloc),
             index: BTreeMap::new(alloc),
             idle: Vec::new(alloc),
+            hints: Hints::new(alloc),
         }
     }
 
     /// The slot of the object of a number.
+    #[inline(always)]
     pub fn slot(&self, number: u64) -> Option<usize>
+        ensures slot { result
+            ≡ option_map (λ object. object.slot) (object_at number self.now.objects) }
+    {
+        match self.hinted_slot(number) {
+            Some(slot) => Some(slot),
+            None => self.slot_elsewhere(number),
+        }
+    }
+
+    // The slot of the object of a number, if the hint of the number leads to it.
+    #[inline(always)]
+    fn hinted_slot(&self, number: u64) -> Option<usize>
+        ensures slot { IfSome result (λ slot. option_map (λ object. object.slot)
+            (object_at number self.now.objects) ≡ Some slot) }
+    {
+        let slot = self.hints.get(number)?;
+        let entry = self.entries.get(slot)?;
+        if entry.number == number {
+            Some(slot)
+        } else {
+            None
+        }
+    }
+
+    // The slot of the object of a number that has no right hint. The place of the answer is cleared here alone.
+    #[inline(always)]
+    fn slot_elsewhere(&self, number: u64) -> Option<usize>
+        ensures slot { result
+            ≡ option_map (λ object. object.slot) (object_at number self.now.objects) }
+    {
+        self.indexed_slot(number)
+    }
+
+    // The slot that the index has for a number.
+    #[inline(never)]
+    fn indexed_slot(&self, number: u64) -> Option<usize>
         ensures slot { result
             ≡ option_map (λ object. object.slot) (object_at number self.now.objects) }
     {
@@ -66,6 +107,7 @@ impl<B> Store<B> {
     }
 
     /// The object in a slot.
+    #[inline(always)]
     pub fn item(&self, slot: usize) -> &Occupant<B>
         requires occupied { IsOccupied slot self.now.objects }
         ensures value { (number : ℕ) → IsIn number slot self.now.objects
@@ -78,6 +120,7 @@ impl<B> Store<B> {
     }
 
     /// The object in a slot, to change it.
+    #[inline(always)]
     pub fn item_mut(&mut self, slot: usize) -> &mut Occupant<B>
         requires occupied { IsOccupied slot self.old.objects }
         ensures* writes_back { sem 𝓛 (lends_item B.row self.entry slot result) }
@@ -107,6 +150,7 @@ impl<B> Store<B> {
     }
 
     /// The number of the object in a slot.
+    #[inline(always)]
     pub fn number(&self, slot: usize) -> u64
         requires occupied { IsOccupied slot self.now.objects }
         ensures number { (number : ℕ) → IsIn number slot self.now.objects → result ≡ number }
@@ -126,6 +170,7 @@ impl<B> Store<B> {
     }
 
     /// Whether the object in a slot is counted nowhere. The slot may be empty.
+    #[inline(always)]
     pub fn is_idle(&self, slot: usize) -> bool
         ensures idle { IsTrue result ↔ IsIdle slot self.now.objects }
     {
@@ -136,6 +181,7 @@ impl<B> Store<B> {
     }
 
     /// Has the next sweep look at a slot.
+    #[inline(never)]
     pub fn queue_for_sweep(&mut self, slot: usize)
         requires occupied { IsOccupied slot self.old.objects }
         ensures objects { self.new.objects ≡ change_in slot (with_waiting true) self.old.objects }
@@ -153,6 +199,7 @@ impl<B> Store<B> {
     }
 
     /// Whether no slot is listed for the next sweep.
+    #[inline(always)]
     pub fn none_waits(&self) -> bool
         ensures none { IsTrue result → NoneWaits self.now.objects }
     {
@@ -202,6 +249,23 @@ impl<B> Store<B> {
         ensures unchanged { OnErr result (self.new.objects ≡ self.old.objects) }
         ensures given_back { IfErr result (λ failed. failed.value ≡ item) }
     {
+        if self.hints.reserve().is_err() {
+            return Err(AllocFailed { value: item });
+        }
+        self.place(number, item)
+    }
+
+    // Puts an object of a new number into the vacant slot, and has the hint of the number lead there.
+    fn place(&mut self, number: u64, item: Occupant<B>) -> Result<usize, AllocFailed<Occupant<B>>>
+        requires unused { object_at number self.old.objects ≡ None }
+        ensures objects { IfOk result
+            (λ slot. self.new.objects
+            ≡ with_at number (record { slot = slot; waiting = true; item = item })
+            self.old.objects) }
+        ensures slot { IfOk result (λ slot. slot ≡ self.old.vacant) }
+        ensures unchanged { OnErr result (self.new.objects ≡ self.old.objects) }
+        ensures given_back { IfErr result (λ failed. failed.value ≡ item) }
+    {
         if self.entries.reserve(1).is_err() {
             return Err(AllocFailed { value: item });
         }
@@ -219,6 +283,7 @@ impl<B> Store<B> {
             item,
         });
         self.idle.push_reserved(slot);
+        self.hints.set(number, slot);
         Ok(slot)
     }
 

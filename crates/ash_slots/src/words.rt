@@ -30,6 +30,7 @@ impl Words {
     }
 
     /// The words, in order.
+    #[inline(always)]
     pub fn as_slice(&self) -> &[Word]
         ensures words { result.now ≡ self.now }
     {
@@ -47,6 +48,7 @@ impl Words {
     }
 
     /// How many there are.
+    #[inline(always)]
     pub fn len(&self) -> usize
         ensures len { result ≡ length self.now }
     {
@@ -54,6 +56,7 @@ impl Words {
     }
 
     /// The word at a place.
+    #[inline(always)]
     pub fn get(&self, place: usize) -> Word
         requires within { place < length self.now }
         ensures word { slice_get self.now place ≡ Some result }
@@ -62,6 +65,7 @@ impl Words {
     }
 
     /// Writes a word at a place.
+    #[inline(always)]
     pub fn set(&mut self, place: usize, word: Word)
         requires within { place < length self.old }
         ensures written { self.new ≡ slice_set self.old place word }

@@ -5,7 +5,7 @@ use Rattle.ash_host.specs.Objects.{object_at, with_at}
 use Rattle.ash_slots.specs.Store.{SlotEntry, placed_in}
 use Rattle.ash_slots.proofs.Placing.{slots_of}
 use Rattle.ash_slots.proofs.Moving.{SameBut, stored_regrown, placed_regrown, inserted_stored, inserted_in}
-use Rattle.ash_slots.proofs.store.Store.insert.Goals as goal
+use Rattle.ash_slots.proofs.store.Store.place.Goals as goal
 
 pub invariant_of-self : goal.invariant_of-self
 invariant_of-self g c =
