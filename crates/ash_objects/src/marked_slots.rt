@@ -70,6 +70,7 @@ impl MarkedSlots {
     }
 
     /// Lists a slot, if it isn't listed. It takes no memory.
+    #[inline(always)]
     pub(crate) fn mark(&mut self, slot: usize)
         requires within { slot < self.old.room }
         ensures covers { Covers self.old self.new }

@@ -174,6 +174,7 @@ impl<B> Objects<B> {
     }
 
     /// Writes a word at a place of the object in a slot. It takes no memory.
+    #[inline(always)]
     pub fn set_field_at(&mut self, slot: usize, place: usize, word: Word)
         requires there { HasFieldIn slot place self.old }
         requires alive { IsAlive word self.old }

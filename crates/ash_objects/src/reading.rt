@@ -36,6 +36,7 @@ impl<B> Objects<B> {
     }
 
     /// What holds of every table. It does nothing.
+    #[inline(always)]
     pub fn facts(&self)
         ensures sound { IsSoundTable self.now }
     {
