@@ -1,9 +1,15 @@
 -- The marks of objects that were made or changed.
-use Rattle.std.specs.Prelude.{◌≡◌, ℕ, false, List, [], ◌∷◌, IfSome, filter, map}
+use Rattle.std.specs.Prelude.{◌≡◌, ◌↔◌, ℕ, false, List, [], ◌∷◌, Contains, IfSome, filter, map}
+use Rattle.std.specs.List.Sorted.{IsStrictlyIncreasing}
 use Rattle.std.specs.Map.{keys_of}
 use Rattle.ash_host.specs.Objects.{object_at}
 use Rattle.ash_slots.specs.Store.{SlotEntry, change_at}
 use Rattle.ash_objects.specs.Table.{Living, Table}
+
+-- The same numbers, by ascending number, each once.
+pub record AreSorted (numbers sorted : List ℕ) : Type 0 where
+  pub rise : IsStrictlyIncreasing sorted
+  pub same : (number : ℕ) → Contains sorted number ↔ Contains numbers number
 
 module _ {B : Type 0} where
   -- the objects that were made or changed since the marks were cleared, by ascending number

@@ -7,7 +7,7 @@ ghost use Rattle.ash_host.specs.Objects.{object_at, IsInOrder};
 ghost use Rattle.ash_slots.specs.Store.{change_at};
 ghost use Rattle.ash_objects.specs.Listing.{AreListed};
 ghost use Rattle.ash_objects.specs.Marking.{marked_of, marked_in, unmarked};
-ghost use Rattle.ash_objects.specs.Marking.{unmark_all, without_marks};
+ghost use Rattle.ash_objects.specs.Marking.{unmark_all, without_marks, AreSorted};
 
 use crate::marked_slots::MarkedSlots;
 use crate::objects::Objects;
@@ -20,7 +20,7 @@ use std::mem;
 pub struct Changes {
     /// Those that were made or changed, and live, by ascending number.
     pub living: Vec<u64>,
-    /// Those that went, sweep by sweep, each by ascending number.
+    /// Those that went, by ascending number.
     pub gone: Vec<u64>,
 }
 
@@ -75,6 +75,14 @@ fn sort_numbers(numbers: &mut Vec<u64>)
     numbers.sort_unstable_by_key(|number| *number);
 }
 
+// Sorts numbers, and leaves each once.
+fn sort_once(numbers: &mut Vec<u64>)
+    ensures sorted { AreSorted numbers.old.items numbers.new.items }
+{
+    numbers.sort_unstable();
+    numbers.dedup();
+}
+
 impl<B: HostObject> Objects<B> {
     /// The numbers of the objects that were made, changed or taken away since the last such call, but for those that
     /// were made and taken away since; and clears the marks. Where memory is refused the marks stay.
@@ -82,7 +90,7 @@ impl<B: HostObject> Objects<B> {
     /// It looks at what was made or changed since the last such call, and at nothing else of the table.
     pub fn touched(&mut self) -> Result<Changes, NoMemory>
         ensures living { IfOk result (λ touched. touched.living.items ≡ marked_of self.old) }
-        ensures gone { IfOk result (λ touched. touched.gone.items ≡ self.old.gone) }
+        ensures gone { IfOk result (λ touched. AreSorted self.old.gone touched.gone.items) }
         ensures cleared { OnOk result (self.new ≡ without_marks self.old) }
         ensures unchanged { OnErr result (self.new ≡ self.old) }
     {
@@ -94,7 +102,8 @@ impl<B: HostObject> Objects<B> {
         unmark_listed(&mut self.store, &mut self.marks, &mut living);
         sort_numbers(&mut living);
         self.settled = self.last;
-        let gone = mem::replace(&mut self.gone, Vec::new(alloc));
+        let mut gone = mem::replace(&mut self.gone, Vec::new(alloc));
+        sort_once(&mut gone);
         Ok(Changes { living, gone })
     }
 }
