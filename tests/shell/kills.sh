@@ -91,13 +91,13 @@ answered() {
     echo "${last:-$2}"
 }
 
-# kill_in_time ROUND STORE COUNTERS CALL: serves a store with this call again and again, and snapshots between, and kills the process
-# at a random time. In three of four rounds that comes after a first reply, so that the process is at work. The replies are in
-# $scratch/replies.
+# kill_in_time ROUND STORE COUNTERS CALL: serves a store with this call again and again, and snapshots between, and kills the
+# process at a random time. In three of four rounds that comes after a first reply, so that the process is at work. Each call
+# is followed by a `load` that is no request, since replies go out before a load is read. The replies are in $scratch/replies.
 kill_in_time() {
     local process
     : > "$scratch/replies"
-    yes "$(printf "$4\n%.0s" {1..6})
+    yes "$(printf "$4\nload x\n%.0s" {1..6})
 snapshot" 2> /dev/null | "$ashd" serve "$2" --budget 1000 --counters "$3" > "$scratch/replies" 2> "$scratch/error" &
     process=$!
     if [ $(($1 % 4)) -ne 0 ]; then
