@@ -27,6 +27,7 @@ ghost use Rattle.ash_engine.specs.TableStates.{slots_of};
 ghost use Rattle.ash_engine.specs.TableSteps.{IsStepOf};
 ghost use Rattle.ash_engine.specs.TableTasks.{entry_name, IsAsked};
 
+use crate::changes::ModuleChange;
 use crate::compiling::compiled_for;
 use crate::discarding::release;
 use crate::live::{Compiled, Live, Rest};
@@ -137,32 +138,32 @@ fn run_initializers<B: HostObject>(compiled: &mut Compiled, parts: Parts<B>, bud
         .run(&compiled.code, parts, place, &[], budget)
 }
 
-/// Inserts a module at the place of its name, and its code at the same place.
+/// Inserts a module at the place of its name, and its code at the same place, and returns the place.
 fn insert_module(
     modules: &mut Vec<LoadedModule>,
     codes: &mut Vec<Compiled>,
     new_module: LoadedModule,
     compiled: Compiled,
-) -> Result<(), AllocError>
+) -> Result<usize, AllocError>
     requires many { length codes.old.items ≡ length modules.old.items }
     ensures by_name { OnOk result (modules_seen modules.new.items
         ≡ with_module (loaded_seen new_module) (modules_seen modules.old.items)) }
-    ensures at_a_place { OnOk result ((place : ℕ) × (modules.new.items ≡ insert modules.old.items place new_module)
+    ensures at_a_place { IfOk result (λ place. (modules.new.items ≡ insert modules.old.items place new_module)
         × (codes.new.items ≡ insert codes.old.items place compiled)) }
 {
     let place = place_after(modules, new_module.name.as_str()).unwrap_or(modules.len());
     modules.insert(place, new_module)?;
     codes.insert(place, compiled)?;
-    Ok(())
+    Ok(place)
 }
 
-/// The live state with a module whose initializers came to their end, and the events of these.
+/// The live state with a module whose initializers came to their end, the events of these, and the place of the module.
 fn keep<B: HostObject>(
     rest: Rest,
     new_module: LoadedModule,
     compiled: Compiled,
     parts: Parts<B>,
-) -> Result<(Live<B>, Vec<Event>), AllocError>
+) -> Result<(Live<B>, Vec<Event>, usize), AllocError>
     requires many { length rest.compiled.items ≡ length rest.loaded.modules.items }
     ensures kept { IfOk result (λ left. IsKept rest new_module compiled parts left.0) }
     ensures events { IfOk result (λ left. left.1 ≡ parts.events) }
@@ -170,6 +171,7 @@ fn keep<B: HostObject>(
     let Rest {
         mut loaded,
         compiled: mut codes,
+        changes,
     } = rest;
     let Parts {
         table,
@@ -179,13 +181,14 @@ fn keep<B: HostObject>(
     } = parts;
     let mut new_module = new_module;
     new_module.globals = globals;
-    insert_module(&mut loaded.modules, &mut codes, new_module, compiled)?;
+    let place = insert_module(&mut loaded.modules, &mut codes, new_module, compiled)?;
     let live = Live {
         loaded,
         compiled: codes,
         table,
+        changes,
     };
-    Ok((live, events))
+    Ok((live, events, place))
 }
 
 /// The live state without a module whose initializers did not come to their end, and the events of these.
@@ -193,7 +196,11 @@ fn abandon<B: HostObject>(rest: Rest, parts: Parts<B>) -> Result<(Live<B>, Vec<E
     requires held { (number : ℕ) → times number (handles parts.globals.items) ≤ holds_of number parts.table }
     ensures abandoned { IfOk result (λ left. IsAbandoned rest parts left.0 left.1.items) }
 {
-    let Rest { loaded, compiled } = rest;
+    let Rest {
+        loaded,
+        compiled,
+        changes,
+    } = rest;
     let Parts {
         mut table,
         globals,
@@ -206,6 +213,7 @@ fn abandon<B: HostObject>(rest: Rest, parts: Parts<B>) -> Result<(Live<B>, Vec<E
         loaded,
         compiled,
         table,
+        changes,
     };
     Ok((live, events))
 }
@@ -226,7 +234,7 @@ fn finish_abandoned<B: HostObject>(
 {
     let outcome = outcome_of(rest.loaded.alloc, &new_module.tree, outcome)?;
     match abandon(rest, parts) {
-        Ok((live, events)) => Ok(answered(live, outcome, events)),
+        Ok((live, events)) => Ok(answered(live, outcome, events, ModuleChange::Unchanged)?),
         Err(_) => Err(StepError::NoMemory),
     }
 }
@@ -253,8 +261,9 @@ fn finish_ended<B: HostObject>(
 {
     match outcome {
         RunOutcome::Finished(value) => {
-            let (live, events) = keep(rest, new_module, compiled, parts)?;
-            Ok(answered(live, Outcome::Finished(value), events))
+            let (live, events, place) = keep(rest, new_module, compiled, parts)?;
+            let outcome = Outcome::Finished(value);
+            Ok(answered(live, outcome, events, ModuleChange::Loaded(place))?)
         }
         RunOutcome::Exception {
             code,
@@ -305,11 +314,16 @@ fn finish_load<B: HostObject>(
     match outcome {
         Ok(outcome) => finish_ended(rest, new_module, compiled, outcome, parts),
         Err(RunFault::NotBegun) => {
-            let Rest { loaded, compiled } = rest;
+            let Rest {
+                loaded,
+                compiled,
+                changes,
+            } = rest;
             Ok(without_memory(Live {
                 loaded,
                 compiled,
                 table: parts.table,
+                changes,
             }))
         }
         // The code of a module is never unsound.
@@ -339,6 +353,7 @@ pub(crate) fn initialize<B: HostObject>(
         loaded,
         compiled: codes,
         table,
+        changes,
     } = live;
     let alloc = loaded.alloc;
     let parts = Parts {
@@ -351,6 +366,7 @@ pub(crate) fn initialize<B: HostObject>(
     let rest = Rest {
         loaded,
         compiled: codes,
+        changes,
     };
     finish_load(rest, new_module, compiled, left)
 }

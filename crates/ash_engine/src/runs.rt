@@ -23,12 +23,13 @@ ghost use Rattle.ash_engine.specs.TableRuns.{end_named, SaysOfCall, IsLent, IsGi
 ghost use Rattle.ash_engine.specs.TableSteps.{IsStepOf};
 ghost use Rattle.ash_engine.specs.TableTasks.{codes_of, entry_name, IsAsked};
 
+use crate::changes::{ModuleChange, globals_change, places_of_others, take_changes};
 use crate::live::{Compiled, Live, Rest};
 use crate::names::outcome_of;
 use crate::steps::LiveStep;
 use ash_context::context::Left;
 use ash_context::outcome::RunFault;
-use ash_host::{Event, HostObject, Word};
+use ash_host::{Event, HostObject, NoMemory, Word};
 use ash_plain_steps::modules::push_handles;
 use ash_plain_steps::state::LoadedModule;
 use ash_plain_steps::task::Invocation;
@@ -49,21 +50,29 @@ pub(crate) fn without_memory<B>(live: Live<B>) -> LiveStep<B>
 }
 
 /// The step that answers how a run ended, with its events.
-pub(crate) fn answered<B>(live: Live<B>, outcome: Outcome, events: Vec<Event>) -> LiveStep<B>
+///
+/// The live state has what the request changed, and the marks of its table are cleared.
+pub(crate) fn answered<B: HostObject>(
+    live: Live<B>,
+    outcome: Outcome,
+    events: Vec<Event>,
+    modules: ModuleChange,
+) -> Result<LiveStep<B>, NoMemory>
     requires numbered { live.loaded.seq < max_seq }
-    ensures answered { IsAnswered live (end_seen outcome) events.items result }
+    ensures answered { IfOk result (IsAnswered live (end_seen outcome) events.items modules) }
 {
     let mut live = live;
+    live.changes = take_changes(live.loaded.alloc, &mut live.table, &events, modules)?;
     live.loaded.seq += 1;
     let seq = live.loaded.seq;
-    LiveStep {
+    Ok(LiveStep {
         reply: Reply::Answer(Answer {
             outcome,
             seq,
             events,
         }),
         live,
-    }
+    })
 }
 
 /// Appends the objects that the globals of modules are handles to.
@@ -123,6 +132,7 @@ fn lend<B: HostObject>(live: Live<B>, place: usize, outside: Vec<u64>) -> (Rest,
         mut loaded,
         compiled,
         table,
+        changes,
     } = live;
     let alloc = loaded.alloc;
     let globals = replace_globals(&mut loaded.modules, place, Vec::new(alloc));
@@ -132,7 +142,12 @@ fn lend<B: HostObject>(live: Live<B>, place: usize, outside: Vec<u64>) -> (Rest,
         outside,
         events: Vec::new(alloc),
     };
-    (Rest { loaded, compiled }, parts)
+    let rest = Rest {
+        loaded,
+        compiled,
+        changes,
+    };
+    (rest, parts)
 }
 
 /// Runs a function of the code of the module at a place.
@@ -168,6 +183,7 @@ fn give_back<B: HostObject>(rest: Rest, place: usize, parts: Parts<B>) -> (Live<
     let Rest {
         mut loaded,
         compiled,
+        changes,
     } = rest;
     let Parts {
         table,
@@ -180,6 +196,7 @@ fn give_back<B: HostObject>(rest: Rest, place: usize, parts: Parts<B>) -> (Live<
         loaded,
         compiled,
         table,
+        changes,
     };
     (live, events)
 }
@@ -188,6 +205,7 @@ fn give_back<B: HostObject>(rest: Rest, place: usize, parts: Parts<B>) -> (Live<
 fn finish_call<B: HostObject>(
     rest: Rest,
     place: usize,
+    before: &[Word],
     left: Left<B>,
 ) -> Result<LiveStep<B>, StepError>
     requires numbered { rest.loaded.seq < max_seq }
@@ -209,8 +227,9 @@ fn finish_call<B: HostObject>(
     match outcome {
         Ok(outcome) => {
             let outcome = outcome_of(rest.loaded.alloc, &rest.loaded.modules[place].tree, outcome)?;
+            let places = places_of_others(rest.loaded.alloc, before, &parts.globals)?;
             let (live, events) = give_back(rest, place, parts);
-            Ok(answered(live, outcome, events))
+            Ok(answered(live, outcome, events, globals_change(place, places))?)
         }
         Err(RunFault::NotBegun) => {
             let (live, _) = give_back(rest, place, parts);
@@ -231,7 +250,12 @@ pub(crate) fn invoke<B: HostObject>(
     ensures stepped { (asked : IsAsked B.HostObject live (tasks.Invoke call))
         → IsStepOf B.HostObject asked.registered budget asked.request live result }
 {
-    let Ok(outside) = handles_beside(live.loaded.alloc, &live.loaded.modules, call.module) else {
+    let alloc = live.loaded.alloc;
+    let Ok(outside) = handles_beside(alloc, &live.loaded.modules, call.module) else {
+        return Ok(without_memory(live));
+    };
+    // What the globals hold before the run, so that those that hold other words after it are known.
+    let Ok(before) = Vec::from_slice(alloc, &live.loaded.modules[call.module].globals) else {
         return Ok(without_memory(live));
     };
     let (mut rest, parts) = lend(live, call.module, outside);
@@ -243,5 +267,5 @@ pub(crate) fn invoke<B: HostObject>(
         &call.args,
         budget,
     );
-    finish_call(rest, call.module, left)
+    finish_call(rest, call.module, &before, left)
 }
