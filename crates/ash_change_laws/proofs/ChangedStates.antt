@@ -1,21 +1,14 @@
 -- What tables mark and events say is all that a request changed.
-use Rattle.std.proofs.Common.{◌≡◌, ℕ, Option, Some, None, refl, sym, ap, ◌∙◌, subst}
+use Rattle.std.proofs.Common.{ℕ, sym, ap, ◌∙◌, subst}
 use Rattle.std.specs.Prelude.{Contains, is_some}
 use Rattle.std.specs.Option.{option_map}
-use Rattle.ash_host.specs.declared.event.Event.{Event}
 use Rattle.ash_host.specs.declared.host_object.HostObject.{Ghosts}
-use Rattle.ash_host.specs.Objects.{Plain, object_at, Lives}
-use Rattle.ash_objects.specs.Table.{Living, Table}
+use Rattle.ash_host.specs.Objects.{object_at}
 use Rattle.ash_objects.specs.Marking.{marked_of}
-use Rattle.ash_object_ranks.specs.ShownTables.{SlotNames, objects_shown}
 use Rattle.ash_object_ranks.proofs.ShownTables.{living_shown, lives_shown, shown_at}
-use Rattle.ash_requests.specs.States.{State, Hosts, Embedding}
-use Rattle.ash_requests.specs.Requests.{Request}
-use Rattle.ash_requests.specs.Steps.{Step, step}
-use Rattle.ash_requests.specs.StepLaws.{events_of_reply}
-use Rattle.ash_change_laws.specs.UncalledServices.{IsCalled}
+use Rattle.ash_requests.specs.States.{Embedding}
 use Rattle.ash_change_laws.specs.MarkedObjects.{MarksName}
-use Rattle.ash_change_laws.specs.ChangedStates.{Changes, Names, AreNamedBy, StepsAreNamed}
+use Rattle.ash_change_laws.specs.ChangedStates.{StepsAreNamed}
 use Rattle.ash_change_laws.proofs.MarkedObjects.{marks_name, marks_name_objects}
 use Rattle.ash_change_laws.proofs.RequestsKeep.{steps_keep}
 

@@ -7,7 +7,7 @@ use Rattle.ash_meaning.specs.declared.exception.Exception.{Exception}
 use Rattle.ash_meaning.specs.Activity.{World, Activity, in_frame}
 use Rattle.ash_meaning.specs.Runs.{Progress, Done, Ended, NoStep, Run, give, onward, ◌>>=◌, ◌>>◌, look, change, raise, demand, no_step, found, out_of_ticks}
 use Rattle.ash_meaning.specs.Frames.{at_line, spend, tick}
-use Rattle.ash_change_laws.specs.UncalledServices.{IsCalled, KeepsUncalled}
+use Rattle.ash_change_laws.specs.UncalledServices.{KeepsUncalled}
 
 -- worlds
 

@@ -1,21 +1,21 @@
 -- What has no mark is what it was.
 use Rattle.std.proofs.Common.{◌≡◌, ◌<◌, ◌≤◌, ◌⊎◌, ℕ, zero, suc, Bool, true, false, cond, List, [], ◌∷◌, length, refl, sym, ap, ◌∙◌, subst, arith, nat_eq, inl, inr, get_or, filter}
-use Rattle.std.specs.Prelude.{Option, Some, None, Contains, IfSome, IsSome, is_some}
+use Rattle.std.specs.Prelude.{Option, Some, None, Contains, IfSome, IsSome}
 use Rattle.std.specs.Option.{option_map}
 use Rattle.std.specs.Map.{keys_of}
-use Rattle.std.proofs.lemmas.Bool.{eqb-true}
+use Rattle.std.proofs.lemmas.Bool.{eqb-true, eq-eqb}
 use Rattle.ash_host.specs.declared.host_object.HostObject.{Ghosts}
-use Rattle.ash_host.specs.Objects.{Plain, object_at, Lives, AreNumbered}
+use Rattle.ash_host.specs.Objects.{object_at, Lives, AreNumbered}
 use Rattle.ash_slots.specs.declared.body.Body.{Body}
 use Rattle.ash_objects.specs.Table.{Living, Table, body_of}
-use Rattle.ash_objects.specs.Marking.{marked_of, without_marks, settled_object}
+use Rattle.ash_objects.specs.Marking.{marked_of, settled_object}
 use Rattle.ash_objects.proofs.Marks.{object_at-mapped}
 use Rattle.ash_soundness.proofs.Values.{none_in}
 use Rattle.ash_object_ranks.specs.ShownTables.{SlotNames, body_shown, objects_shown}
 use Rattle.ash_object_ranks.proofs.ShownTables.{living_shown, shown_at}
 use Rattle.ash_run_steps.specs.Following.{KeepsMarks, HasGone}
 use Rattle.ash_run_steps.specs.RunStates.{bare_living}
-use Rattle.ash_change_laws.specs.MarkedObjects.{IsSettled, MarksName, MarksNameChanges, ClearsMarks, SettledIsClear, KeepNames, NamesObjects, MarksNameObjects}
+use Rattle.ash_change_laws.specs.MarkedObjects.{IsSettled, MarksName, MarksNameChanges, ClearsMarks, SettledIsClear, MarksNameObjects}
 
 -- numbers in lists
 
@@ -42,8 +42,8 @@ module _ {B : Type 0} where
 
   -- an object that has a mark is listed
   marked_there : (n : ℕ) (l : List (ℕ × Living B)) (o : Living B) → object_at n l ≡ Some o → o.touched ≡ true → Contains (flagged l) n
-  marked_there n [] o at yes = absurd (cc)
-  marked_there n (e ∷ l) o at yes = subst (λ (ns : List ℕ). Contains ns n) (sym (cons_flagged e l)) (go (nat_eq n e.0) refl at (λ found. marked_there n l o found yes))
+  marked_there n [] o at marked = absurd (cc)
+  marked_there n (e ∷ l) o at marked = subst (λ (ns : List ℕ). Contains ns n) (sym (cons_flagged e l)) (go (nat_eq n e.0) refl at (λ found. marked_there n l o found marked))
     where
       further : (t : Bool) → Contains (flagged l) n → Contains (cond t (e.0 ∷ flagged l) (flagged l)) n
       further true is = later_in n e.0 (flagged l) is
@@ -53,7 +53,7 @@ module _ {B : Type 0} where
           → Contains (cond (e.1).touched (e.0 ∷ flagged l) (flagged l)) n
       go true is found later =
           let one : e.1 ≡ o = cc in
-          let flag : (e.1).touched ≡ true = ap (λ (x : Living B). x.touched) one ∙ yes in
+          let flag : (e.1).touched ≡ true = ap (λ (x : Living B). x.touched) one ∙ marked in
           subst (λ (t : Bool). Contains (cond t (e.0 ∷ flagged l) (flagged l)) n) (sym flag) (here_in n e.0 (flagged l) (sym (eqb-true n e.0 is)))
       go false is found later = further (e.1).touched (later found)
 
@@ -70,7 +70,7 @@ module _ {B : Type 0} where
           ]
         where
           apart_from : e.0 ≡ n → ⊥
-          apart_from same = let no = apart in grind (same, no)
+          apart_from same = let no = apart in let is = eq-eqb n e.0 (sym same) in cc
       further apart false is = is
 
       go : (b : Bool) → nat_eq n e.0 ≡ b → Contains (cond (e.1).touched (e.0 ∷ flagged l) (flagged l)) n → (Contains (flagged l) n → Lives l n)

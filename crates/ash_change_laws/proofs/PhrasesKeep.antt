@@ -1,5 +1,5 @@
 -- Phrases leave uncalled services as they are, if what they call does.
-use Rattle.std.proofs.Common.{◌+◌, refl, ℕ, zero, suc, ℤ, Bool, true, false, List, [], ◌∷◌, length, slice_get, Option, Some, None, if◌then◌else◌}
+use Rattle.std.proofs.Common.{◌+◌, ℕ, zero, suc, ℤ, Bool, true, false, List, [], ◌∷◌, length, slice_get, Option, Some, None, if◌then◌else◌}
 use Rattle.std.specs.Prelude.{is_none}
 use Rattle.std.specs.Option.{option_map_or, option_and_then}
 use Rattle.ash_host.specs.declared.word.Word.{Word}

@@ -9,10 +9,9 @@ use Rattle.ash_meaning.specs.Releases.{sweep}
 use Rattle.ash_meaning.specs.Classes.{Program, Entry, FreeFunction, entry_of}
 use Rattle.ash_meaning.specs.Ends.{End, Finished, Threw, Aborted, Outcome, call_entry, call_function, load_module}
 use Rattle.ash_requests.specs.States.{LoadedModule, State, Hosts, Embedding, without_module, world_of}
-use Rattle.ash_requests.specs.Requests.{Request, Reply}
-use Rattle.ash_requests.specs.StepLaws.{events_of_reply}
+use Rattle.ash_requests.specs.Requests.{Reply, Value, ShownAs, Number, Done, Refused}
 use Rattle.ash_requests.specs.Tasks.{Task, Initialize, Invoke, Remove, Read, Show, Count, Rewrite, TaskResult, task_of}
-use Rattle.ash_requests.specs.Steps.{Step, replied, after_load_with, after_load, after_call, after_discard, perform, unless_refused, step}
+use Rattle.ash_requests.specs.Steps.{Step, replied, after_load_with, after_load, after_call, after_discard, perform, unless_refused}
 use Rattle.ash_change_laws.specs.UncalledServices.{IsCalled, KeepsUncalled, StepKeepsUncalled, StepsKeepUncalled}
 use Rattle.ash_change_laws.proofs.Keeping.{keeps_same, keeps_then}
 use Rattle.ash_change_laws.proofs.RunsKeep.{runs_keep, swept_keeps}
@@ -71,14 +70,14 @@ module _ {F : Type 0} where
       (call_function (record { name = m.name; tree = tree }) function args budget (world_of m.globals (without_module m.name old.modules) old hosts))
       (λ outcome is. called_keeps (record { name = m.name; tree = tree }) args budget (world_of m.globals (without_module m.name old.modules) old hosts) (entry_of tree (FreeFunction function)) outcome is) one e
   performs budget (Remove name) old hosts one e = this_step old (after_discard name old hosts) one (discards F old hosts name) e
-  performs budget (Read word) old hosts one e = this_step old _ one (stays _ old hosts) e
-  performs budget (Show shown) old hosts one e = this_step old _ one (stays _ old hosts) e
-  performs budget Count old hosts one e = this_step old _ one (stays _ old hosts) e
-  performs budget Rewrite old hosts one e = this_step old _ one (stays _ old hosts) e
+  performs budget (Read word) old hosts one e = this_step old (replied (Value word) old hosts) one (stays (Value word) old hosts) e
+  performs budget (Show shown) old hosts one e = this_step old (replied (ShownAs shown) old hosts) one (stays (ShownAs shown) old hosts) e
+  performs budget Count old hosts one e = this_step old (replied (Number old.seq) old hosts) one (stays (Number old.seq) old hosts) e
+  performs budget Rewrite old hosts one e = this_step old (replied Done old hosts) one (stays Done old hosts) e
 
   results : (budget : ℕ) (d : TaskResult F) (old : State) (hosts : Hosts) (one : Step F) → unless_refused budget d old hosts ≡ Some one → StepKeepsUncalled old one
   results budget (Ok task) old hosts one e = performs budget task old hosts one e
-  results budget (Err refusal) old hosts one e = this_step old _ one (stays _ old hosts) e
+  results budget (Err refusal) old hosts one e = this_step old (replied (Refused refusal) old hosts) one (stays (Refused refusal) old hosts) e
 
   pub steps_keep : (embedding : Embedding F) (budget : ℕ) → StepsKeepUncalled embedding budget
   steps_keep embedding budget request old hosts one e = results budget (task_of embedding request old) old hosts one e

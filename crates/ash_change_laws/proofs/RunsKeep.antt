@@ -1,5 +1,5 @@
 -- Calls from outside and loads leave uncalled services as they are.
-use Rattle.std.proofs.Common.{◌≡◌, ℕ, zero, suc, List, [], Option, Some, None, refl, sym, ap, subst}
+use Rattle.std.proofs.Common.{◌≡◌, ℕ, zero, suc, List, [], Option, Some, None, refl, ap, subst}
 use Rattle.std.specs.Prelude.{unwrap_or}
 use Rattle.ash_host.specs.declared.word.Word.{Word}
 use Rattle.ash_host.specs.declared.word.Word.TheVariants as words
@@ -9,7 +9,7 @@ use Rattle.ash_meaning.specs.Releases.{sweep}
 use Rattle.ash_meaning.specs.Frames.{frame_of}
 use Rattle.ash_meaning.specs.Classes.{Program, Entry}
 use Rattle.ash_meaning.specs.Functions.{body}
-use Rattle.ash_meaning.specs.Ends.{Outcome, interrupted_in, outcome_with, outcome_of, begun, call_entry, with_globals, init_frame, load_module}
+use Rattle.ash_meaning.specs.Ends.{Outcome, outcome_of, begun, with_globals, init_frame}
 use Rattle.ash_meaning.specs.MeaningLaws.{entered, initialized}
 use Rattle.ash_change_laws.specs.UncalledServices.{KeepsUncalled, RunsKeepUncalled}
 use Rattle.ash_change_laws.proofs.Keeping.{Keeps, KeepsFrom, keeps_same, keeps_more, keeps_then, followed, given, stopped, a_tick}

@@ -1,6 +1,6 @@
 -- Steps that call nothing of a script leave uncalled services as they are.
-use Rattle.std.proofs.Common.{◌≡◌, arith, zero, suc, if◌then◌else◌, ◌+◌, ◌-◌, ◌==◌, ◌∙◌, refl, ap, ℕ, Bool, true, false, cond, nat_lt, nat_le, List, [], ◌∷◌, ◌++◌, length, take, drop, replicate, slice_get, slice_set, Option, Some, None, unwrap_or, sym, subst, Ok, Err, Result}
-use Rattle.std.specs.Option.{option_map_or, option_and_then}
+use Rattle.std.proofs.Common.{◌≡◌, arith, zero, suc, if◌then◌else◌, ◌+◌, ◌-◌, ◌==◌, refl, ap, ℕ, Bool, true, false, nat_lt, nat_le, List, [], ◌∷◌, ◌++◌, length, take, drop, replicate, slice_get, slice_set, Option, Some, None, sym, subst, Ok, Err, Result}
+use Rattle.std.specs.Option.{option_map_or}
 use Rattle.ash_host.specs.declared.word.Word.{Word}
 use Rattle.ash_host.specs.declared.word.Word.TheVariants as words
 use Rattle.ash_host.specs.declared.answer.HostAnswer.{HostAnswer}
@@ -25,8 +25,8 @@ use Rattle.ash_typed.specs.declared.tree.operations.Operation.{Operation}
 use Rattle.ash_typed.specs.declared.tree.operations.Operation.TheVariants as operations
 use Rattle.ash_typed.specs.declared.tree.operations.IncrementOp.{IncrementOp}
 use Rattle.ash_meaning.specs.declared.exception.Exception.TheVariants.{StackOverflow, ObjectLimit, NumbersSpent, IndexOutOfBounds, ArrayLimit, BadHostAnswer}
-use Rattle.ash_meaning.specs.Activity.{FreeBox, World, Frame, Activity, in_frame, in_world}
-use Rattle.ash_meaning.specs.Runs.{Done, Progress, Ended, NoStep, Run, give, onward, ◌>>=◌, ◌>>◌, change, raise, found}
+use Rattle.ash_meaning.specs.Activity.{World, Frame, Activity, in_frame, in_world}
+use Rattle.ash_meaning.specs.Runs.{Run, give, onward, ◌>>◌, change, raise, found}
 use Rattle.ash_meaning.specs.Releases.{hold_all, give_held, release, let_go, end_expression, full, count_locals, declare, leave_blocks, sweep}
 use Rattle.ash_meaning.specs.Frames.{max_frames, demand_frame, enter, back_in, leave}
 use Rattle.ash_meaning.specs.ObjectSteps.{object_of, words_at, put_words, max_number, demand_number, with_new, make}
@@ -38,7 +38,7 @@ use Rattle.ash_meaning.specs.Classes.{Program}
 use Rattle.ash_meaning.specs.CallMeaning.{cast}
 use Rattle.ash_meaning.specs.ExpressionMeaning.{store, update, count_at, element_at}
 use Rattle.ash_change_laws.specs.UncalledServices.{IsCalled, KeepsUncalled}
-use Rattle.ash_change_laws.proofs.Keeping.{Keeps, KeepsFrom, keeps_itself, keeps_same, keeps_more, bound, followed, given, looked, changed, raised, nowhere, chosen_by, demanded, found_there}
+use Rattle.ash_change_laws.proofs.Keeping.{Keeps, KeepsFrom, keeps_same, keeps_more, bound, followed, given, looked, changed, raised, nowhere, chosen_by, demanded, found_there}
 
 -- a frame that is left leaves the world as it is
 back_keeps : (callers : List Frame) (result : Word) (a : Activity) → ((back_in callers result a).world.events ≡ a.world.events) × ((back_in callers result a).world.services ≡ a.world.services)

@@ -1,5 +1,5 @@
 -- The objects that a table marks, and the numbers that it keeps of those that went, are all that changed.
-use Rattle.std.specs.Prelude.{◌≡◌, ℕ, false, List, [], Contains, Option, None, IfSome}
+use Rattle.std.specs.Prelude.{◌≡◌, ℕ, false, [], Contains, None, IfSome}
 use Rattle.ash_host.specs.declared.host_object.HostObject.{Ghosts}
 use Rattle.ash_host.specs.Objects.{object_at, Lives, AreNumbered}
 use Rattle.ash_objects.specs.Table.{Table, body_of}

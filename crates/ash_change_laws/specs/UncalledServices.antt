@@ -1,5 +1,5 @@
 -- A service that is not called keeps its state.
-use Rattle.std.specs.Prelude.{◌≡◌, ◌++◌, ℕ, List, Contains, Option, Some, slice_get}
+use Rattle.std.specs.Prelude.{◌≡◌, ◌++◌, ℕ, List, Contains, Some, slice_get}
 use Rattle.ash_host.specs.declared.word.Word.{Word}
 use Rattle.ash_host.specs.declared.event.Event.{Event}
 use Rattle.ash_host.specs.declared.event.Event.TheVariants.{Called}
