@@ -1,7 +1,8 @@
 -- What the code has of the names of what a request changed.
-use Rattle.std.specs.Prelude.{◌≡◌, ◌↔◌, ℕ, List, map, slice_get, Contains, Option, Some, None, string_bytes}
+use Rattle.std.specs.Prelude.{◌≡◌, ◌≢◌, ◌↔◌, ◌<◌, ℕ, List, length, slice_get, Contains, Option, Some, None, string_bytes}
 use Rattle.std.specs.Option.{option_map_or}
 use Rattle.std.specs.List.Sorted.{IsStrictlyIncreasing}
+use Rattle.ash_host.specs.declared.word.Word.{Word}
 use Rattle.ash_host.specs.declared.event.Event.{Event}
 use Rattle.ash_host.specs.declared.event.Event.TheVariants.{Called}
 use Rattle.ash_host.specs.declared.event.Target.TheVariants.{Service}
@@ -11,6 +12,7 @@ use Rattle.ash_objects.specs.Marking.{marked_of}
 use Rattle.ash_change_laws.specs.UncalledServices.{IsCalled}
 use Rattle.ash_change_laws.specs.ChangedStates as changed
 use Rattle.ash_engine.specs.declared.changes.Changes.{Changes}
+use Rattle.ash_engine.specs.declared.changes.ChangedGlobals.{ChangedGlobals}
 use Rattle.ash_engine.specs.declared.changes.ModuleChange.{ModuleChange}
 use Rattle.ash_engine.specs.declared.changes.ModuleChange.TheVariants as changes
 
@@ -37,6 +39,17 @@ changes_seen ms c = record {
   living = c.living.items;
   gone = c.gone.items;
 }
+
+-- These are the places at which other words are than before.
+abbrev pub AreOthers : List Word → List Word → List ℕ → Type 0
+AreOthers before after places = (place : ℕ)
+    → Contains places place ↔ ((place < length before) × (slice_get after place ≢ slice_get before place))
+
+-- The globals of the module at a place hold other words at these places, and at no others.
+pub record AreChanged (at : ℕ) (before after : List Word) (globals : ChangedGlobals) : Type 0 where
+  pub of_module : globals.module ≡ at
+  pub others : AreOthers before after globals.places.items
+  pub rise : IsStrictlyIncreasing globals.places.items
 
 -- The names are those of the events, of the change of the modules and of the marks of a table.
 pub record AreTaken {B : Type 0} (happened : List Event) (modules : ModuleChange) (table : Table B) (c : Changes)

@@ -80,6 +80,7 @@ module _ {B : Type 0} where
     pub modules : rest.loaded.modules.items ≡ set old.loaded.modules.items place lending
     pub loaded : rest.loaded ≡ record old.loaded { modules = rest.loaded.modules }
     pub compiled : rest.compiled ≡ old.compiled
+    pub changes : rest.changes ≡ old.changes
     pub table : parts.table ≡ old.table
     pub globals : parts.globals.items ≡ m.globals.items
     pub outside : parts.outside.items ≡ others
@@ -90,6 +91,7 @@ module _ {B : Type 0} where
     pub modules : new.loaded.modules.items ≡ set rest.loaded.modules.items place (record m { globals = parts.globals })
     pub loaded : new.loaded ≡ record rest.loaded { modules = new.loaded.modules }
     pub compiled : new.compiled ≡ rest.compiled
+    pub changes : new.changes ≡ rest.changes
     pub table : new.table ≡ parts.table
 
   -- The step answers that a run ended so, with these events, from this live state on. It counts one answer more, has the

@@ -1,11 +1,13 @@
 //! What a request changed, by names.
 
-ghost use Rattle.std.specs.Prelude.{◌≡◌, ◌≢◌, ◌≤◌, ◌↔◌, ℕ, true, Contains, IfOk, length, slice_get};
+ghost use Rattle.std.specs.Prelude.{◌≡◌, ◌<◌, ◌≤◌, ◌↔◌, ℕ, true, List, Contains, IfOk, OnOk, length, slice_get};
 ghost use Rattle.std.specs.List.{filter_map};
 ghost use Rattle.std.specs.List.Sorted.{IsStrictlyIncreasing};
+ghost use Rattle.ash_requests.specs.States.{LoadedModule};
+ghost use Rattle.ash_change_laws.specs.ChangedStates.{nothing};
 ghost use Rattle.ash_change_laws.specs.UncalledServices.{IsCalled};
-ghost use Rattle.ash_objects.specs.Marking.{marked_of, without_marks};
-ghost use Rattle.ash_engine.specs.NamedChanges.{service_called, AreTaken};
+ghost use Rattle.ash_objects.specs.Marking.{without_marks};
+ghost use Rattle.ash_engine.specs.NamedChanges.{changes_seen, service_called, AreOthers, AreChanged, AreTaken};
 
 use ash_host::{Event, HostObject, NoMemory, Target, Word};
 use ash_objects::Objects;
@@ -47,7 +49,9 @@ pub struct Changes {
 
 impl Changes {
     /// No changes. It takes no memory.
-    pub(crate) fn none(alloc: Global) -> Changes {
+    pub(crate) fn none(alloc: Global) -> Changes
+        ensures nothing { (modules : List LoadedModule) → changes_seen modules result ≡ nothing }
+    {
         Changes {
             services: Vec::new(alloc),
             modules: ModuleChange::Unchanged,
@@ -80,6 +84,24 @@ fn calls_of_services(alloc: Global, events: &[Event]) -> Result<Vec<u16>, AllocE
     Ok(places)
 }
 
+// Sorts places, and keeps each once.
+fn sort_places(places: &mut Vec<u16>)
+    ensures rise { IsStrictlyIncreasing places.new.items }
+    ensures same { (place : ℕ) → Contains places.new.items place ↔ Contains places.old.items place }
+{
+    places.sort_unstable();
+    places.dedup();
+}
+
+// Sorts numbers, and keeps each once.
+fn sort_numbers(numbers: &mut Vec<u64>)
+    ensures rise { IsStrictlyIncreasing numbers.new.items }
+    ensures same { (number : ℕ) → Contains numbers.new.items number ↔ Contains numbers.old.items number }
+{
+    numbers.sort_unstable();
+    numbers.dedup();
+}
+
 // The services that were called, by ascending place.
 fn called_services(alloc: Global, events: &[Event]) -> Result<Vec<u16>, AllocError>
     ensures called { IfOk result (λ services. (place : ℕ)
@@ -87,8 +109,7 @@ fn called_services(alloc: Global, events: &[Event]) -> Result<Vec<u16>, AllocErr
     ensures rise { IfOk result (λ services. IsStrictlyIncreasing services.items) }
 {
     let mut services = calls_of_services(alloc, events)?;
-    services.sort_unstable();
-    services.dedup();
+    sort_places(&mut services);
     Ok(services)
 }
 
@@ -108,33 +129,48 @@ fn is_same(one: Word, other: Word) -> bool
     }
 }
 
-/// The places at which words differ, in ascending order.
-pub(crate) fn places_of_others(
+// Whether two lists of words have the same word at a place of the first.
+fn is_same_at(before: &[Word], after: &[Word], place: usize) -> bool
+    requires within { place < length before.now }
+    ensures same { result ≡ true ↔ slice_get after.now place ≡ slice_get before.now place }
+{
+    match after.get(place) {
+        Some(word) => is_same(*word, before[place]),
+        None => false,
+    }
+}
+
+// The places at which other words are than before, in ascending order.
+fn places_of_others(
     alloc: Global,
     before: &[Word],
     after: &[Word],
 ) -> Result<Vec<u16>, AllocError>
-    requires many { length before.now ≡ length after.now }
-    requires few { length after.now ≤ 256 }
-    ensures others { IfOk result (λ places. (place : ℕ) → Contains places.items place
-        ↔ (slice_get after.now place ≢ slice_get before.now place)) }
+    requires few { length before.now ≤ 256 }
+    ensures others { IfOk result (λ places. AreOthers before.now after.now places.items) }
     ensures rise { IfOk result (λ places. IsStrictlyIncreasing places.items) }
 {
     let mut places = Vec::new(alloc);
-    for place in 0..after.len() {
-        if !is_same(before[place], after[place]) {
+    for place in 0..before.len() {
+        if !is_same_at(before, after, place) {
             places.push(place as u16)?;
         }
     }
     Ok(places)
 }
 
-/// What a run made of the modules, if these globals of the module at a place hold other words after it.
-pub(crate) fn globals_change(module: usize, places: Vec<u16>) -> ModuleChange {
-    if places.is_empty() {
-        return ModuleChange::Unchanged;
-    }
-    ModuleChange::Globals(ChangedGlobals { module, places })
+/// The globals of the module at a place that hold other words than before.
+pub(crate) fn changed_globals(
+    alloc: Global,
+    module: usize,
+    before: &[Word],
+    after: &[Word],
+) -> Result<ChangedGlobals, AllocError>
+    requires few { length before.now ≤ 256 }
+    ensures changed { IfOk result (λ globals. AreChanged «module» before.now after.now globals) }
+{
+    let places = places_of_others(alloc, before, after)?;
+    Ok(ChangedGlobals { module, places })
 }
 
 /// What a request changed that had these events and made this of the modules. The marks of the table are cleared.
@@ -144,15 +180,17 @@ pub(crate) fn take_changes<B: HostObject>(
     events: &[Event],
     modules: ModuleChange,
 ) -> Result<Changes, NoMemory>
-    ensures taken { IfOk result (AreTaken events.now modules table.old) }
-    ensures settled { IfOk result (λ changes. table.new ≡ without_marks table.old) }
+    ensures taken { IfOk result (λ changes. AreTaken events.now modules table.old changes) }
+    ensures settled { OnOk result (table.new ≡ without_marks table.old) }
 {
     let services = called_services(alloc, events)?;
     let objects = table.touched()?;
+    let mut gone = objects.gone;
+    sort_numbers(&mut gone);
     Ok(Changes {
         services,
         modules,
         living: objects.living,
-        gone: objects.gone,
+        gone,
     })
 }

@@ -44,6 +44,8 @@ fn remove_module<B: HostObject>(
     ensures removed { (m : LoadedData) → slice_get live.loaded.modules.items place ≡ Some m
         → IfOk result (λ left. IsRemoved live place m left.0 left.1.items) }
     ensures in_order { IfOk result (λ left. IsInOrder left.0.table.objects) }
+    ensures named { (m : LoadedData) → slice_get live.loaded.modules.items place ≡ Some m
+        → IfOk result (λ left. left.2 ≡ m.name) }
 {
     let mut live = live;
     let removed = live.loaded.modules.remove(place);
@@ -63,7 +65,7 @@ pub(crate) fn discard<B: HostObject>(place: usize, live: Live<B>) -> Result<Live
     match remove_module(place, live) {
         Ok((live, events, name)) => {
             let outcome = Outcome::Finished(None);
-            Ok(answered(live, outcome, events, ModuleChange::Discarded(name))?)
+            answered(live, outcome, events, ModuleChange::Discarded(name))
         }
         Err(_) => Err(StepError::NoMemory),
     }

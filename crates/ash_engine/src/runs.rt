@@ -1,6 +1,6 @@
 //! Runs of functions that are called from outside.
 
-ghost use Rattle.std.specs.Prelude.{◌≡◌, ◌<◌, ◌+◌, ◌++◌, ℕ, List, [], All, IsTrue, set, length, map, slice_get};
+ghost use Rattle.std.specs.Prelude.{◌≡◌, ◌<◌, ◌≤◌, ◌+◌, ◌++◌, ℕ, List, [], All, IsTrue, set, length, map, slice_get};
 ghost use Rattle.std.specs.Prelude.{Some, Ok, Err, IfOk, IfErr, OnOk};
 ghost use Rattle.std.specs.List.{remove};
 ghost use Rattle.ash_host.specs.Objects.{handles};
@@ -18,18 +18,21 @@ ghost use Rattle.ash_plain_steps.specs.StateViews.{modules_seen};
 ghost use Rattle.ash_plain_steps.specs.declared.state.LoadedModule.{LoadedModule as LoadedData};
 ghost use Rattle.ash_plain_steps.specs.declared.task.Task.TheVariants as tasks;
 ghost use Rattle.ash_sources.specs.SourceFaults.{fault_of};
+ghost use Rattle.ash_engine.specs.declared.changes.ChangedGlobals.{ChangedGlobals as ChangedData};
+ghost use Rattle.ash_engine.specs.declared.changes.ModuleChange.TheVariants as changes;
 ghost use Rattle.ash_engine.specs.declared.live.Compiled.{Compiled as CompiledData};
 ghost use Rattle.ash_engine.specs.TableRuns.{end_named, SaysOfCall, IsLent, IsGivenBack, IsAnswered};
+ghost use Rattle.ash_engine.specs.NamedChanges.{AreChanged};
 ghost use Rattle.ash_engine.specs.TableSteps.{IsStepOf};
 ghost use Rattle.ash_engine.specs.TableTasks.{codes_of, entry_name, IsAsked};
 
-use crate::changes::{ModuleChange, globals_change, places_of_others, take_changes};
+use crate::changes::{ModuleChange, changed_globals, take_changes};
 use crate::live::{Compiled, Live, Rest};
 use crate::names::outcome_of;
 use crate::steps::LiveStep;
 use ash_context::context::Left;
 use ash_context::outcome::RunFault;
-use ash_host::{Event, HostObject, NoMemory, Word};
+use ash_host::{Event, HostObject, Word};
 use ash_plain_steps::modules::push_handles;
 use ash_plain_steps::state::LoadedModule;
 use ash_plain_steps::task::Invocation;
@@ -57,12 +60,16 @@ pub(crate) fn answered<B: HostObject>(
     outcome: Outcome,
     events: Vec<Event>,
     modules: ModuleChange,
-) -> Result<LiveStep<B>, NoMemory>
+) -> Result<LiveStep<B>, StepError>
     requires numbered { live.loaded.seq < max_seq }
-    ensures answered { IfOk result (IsAnswered live (end_seen outcome) events.items modules) }
+    ensures answered { IfOk result (λ one. IsAnswered live (end_seen outcome) events.items modules one) }
+    ensures memory { IfErr result (λ error. error ≡ StepError.NoMemory) }
 {
     let mut live = live;
-    live.changes = take_changes(live.loaded.alloc, &mut live.table, &events, modules)?;
+    let Ok(changes) = take_changes(live.loaded.alloc, &mut live.table, &events, modules) else {
+        return Err(StepError::NoMemory);
+    };
+    live.changes = changes;
     live.loaded.seq += 1;
     let seq = live.loaded.seq;
     Ok(LiveStep {
@@ -210,11 +217,15 @@ fn finish_call<B: HostObject>(
 ) -> Result<LiveStep<B>, StepError>
     requires numbered { rest.loaded.seq < max_seq }
     requires within { place < length rest.loaded.modules.items }
+    requires few { length before.now ≤ 256 }
     ensures answered { (m : LoadedData) (outcome : outcomes.Outcome)
         → slice_get rest.loaded.modules.items place ≡ Some m
         → left.outcome ≡ Ok outcome
-        → IfOk result (λ one. (live : Live B) × IsGivenBack rest place m left.parts live
-        × IsAnswered live (end_named (entry_name (module_of m.tree)) outcome) left.parts.events.items one) }
+        → IfOk result (λ one. (live : Live B) × (globals : ChangedData)
+        × IsGivenBack rest place m left.parts live
+        × AreChanged place before.now left.parts.globals.items globals
+        × IsAnswered live (end_named (entry_name (module_of m.tree)) outcome) left.parts.events.items
+        (changes.Globals globals) one) }
     ensures refused { (m : LoadedData) → slice_get rest.loaded.modules.items place ≡ Some m
         → left.outcome ≡ Err faults.NotBegun
         → IfOk result (λ one. (reply_seen fault_of one.reply ≡ Refused NoMemoryRefusal)
@@ -227,9 +238,9 @@ fn finish_call<B: HostObject>(
     match outcome {
         Ok(outcome) => {
             let outcome = outcome_of(rest.loaded.alloc, &rest.loaded.modules[place].tree, outcome)?;
-            let places = places_of_others(rest.loaded.alloc, before, &parts.globals)?;
+            let places = changed_globals(rest.loaded.alloc, place, before, &parts.globals)?;
             let (live, events) = give_back(rest, place, parts);
-            Ok(answered(live, outcome, events, globals_change(place, places))?)
+            answered(live, outcome, events, ModuleChange::Globals(places))
         }
         Err(RunFault::NotBegun) => {
             let (live, _) = give_back(rest, place, parts);

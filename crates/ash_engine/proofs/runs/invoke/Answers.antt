@@ -91,6 +91,7 @@ returns g c = record {
       lent in
       call_stepped G c.args.live c.args.call asked found.0 found.1 found.2 c.in-Ok.outside.items beside rest parts lent
       c.args.budget left (record rest { compiled = c.run_at-left.new.compiled }) refl c.run_at-left.ensures.codes
+      refl c.in-Ok-before.before.items WORDS
       (λ one code_at. subst (λ (ws : List Word). SaysOfCall G one.code parts c.args.call.function ws c.args.budget left)
       c.deref-2.ensures.value (c.run_at-left.ensures.says one code_at))
       c.run_at-left.ensures.unchanged c.run_at-left.ensures.held
