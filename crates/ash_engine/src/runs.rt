@@ -119,6 +119,24 @@ fn handles_beside(
     Ok(numbers)
 }
 
+/// What is held before a run of the module at a place: the objects that the globals of all other modules are handles
+/// to, and what its own globals hold, so that those that hold other words after it are known.
+fn held_before(
+    alloc: Global,
+    modules: &[LoadedModule],
+    place: usize,
+) -> Result<(Vec<u64>, Vec<Word>), AllocError>
+    requires within { place < length modules.now }
+    ensures value { IfOk result (λ held. held.0.items
+        ≡ handles (globals_of (modules_seen (remove modules.now place)))) }
+    ensures globals { (m : LoadedData) → slice_get modules.now place ≡ Some m
+        → IfOk result (λ held. held.1.items ≡ m.globals.items) }
+{
+    let outside = handles_beside(alloc, modules, place)?;
+    let globals = Vec::from_slice(alloc, &modules[place].globals)?;
+    Ok((outside, globals))
+}
+
 /// Gives the module at a place other globals, and returns what it had.
 fn replace_globals(modules: &mut Vec<LoadedModule>, place: usize, globals: Vec<Word>) -> Vec<Word>
     requires within { place < length modules.old.items }
@@ -261,12 +279,8 @@ pub(crate) fn invoke<B: HostObject>(
     ensures stepped { (asked : IsAsked B.HostObject live (tasks.Invoke call))
         → IsStepOf B.HostObject asked.registered budget asked.request live result }
 {
-    let alloc = live.loaded.alloc;
-    let Ok(outside) = handles_beside(alloc, &live.loaded.modules, call.module) else {
-        return Ok(without_memory(live));
-    };
-    // What the globals hold before the run, so that those that hold other words after it are known.
-    let Ok(before) = Vec::from_slice(alloc, &live.loaded.modules[call.module].globals) else {
+    let Ok((outside, before)) = held_before(live.loaded.alloc, &live.loaded.modules, call.module)
+    else {
         return Ok(without_memory(live));
     };
     let (mut rest, parts) = lend(live, call.module, outside);
