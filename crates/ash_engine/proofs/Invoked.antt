@@ -100,7 +100,7 @@ set_compiled (x ∷ ms) (c ∷ cs) zero m new each at tree =
 set_compiled (x ∷ ms) (c ∷ cs) (suc place) m new each at tree = (each.0, set_compiled ms cs place m new each.1 at tree)
 
 -- a source that is read is read as one tree
-same_Ok : {A F : Type 0} (x y : A) → (let one : Result A F = Ok x in one) ≡ Ok y → x ≡ y
+same_Ok : {A F : Type 0} (x y : A) → ◌≡◌ {A = Result A F} (Ok x) (Ok y) → x ≡ y
 same_Ok x y e = cc
 
 -- past the words there are none, so none that differ

@@ -13,6 +13,7 @@ pub record AreOthersBelow (before after : List Word) (limit : ℕ) (places : Lis
   pub others : (place : ℕ) → Contains places place
       ↔ ((place < limit) × (slice_get after place ≢ slice_get before place))
   pub rise : IsStrictlyIncreasing places
+  pub within : limit ≤ length before
 
 pub none_below : (before after : List Word) → AreOthersBelow before after 0 []
 none_below before after = record {
@@ -21,6 +22,7 @@ none_below before after = record {
     λ both. absurd (let low = both.0 in omega (arith, low)),
   );
   rise = λ k within. absurd (omega (arith, within));
+  within = omega arith;
 }
 
 -- a number above all of the list
@@ -42,9 +44,9 @@ rise_push xs n rise below k within = ⊎_elim
     (cases_lt (k + 1) (length xs))
 
 pub other_more : (before after : List Word) (limit : ℕ) (places : List ℕ)
-    → (slice_get after limit ≢ slice_get before limit) → AreOthersBelow before after limit places
+    → limit < length before → (slice_get after limit ≢ slice_get before limit) → AreOthersBelow before after limit places
     → AreOthersBelow before after (limit + 1) (places ++ limit ∷ [])
-other_more before after limit places differ are = record {
+other_more before after limit places inside differ are = record {
   others = λ place. (
     λ is. ⊎_elim
         (λ old. let both = (are.others place).0 old in (let low = both.0 in omega (arith, low), both.1))
@@ -58,12 +60,13 @@ other_more before after limit places differ are = record {
         (cases_lt place limit),
   );
   rise = rise_push places limit are.rise (λ m is. ((are.others m).0 is).0);
+  within = omega (arith, inside);
 }
 
 pub other_passed : (before after : List Word) (limit : ℕ) (places : List ℕ)
-    → slice_get after limit ≡ slice_get before limit → AreOthersBelow before after limit places
+    → limit < length before → slice_get after limit ≡ slice_get before limit → AreOthersBelow before after limit places
     → AreOthersBelow before after (limit + 1) places
-other_passed before after limit places same are = record {
+other_passed before after limit places inside same are = record {
   others = λ place. (
     λ is. let both = (are.others place).0 is in (let low = both.0 in omega (arith, low), both.1),
     λ both. ⊎_elim
@@ -74,4 +77,12 @@ other_passed before after limit places same are = record {
         (cases_lt place limit),
   );
   rise = are.rise;
+  within = omega (arith, inside);
 }
+
+pub others_all : (before after : List Word) (limit : ℕ) (places : List ℕ) → length before ≤ limit
+    → AreOthersBelow before after limit places → AreOthers before after places
+others_all before after limit places past are =
+    let within = are.within in
+    let same : limit ≡ length before = omega (arith, past, within) in
+    (subst (λ (n : ℕ). AreOthersBelow before after n places) same are).others

@@ -1,6 +1,6 @@
 //! What a request changed, by names.
 
-ghost use Rattle.std.specs.Prelude.{◌≡◌, ◌<◌, ◌≤◌, ◌↔◌, ℕ, true, List, Contains, IfOk, OnOk, length, slice_get};
+ghost use Rattle.std.specs.Prelude.{◌≡◌, ◌≢◌, ◌<◌, ◌≤◌, ◌↔◌, ℕ, true, false, List, Contains, IfOk, OnOk, length, slice_get};
 ghost use Rattle.std.specs.List.{filter_map};
 ghost use Rattle.std.specs.List.Sorted.{IsStrictlyIncreasing};
 ghost use Rattle.ash_requests.specs.States.{LoadedModule};
@@ -140,6 +140,15 @@ fn is_same_at(before: &[Word], after: &[Word], place: usize) -> bool
     }
 }
 
+// Whether the word at a place is another than before.
+fn is_other_at(before: &[Word], after: &[Word], place: usize) -> bool
+    requires within { place < length before.now }
+    ensures other { result ≡ true → slice_get after.now place ≢ slice_get before.now place }
+    ensures same { result ≡ false → slice_get after.now place ≡ slice_get before.now place }
+{
+    !is_same_at(before, after, place)
+}
+
 // The places at which other words are than before, in ascending order.
 fn places_of_others(
     alloc: Global,
@@ -152,7 +161,7 @@ fn places_of_others(
 {
     let mut places = Vec::new(alloc);
     for place in 0..before.len() {
-        if !is_same_at(before, after, place) {
+        if is_other_at(before, after, place) {
             places.push(place as u16)?;
         }
     }

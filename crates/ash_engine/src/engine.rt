@@ -152,6 +152,7 @@ impl<B: HostObject> Engine<B> {
     }
 
     /// What the last request that was answered may have changed; nothing before the first.
+    #[tactic(auto, using(crate::proofs::LiveFacts::changes_in))]
     pub fn changes(&self) -> &Changes
         requires live { IsSome self.now.live }
         ensures changes { (live : LiveState B) → self.now.live ≡ Some live
