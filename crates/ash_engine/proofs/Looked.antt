@@ -32,7 +32,7 @@ module _ {B : Type 0} (G : Ghosts B) (registered : List Registration) (live : Li
       → unless_refused budget d durable.state (hosts_of G live.table []) ≡ Some (replied reply durable.state (hosts_of G live.table []))
       → events_of_reply reply ≡ [] → IsNoAnswer reply
       → TakesStep G budget request (live_seen G registered live) reply (live_seen G registered live)
-  looked budget request d reply is does none no = record {
+  looked budget request d reply is does none silent = record {
     answers = [];
     taken = record {
       stepped = ap (λ (x : TaskResult SourceFault). unless_refused budget x durable.state (hosts_of G live.table [])) is ∙ does;
@@ -40,7 +40,7 @@ module _ {B : Type 0} (G : Ghosts B) (registered : List Registration) (live : Li
     };
     gave = subst (λ (es : List Event). Answered G (boxes_of live.table) es [] (boxes_of live.table)) (sym none) (nothing_answered G (boxes_of live.table));
     unchanged = λ no. refl;
-    named = λ answered. absurd (answered no);
+    named = λ answered. absurd (answered silent);
   }
 
   -- A request whose task changes the state takes memory.

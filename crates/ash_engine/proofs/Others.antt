@@ -33,14 +33,16 @@ rise_push xs n rise below k within = ⊎_elim
     let one : get_or (xs ++ n ∷ []) k 0 ≡ get_or xs k 0 = get_or_append_left xs (n ∷ []) 0 k (omega (arith, inside)) in
     let two : get_or (xs ++ n ∷ []) (k + 1) 0 ≡ get_or xs (k + 1) 0 = get_or_append_left xs (n ∷ []) 0 (k + 1) inside in
     let less : get_or xs k 0 < get_or xs (k + 1) 0 = rise k inside in
-    omega (arith, one, two, less))
+    let next : get_or (xs ++ n ∷ []) k 0 < get_or (xs ++ n ∷ []) (k + 1) 0 = omega (arith, one, two, less) in
+    next)
     (λ past.
     let long : length (xs ++ n ∷ []) ≡ length xs + 1 = length-append xs (n ∷ []) in
     let last : length xs ≡ k + 1 = omega (arith, long, past, within) in
     let one : get_or (xs ++ n ∷ []) k 0 ≡ get_or xs k 0 = get_or_append_left xs (n ∷ []) 0 k (omega (arith, last)) in
     let two : get_or (xs ++ n ∷ []) (k + 1) 0 ≡ n = get_or_push xs n 0 (k + 1) last in
     let less : get_or xs k 0 < n = below (get_or xs k 0) (Contains-get_or xs k 0 (omega (arith, last))) in
-    omega (arith, one, two, less))
+    let next : get_or (xs ++ n ∷ []) k 0 < get_or (xs ++ n ∷ []) (k + 1) 0 = omega (arith, one, two, less) in
+    next)
     (cases_lt (k + 1) (length xs))
 
 pub other_more : (before after : List Word) (limit : ℕ) (places : List ℕ)

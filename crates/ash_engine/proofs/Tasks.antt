@@ -89,9 +89,9 @@ module _ {B : Type 0} (G : Ghosts B) (registered : List Registration) (live : Li
       ≡ Some (replied (reply_seen fault_of step.reply) durable.state (hosts_of G live.table []))
       → events_of_reply (reply_seen fault_of step.reply) ≡ [] → IsNoAnswer (reply_seen fault_of step.reply)
       → step.live ≡ live → IsStepOf G registered budget request live (Ok step)
-  looked_on budget request d step is_live is does none no same = (
+  looked_on budget request d step is_live is does none silent same = (
     inl (subst (λ (l : Live B). TakesStepTo l) (sym same)
-        (looked G registered live budget request d (reply_seen fault_of step.reply) is does none no)),
+        (looked G registered live budget request d (reply_seen fault_of step.reply) is does none silent)),
     subst (IsLive G registered) (sym same) is_live,
   )
     where
@@ -163,6 +163,6 @@ pub looked_at : {B : Type 0} (G : Ghosts B) (live : Live B) (task : code_task.Ta
     (hosts_of G live.table []))
     → events_of_reply (reply_seen fault_of step.reply) ≡ [] → IsNoAnswer (reply_seen fault_of step.reply)
     → step.live ≡ live → IsStepOf G asked.registered budget asked.request live (Ok step)
-looked_at G live task asked budget one step seen does none no same =
+looked_at G live task asked budget one step seen does none silent same =
     looked_on G asked.registered live budget asked.request (Ok one) step asked.live
-    (asked.is ∙ ap (λ (t : Task). Ok t) (same_Some asked.one one (sym asked.seen ∙ seen))) does none no same
+    (asked.is ∙ ap (λ (t : Task). Ok t) (same_Some asked.one one (sym asked.seen ∙ seen))) does none silent same

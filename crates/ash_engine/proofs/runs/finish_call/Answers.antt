@@ -33,8 +33,8 @@ answered-requires g c =
           (c.give_back-live.ensures.given m at) c.requires.numbered;
     }
 
-pub returns-in_ok-outcome-in-Ok-clause-answered : goal.returns-in_ok-outcome-in-Ok-clause-answered
-returns-in_ok-outcome-in-Ok-clause-answered g c m outcome at is =
+pub returns-in_ok-places-in-Ok-clause-answered : goal.returns-in_ok-places-in-Ok-clause-answered
+returns-in_ok-places-in-Ok-clause-answered g c m outcome at is =
     let ms : List LoadedModule = c.args.rest.loaded.modules.items in
     let found : LoadedModule = c.index.result.now in
     let back = c.give_back-live.result.0 in
