@@ -462,6 +462,7 @@ impl Stack {
             (strip_in result.spot.at result.spot.ticks globals.new self.new) }
         ensures keeps { Keeps (strip_in at ticks globals.old self.old)
             (strip_in result.spot.at result.spot.ticks globals.new self.new) }
+        ensures within { self.old.frame.count ≤ length self.old.frame.slots }
         ensures frames { self.new ≡ record self.old {
           frame = record self.old.frame {
             slots = self.new.frame.slots;
