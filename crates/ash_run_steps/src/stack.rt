@@ -296,6 +296,14 @@ impl Stack {
         &self.held[self.frame.mark..]
     }
 
+    /// Whether the frame holds no object.
+    #[inline(always)]
+    pub fn holds_nothing(&self) -> bool
+        ensures none { IsTrue result → self.now.frame.held ≡ [] }
+    {
+        self.held().is_empty()
+    }
+
     /// Holds none of them any more.
     #[inline(always)]
     pub fn clear_held(&mut self)
