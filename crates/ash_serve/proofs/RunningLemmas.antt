@@ -23,7 +23,7 @@ use Rattle.ash_serve.specs.declared.fault.RunFault.{RunFault}
 use Rattle.ash_serve.specs.declared.fault.RunFault.TheVariants as faults
 use Rattle.ash_lines.specs.Sink.{Outlet, IsOutlet, Accepts, WritesAll, FailsPartway}
 use Rattle.ash_lines.proofs.SinkLemmas.{accepts-fails, accepts-flushes}
-use Rattle.ash_serve.proofs.ServingLemmas.{log-more, consists-more, replies-more, text-more, all-accepted}
+use Rattle.ash_serve.proofs.ServingLemmas.{log-more, consists-more, replies-more, text-more, all-accepted, next-nil}
 
 reads_prefix : (input left : Option (List ℕ)) (read : List ℕ) → Consumes input left read → ReadsPrefix input read
 reads_prefix None left read h = tt
@@ -158,6 +158,7 @@ run_ends remaining contents handles before after input (Err faults.Write) e a n 
         bounded = omega (arith, whole.1, a);
       },
       reads_prefix input (left_of remaining after.input) (log.read ++ served.bytes) (subst (λ (y : Option (List ℕ)). Consumes y (left_of remaining after.input) (log.read ++ served.bytes)) e whole.0),
+      next-nil,
       part.0,
       part.1,
       text-more log.replies f.reply ∙ part.2,
@@ -172,6 +173,7 @@ run_ends remaining contents handles before after input (Err faults.Write) e a n 
     rw f.host_same (
       run-of remaining contents handles before last f.reached f.rest a log f.took,
       reads_prefix input (left_of remaining f.reached) (log.read ++ f.rest) from,
+      f.unfinished,
       part.0,
       part.1,
       sym (append-nil (text_of log.replies)) ∙ part.2,

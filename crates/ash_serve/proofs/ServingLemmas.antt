@@ -33,13 +33,13 @@ fault_ends serving before after faults.Write x w = absurd w
 fault_ends serving before after faults.NoMemory x w = absurd w
 
 -- what was read before a read failed
-faulty_flush : {S K H : Type 0} (serving : Serving S K H) (before after : RunState S K H) (rest : List ℕ) (fault : ReadFault) → Faults serving.feed before.input rest fault after.input → FailsPartway serving.outlet before.output [] after.output → after.host ≡ before.host → FlushFails serving before after
-faulty_flush serving before after rest TooLong w x e = record { rest = rest; reached = after.input; took = w.0; failed = x; host_same = e }
-faulty_flush serving before after rest Failed w x e = record { rest = rest; reached = w.0; took = w.1; failed = x; host_same = e }
+faulty_flush : {S K H : Type 0} (serving : Serving S K H) (before after : RunState S K H) (rest : List ℕ) (fault : ReadFault) → is_unfinished (next rest) ≡ true → Faults serving.feed before.input rest fault after.input → FailsPartway serving.outlet before.output [] after.output → after.host ≡ before.host → FlushFails serving before after
+faulty_flush serving before after rest TooLong u w x e = record { rest = rest; unfinished = u; reached = after.input; took = w.0; failed = x; host_same = e }
+faulty_flush serving before after rest Failed u w x e = record { rest = rest; unfinished = u; reached = w.0; took = w.1; failed = x; host_same = e }
 
 fault_flush : {S K H : Type 0} (serving : Serving S K H) (before after : RunState S K H) (fault : RunFault) → FailsPartway serving.outlet before.output [] after.output → HandlesNext (handling_of serving) (without_output before) (Err fault) (without_output after) → FlushFails serving before after
-fault_flush serving before after faults.Truncated x w = record { rest = w.0; reached = after.input; took = w.1; failed = x; host_same = w.4 }
-fault_flush serving before after (faults.Read fault) x w = faulty_flush serving before after w.0 fault w.1 x w.3
+fault_flush serving before after faults.Truncated x w = record { rest = w.0; unfinished = ap is_unfinished w.3; reached = after.input; took = w.1; failed = x; host_same = w.4 }
+fault_flush serving before after (faults.Read fault) x w = faulty_flush serving before after w.0 fault w.2 w.1 x w.3
 fault_flush serving before after faults.Write x w = absurd w
 fault_flush serving before after faults.NoMemory x w = absurd w
 
@@ -70,7 +70,7 @@ goes_on handles old new Quit LineTooLongReply e a = absurd a
 
 -- a request is some bytes
 
-next-nil : is_unfinished (next []) ≡ true
+pub next-nil : is_unfinished (next []) ≡ true
 unfolding next
 next-nil = refl
 
@@ -143,7 +143,7 @@ serves_reply serving before last after reply log w x = (last, log, inl (record {
 -- the end of the input
 pub serves_input : {S K H : Type 0} (serving : Serving S K H) (before last after : RunState S K H) (r : Result (Unit {0}) RunFault) → OngoingLog serving before last → HandlesNext (handling_of serving) (without_output last) (Ok None) (without_output after) → Closes serving.outlet last.output (Ok tt) r after.output → Serves serving before r after
 serves_input serving before last after r log w (inl x) = rw x.1 (last, log, inl (record { took = w.0; ended = w.1; flushed = x.0; host_same = w.2 }))
-serves_input serving before last after r log w (inr x) = rw x.1 (last, log, inr (record { rest = []; reached = after.input; took = w.0; failed = x.0; host_same = w.2 }))
+serves_input serving before last after r log w (inr x) = rw x.1 (last, log, inr (record { rest = []; unfinished = next-nil; reached = after.input; took = w.0; failed = x.0; host_same = w.2 }))
 
 -- a fault of the input
 pub serves_input_fault : {S K H : Type 0} (serving : Serving S K H) (before last after : RunState S K H) (fault : RunFault) (r : Result (Unit {0}) RunFault) → OngoingLog serving before last → HandlesNext (handling_of serving) (without_output last) (Err fault) (without_output after) → Closes serving.outlet last.output (Err fault) r after.output → Serves serving before r after

@@ -176,6 +176,7 @@ pub record ReplyFails {S K H : Type 0} (serving : Serving S K H) (before after :
 pub record FlushFails {S K H : Type 0} (serving : Serving S K H) (before after : RunState S K H)
     : Type 0 where
   pub rest : List ℕ
+  pub unfinished : is_unfinished (next rest) ≡ true
   pub reached : S
   pub took : serving.feed.reads before.input rest reached
   pub failed : FailsPartway serving.outlet before.output [] after.output

@@ -85,7 +85,7 @@ RunEnds handles before (Err (faults.Read read_faults.Failed)) output host =
     × (is_unfinished (next run.rest) ≡ true) × GoOn run.lines
 RunEnds handles before (Err faults.Write) output host =
     (run : Run handles before.host host) × ReadsPrefix before.input run.read
-    × (out : List ℕ) × (lost : List ℕ) × (text_of run.replies ≡ out ++ lost)
+    × (is_unfinished (next run.rest) ≡ true) × (out : List ℕ) × (lost : List ℕ) × (text_of run.replies ≡ out ++ lost)
     × Appends before.output output out × GoOnToLast run.lines
 RunEnds handles before (Err faults.NoMemory) output host =
     (host ≡ before.host) × Keeps before.output output
