@@ -41,8 +41,8 @@ use Rattle.ash_compile.proofs.Statements.{LeadsTo, ticks_in}
 use Rattle.ash_compile.proofs.Conditions.{RanksAfter}
 use Rattle.ash_compile.proofs.Declarations as declarations
 use Rattle.ash_compile.proofs.Leaving as leaving
-use Rattle.ash_compile.proofs.Loops.{Spends, released_ticks}
-use Rattle.ash_compile.proofs.TypedStatements.{Ready, IsRanked, scope_of, came, spends_tick, spends_expression, spends_statement}
+use Rattle.ash_compile.proofs.Loops.{Spends, released_ticks, came}
+use Rattle.ash_compile.proofs.TypedStatements.{Ready, IsRanked, scope_of, spends_tick, spends_expression, spends_statement}
 
 -- the function, where it sees more locals
 abbrev pub with_types : Scene → List VarType → Scene

@@ -22,7 +22,8 @@ use Rattle.ash_meaning.specs.Activity.{Activity}
 use Rattle.ash_meaning.specs.Runs.{Run, Progress, Done, Ended, NoStep, onward, give, ◌>>=◌}
 use Rattle.ash_meaning.specs.Classes.{Program}
 use Rattle.ash_meaning.specs.Locations.{Local}
-use Rattle.ash_meaning.specs.OperatorMeaning.{word_at, calculate, converted_to, counted, given_by}
+use Rattle.ash_typed.specs.declared.tree.operations.Operation.TheVariants as operations
+use Rattle.ash_meaning.specs.OperatorMeaning.{word_at, calculate, operate, converted_to, counted, given_by}
 use Rattle.ash_meaning.specs.ExpressionMeaning.{expression, store, update}
 use Rattle.ash_soundness.specs.WellFormed.{IsInteger, IsValue, is_integer, int}
 use Rattle.ash_soundness.proofs.Integers.{calculate_gives, counted_integer}
@@ -39,6 +40,7 @@ use Rattle.ash_compile.specs.Stretches.{Fits}
 use Rattle.ash_compile.specs.Emission.{code_of, end_of, Keeps, Puts, Scene, IsScene, Suits, Good, Stands, Emits, calls_of}
 use Rattle.ash_compile.specs.Places.{HoldsBelow}
 use Rattle.ash_compile.specs.Operands.{HoldsIn, ComputesIn, Affects, EmitsIn, EmitsInto, EmitsEffect, Calculates}
+use Rattle.ash_compile.specs.Operands.{Adds, AddsTo, IsAddition}
 use Rattle.ash_typed.specs.declared.tree.expressions.ExprKind.{ExprKind}
 use Rattle.ash_typed.specs.TypedTreeViews.{expr_in}
 use Rattle.ash_compile.specs.Effects.{IsLocalPlace, CountsInt, Counts}
@@ -50,7 +52,7 @@ use Rattle.ash_compile.proofs.PlaceGuards.{Well, well_of}
 use Rattle.ash_compile.proofs.UpdateCode.{IsRight, right_operand, integer_alive}
 use Rattle.ash_compile.proofs.EmittedUpdates.{typed_updated, typed_operand, typed_right}
 use Rattle.ash_compile.proofs.OperandCode.{below_in, computes_in_as, none_into, one_into}
-use Rattle.ash_compile.proofs.Operands.{DoesIn, calculated_by, receives_local, emits_in}
+use Rattle.ash_compile.proofs.Operands.{DoesIn, calculated_by, receives_local, emits_in, adds_number, number_keeps}
 
 -- what is left of a value
 
@@ -150,6 +152,40 @@ does_update_local s c n e given from at slot right j scene there typed given_is 
     integer_alive s c.of v b
     (made_integer s c n (run a) v b (update_known s c n e given a scene there typed given_is good) ran)))
 
+-- a number is added
+
+added_same : (s : Scene) (c : Calculation) (n : ℕ) (e : Expr) (number : ℤ) (a : Activity) → AddsTo c e number
+    → onward (expression (calls_of s) e a) (operate (operations.Calculate c) (local_of n a))
+    ≡ onward (expression (calls_of s) e a) (Calculated s c n)
+added_same s _ n _ _ a (AddsTo.adds_to Adds.adds) = refl
+added_same s _ n _ _ a (AddsTo.adds_to Adds.subtracts) = refl
+
+does_add_local : (s : Scene) (c : Calculation) (n : ℕ) (e : Expr) (number : ℤ) (given : ValueType) (from slot : ℕ)
+    → IsScene s → slice_get (s.env).locals n ≡ Some (vars.Integer c.of) → IsWellTyped s.env e given
+    → IsShift c.operator ⊎ (given ≡ value (vars.Integer c.of)) → slot < s.room
+    → HasAt s from (i.AddNumber n number n) → AddsTo c e number
+    → DoesIn s (expression (calls_of s) (Update (Stored (variables.Local n (vars.Integer c.of))) c.of c e)) from (from + 1)
+    slot n
+does_add_local s c n e number given from slot scene there typed given_is within has by =
+    let run = expression (calls_of s) e in
+    let whole = expression (calls_of s) (Update (Stored (variables.Local n (vars.Integer c.of))) c.of c e) in
+    let R : Word → Run Word = λ word. give (Local n) >>= store word in
+    computes_in_as s.setting (Good s) s.function s.room (run >>= Calculated s c n >>= R) whole from (from + 1) slot n
+    (λ a good. updated_same s c n (run a) (update_known s c n e given a scene there typed given_is good))
+    (none_into s.setting (Good s) s.function s.room (run >>= Calculated s c n) R (i.AddNumber n number n) from slot n within
+    has (receives_local s slot n (vars.Integer c.of) there)
+    (λ w a fits good.
+    adds_number s (operations.Calculate c) e number given n n (local_of n a) (control s.function from w) a
+    (IsAddition.addition by) typed (local_in w a n fits (local_there s a n (vars.Integer c.of) good there))
+    ∙ ap (λ (p : Progress Word). guarded_onward (Some p) (put n (control s.function from w)))
+    (added_same s c n e number a by))
+    (λ a b v good ran. (
+      number_keeps s (operations.Calculate c) e number (local_of n a) v a b (IsAddition.addition by)
+          (added_same s c n e number a by ∙ ran),
+      integer_alive s c.of v b
+          (made_integer s c n (run a) v b (update_known s c n e given a scene there typed given_is good) ran),
+    )))
+
 typed_there : {env : TypedEnvironment} {n : ℕ} {of : VarType} {t : IntType}
     → typing.HasPlace env (Stored (variables.Local n of)) (vars.Integer t)
     → (of ≡ vars.Integer t) × (slice_get env.locals n ≡ Some (vars.Integer t))
@@ -176,6 +212,25 @@ update_effect start old new _ c e n slot right j (IsLocalPlace.local_place {of =
           (first.does s (typed_operand typed).0 scene (typed_operand typed).1
           (stands_before s old new (end_of start) last stands) (suits_before s old new last suits))
           (has_put s old new (end_of start) slot j (first.keeps).longer puts stands) by));
+    })
+
+pub add_effect : (old new : CodeBuilder) (place : Place) (c : Calculation) (e : Expr) (number : ℤ) (n slot : ℕ)
+    → IsLocalPlace place n → Puts old new slot (i.AddNumber n number n) → AddsTo c e number
+    → EmitsEffect old new (Update place c.of c e) slot
+add_effect old new _ c e number n slot (IsLocalPlace.local_place {of = of}) puts by =
+    effect_of old new (Update (Stored (variables.Local n of)) c.of c e) slot n (record {
+      keeps = put_keeps old new slot (i.AddNumber n number n) puts;
+      does = λ s t scene typed stands suits.
+          let here = typed_there (typed_updated typed) in
+          subst (λ (x : VarType). DoesIn s (expression (calls_of s) (Update (Stored (variables.Local n x)) c.of c e))
+          (end_of old) (end_of new) slot n) (sym here.0)
+          (subst (λ (to : ℕ). DoesIn s
+          (expression (calls_of s) (Update (Stored (variables.Local n (vars.Integer c.of))) c.of c e)) (end_of old) to
+          slot n) (sym (put_one old new slot (i.AddNumber n number n) puts))
+          (does_add_local s c n e number (typed_operand typed).0 (end_of old) slot scene here.1
+          (typed_operand typed).1 (typed_right typed)
+          (put_within s old new slot (i.AddNumber n number n) scene puts suits)
+          (has_put s old new (end_of old) slot (i.AddNumber n number n) (omega arith) puts stands) by));
     })
 
 -- `++` and `--` at a local

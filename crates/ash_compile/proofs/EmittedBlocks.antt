@@ -22,11 +22,13 @@ use Rattle.ash_code.specs.declared.instruction.Instruction.TheVariants as i
 use Rattle.ash_code.specs.Running.{instruction_at}
 use Rattle.ash_compile.specs.declared.builder.CodeBuilder.{CodeBuilder}
 use Rattle.ash_compile.specs.declared.bodies.Scope.{Scope}
+use Rattle.ash_compile.specs.declared.bodies.Branch.{Branch}
+use Rattle.ash_compile.specs.declared.bodies.Condition.{Condition}
 use Rattle.ash_compile.specs.Performances.{Exits, Acts, Decides, Performs}
 use Rattle.ash_compile.specs.Emission.{code_of, end_of, Keeps, Puts, Leads, Scene, IsScene, Suits, Good, calls_of}
 use Rattle.ash_compile.specs.EmittedStatements.{AreBelow, AreApart, Draft, with_jumps, end_in, Grows, StandsWith, shown, IsIn}
 use Rattle.ash_compile.specs.EmittedStatements.{typed_scope, DoesFlow, EmitsStatement, EmitsStatements, EmitsListed, with_count}
-use Rattle.ash_compile.specs.EmittedStatements.{EmitsVariables, Tests}
+use Rattle.ash_compile.specs.EmittedStatements.{EmitsVariables, branch_on, Tests}
 use Rattle.ash_compile.proofs.Emission.{HasAt, keeps_on, put_keeps, put_one, put_there, suits_before, stands_before, stands_after, has_put}
 use Rattle.ash_compile.proofs.EmittedBranches.{leads_end, leads_there, leads_other, leads_keeps, suits_led}
 use Rattle.ash_compile.proofs.TypedStatements.{ranked_of}
@@ -35,7 +37,7 @@ use Rattle.ash_compile.proofs.Statements as code
 use Rattle.ash_compile.proofs.BlockCode.{with_types, still_scene, does_no_statements, does_statements, does_declare, does_block}
 use Rattle.ash_compile.proofs.Drafts.{grows_code, grows_on, joins_none, joins_wider, with_before, with_after, plainly_put}
 use Rattle.ash_compile.proofs.Drafts.{shown_code, shown_kept, led_before}
-use Rattle.ash_compile.proofs.EmittedParts.{keeps_same, put_stays, suits_still, tests_keep, tests_end, tests_later, tests_do}
+use Rattle.ash_compile.proofs.EmittedParts.{keeps_same, put_stays, suits_still}
 
 grows_same : (d : Draft) → Grows d d
 grows_same d = record {
@@ -186,40 +188,39 @@ block old mid new line xs scope emits puts = record {
 -- `if`
 
 -- The code has a tick and a condition; its branch leads somewhere.
-module _ (c0 c1 c2 : CodeBuilder) (line : ℕ) (e : Expr) (scope : Scope) (branch_at : ℕ)
-    (ticks : Puts c0 c1 scope.locals (i.Tick line)) (tests : Tests c1 c2 e scope.locals branch_at) where
+module _ (c0 c1 c2 : CodeBuilder) (line : ℕ) (e : Expr) (scope : Scope) (test : Branch)
+    (ticks : Puts c0 c1 scope.locals (i.Tick line)) (tests : Tests c1 c2 e scope.locals test) where
   pub tick_one : end_of c1 ≡ end_of c0 + 1
   tick_one = put_one c0 c1 scope.locals (i.Tick line) ticks
 
   pub test_keeps : Keeps c0 c2
-  test_keeps = keeps_on c0 c1 c2 (put_keeps c0 c1 scope.locals (i.Tick line) ticks)
-      (tests_keep c1 c2 e scope.locals branch_at tests)
+  test_keeps = keeps_on c0 c1 c2 (put_keeps c0 c1 scope.locals (i.Tick line) ticks) tests.keeps
 
-  pub test_end : end_of c2 ≡ branch_at + 1
-  test_end = tests_end c1 c2 e scope.locals branch_at tests
+  pub test_end : end_of c2 ≡ test.at + 1
+  test_end = tests.end
 
-  pub test_later : end_of c0 < branch_at
-  test_later = omega (arith, tick_one, tests_later c1 c2 e scope.locals branch_at tests)
+  pub test_later : end_of c0 < test.at
+  test_later = omega (arith, tick_one, tests.later)
 
   pub test_tick : (s : Scene)
-      → ((k : ℕ) → end_of c0 ≤ k → k < branch_at
+      → ((k : ℕ) → end_of c0 ≤ k → k < test.at
       → instruction_at (s.setting).code (record { function = s.function; at = k }) ≡ slice_get (code_of c2) k)
       → HasAt s (end_of c0) (i.Tick line)
   test_tick s stands =
       stands (end_of c0) (omega arith) test_later
-      ∙ put_stays c0 c1 c2 scope.locals (i.Tick line) ticks (tests_keep c1 c2 e scope.locals branch_at tests)
+      ∙ put_stays c0 c1 c2 scope.locals (i.Tick line) ticks tests.keeps
 
   pub test_does : (s : Scene) (unmet : ℕ) → IsScene s → scope.locals ≡ length (s.env).locals → IsSoundCondition s.env e
-      → ((k : ℕ) → end_of c0 ≤ k → k < branch_at
+      → ((k : ℕ) → end_of c0 ≤ k → k < test.at
       → instruction_at (s.setting).code (record { function = s.function; at = k }) ≡ slice_get (code_of c2) k)
-      → HasAt s branch_at (i.Branch scope.locals unmet)
+      → HasAt s test.at (branch_on test.condition unmet)
       → Suits s c2
       → Decides s.setting (Good s) s.function s.room (condition (calls_of s) e) (end_of c0 + 1) (end_of c2) unmet
       (length (s.env).locals)
   test_does s unmet scene is typed stands has suits =
       subst (λ (from : ℕ). Decides s.setting (Good s) s.function s.room (condition (calls_of s) e) from (end_of c2) unmet
       (length (s.env).locals)) tick_one
-      (tests_do c1 c2 e scope.locals branch_at unmet tests s scene is typed
+      (tests.does s unmet scene is typed
       (λ k low high. stands k (omega (arith, low, tick_one)) high) has suits)
 
 sound_if : {scope : TypedScope} {line : ℕ} {e : Expr} {x : Stmt} → IsSoundStmt scope (If line e x no_branch)
@@ -231,15 +232,15 @@ sound_if_else : {scope : TypedScope} {line : ℕ} {e : Expr} {x y : Stmt} → Is
 sound_if_else (typing.if_else typed x y) = (typed, x, y)
 
 pub if_only : (c0 c1 c2 c3 c4 : CodeBuilder) (breaks continues breaks' continues' : List ℕ) (line : ℕ) (e : Expr) (x : Stmt)
-    (scope : Scope) (at to : ℕ)
-    → Puts c0 c1 scope.locals (i.Tick line) → Tests c1 c2 e scope.locals at
+    (scope : Scope) (at to : ℕ) (by : Condition)
+    → Puts c0 c1 scope.locals (i.Tick line) → Tests c1 c2 e scope.locals (record { at = at; condition = by })
     → EmitsStatement (with_jumps c2 breaks continues) (with_jumps c3 breaks' continues') x scope
-    → to ≡ end_of c3 → Leads c3 c4 at (i.Branch scope.locals to)
+    → to ≡ end_of c3 → Leads c3 c4 at (branch_on by to)
     → EmitsStatement (with_jumps c0 breaks continues) (with_jumps c4 breaks' continues') (If line e x no_branch) scope
-if_only c0 c1 c2 c3 c4 breaks continues breaks' continues' line e x scope at to ticks tests emits to_is leads = record {
+if_only c0 c1 c2 c3 c4 breaks continues breaks' continues' line e x scope at to by ticks tests emits to_is leads = record {
   grows = record {
-    code = leads_keeps c0 c3 c4 at (i.Branch scope.locals to) (keeps_on c0 c2 c3 keeps ((emits.grows).code))
-        (omega (arith, test_later c0 c1 c2 line e scope at ticks tests)) leads;
+    code = leads_keeps c0 c3 c4 at (branch_on by to) (keeps_on c0 c2 c3 keeps ((emits.grows).code))
+        (omega (arith, test_later c0 c1 c2 line e scope (record { at = at; condition = by }) ticks tests)) leads;
     breaks = joins_wider breaks breaks' (end_of c0) (end_of c2) (end_of c3) (end_of c4) keeps.longer (omega (arith, end))
         (emits.grows).breaks;
     continues = joins_wider continues continues' (end_of c0) (end_of c2) (end_of c3) (end_of c4) keeps.longer
@@ -258,57 +259,57 @@ if_only c0 c1 c2 c3 c4 breaks continues breaks' continues' line e x scope at to 
       let other : (k : ℕ) → end_of c0 ≤ k → k < end_of c3 → (k ≡ at → ⊥)
       → instruction_at (s.setting).code (record { function = s.function; at = k }) ≡ shown exits mid k
       = λ k low high apart. stands k low (omega (arith, high, end))
-      ∙ led_before exits c3 c4 breaks' continues' at k (i.Branch scope.locals to) leads apart in
+      ∙ led_before exits c3 c4 breaks' continues' at k (branch_on by to) leads apart in
       let before : (k : ℕ) → end_of c0 ≤ k → k < at
       → instruction_at (s.setting).code (record { function = s.function; at = k }) ≡ slice_get (code_of c2) k
       = λ k low high. other k low (omega (arith, high, two, ((emits.grows).code).longer)) (λ is. omega (arith, is, high))
       ∙ plain k low (omega (arith, high, two)) in
-      let low_at : end_of c0 ≤ at = omega (arith, test_later c0 c1 c2 line e scope at ticks tests) in
-      let branches : HasAt s at (i.Branch scope.locals (end_of c4))
+      let low_at : end_of c0 ≤ at = omega (arith, test_later c0 c1 c2 line e scope (record { at = at; condition = by }) ticks tests) in
+      let branches : HasAt s at (branch_on by (end_of c4))
       = stands at low_at (omega (arith, two, ((emits.grows).code).longer, end))
       ∙ shown_code exits last at
       (((emits.grows).breaks).same at (omega (arith, two)) ∙ no_breaks at low_at)
       (((emits.grows).continues).same at (omega (arith, two)) ∙ no_continues at low_at)
-      ∙ leads_there c3 c4 at (i.Branch scope.locals to) leads (omega (arith, two, ((emits.grows).code).longer))
-      ∙ ap (λ (n : ℕ). Some (i.Branch scope.locals n)) (to_is ∙ sym end) in
-      let suits2 = suits_before s c2 c3 (emits.grows).code (suits_led s c3 c4 at (i.Branch scope.locals to) leads suits) in
+      ∙ leads_there c3 c4 at (branch_on by to) leads (omega (arith, two, ((emits.grows).code).longer))
+      ∙ ap (λ (n : ℕ). Some (branch_on by n)) (to_is ∙ sym end) in
+      let suits2 = suits_before s c2 c3 (emits.grows).code (suits_led s c3 c4 at (branch_on by to) leads suits) in
       let both = sound_if sound in
       does_if s scene (ranked_of s scene) exits line e x (end_of c0) (end_of c2) (end_of c4) both.0
-      (test_tick c0 c1 c2 line e scope at ticks tests s before)
-      (test_does c0 c1 c2 line e scope at ticks tests s (end_of c4) scene inside.locals both.0 before branches suits2)
+      (test_tick c0 c1 c2 line e scope (record { at = at; condition = by }) ticks tests s before)
+      (test_does c0 c1 c2 line e scope (record { at = at; condition = by }) ticks tests s (end_of c4) scene inside.locals both.0 before branches suits2)
       (subst (λ (n : ℕ). DoesFlow s exits (statement (calls_of s) s.depth x) (end_of c2) n (length (s.env).locals)) (sym end)
       (emits.does s exits result b c scene inside both.1
       (λ k low. no_breaks k (omega (arith, low, keeps.longer))) (λ k low. no_continues k (omega (arith, low, keeps.longer))) apart
       (λ k low high. other k (omega (arith, low, keeps.longer)) high (λ is. omega (arith, is, low, two)))
-      (suits_led s c3 c4 at (i.Branch scope.locals to) leads suits)));
+      (suits_led s c3 c4 at (branch_on by to) leads suits)));
 }
   where
     keeps : Keeps c0 c2
-    keeps = test_keeps c0 c1 c2 line e scope at ticks tests
+    keeps = test_keeps c0 c1 c2 line e scope (record { at = at; condition = by }) ticks tests
 
     two : end_of c2 ≡ at + 1
-    two = test_end c0 c1 c2 line e scope at ticks tests
+    two = test_end c0 c1 c2 line e scope (record { at = at; condition = by }) ticks tests
 
     end : end_of c4 ≡ end_of c3
-    end = leads_end c3 c4 at (i.Branch scope.locals to) leads
+    end = leads_end c3 c4 at (branch_on by to) leads
 
 -- c2 with the condition, c3 with the statement, c4 with the jump over the other one, c5 with that, c6 and c7 with the
 -- branch and the jump led.
 pub if_else : (c0 c1 c2 c3 c4 c5 c6 c7 : CodeBuilder) (b0 n0 b1 n1 b2 n2 : List ℕ) (line : ℕ) (e : Expr) (x y : Stmt)
-    (scope : Scope) (at back unmet to : ℕ)
-    → Puts c0 c1 scope.locals (i.Tick line) → Tests c1 c2 e scope.locals at
+    (scope : Scope) (at back unmet to : ℕ) (by : Condition)
+    → Puts c0 c1 scope.locals (i.Tick line) → Tests c1 c2 e scope.locals (record { at = at; condition = by })
     → EmitsStatement (with_jumps c2 b0 n0) (with_jumps c3 b1 n1) x scope
     → Puts c3 c4 scope.locals (i.Jump 0)
     → EmitsStatement (with_jumps c4 b1 n1) (with_jumps c5 b2 n2) y scope
     → back ≡ end_of c3 → unmet ≡ end_of c4 → to ≡ end_of c5
-    → Leads c5 c6 at (i.Branch scope.locals unmet) → Leads c6 c7 back (i.Jump to)
+    → Leads c5 c6 at (branch_on by unmet) → Leads c6 c7 back (i.Jump to)
     → EmitsStatement (with_jumps c0 b0 n0) (with_jumps c7 b2 n2) (If line e x (branch y)) scope
-if_else c0 c1 c2 c3 c4 c5 c6 c7 b0 n0 b1 n1 b2 n2 line e x y scope at back unmet to ticks tests first puts second back_is
+if_else c0 c1 c2 c3 c4 c5 c6 c7 b0 n0 b1 n1 b2 n2 line e x y scope at back unmet to by ticks tests first puts second back_is
     unmet_is to_is one two = record {
       grows = record {
         code = leads_keeps c0 c6 c7 back (i.Jump to)
-            (leads_keeps c0 c5 c6 at (i.Branch scope.locals unmet) (keeps_on c0 c2 c5 keeps all.code)
-            (omega (arith, test_later c0 c1 c2 line e scope at ticks tests)) one)
+            (leads_keeps c0 c5 c6 at (branch_on by unmet) (keeps_on c0 c2 c5 keeps all.code)
+            (omega (arith, test_later c0 c1 c2 line e scope (record { at = at; condition = by }) ticks tests)) one)
             (omega (arith, back_is, keeps.longer, ((first.grows).code).longer)) two;
         breaks = joins_wider b0 b2 (end_of c0) (end_of c2) (end_of c5) (end_of c7) keeps.longer (omega (arith, end)) all.breaks;
         continues = joins_wider n0 n2 (end_of c0) (end_of c2) (end_of c5) (end_of c7) keeps.longer (omega (arith, end))
@@ -323,29 +324,29 @@ if_else c0 c1 c2 c3 c4 c5 c6 c7 b0 n0 b1 n1 b2 n2 line e x y scope at back unmet
           let d3 = with_jumps c3 b1 n1 in
           let d5 = with_jumps c5 b2 n2 in
           let d7 = with_jumps c7 b2 n2 in
-          let low_at : end_of c0 ≤ at = omega (arith, test_later c0 c1 c2 line e scope at ticks tests) in
+          let low_at : end_of c0 ≤ at = omega (arith, test_later c0 c1 c2 line e scope (record { at = at; condition = by }) ticks tests) in
           let low2 : (k : ℕ) → end_of c2 ≤ k → end_of c0 ≤ k = λ k low. omega (arith, low, keeps.longer) in
           let suits6 = suits_led s c6 c7 back (i.Jump to) two suits in
-          let suits5 = suits_led s c5 c6 at (i.Branch scope.locals unmet) one suits6 in
+          let suits5 = suits_led s c5 c6 at (branch_on by unmet) one suits6 in
           let suits3 = suits_before s c3 c5 (keeps_on c3 c4 c5 (put_keeps c3 c4 scope.locals (i.Jump 0) puts) (second.grows).code)
           suits5 in
           let suits2 = suits_before s c2 c3 (first.grows).code suits3 in
           let other : (k : ℕ) → end_of c0 ≤ k → k < end_of c5 → (k ≡ at → ⊥) → (k ≡ back → ⊥) → F k ≡ shown exits d5 k
           = λ k low high x y. stands k low (omega (arith, high, end))
           ∙ led_before exits c6 c7 b2 n2 back k (i.Jump to) two y
-          ∙ led_before exits c5 c6 b2 n2 at k (i.Branch scope.locals unmet) one x in
+          ∙ led_before exits c5 c6 b2 n2 at k (branch_on by unmet) one x in
           let before : (k : ℕ) → end_of c0 ≤ k → k < at → F k ≡ slice_get (code_of c2) k
           = λ k low high. other k low (omega (arith, high, met, (all.code).longer)) (λ is. omega (arith, is, high))
           (λ is. omega (arith, is, high, met, back_is, ((first.grows).code).longer))
           ∙ shown_kept exits d2 d5 k all (omega (arith, high, met))
           ∙ shown_code exits d2 k (no_breaks k low) (no_continues k low) in
-          let branches : HasAt s at (i.Branch scope.locals (end_of c4))
+          let branches : HasAt s at (branch_on by (end_of c4))
           = stands at low_at (omega (arith, met, (all.code).longer, end))
           ∙ shown_code exits d7 at ((all.breaks).same at (omega (arith, met)) ∙ no_breaks at low_at)
           ((all.continues).same at (omega (arith, met)) ∙ no_continues at low_at)
           ∙ leads_other c6 c7 back at (i.Jump to) two (λ is. omega (arith, is, met, back_is, ((first.grows).code).longer))
-          ∙ leads_there c5 c6 at (i.Branch scope.locals unmet) one (omega (arith, met, (all.code).longer))
-          ∙ ap (λ (n : ℕ). Some (i.Branch scope.locals n)) unmet_is in
+          ∙ leads_there c5 c6 at (branch_on by unmet) one (omega (arith, met, (all.code).longer))
+          ∙ ap (λ (n : ℕ). Some (branch_on by n)) unmet_is in
           let jumps_over : HasAt s (end_of c3) (i.Jump (end_of c7))
           = stands (end_of c3) (omega (arith, keeps.longer, ((first.grows).code).longer))
           (omega (arith, four, ((second.grows).code).longer, end))
@@ -356,13 +357,13 @@ if_else c0 c1 c2 c3 c4 c5 c6 c7 b0 n0 b1 n1 b2 n2 line e x y scope at back unmet
           ∙ ((first.grows).continues).below (λ k low. no_continues k (low2 k low)) (end_of c3) (omega arith))
           ∙ subst (λ (n : ℕ). slice_get (code_of c7) n ≡ Some (i.Jump to)) back_is
           (leads_there c6 c7 back (i.Jump to) two
-          (omega (arith, back_is, four, ((second.grows).code).longer, leads_end c5 c6 at (i.Branch scope.locals unmet) one)))
+          (omega (arith, back_is, four, ((second.grows).code).longer, leads_end c5 c6 at (branch_on by unmet) one)))
           ∙ ap (λ (n : ℕ). Some (i.Jump n)) (to_is ∙ sym end) in
           let parts = sound_if_else sound in
           does_if_else s scene (ranked_of s scene) exits line e x y (end_of c0) (end_of c2) (end_of c4) (end_of c3) (end_of c7)
           parts.0
-          (test_tick c0 c1 c2 line e scope at ticks tests s before)
-          (test_does c0 c1 c2 line e scope at ticks tests s (end_of c4) scene inside.locals parts.0 before branches suits2)
+          (test_tick c0 c1 c2 line e scope (record { at = at; condition = by }) ticks tests s before)
+          (test_does c0 c1 c2 line e scope (record { at = at; condition = by }) ticks tests s (end_of c4) scene inside.locals parts.0 before branches suits2)
           (first.does s exits result b c scene inside parts.1 (λ k low. no_breaks k (low2 k low))
           (λ k low. no_continues k (low2 k low)) apart
           (λ k low high.
@@ -382,10 +383,10 @@ if_else c0 c1 c2 c3 c4 c5 c6 c7 b0 n0 b1 n1 b2 n2 line e x y scope at back unmet
     }
   where
     keeps : Keeps c0 c2
-    keeps = test_keeps c0 c1 c2 line e scope at ticks tests
+    keeps = test_keeps c0 c1 c2 line e scope (record { at = at; condition = by }) ticks tests
 
     met : end_of c2 ≡ at + 1
-    met = test_end c0 c1 c2 line e scope at ticks tests
+    met = test_end c0 c1 c2 line e scope (record { at = at; condition = by }) ticks tests
 
     four : end_of c4 ≡ end_of c3 + 1
     four = put_one c3 c4 scope.locals (i.Jump 0) puts
@@ -398,7 +399,7 @@ if_else c0 c1 c2 c3 c4 c5 c6 c7 b0 n0 b1 n1 b2 n2 line e x y scope at back unmet
     all = grows_on (with_jumps c2 b0 n0) (with_jumps c3 b1 n1) (with_jumps c5 b2 n2) first.grows later
 
     end : end_of c7 ≡ end_of c5
-    end = leads_end c6 c7 back (i.Jump to) two ∙ leads_end c5 c6 at (i.Branch scope.locals unmet) one
+    end = leads_end c6 c7 back (i.Jump to) two ∙ leads_end c5 c6 at (branch_on by unmet) one
 
 -- No sound statement declares variables.
 pub declared : (old new : Draft) (line : ℕ) (vs : List Initialization) (scope : Scope) (more : ℕ)

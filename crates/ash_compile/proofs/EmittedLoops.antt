@@ -19,6 +19,8 @@ use Rattle.ash_typed.specs.TypedTree.{Expr}
 use Rattle.ash_typed.specs.StatementTree.{Stmt, repeated}
 use Rattle.ash_typed.specs.SoundStatements.{TypedScope, IsSoundStmt, IsLoop, IsEvaluated, MayBeSoundCondition}
 use Rattle.ash_typed.specs.SoundStatements as typing
+use Rattle.ash_meaning.specs.Runs.{◌>>◌}
+use Rattle.ash_meaning.specs.Frames.{tick}
 use Rattle.ash_meaning.specs.StatementMeaning.{statement, loop, condition_or_true, evaluate_all, Continued}
 use Rattle.ash_code.specs.declared.instruction.Instruction.{Instruction}
 use Rattle.ash_code.specs.declared.instruction.Instruction.TheVariants as i
@@ -26,20 +28,23 @@ use Rattle.ash_code.specs.Running.{instruction_at}
 use Rattle.ash_compile.specs.declared.builder.CodeBuilder.{CodeBuilder}
 use Rattle.ash_compile.specs.declared.layout.Layout.{Layout}
 use Rattle.ash_compile.specs.declared.bodies.Scope.{Scope}
+use Rattle.ash_compile.specs.declared.bodies.Branch.{Branch}
 use Rattle.ash_compile.specs.Layout.{IsLayout}
-use Rattle.ash_compile.specs.Performances.{Exits, Decides, Reaches, Lands, by_release}
+use Rattle.ash_compile.specs.Performances.{Exits, Decides, Reaches, Lands, by_release, never}
 use Rattle.ash_compile.specs.Emission.{code_of, end_of, Keeps, Puts, Leads, Scene, IsScene, Suits, Good, calls_of}
 use Rattle.ash_compile.specs.EmittedStatements.{waits, AreBelow, AreApart, with_jumps, Joins, StandsWith, shown}
 use Rattle.ash_compile.specs.EmittedStatements.{IsIn, typed_scope, DoesFlow, DoesActs, EmitsStatement, EmitsEvaluations}
-use Rattle.ash_compile.specs.EmittedStatements.{Tests, MayTest, MayLead, Landing, EmitsLoopBody, EmitsLoop, loop_entry}
+use Rattle.ash_compile.specs.EmittedStatements.{branch_on, Tests, MayTest, MayLead, Landing, EmitsLoopBody, EmitsLoop, loop_entry}
+use Rattle.ash_compile.specs.EmittedStatements.{LeadsAll, EndsBody, HasNoContinue, NextTurn}
+use Rattle.ash_compile.proofs.EmittedTests.{next_does}
 use Rattle.ash_compile.proofs.Emission.{HasAt, keeps_on, put_keeps, put_one, put_there, suits_before}
 use Rattle.ash_compile.proofs.EmittedBranches.{leads_end, leads_there, leads_other, leads_keeps, suits_led}
-use Rattle.ash_compile.proofs.TypedStatements.{ranked_of}
+use Rattle.ash_compile.proofs.TypedStatements.{ranked_of, never_continues}
 use Rattle.ash_compile.proofs.Statements as code
 use Rattle.ash_compile.proofs.StatementCode.{does_no_condition, does_first_loop, does_last_loop}
 use Rattle.ash_compile.proofs.Drafts.{joins_none, joins_wider, apart_breaks}
 use Rattle.ash_compile.proofs.Drafts.{shown_code, shown_same}
-use Rattle.ash_compile.proofs.EmittedParts.{keeps_same, tests_keep, tests_end, tests_later, tests_do}
+use Rattle.ash_compile.proofs.EmittedParts.{keeps_same}
 
 -- landings
 
@@ -120,20 +125,92 @@ loop_body c0 c1 c2 breaks breaks' continues own x scope emits lands = record {
     joins = joins_wider breaks breaks' (end_of c0) (end_of c0) (end_of c1) (end_of c2) (omega arith) (omega (arith, lands.long))
         (emits.grows).breaks
 
+-- So has one without `continue`: there is nothing to lead to.
+loop_body_without : (c0 c1 c2 : CodeBuilder) (breaks breaks' continues own : List ℕ) (x : Stmt) (scope : Scope) (to : ℕ)
+    → EmitsStatement (with_jumps c0 breaks []) (with_jumps c1 breaks' own) x (record scope { continued = scope.locals })
+    → LeadsAll c1 c2 own to → HasNoContinue x
+    → EmitsLoopBody (with_jumps c0 breaks continues) (with_jumps c2 breaks' continues) x scope
+loop_body_without c0 c1 c2 breaks breaks' continues own x scope to emits leads none = record {
+  grows = record {
+    code = keeps;
+    breaks = joins;
+    continues = joins_none continues (end_of c0) (end_of c2) keeps.longer;
+    apart = λ below_breaks below_continues apart.
+        apart_breaks breaks breaks' continues (end_of c0) (end_of c2) joins below_continues apart;
+  };
+  continues = refl;
+  does = λ s exits result b c scene inside sound no_breaks no_continues apart stands suits.
+      let inner : Exits = record exits { continued = record { at = to; outer = length (s.env).locals } } in
+      let d1 = with_jumps c1 breaks' own in
+      let d2 = with_jumps c2 breaks' continues in
+      let before : (k : ℕ) → end_of c0 ≤ k → shown exits d2 k ≡ shown inner d1 k
+      = λ k low.
+      ap (λ (t : Bool). if waits breaks' k then Some (i.Jump (exits.broken).at)
+      else (if t then Some (i.Jump (exits.continued).at) else slice_get (code_of c2) k)) (no_continues k low)
+      ∙ ap (λ (o : Option Instruction). if waits breaks' k then Some (i.Jump (exits.broken).at) else o) (leads.code k) in (
+        end_of c2,
+        to,
+        subst (λ (n : ℕ). DoesFlow s inner (statement (calls_of s) s.depth x) (end_of c0) n (length (s.env).locals))
+            (sym leads.long)
+            (emits.does s inner result b true scene
+            (record {
+              locals = inside.locals;
+              broken = inside.broken;
+              continued = inside.locals;
+              keeps_broken = inside.keeps_broken;
+              keeps_continued = omega arith;
+              returns = inside.returns;
+            })
+            sound no_breaks (λ k low. refl) (λ k waiting. refl)
+            (λ k low high. stands k low (omega (arith, high, leads.long)) ∙ before k low)
+            (record {
+              slots = omega (arith, leads.slots, suits.slots);
+              layout = subst (λ (l : Layout). IsLayout ((s.setting).code).module ((s.context).program).tree l) leads.layout
+                  suits.layout;
+            })),
+        code.stays s.setting (Good s) s.function s.room (end_of c2),
+        never (λ a d good is.
+            never_continues s scene result b x a d (none (typed_scope s result b true) sound) good is),
+      );
+}
+  where
+    keeps : Keeps c0 c2
+    keeps = record {
+      longer = omega (arith, ((emits.grows).code).longer, leads.long);
+      same = λ k low. leads.code k
+          ∙ ap (λ (t : Bool). if t then Some (i.Jump to) else slice_get (code_of c1) k) (((emits.grows).continues).same k low)
+          ∙ ((emits.grows).code).same k low;
+      slots = omega (arith, ((emits.grows).code).slots, leads.slots);
+      layout = leads.layout ∙ ((emits.grows).code).layout;
+    }
+
+    joins : Joins breaks breaks' (end_of c0) (end_of c2)
+    joins = joins_wider breaks breaks' (end_of c0) (end_of c0) (end_of c1) (end_of c2) (omega arith) (omega (arith, leads.long))
+        (emits.grows).breaks
+
+pub loop_body_ends : (c0 c1 c2 : CodeBuilder) (breaks breaks' continues own : List ℕ) (x : Stmt) (scope : Scope)
+    → EmitsStatement (with_jumps c0 breaks []) (with_jumps c1 breaks' own) x (record scope { continued = scope.locals })
+    → EndsBody c1 c2 own x
+    → EmitsLoopBody (with_jumps c0 breaks continues) (with_jumps c2 breaks' continues) x scope
+loop_body_ends c0 c1 c2 breaks breaks' continues own x scope emits (EndsBody.lands lands) =
+    loop_body c0 c1 c2 breaks breaks' continues own x scope emits lands
+loop_body_ends c0 c1 c2 breaks breaks' continues own x scope emits (EndsBody.none {to = to} leads none) =
+    loop_body_without c0 c1 c2 breaks breaks' continues own x scope to emits leads none
+
 -- conditions of loops, which may be absent
 
-pub may_test_keeps : (c1 c2 : CodeBuilder) (e : Option Expr) (slot : ℕ) (branch : Option ℕ) → MayTest c1 c2 e slot branch
-    → Keeps c1 c2
-may_test_keeps c1 c2 (Some e) slot branch tests = tests_keep c1 c2 e slot tests.0 tests.2
+pub may_test_keeps : (c1 c2 : CodeBuilder) (e : Option Expr) (slot : ℕ) (branch : Option Branch)
+    → MayTest c1 c2 e slot branch → Keeps c1 c2
+may_test_keeps c1 c2 (Some e) slot branch tests = (tests.2).keeps
 may_test_keeps c1 c2 None slot branch tests = subst (λ (c : CodeBuilder). Keeps c1 c) (sym tests.0) (keeps_same c1)
 
-pub may_test_within : (c1 c2 : CodeBuilder) (e : Option Expr) (slot end : ℕ) (branch : Option ℕ) → MayTest c1 c2 e slot branch
-    → end_of c2 ≤ end → IfSome branch (λ at. at < end)
+pub may_test_within : (c1 c2 : CodeBuilder) (e : Option Expr) (slot end : ℕ) (branch : Option Branch)
+    → MayTest c1 c2 e slot branch → end_of c2 ≤ end → IfSome branch (λ branch. branch.at < end)
 may_test_within c1 c2 (Some e) slot end branch tests later =
-    subst (λ (o : Option ℕ). IfSome o (λ at. at < end)) (sym tests.1)
-    (omega (arith, tests_end c1 c2 e slot tests.0 tests.2, later))
+    subst (λ (o : Option Branch). IfSome o (λ branch. branch.at < end)) (sym tests.1)
+    (omega (arith, (tests.2).end, later))
 may_test_within c1 c2 None slot end branch tests later =
-    subst (λ (o : Option ℕ). IfSome o (λ at. at < end)) (sym tests.1) tt
+    subst (λ (o : Option Branch). IfSome o (λ branch. branch.at < end)) (sym tests.1) tt
 
 pub record Headed (c1 c2 c6 c7 : CodeBuilder) (e : Option Expr) (slot to : ℕ) : Type 0 where
   pub keeps : Keeps c1 c2
@@ -150,34 +227,35 @@ pub record Headed (c1 c2 c6 c7 : CodeBuilder) (e : Option Expr) (slot to : ℕ) 
       → Decides s.setting (Good s) s.function s.room (condition_or_true (calls_of s) e) (end_of c1) (end_of c2) to
       (length (s.env).locals)
 
-headed_by : (c1 c2 c6 c7 : CodeBuilder) (e : Expr) (slot to at : ℕ) → Tests c1 c2 e slot at → Leads c6 c7 at (i.Branch slot to)
+headed_by : (c1 c2 c6 c7 : CodeBuilder) (e : Expr) (slot to : ℕ) (test : Branch) → Tests c1 c2 e slot test
+    → Leads c6 c7 test.at (branch_on test.condition to)
     → end_of c2 ≤ end_of c6 → Headed c1 c2 c6 c7 (Some e) slot to
-headed_by c1 c2 c6 c7 e slot to at tests leads later = record {
-  keeps = tests_keep c1 c2 e slot at tests;
-  long = leads_end c6 c7 at (i.Branch slot to) leads;
+headed_by c1 c2 c6 c7 e slot to test tests leads later = record {
+  keeps = tests.keeps;
+  long = leads_end c6 c7 test.at (branch_on test.condition to) leads;
   slots = leads.slots;
   layout = leads.layout;
-  before = λ k low. leads_other c6 c7 at k (i.Branch slot to) leads
-      (λ is. omega (arith, is, low, tests_later c1 c2 e slot at tests));
-  behind = λ k low. leads_other c6 c7 at k (i.Branch slot to) leads
-      (λ is. omega (arith, is, low, tests_end c1 c2 e slot at tests));
+  before = λ k low. leads_other c6 c7 test.at k (branch_on test.condition to) leads
+      (λ is. omega (arith, is, low, tests.later));
+  behind = λ k low. leads_other c6 c7 test.at k (branch_on test.condition to) leads
+      (λ is. omega (arith, is, low, tests.end));
   does = λ s scene is typed stands same suits.
-      tests_do c1 c2 e slot at to tests s scene is typed
-      (λ k low high. stands k low (omega (arith, high, tests_end c1 c2 e slot at tests))
-      ∙ leads_other c6 c7 at k (i.Branch slot to) leads (λ is. omega (arith, is, high))
-      ∙ same k low (omega (arith, high, tests_end c1 c2 e slot at tests)))
-      (stands at (tests_later c1 c2 e slot at tests) (omega (arith, tests_end c1 c2 e slot at tests))
-      ∙ leads_there c6 c7 at (i.Branch slot to) leads (omega (arith, tests_end c1 c2 e slot at tests, later)))
+      tests.does s to scene is typed
+      (λ k low high. stands k low (omega (arith, high, tests.end))
+      ∙ leads_other c6 c7 test.at k (branch_on test.condition to) leads (λ is. omega (arith, is, high))
+      ∙ same k low (omega (arith, high, tests.end)))
+      (stands test.at (tests.later) (omega (arith, tests.end))
+      ∙ leads_there c6 c7 test.at (branch_on test.condition to) leads (omega (arith, tests.end, later)))
       suits;
 }
 
-pub headed : (c1 c2 c6 c7 : CodeBuilder) (e : Option Expr) (slot to : ℕ) (branch : Option ℕ) → MayTest c1 c2 e slot branch
-    → MayLead c6 c7 branch slot to → end_of c2 ≤ end_of c6 → Headed c1 c2 c6 c7 e slot to
+pub headed : (c1 c2 c6 c7 : CodeBuilder) (e : Option Expr) (slot to : ℕ) (branch : Option Branch) → MayTest c1 c2 e slot branch
+    → MayLead c6 c7 branch to → end_of c2 ≤ end_of c6 → Headed c1 c2 c6 c7 e slot to
 headed c1 c2 c6 c7 (Some e) slot to branch tests leads later =
     headed_by c1 c2 c6 c7 e slot to tests.0 tests.2
-    (subst (λ (o : Option ℕ). MayLead c6 c7 o slot to) tests.1 leads) later
+    (subst (λ (o : Option Branch). MayLead c6 c7 o to) tests.1 leads) later
 headed c1 c2 c6 c7 None slot to branch tests leads later =
-    let same : c7 ≡ c6 = subst (λ (o : Option ℕ). MayLead c6 c7 o slot to) tests.1 leads in
+    let same : c7 ≡ c6 = subst (λ (o : Option Branch). MayLead c6 c7 o to) tests.1 leads in
     record {
       keeps = subst (λ (c : CodeBuilder). Keeps c1 c) (sym tests.0) (keeps_same c1);
       long = ap end_of same;
@@ -201,7 +279,7 @@ module _ (c0 c1 c2 c3 c4 c5 c6 c7 : CodeBuilder) (breaks breaks' continues : Lis
     (led : Leads c2 c3 entry (loop_entry test line body))
     (inside : EmitsLoopBody (with_jumps c3 breaks continues) (with_jumps c4 breaks' continues) x scope)
     (steps : EmitsEvaluations c4 c5 es scope.locals)
-    (loops : Puts c5 c6 scope.locals (i.Loop line head)) where
+    (j : Instruction) (next : NextTurn e line head body j) (loops : Puts c5 c6 scope.locals j) where
   one : end_of c1 ≡ end_of c0 + 1
   one = put_one c0 c1 scope.locals (loop_entry test line 0) enters
 
@@ -209,7 +287,7 @@ module _ (c0 c1 c2 c3 c4 c5 c6 c7 : CodeBuilder) (breaks breaks' continues : Lis
   three = leads_end c2 c3 entry (loop_entry test line body) led
 
   six : end_of c6 ≡ end_of c5 + 1
-  six = put_one c5 c6 scope.locals (i.Loop line head) loops
+  six = put_one c5 c6 scope.locals j loops
 
   from_start : Keeps c0 c3
   from_start = leads_keeps c0 c2 c3 entry (loop_entry test line body)
@@ -217,7 +295,7 @@ module _ (c0 c1 c2 c3 c4 c5 c6 c7 : CodeBuilder) (breaks breaks' continues : Lis
       (omega (arith, entry_is)) led
 
   last : Keeps c5 c6
-  last = put_keeps c5 c6 scope.locals (i.Loop line head) loops
+  last = put_keeps c5 c6 scope.locals j loops
 
   from_body : Keeps c3 c6
   from_body = keeps_on c3 c4 c6 (inside.grows).code (keeps_on c4 c5 c6 steps.keeps last)
@@ -303,16 +381,21 @@ module _ (c0 c1 c2 c3 c4 c5 c6 c7 : CodeBuilder) (breaks breaks' continues : Lis
           let acts = steps.does s scene is_in.locals typed_es
           (λ k low high. late k low (omega (arith, high, six, conditional.long)) ∙ last.same k high)
           (suits_before s c5 c6 last suits_6) in
-          let looped : F (end_of c5) ≡ Some (i.Loop line (end_of c1))
+          let looped : F (end_of c5) ≡ Some j
           = late (end_of c5) ((steps.keeps).longer) (omega (arith, six, conditional.long))
-          ∙ put_there c5 c6 scope.locals (i.Loop line head) loops ∙ ap (λ (n : ℕ). Some (i.Loop line n)) head_is in
-          by_test s exits result scene typed_e typed_es sound_x bodied.0 bodied.1 test
-          (subst (λ (n : ℕ). Decides s.setting (Good s) s.function s.room (condition_or_true (calls_of s) e) (end_of c1)
-          (end_of c2) n (length (s.env).locals)) (to_is ∙ sym conditional.long) tests)
+          ∙ put_there c5 c6 scope.locals j loops in
+          let tested = subst (λ (n : ℕ). Decides s.setting (Good s) s.function s.room (condition_or_true (calls_of s) e)
+          (end_of c1) (end_of c2) n (length (s.env).locals)) (to_is ∙ sym conditional.long) tests in
+          by_test s exits result scene typed_e typed_es sound_x bodied.0 bodied.1 test tested
           (subst (λ (n : ℕ). DoesFlow s
           (record exits { continued = record { at = bodied.1; outer = length (s.env).locals } })
           (statement (calls_of s) s.depth x) n bodied.0 (length (s.env).locals)) three bodied.2)
-          bodied.3 bodied.4 acts looped entered
+          bodied.3 bodied.4 acts
+          (next_does s line e (end_of c5) (end_of c1) (end_of c2) (end_of c7) j scene typed_e
+          (subst (λ (n : ℕ). NextTurn e line (end_of c1) n j) body_is
+          (subst (λ (n : ℕ). NextTurn e line n body j) head_is next))
+          looped (conditional.long ∙ six) tested)
+          entered
         where
           by_test : (s : Scene) (exits : Exits) (result : Option VarType) → (scene : IsScene s)
               → MayBeSoundCondition s.env e → AllByRecursion (IsEvaluated s.env) es
@@ -325,16 +408,17 @@ module _ (c0 c1 c2 c3 c4 c5 c6 c7 : CodeBuilder) (breaks breaks' continues : Lis
               → Reaches s.setting s.function done (end_of c4)
               → Lands s.setting (Good s) s.function s.room Continued (statement (calls_of s) s.depth x) again (end_of c4)
               → DoesActs s (evaluate_all (calls_of s) es) (end_of c4) (end_of c5) (length (s.env).locals)
-              → HasAt s (end_of c5) (i.Loop line (end_of c1))
+              → Decides s.setting (Good s) s.function s.room (tick line >> condition_or_true (calls_of s) e) (end_of c5)
+              (end_of c2) (end_of c7) (length (s.env).locals)
               → HasAt s (end_of c0) (loop_entry kind line (end_of c2))
               → DoesFlow s exits (loop (calls_of s) s.depth line (repeated kind e es x)) (end_of c0) (end_of c7)
               (length (s.env).locals)
-          by_test s exits result scene typed_e typed_es sound_x done again kinds.First tests bodied reaches lands acts has_loop has =
+          by_test s exits result scene typed_e typed_es sound_x done again kinds.First tests bodied reaches lands acts next_one has =
               does_first_loop s scene (ranked_of s scene) exits line e es x result (end_of c1) (end_of c2) done again (end_of c4)
-              (end_of c5) (end_of c7) typed_e typed_es sound_x tests bodied reaches lands acts has_loop (end_of c0) has one
-          by_test s exits result scene typed_e typed_es sound_x done again kinds.Last tests bodied reaches lands acts has_loop has =
+              (end_of c5) (end_of c7) typed_e typed_es sound_x tests bodied reaches lands acts next_one (end_of c0) has one
+          by_test s exits result scene typed_e typed_es sound_x done again kinds.Last tests bodied reaches lands acts next_one has =
               does_last_loop s scene (ranked_of s scene) exits line e es x result (end_of c1) (end_of c2) done again (end_of c4)
-              (end_of c5) (end_of c7) typed_e typed_es sound_x tests bodied reaches lands acts has_loop (end_of c0)
+              (end_of c5) (end_of c7) typed_e typed_es sound_x tests bodied reaches lands acts next_one (end_of c0)
               (code.jumps s.setting (Good s) s.function s.room (end_of c0) (end_of c2) has)
 
 -- what the code's loop stands for

@@ -7,7 +7,7 @@ use Rattle.ash_typed.specs.declared.types.VarType.{VarType}
 use Rattle.ash_typed.specs.TypedTree.{Expr}
 use Rattle.ash_typed.specs.StatementTree.{Initialization, no_head, declared_head, evaluated_head}
 use Rattle.ash_typed.specs.SoundExpressions.{Fits, fits}
-use Rattle.ash_typed.specs.SoundStatements.{IsEvaluated, IsSoundCondition, IsSoundBeginning, AreSoundDeclarations, none_declared, and_declared}
+use Rattle.ash_typed.specs.SoundStatements.{IsEvaluated, IsSoundBeginning, AreSoundDeclarations, none_declared, and_declared}
 use Rattle.ash_typed.specs.SoundStatements.{IsSoundHead, head_is_empty, head_declares, head_evaluates}
 use Rattle.ash_meaning.specs.OperatorMeaning.{zero_of}
 use Rattle.ash_meaning.specs.ExpressionMeaning.{expression}
@@ -15,6 +15,7 @@ use Rattle.ash_meaning.specs.StatementMeaning.{evaluate, condition, declare_all,
 use Rattle.ash_code.specs.declared.instruction.Instruction.{Instruction}
 use Rattle.ash_code.specs.declared.instruction.Instruction.TheVariants as i
 use Rattle.ash_compile.specs.declared.builder.CodeBuilder.{CodeBuilder}
+use Rattle.ash_compile.specs.declared.bodies.Condition.TheVariants as conditions
 use Rattle.ash_compile.specs.Performances.{Acts, Decides}
 use Rattle.ash_compile.specs.Emission.{code_of, end_of, Keeps, Puts, Scene, IsScene, Suits, Good, Stands, DoesExpression, Emits, calls_of}
 use Rattle.ash_compile.specs.Operands.{Affects}
@@ -86,38 +87,30 @@ more_evaluations old mid new e es slot first rest = record {
 
 -- conditions
 
-pub tests_keep : (old new : CodeBuilder) (e : Expr) (slot branch : ℕ) → Tests old new e slot branch → Keeps old new
-tests_keep old new e slot branch tests =
-    keeps_on old tests.mid new (tests.emits).keeps (put_keeps tests.mid new slot (i.Branch slot 0) tests.puts)
+-- A truth value in its slot is tested.
+pub truth_tests : (start old new : CodeBuilder) (e : Expr) (slot at : ℕ) → Emits start old e slot
+    → Puts old new slot (i.Branch slot 0) → at ≡ end_of old
+    → Tests start new e slot (record { at = at; condition = conditions.Truth slot })
+truth_tests start old new e slot at emits puts at_is = record {
+  keeps = keeps_on start old new emits.keeps last;
+  later = omega (arith, at_is, (emits.keeps).longer);
+  end = one ∙ ap (λ (n : ℕ). n + 1) (sym at_is);
+  does = λ s unmet scene is typed stands has suits.
+      subst (λ (to : ℕ). Decides s.setting (Good s) s.function s.room (condition (calls_of s) e) (end_of start) to unmet
+      (length (s.env).locals)) (sym one)
+      (does_condition s scene (ranked_of s scene) e (end_of start) (end_of old) unmet typed
+      (subst (λ (n : ℕ). DoesExpression s e (end_of start) (end_of old) n) is
+      (emits.does s _ scene typed
+      (λ k low high. stands k low (omega (arith, high, at_is)) ∙ last.same k high) (suits_before s old new last suits)))
+      (subst (λ (n : ℕ). HasAt s (end_of old) (i.Branch n unmet)) is
+      (subst (λ (n : ℕ). HasAt s n (i.Branch slot unmet)) at_is has)));
+}
+  where
+    one : end_of new ≡ end_of old + 1
+    one = put_one old new slot (i.Branch slot 0) puts
 
-pub tests_end : (old new : CodeBuilder) (e : Expr) (slot branch : ℕ) → Tests old new e slot branch
-    → end_of new ≡ branch + 1
-tests_end old new e slot branch tests =
-    put_one tests.mid new slot (i.Branch slot 0) tests.puts ∙ ap (λ (n : ℕ). n + 1) (sym tests.place)
-
-pub tests_later : (old new : CodeBuilder) (e : Expr) (slot branch : ℕ) → Tests old new e slot branch
-    → end_of old ≤ branch
-tests_later old new e slot branch tests = omega (arith, tests.place, ((tests.emits).keeps).longer)
-
--- The code has the condition up to its branch, and the branch leads somewhere.
-pub tests_do : (old new : CodeBuilder) (e : Expr) (slot branch unmet : ℕ) → Tests old new e slot branch
-    → (s : Scene) → IsScene s → slot ≡ length (s.env).locals → IsSoundCondition s.env e
-    → Stands s (code_of new) (end_of old) branch
-    → HasAt s branch (i.Branch slot unmet)
-    → Suits s new
-    → Decides s.setting (Good s) s.function s.room (condition (calls_of s) e) (end_of old) (end_of new) unmet
-    (length (s.env).locals)
-tests_do old new e slot branch unmet tests s scene is typed stands has suits =
-    let mid = tests.mid in
-    let keeps = put_keeps mid new slot (i.Branch slot 0) tests.puts in
-    subst (λ (to : ℕ). Decides s.setting (Good s) s.function s.room (condition (calls_of s) e) (end_of old) to unmet
-    (length (s.env).locals)) (sym (put_one mid new slot (i.Branch slot 0) tests.puts))
-    (does_condition s scene (ranked_of s scene) e (end_of old) (end_of mid) unmet typed
-    (subst (λ (n : ℕ). DoesExpression s e (end_of old) (end_of mid) n) is
-    ((tests.emits).does s _ scene typed
-    (λ k low high. stands k low (omega (arith, high, tests.place)) ∙ keeps.same k high) (suits_before s mid new keeps suits)))
-    (subst (λ (n : ℕ). HasAt s (end_of mid) (i.Branch n unmet)) is
-    (subst (λ (n : ℕ). HasAt s n (i.Branch slot unmet)) tests.place has)))
+    last : Keeps old new
+    last = put_keeps old new slot (i.Branch slot 0) puts
 
 -- variables
 

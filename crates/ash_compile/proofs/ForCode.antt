@@ -17,8 +17,8 @@ use Rattle.ash_compile.specs.Emission.{Scene, IsScene, calls_of, Good}
 use Rattle.ash_compile.proofs.Typed.{values_long}
 use Rattle.ash_compile.proofs.Leaving as leaving
 use Rattle.ash_compile.proofs.Loops as loops
-use Rattle.ash_compile.proofs.Loops.{Spends, Whole}
-use Rattle.ash_compile.proofs.TypedStatements.{Ready, IsRanked, came, whole, spends_tick}
+use Rattle.ash_compile.proofs.Loops.{Spends, Whole, came}
+use Rattle.ash_compile.proofs.TypedStatements.{Ready, IsRanked, whole, spends_tick}
 use Rattle.ash_compile.proofs.BlockCode.{with_types, SpendsTo}
 
 -- A block that is left by `break` left its inside so.

@@ -34,7 +34,8 @@ use Rattle.ash_compile.proofs.Loops as loops
 use Rattle.ash_compile.proofs.Calling.{Returns}
 use Rattle.ash_compile.proofs.Functions as frames
 use Rattle.ash_compile.proofs.Functions.{of_function, finish, NeverJumps, calls_entry}
-use Rattle.ash_compile.proofs.TypedStatements.{Ready, IsRanked, scope_of, came}
+use Rattle.ash_compile.proofs.Loops.{came}
+use Rattle.ash_compile.proofs.TypedStatements.{Ready, IsRanked, scope_of}
 use Rattle.ash_compile.proofs.BlockCode.{given_alive}
 
 -- Activities in which a function is entered: its first tick leads to those in which its statements run.

@@ -64,6 +64,9 @@ pub mod ClassTables
 pub mod CastCode
 pub mod EmittedSingly
 pub mod EmittedBlocks
+pub mod ContinueLaws
+pub mod ComparisonCode
+pub mod EmittedTests
 pub mod EmittedLoops
 pub mod EmittedLandings
 pub mod EmittedRepeats

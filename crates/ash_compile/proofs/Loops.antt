@@ -22,6 +22,14 @@ pub released_ticks : (a b : Activity) → releases.release a ≡ Done tt b → b
 unfolding releases.release
 released_ticks a b is = ap (λ (p : Progress (Unit {0})). ticks_in a.ticks p) (sym is)
 
+-- how a phrase came to its value
+
+pub came : {A B : Type 0} (p : Progress A) (f : A → Run B) (v : B) (b : Activity) → onward p f ≡ Done v b
+    → (u : A) × (d : Activity) × (p ≡ Done u d) × (f u d ≡ Done v b)
+came (Done u d) f v b is = (u, d, refl, is)
+came (Ended e d) f v b is = absurd (cc)
+came NoStep f v b is = absurd (cc)
+
 -- the locals of an activity are so many at most
 abbrev pub Whole : ℕ → Activity → Type 0
 Whole count a = (a.frame).locals ≡ take count (a.frame).locals
@@ -32,6 +40,22 @@ kept_whole count a whole = ap (λ (ws : List Word). in_frame (λ (f : Frame). re
 -- A phrase of a loop leads from good activities to good ones, and gives no ticks back.
 abbrev pub Spends : {A : Type 0} → (Activity → Type 0) → Run A → Type 0
 Spends {A} Good run = (a b : Activity) (v : A) → Good a → run a ≡ Done v b → Good b × (b.ticks ≤ a.ticks)
+
+-- a phrase after a tick that is not there
+
+none_left : (p : Progress (Unit {0})) (f : Run Bool) (rest : Flow → Activity → Option Outcome)
+    → ((b : Activity) → p ≡ Done tt b → ⊥)
+    → continued (onward p (λ _. f)) (λ _ b. rest On b) ≡ continued (onward p (λ _. out_of_ticks)) rest
+none_left (Done v b) f rest no_tick = absurd (no_tick b refl)
+none_left (Ended e b) f rest no_tick = refl
+none_left NoStep f rest no_tick = refl
+
+-- a tick, a condition, and what follows that
+tested_after : (p : Progress (Unit {0})) (f : Run Bool) (g : Bool → Run Flow)
+    → onward (onward p (λ _. f)) g ≡ onward p (λ _. f >>= g)
+tested_after (Done v b) f g = refl
+tested_after (Ended e b) f g = refl
+tested_after NoStep f g = refl
 
 -- phrases before and after loops
 
@@ -107,8 +131,27 @@ module _ (s : Setting) (Good : Activity → Type 0) (function room : ℕ) where
           (released_stands size count slots b e freed
           (subst (λ (x : Activity). HasLocals size count slots x) whole there))))))
 
+  -- the tick of the next turn, which leads back to the condition
+  pub ticks_back : (test : Run Bool) (line back head inside out count : ℕ)
+      → Decides s Good function room test head inside out count
+      → Has s Good function room back (i.Loop line head)
+      → LeadsTo Good (tick line) Good
+      → Decides s Good function room (tick line >> test) back inside out count
+  ticks_back test line back head inside out count tests has ticked = record {
+    comes = λ callers size slots a rest long stands good when_true when_false.
+        let w : Window = record { slots = slots; count = count; callers = callers } in
+        let start = here function back count slots callers in
+        arrives_then s start a (tick line a) (λ _. test) rest
+        (goes_by s start a (tick line a) (λ _. here function head count slots callers) (λ _ b. continued (test b) rest)
+        (step_is s Good function room w a back (i.Loop line head) has) (λ u b ran.
+        tests.comes callers size slots b rest long (ticked_stands line size count slots a b ran stands)
+        (ticked a b tt good ran)
+        (λ d next is there. when_true d next (then_is (tick line a) tt b (λ _. test) _ ran is) there)
+        (λ d next is there. when_false d next (then_is (tick line a) tt b (λ _. test) _ ran is) there)));
+  }
+
   -- The code of a loop. Its condition leads into a turn or out; a turn has its body, its steps, and the tick of the
-  -- next turn, by which it leads back.
+  -- next turn with its condition, which leads into that or out.
   module _ (exits : Exits) (t : Turn) (head inside done again steps back out count : ℕ)
       (tests : Decides s Good function room t.condition head inside out count)
       (body : Performs s Good function room
@@ -116,7 +159,7 @@ module _ (s : Setting) (Good : Activity → Type 0) (function room : ℕ) where
       (reaches : Reaches s function done steps)
       (lands : Lands s Good function room Continued t.body again steps)
       (acts : Acts s Good function room t.steps steps back count count)
-      (loops : Has s Good function room back (i.Loop t.line head))
+      (loops : Decides s Good function room (tick t.line >> t.condition) back inside out count)
       (ranked : Ranked s Good)
       (whole : (a : Activity) → Good a → Whole count a)
       (ticked : LeadsTo Good (tick t.line) Good)
@@ -219,22 +262,34 @@ module _ (s : Setting) (Good : Activity → Type 0) (function room : ℕ) where
 
     next_turn : (depth : ℕ) → Again depth
     next_turn zero callers size slots a rest few long stands good outs =
-        let w : Window = record { slots = slots; count = count; callers = callers } in
-        arrives_then s (here function back count slots callers) a (tick t.line a) (λ _. out_of_ticks) rest
-        (goes_by s (here function back count slots callers) a (tick t.line a) (λ _. here function head count slots callers)
-        (λ _ b. continued (out_of_ticks b) rest) (step_is s Good function room w a back (i.Loop t.line head) loops)
-        (λ u b ran. absurd (omega (arith, few, spent t.line a b ran))))
+        let start = here function back count slots callers in
+        let no_tick : (b : Activity) → tick t.line a ≡ Done tt b → ⊥ = λ b ran. omega (arith, few, spent t.line a b ran) in
+        subst (λ (o : Option Outcome). Arrives s start a o) (none_left (tick t.line a) t.condition rest no_tick)
+        (loops.comes callers size slots a (λ _ b. rest On b) long stands good
+        (λ b slots_b ran there.
+        let parts = came (tick t.line a) (λ _. t.condition) true b ran in absurd (no_tick parts.1 parts.2))
+        (λ b slots_b ran there.
+        let parts = came (tick t.line a) (λ _. t.condition) false b ran in absurd (no_tick parts.1 parts.2)))
     next_turn (suc depth) callers size slots a rest few long stands good outs =
-        let w : Window = record { slots = slots; count = count; callers = callers } in
+        let start = here function back count slots callers in
         let whole_turn = t.condition >>= onwards depth in
-        arrives_then s (here function back count slots callers) a (tick t.line a) (λ _. whole_turn) rest
-        (goes_by s (here function back count slots callers) a (tick t.line a) (λ _. here function head count slots callers)
-        (λ _ b. continued (whole_turn b) rest) (step_is s Good function room w a back (i.Loop t.line head) loops)
-        (λ u b ran.
-        headed depth callers size slots b rest (next_turn depth) (omega (arith, few, spent t.line a b ran)) long
-        (ticked_stands t.line size count slots a b ran stands) (ticked a b tt good ran)
+        subst (λ (o : Option Outcome). Arrives s start a o)
+        (ap (λ (p : Progress Flow). continued p rest) (tested_after (tick t.line a) t.condition (onwards depth)))
+        (arrives_then s start a ((tick t.line >> t.condition) a) (onwards depth) rest
+        (loops.comes callers size slots a (λ u b. continued (onwards depth u b) rest) long stands good
+        (λ b slots_b ran there.
+        let parts = came (tick t.line a) (λ _. t.condition) true b ran in
+        let facts = tested parts.1 b true (ticked a parts.1 tt good parts.2) parts.3 in
+        turned depth callers size slots_b b rest (next_turn depth)
+        (omega (arith, few, facts.1, spent t.line a parts.1 parts.2)) long there facts.0
         (subst (λ (p : Progress Flow). Outs s function exits out count callers size p rest)
-        (then_is (tick t.line a) tt b (λ _. whole_turn) _ ran refl) outs)))
+        (then_is (tick t.line a) tt parts.1 (λ _. whole_turn) _ parts.2
+        (then_is (t.condition parts.1) true b (onwards depth) _ parts.3 refl)) outs))
+        (λ b slots_b ran there.
+        let parts = came (tick t.line a) (λ _. t.condition) false b ran in
+        outs.on b slots_b
+        (then_is (tick t.line a) tt parts.1 (λ _. whole_turn) _ parts.2
+        (then_is (t.condition parts.1) false b (onwards depth) _ parts.3 refl)) there)))
 
     -- a loop whose condition comes first: the tick of the first turn lies before it
     pub first_loops : (depth from : ℕ) → Has s Good function room from (i.Tick t.line) → head ≡ from + 1

@@ -102,7 +102,7 @@ stays_low w slot left right l r slots more b d held also low same =
     also.kept left (omega (arith, low, same)) (omega (arith, same)) ∙ held.value
 
 -- The value of the left operand is still where it was after the right one, if the local that has it is the same.
-stays_in : (w : Window) (slot left right : ℕ) (l r : Word) (slots more : List Word) (b d : Activity)
+pub stays_in : (w : Window) (slot left right : ℕ) (l r : Word) (slots more : List Word) (b d : Activity)
     → HoldsIn w slot left l slots b → HoldsIn (with_slots slots w) (slot + 1) right r more d → w.count ≤ slot
     → (left ≡ slot) ⊎ ((d.frame).locals ≡ (b.frame).locals) → slice_index_or more left words.Null ≡ l
 stays_in w slot left right l r slots more b d held also low (inl same) =

@@ -42,7 +42,7 @@ use Rattle.ash_compile.specs.Emission.{code_of, end_of, Keeps, Puts, Scene, IsSc
 use Rattle.ash_compile.specs.Operands.{ComputesIn, EmitsIn, EmitsInto, ReadsLocal, reads_local, IsPlain, truth, integer}
 use Rattle.ash_compile.specs.Operands.{IsSimple, Calculates, Operates, IsAddition}
 use Rattle.ash_compile.specs.Operands as operands
-use Rattle.ash_compile.proofs.Phrases.{given_keeps, calculated_keeps}
+use Rattle.ash_compile.proofs.Phrases.{given_keeps, calculated_keeps, none_held}
 use Rattle.ash_compile.proofs.KeptLocals.{KeepsLocals, done_keeps, keeps_give}
 use Rattle.ash_compile.proofs.Emission.{HasAt, keeps_itself, keeps_on, put_keeps, put_one, put_within, suits_before}
 use Rattle.ash_compile.proofs.Emission.{stands_before, stands_after, has_put}
@@ -96,6 +96,17 @@ local_there_in old _ n slot (reads_local {of = of} plain) = record {
       (λ a good.
       plain_none of plain (s.context).program (a.world).objects _ (local_value s a n of good (typed_local typed)));
 }
+
+-- what it reads
+pub reads_there : (s : Scene) (e : Expr) (n : ℕ) (t : ValueType) (a : Activity) → ReadsLocal e n → IsWellTyped s.env e t
+    → Good s a
+    → (n < length (a.frame).locals)
+    × (expression (calls_of s) e a ≡ Done (slice_index_or (a.frame).locals n words.Null) a)
+reads_there s _ n t a (reads_local {of = of} plain) typed good = (
+  local_there s a n of good (typed_local typed),
+  none_held (slice_index_or (a.frame).locals n words.Null) a
+      (plain_none of plain (s.context).program (a.world).objects _ (local_value s a n of good (typed_local typed))),
+)
 
 -- values where they are wanted
 
@@ -225,7 +236,7 @@ operated_keeps : (o : Operation) (l r v : Word) (b d : Activity) → operate o l
 operated_keeps (operations.Calculate c) l r v b d ran = calculated_keeps c l r b d v ran
 operated_keeps (operations.Compare comparator of) l r v b d ran = given_keeps _ b d v ran
 
-unmoved : (s : Scene) (b : Expr) (left slot : ℕ) → (left ≡ slot) ⊎ IsSimple b
+pub unmoved : (s : Scene) (b : Expr) (left slot : ℕ) → (left ≡ slot) ⊎ IsSimple b
     → (left ≡ slot) ⊎ ((x y : Activity) (v : Word) → expression (calls_of s) b x ≡ Done v y
     → (y.frame).locals ≡ (x.frame).locals)
 unmoved s b left slot (inl same) = inl same
@@ -268,7 +279,7 @@ literal_is n within = ap words.Int (int_wrap_fits w32 (pos n) (record { sfits = 
 less_is : (x : ℤ) (n : ℕ) → x +ℤ (pos 0 -ℤ pos n) ≡ x -ℤ pos n
 less_is x n = omega (arith, signed)
 
-adds_number : (s : Scene) (o : Operation) (b : Expr) (number : ℤ) (t : ValueType) (left to : ℕ) (l : Word) (at : Control)
+pub adds_number : (s : Scene) (o : Operation) (b : Expr) (number : ℤ) (t : ValueType) (left to : ℕ) (l : Word) (at : Control)
     (a : Activity)
     → IsAddition o b number → IsWellTyped s.env b t → word_in left at ≡ l
     → perform s.setting (i.AddNumber left number to) at a
@@ -284,7 +295,7 @@ adds_number s _ _ _ t left to l at a (operands.addition (operands.adds_to (opera
     ∙ ap (λ (x : Word). guarded_onward (Some (calculate (of_int calculators.Subtract) l x a)) (put to at))
     (sym (literal_is n (number_within typed)))
 
-number_keeps : (s : Scene) (o : Operation) (b : Expr) (number : ℤ) (l v : Word) (x y : Activity) → IsAddition o b number
+pub number_keeps : (s : Scene) (o : Operation) (b : Expr) (number : ℤ) (l v : Word) (x y : Activity) → IsAddition o b number
     → onward (expression (calls_of s) b x) (operate o l) ≡ Done v y → (y.frame).locals ≡ (x.frame).locals
 number_keeps s o _ _ l v x y (operands.addition (operands.adds_to (operands.Adds.adds {n = n}))) ran = operated_keeps o l (word_at ints.Int (pos n)) v x y ran
 number_keeps s o _ _ l v x y (operands.addition (operands.adds_to (operands.Adds.subtracts {n = n}))) ran = operated_keeps o l (word_at ints.Int (pos n)) v x y ran

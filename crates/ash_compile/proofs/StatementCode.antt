@@ -74,11 +74,11 @@ module _ (s : Scene) (scene : IsScene s) (ranked : IsRanked s) where
     comes = λ w a rest low long fits good. does.comes w a rest low long fits good;
   }
 
-  ranks_after : (e : Expr) (of : ValueType) → IsWellTyped s.env e of
+  pub ranks_after : (e : Expr) (of : ValueType) → IsWellTyped s.env e of
       → RanksAfter s.setting (Ready s) (expression (calls_of s) e)
   ranks_after e of typed a b v good is = ranked s.env b (((spends_expression s scene e of typed a b v good is).0).0)
 
-  ticked : (line : ℕ) → LeadsTo (Ready s) (tick line) (Ready s)
+  pub ticked : (line : ℕ) → LeadsTo (Ready s) (tick line) (Ready s)
   ticked line = leads_by (tick line) (spends_tick s scene line)
 
   -- parts of statements
@@ -189,6 +189,14 @@ module _ (s : Scene) (scene : IsScene s) (ranked : IsRanked s) where
 
   -- loops
 
+  pub does_back : (line : ℕ) (c : Option Expr) (back head inside out : ℕ)
+      → DoesTest (condition_or_true (calls_of s) c) head inside out
+      → HasAt back (i.Loop line head)
+      → DoesTest (tick line >> condition_or_true (calls_of s) c) back inside out
+  does_back line c back head inside out tests has =
+      loops.ticks_back s.setting (Ready s) s.function s.room (condition_or_true (calls_of s) c) line back head inside out
+      locals tests has (ticked line)
+
   abbrev turn_of : ℕ → Option Expr → List Expr → Stmt → Turn
   turn_of line c es x = record {
     line = line;
@@ -208,7 +216,7 @@ module _ (s : Scene) (scene : IsScene s) (ranked : IsRanked s) where
       (reaches : Reaches s.setting s.function done steps)
       (lands : Lands s.setting (Ready s) s.function s.room Continued (statement (calls_of s) s.depth x) again steps)
       (acts : DoesParts (evaluate_all (calls_of s) es) steps back)
-      (has_loop : HasAt back (i.Loop line head)) where
+      (next : DoesTest (tick line >> condition_or_true (calls_of s) c) back inside out) where
     tested : Spends (Ready s) (condition_or_true (calls_of s) c)
     tested = spends_condition_or_true s scene c sound_condition
 
@@ -222,14 +230,14 @@ module _ (s : Scene) (scene : IsScene s) (ranked : IsRanked s) where
         → Does exits (loop (calls_of s) s.depth line (repeated kinds.First c es x)) from out
     does_first_loop from has head_is =
         loops.first_loops s.setting (Ready s) s.function s.room exits (turn_of line c es x) head inside done again steps back
-        out locals tests body reaches lands acts has_loop (λ a good. ranked s.env a good.0) (whole s scene) (ticked line)
+        out locals tests body reaches lands acts next (λ a good. ranked s.env a good.0) (whole s scene) (ticked line)
         (leads_by _ (spends_release s scene)) tested bodied stepped s.depth from has head_is (λ a good. good.1)
 
     pub does_last_loop : (from : ℕ) → Reaches s.setting s.function from inside
         → Does exits (loop (calls_of s) s.depth line (repeated kinds.Last c es x)) from out
     does_last_loop from leads =
         loops.last_loops s.setting (Ready s) s.function s.room exits (turn_of line c es x) head inside done again steps back
-        out locals tests body reaches lands acts has_loop (λ a good. ranked s.env a good.0) (whole s scene) (ticked line)
+        out locals tests body reaches lands acts next (λ a good. ranked s.env a good.0) (whole s scene) (ticked line)
         (leads_by _ (spends_release s scene)) tested bodied stepped s.depth from leads (λ a good. good.1)
 
     -- the loop, as it keeps activities

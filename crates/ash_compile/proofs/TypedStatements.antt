@@ -29,7 +29,7 @@ use Rattle.ash_soundness.proofs.Frames.{tick_goes, release_passes, end_passes}
 use Rattle.ash_compile.specs.Emission.{Scene, IsScene, calls_of, Good}
 use Rattle.ash_compile.proofs.Typed.{left_done, most_left, fewer_ticks, values_long, stays_good}
 use Rattle.ash_compile.proofs.Statements.{spent, LeadsTo}
-use Rattle.ash_compile.proofs.Loops.{Spends, Whole, released_ticks}
+use Rattle.ash_compile.proofs.Loops.{Spends, Whole, released_ticks, came}
 
 -- Activities in which the statements of a function run are those in which its expressions do: they have no more ticks
 -- than turns of loops.
@@ -44,14 +44,6 @@ IsRanked s =
 
 pub ranked_of : (s : Scene) → IsScene s → IsRanked s
 ranked_of s scene env a well = scene.ranks env s.envs a well
-
--- how a phrase came to its value
-
-pub came : {A B : Type 0} (p : Progress A) (f : A → Run B) (v : B) (b : Activity) → onward p f ≡ Done v b
-    → (u : A) × (d : Activity) × (p ≡ Done u d) × (f u d ≡ Done v b)
-came (Done u d) f v b is = (u, d, refl, is)
-came (Ended e d) f v b is = absurd (cc)
-came NoStep f v b is = absurd (cc)
 
 pub spends_then : {A B : Type 0} {Good : Activity → Type 0} (p : Run A) (f : A → Run B) → Spends Good p
     → ((v : A) → Spends Good (f v)) → Spends Good (p >>= f)

@@ -6,6 +6,7 @@ use Rattle.std.specs.Prelude.{◌≡◌, ◌≤◌, ◌<◌, ℕ, ◌+◌, List,
 use Rattle.std.specs.Prelude.{suc, option_map, ◌||◌, nat_eq, slice_get, if◌then◌else◌}
 use Rattle.std.specs.List.{AllByRecursion}
 use Rattle.ash_host.specs.declared.word.Word.{Word}
+use Rattle.ash_integers.specs.declared.comparison.Comparison.{Comparison}
 use Rattle.ash_integers.specs.declared.int_type.IntType.{IntType}
 use Rattle.ash_integers.specs.Integers.{number_of}
 use Rattle.ash_tree.specs.declared.tree.statements.Label.{Label}
@@ -16,19 +17,23 @@ use Rattle.ash_typed.specs.TypedTree.{Expr}
 use Rattle.ash_typed.specs.StatementTree.{Initialization, Head, Loop, Stmt, Stmts, stmt, Case, labelled, Cases, no_case, next_case}
 use Rattle.ash_typed.specs.SoundStatements.{AreSoundCases, constant_of}
 use Rattle.ash_typed.specs.SoundStatements.{TypedScope, IsSoundStmt, AreSoundStmts, IsLoop, IsSoundHead, AreSoundDeclarations}
-use Rattle.ash_typed.specs.SoundStatements.{IsEvaluated}
+use Rattle.ash_typed.specs.SoundStatements.{IsEvaluated, IsSoundCondition}
 use Rattle.ash_meaning.specs.Runs.{Run}
-use Rattle.ash_meaning.specs.StatementMeaning.{Flow, Continued, statement, statements, loop, begin, declare_all, evaluate_all}
+use Rattle.ash_meaning.specs.StatementMeaning.{Flow, Continued, statement, statements, loop, begin, declare_all, evaluate_all, condition}
 use Rattle.ash_code.specs.declared.instruction.Instruction.{Instruction}
 use Rattle.ash_code.specs.declared.instruction.Instruction.TheVariants as i
 use Rattle.ash_code.specs.Running.{instruction_at}
 use Rattle.ash_compile.specs.declared.builder.CodeBuilder.{CodeBuilder}
 use Rattle.ash_compile.specs.declared.bodies.Scope.{Scope}
+use Rattle.ash_compile.specs.declared.bodies.Branch.{Branch}
+use Rattle.ash_compile.specs.declared.bodies.Condition.{Condition}
+use Rattle.ash_compile.specs.declared.bodies.Condition.TheVariants as conditions
 use Rattle.ash_compile.specs.declared.bodies.Jumps.{Jumps}
-use Rattle.ash_compile.specs.Performances.{Exits, Acts, Performs, Reaches, Lands}
+use Rattle.ash_compile.specs.Performances.{Exits, Acts, Decides, Performs, Reaches, Lands}
+use Rattle.ash_compile.specs.Stretches.{Has}
 use Rattle.ash_compile.specs.Emission.{code_of, end_of, Keeps, Puts, Leads, Scene, IsScene, Suits, calls_of}
 use Rattle.ash_compile.specs.Emission.{Good, Stands, Emits}
-use Rattle.ash_compile.specs.Operands.{EmitsEffect}
+use Rattle.ash_compile.specs.Operands.{EmitsEffect, ComparesLocals}
 
 -- jumps that wait
 
@@ -221,22 +226,36 @@ pub record EmitsEvaluations (old new : CodeBuilder) (es : List Expr) (slot : ℕ
       → Suits s new
       → DoesActs s (evaluate_all (calls_of s) es) (end_of old) (end_of new) (length (s.env).locals)
 
--- The code has grown by that of a condition and a branch, whose target is not known yet.
-pub record Tests (old new : CodeBuilder) (e : Expr) (slot branch : ℕ) : Type 0 where
-  pub mid : CodeBuilder
-  pub emits : Emits old mid e slot
-  pub puts : Puts mid new slot (i.Branch slot 0)
-  pub place : branch ≡ end_of mid
+-- a branch to a place, if a condition is not met
+abbrev pub branch_on : Condition → ℕ → Instruction
+branch_on (conditions.Truth slot) to = i.Branch slot to
+branch_on (conditions.Comparison comparison left right) to = i.BranchUnless comparison left right to
+
+-- The code has grown by that of a condition and a branch, whose target is not known yet: wherever it stands, it decides
+-- as the condition does if its branch leads somewhere.
+pub record Tests (old new : CodeBuilder) (e : Expr) (slot : ℕ) (branch : Branch) : Type 0 where
+  pub keeps : Keeps old new
+  pub later : end_of old ≤ branch.at
+  pub end : end_of new ≡ branch.at + 1
+  pub does : (s : Scene) (unmet : ℕ)
+      → IsScene s
+      → slot ≡ length (s.env).locals
+      → IsSoundCondition s.env e
+      → Stands s (code_of new) (end_of old) branch.at
+      → Has s.setting (Good s) s.function s.room branch.at (branch_on branch.condition unmet)
+      → Suits s new
+      → Decides s.setting (Good s) s.function s.room (condition (calls_of s) e) (end_of old) (end_of new) unmet
+      (length (s.env).locals)
 
 -- The same of a condition that may be absent.
-abbrev pub MayTest : CodeBuilder → CodeBuilder → Option Expr → ℕ → Option ℕ → Type 0
+abbrev pub MayTest : CodeBuilder → CodeBuilder → Option Expr → ℕ → Option Branch → Type 0
 MayTest old new None slot branch = (new ≡ old) × (branch ≡ None)
-MayTest old new (Some e) slot branch = (at : ℕ) × (branch ≡ Some at) × Tests old new e slot at
+MayTest old new (Some e) slot branch = (there : Branch) × (branch ≡ Some there) × Tests old new e slot there
 
 -- The branch of a condition that may be absent leads to a place.
-abbrev pub MayLead : CodeBuilder → CodeBuilder → Option ℕ → ℕ → ℕ → Type 0
-MayLead old new None slot to = new ≡ old
-MayLead old new (Some at) slot to = Leads old new at (i.Branch slot to)
+abbrev pub MayLead : CodeBuilder → CodeBuilder → Option Branch → ℕ → Type 0
+MayLead old new None to = new ≡ old
+MayLead old new (Some branch) to = Leads old new branch.at (branch_on branch.condition to)
 
 -- variables
 
@@ -277,6 +296,14 @@ abbrev pub loop_entry : Test → ℕ → ℕ → Instruction
 loop_entry tests.First line to = i.Tick line
 loop_entry tests.Last line to = i.Jump to
 
+-- The instruction takes the tick of the next turn of a loop, and leads back to its condition, or compares two locals again
+-- if that is the condition, and leads into the turn.
+pub data NextTurn : Option Expr → ℕ → ℕ → ℕ → Instruction → Type 0 where
+  leads_back : {e : Option Expr} {line head inside : ℕ} → NextTurn e line head inside (i.Loop line head)
+  compares : {e : Expr} {comparison : Comparison} {line left right head inside : ℕ}
+      → ComparesLocals e comparison left right
+      → NextTurn (Some e) line head inside (i.LoopWhile line comparison left right inside)
+
 -- A release point was put behind the code, where jumps at these places lead. Code that comes there goes on behind it.
 pub record Landing (old new : CodeBuilder) (places : List ℕ) : Type 0 where
   pub code : (k : ℕ) → k < end_of old
@@ -286,6 +313,26 @@ pub record Landing (old new : CodeBuilder) (places : List ℕ) : Type 0 where
   pub long : end_of new ≡ end_of old + 1 + 1
   pub slots : old.slots ≤ new.slots
   pub layout : new.layout ≡ old.layout
+
+abbrev pub without_continue : TypedScope → TypedScope
+without_continue scope = record {
+  env = scope.env;
+  result = scope.result;
+  may_break = scope.may_break;
+  may_continue = false;
+}
+
+-- A statement that is sound where it may go on with the next turn of a loop is so where it may not.
+abbrev pub HasNoContinue : Stmt → Type 0
+HasNoContinue x = (scope : TypedScope) → IsSoundStmt scope x → IsSoundStmt (without_continue scope) x
+
+abbrev pub HaveNoContinue : Stmts → Type 0
+HaveNoContinue xs = (scope : TypedScope) → AreSoundStmts scope xs → AreSoundStmts (without_continue scope) xs
+
+-- Jumps of `continue` lead to a release point that was put behind the code of a body, or there are none.
+pub data EndsBody (old new : CodeBuilder) (places : List ℕ) (x : Stmt) : Type 0 where
+  lands : Landing old new places → EndsBody old new places x
+  none : {to : ℕ} → LeadsAll old new places to → HasNoContinue x → EndsBody old new places x
 
 -- The code of the body of a loop comes to its steps, also by `continue`.
 pub record EmitsLoopBody (old new : Draft) (x : Stmt) (scope : Scope) : Type 0 where

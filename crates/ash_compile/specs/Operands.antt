@@ -2,6 +2,8 @@
 use Rattle.std.specs.Prelude.{◌≡◌, ◌≤◌, ◌<◌, ◌⊎◌, ℕ, ◌+◌, List, Bool, length, take, slice_index_or, Option, ℤ, pos, ◌-ℤ◌}
 use Rattle.ash_host.specs.declared.word.Word.{Word}
 use Rattle.ash_host.specs.declared.word.Word.TheVariants.{Null}
+use Rattle.ash_integers.specs.declared.comparison.Comparison.{Comparison}
+use Rattle.ash_integers.specs.declared.comparison.Comparison.TheVariants as comparisons
 use Rattle.ash_integers.specs.declared.int_type.IntType.{IntType}
 use Rattle.ash_integers.specs.declared.int_type.IntType.TheVariants as ints
 use Rattle.ash_typed.specs.declared.types.VarType.{VarType}
@@ -11,11 +13,13 @@ use Rattle.ash_typed.specs.declared.tree.operations.Calculator.{Calculator}
 use Rattle.ash_typed.specs.declared.tree.operations.Calculator.TheVariants as calculators
 use Rattle.ash_typed.specs.declared.tree.operations.Calculation.{Calculation}
 use Rattle.ash_typed.specs.declared.tree.operations.Comparator.{Comparator}
+use Rattle.ash_typed.specs.declared.tree.operations.Comparator.TheVariants as comparators
 use Rattle.ash_typed.specs.declared.tree.operations.Operands.{Operands}
+use Rattle.ash_typed.specs.declared.tree.operations.Operands.TheVariants as operand_types
 use Rattle.ash_typed.specs.declared.tree.operations.Operation.{Operation}
 use Rattle.ash_typed.specs.declared.tree.operations.Operation.TheVariants as operations
 use Rattle.ash_typed.specs.TypeOf.{ValueType}
-use Rattle.ash_typed.specs.TypedTree.{Expr, Number, Truth, Read, Assign, Stored}
+use Rattle.ash_typed.specs.TypedTree.{Expr, Number, Truth, Read, Operate, Assign, Stored}
 use Rattle.ash_typed.specs.SoundExpressions.{IsWellTyped}
 use Rattle.ash_meaning.specs.Activity.{Activity}
 use Rattle.ash_meaning.specs.Runs.{Run, Done}
@@ -61,6 +65,25 @@ pub data Operates : Instruction → Operation → ℕ → ℕ → ℕ → Type 0
       → Operates j (operations.Calculate c) left right to
   compares : {comparator : Comparator} {operands : Operands} {left right to : ℕ}
       → Operates (i.Compare comparator operands left right to) (operations.Compare comparator operands) left right to
+
+-- a comparison of integers
+pub data ComparesBy : Comparator → Comparison → Type 0 where
+  less : ComparesBy comparators.Less comparisons.Less
+  less_or_equal : ComparesBy comparators.LessOrEqual comparisons.LessOrEqual
+  greater : ComparesBy comparators.Greater comparisons.Greater
+  greater_or_equal : ComparesBy comparators.GreaterOrEqual comparisons.GreaterOrEqual
+  equal : ComparesBy comparators.Equal comparisons.Equal
+  not_equal : ComparesBy comparators.NotEqual comparisons.NotEqual
+
+-- The operator compares two integers.
+pub data Compares : Operation → Comparison → Type 0 where
+  compares : {comparator : Comparator} {comparison : Comparison} {int_type : IntType} → ComparesBy comparator comparison
+      → Compares (operations.Compare comparator (operand_types.Integers int_type)) comparison
+
+-- The expression compares the integers of two locals.
+pub data ComparesLocals : Expr → Comparison → ℕ → ℕ → Type 0 where
+  compares_locals : {o : Operation} {comparison : Comparison} {a b : Expr} {left right : ℕ} → Compares o comparison
+      → ReadsLocal a left → ReadsLocal b right → ComparesLocals (Operate o a b) comparison left right
 
 -- an `int` that a script writes
 pub data IsInt : Expr → ℤ → Type 0 where

@@ -1,19 +1,24 @@
 //! The code of variables, of full expressions and of lists of statements.
 
 ghost use Rattle.std.specs.Prelude.{◌≡◌, ◌+◌, IfOk, map};
-ghost use Rattle.ash_typed.specs.TypedTreeViews.{expr_of};
+ghost use Rattle.ash_typed.specs.TypedTree.{Expr as ExprData};
+ghost use Rattle.ash_typed.specs.TypedTreeViews.{expr_of, chained, all_chained};
 ghost use Rattle.ash_typed.specs.BodyViews.{value_of, head_of};
 ghost use Rattle.ash_meaning.specs.OperatorMeaning.{zero_of};
 ghost use Rattle.ash_code.specs.declared.instruction.Instruction.TheVariants as i;
-ghost use Rattle.ash_compile.specs.Emission.{Puts, end_of};
+ghost use Rattle.ash_compile.specs.Emission.{Puts, Emits};
+ghost use Rattle.ash_compile.specs.Operands.{Compares};
+ghost use Rattle.ash_compile.specs.declared.builder.CodeBuilder.{CodeBuilder as Written};
 ghost use Rattle.ash_compile.specs.EmittedStatements.{EmitsVariable, EmitsVariables, EmitsHead, EmitsEvaluation, EmitsFull};
 ghost use Rattle.ash_compile.specs.EmittedStatements.{EmitsEvaluations, Tests};
 
+use crate::bodies::{Branch, Condition, branch_to};
 use crate::builder::CodeBuilder;
+use crate::operators::comparison_of;
 use ash_code::instruction::Instruction;
 use ash_host::Word;
-use ash_integers::word_from;
-use ash_typed::{Expr, Head, Initialization, VarType};
+use ash_integers::{Comparison, word_from};
+use ash_typed::{Expr, ExprKind, Head, Initialization, Operand, VarType};
 use std::alloc::AllocError;
 
 /// What a variable has that begins with nothing.
@@ -76,20 +81,79 @@ impl CodeBuilder {
         Ok(())
     }
 
-    /// A condition. The place of its branch is returned: where that leads if the condition is not met is written later.
-    pub(crate) fn condition(&mut self, expr: &Expr, slot: usize) -> Result<usize, AllocError>
+    /// A condition. Its branch is returned: where that leads if the condition is not met is written later.
+    pub(crate) fn condition(&mut self, expr: &Expr, slot: usize) -> Result<Branch, AllocError>
         ensures emits { IfOk result (λ branch. Tests self.old self.new (expr_of expr.now) slot branch) }
     {
-        self.expression(expr, slot)?;
-        let branch = self.here();
-        self.put(
-            slot,
-            Instruction::Branch {
-                condition: slot,
-                to: 0,
+        match &*expr.kind {
+            ExprKind::Chain { first, operands } => self.chain_condition(first, operands, slot),
+            _ => {
+                self.expression(expr, slot)?;
+                self.truth(slot)
+            }
+        }
+    }
+
+    /// A condition whose last operator may compare integers.
+    fn chain_condition(
+        &mut self,
+        first: &Expr,
+        operands: &[Operand],
+        slot: usize,
+    ) -> Result<Branch, AllocError>
+        ensures emits { IfOk result (λ branch. Tests self.old self.new
+            (all_chained (expr_of first.now) operands.now) slot branch) }
+    {
+        match operands.split_last() {
+            None => {
+                self.expression(first, slot)?;
+                self.truth(slot)
+            }
+            Some((last, before)) => match comparison_of(last.operation) {
+                Some(comparison) => self.comparing(first, before, last, comparison, slot),
+                None => {
+                    self.chain(first, operands, slot, slot)?;
+                    self.truth(slot)
+                }
             },
-        )?;
-        Ok(branch)
+        }
+    }
+
+    /// A condition that compares integers.
+    fn comparing(
+        &mut self,
+        first: &Expr,
+        before: &[Operand],
+        last: &Operand,
+        comparison: Comparison,
+        slot: usize,
+    ) -> Result<Branch, AllocError>
+        ensures emits { IfOk result (λ branch. Compares last.now.operation comparison
+            → Tests self.old self.new (chained (all_chained (expr_of first.now) before.now) last.now) slot branch) }
+    {
+        let left = self.row(first, before, &last.value, slot)?;
+        let left = self.conversion_before(last.before, left, slot)?;
+        let next = one_more(slot)?;
+        let right = self.value(&last.value, next)?;
+        let condition = Condition::Comparison {
+            comparison,
+            left,
+            right,
+        };
+        let at = self.here();
+        self.put(slot, branch_to(condition, 0))?;
+        Ok(Branch { at, condition })
+    }
+
+    /// The branch of a condition that has its truth value in a slot.
+    fn truth(&mut self, slot: usize) -> Result<Branch, AllocError>
+        ensures emits { IfOk result (λ branch. (start : Written) (e : ExprData) → Emits start self.old e slot
+            → Tests start self.new e slot branch) }
+    {
+        let condition = Condition::Truth { slot };
+        let at = self.here();
+        self.put(slot, branch_to(condition, 0))?;
+        Ok(Branch { at, condition })
     }
 
     /// A variable, which becomes the local in this slot.

@@ -9,14 +9,14 @@ ghost use Rattle.std.specs.Prelude.{◌≡◌, ℕ, List, IfOk, map, option_map}
 ghost use Rattle.ash_typed.specs.TypedTreeViews.{expr_of};
 ghost use Rattle.ash_typed.specs.BodyViews.{stmt_of, body_of, value_of};
 ghost use Rattle.ash_typed.specs.StatementTree.{Declare, Evaluate, Block, If, no_branch, branch, Break, Continue, Return};
-ghost use Rattle.ash_code.specs.declared.instruction.Instruction.TheVariants as i;
 ghost use Rattle.ash_compile.specs.Emission.{end_of};
 ghost use Rattle.ash_compile.specs.EmittedStatements.{AreBelow, LeadsAll, draft, with_jumps, EmitsStatement};
 ghost use Rattle.ash_compile.specs.EmittedStatements.{EmitsListed, EmitsStatements, EmitsBody};
-ghost use Rattle.ash_compile.specs.EmittedStatements.{LeavesBlocks, frame_end};
+ghost use Rattle.ash_compile.specs.EmittedStatements.{LeavesBlocks, frame_end, branch_on};
 
 use crate::builder::CodeBuilder;
 use ash_code::instruction::Instruction;
+use ash_integers::Comparison;
 use ash_typed::{Expr, Initialization, Stmt, StmtKind};
 use std::alloc::{AllocError, Global};
 
@@ -54,11 +54,48 @@ pub(crate) fn function_end(constructs: bool) -> Instruction
     }
 }
 
-/// A branch to a place, if the condition in a slot is not met.
-pub(crate) fn branch_to(condition: usize, to: usize) -> Instruction
-    ensures branch { result ≡ i.Branch condition to }
+/// How a condition is tested.
+#[derive(Clone, Copy)]
+pub enum Condition {
+    /// By the truth value of a slot.
+    Truth {
+        slot: usize,
+    },
+    /// By a comparison of the integers of two slots.
+    Comparison {
+        comparison: Comparison,
+        left: usize,
+        right: usize,
+    },
+}
+
+/// The branch of a condition, whose target is not known yet.
+#[derive(Clone, Copy)]
+pub struct Branch {
+    pub at: usize,
+    pub condition: Condition,
+}
+
+/// A branch to a place, if a condition is not met.
+pub(crate) fn branch_to(condition: Condition, to: usize) -> Instruction
+    ensures branch { result ≡ branch_on condition to }
 {
-    Instruction::Branch { condition, to }
+    match condition {
+        Condition::Truth { slot } => Instruction::Branch {
+            condition: slot,
+            to,
+        },
+        Condition::Comparison {
+            comparison,
+            left,
+            right,
+        } => Instruction::BranchUnless {
+            comparison,
+            left,
+            right,
+            to,
+        },
+    }
 }
 
 impl CodeBuilder {
@@ -245,7 +282,7 @@ impl CodeBuilder {
         let branch = self.condition(condition, scope.locals)?;
         self.statement(then, scope, jumps)?;
         let end = self.here();
-        self.lead(branch, branch_to(scope.locals, end));
+        self.lead(branch.at, branch_to(branch.condition, end));
         Ok(())
     }
 
@@ -271,7 +308,7 @@ impl CodeBuilder {
         let other = self.here();
         self.statement(otherwise, scope, jumps)?;
         let end = self.here();
-        self.lead(test, branch_to(scope.locals, other));
+        self.lead(test.at, branch_to(test.condition, other));
         self.lead(back, Instruction::Jump { to: end });
         Ok(())
     }

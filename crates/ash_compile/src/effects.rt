@@ -7,7 +7,7 @@ ghost use Rattle.ash_compile.specs.Operands.{EmitsInto, EmitsEffect};
 ghost use Rattle.ash_compile.specs.Effects.{IsLocalPlace, CountsInt, Counts};
 
 use crate::builder::CodeBuilder;
-use crate::operators::calculating;
+use crate::operators::{addend, calculating};
 use ash_code::instruction::Instruction;
 use ash_integers::IntType;
 use ash_typed::{Calculation, Expr, ExprKind, IncrementOp, Place, Variable};
@@ -137,7 +137,19 @@ impl CodeBuilder {
         ensures emits { IfOk result (λ u. (place : PlaceData) → IsLocalPlace place local
             → EmitsEffect self.old self.new (Update place calculation.of calculation (expr_of value.now)) slot) }
     {
-        let right = self.value(value, slot)?;
-        self.put(slot, calculating(calculation, local, right, local))
+        match addend(calculation, value) {
+            Some(number) => self.put(
+                slot,
+                Instruction::AddNumber {
+                    left: local,
+                    number,
+                    to: local,
+                },
+            ),
+            None => {
+                let right = self.value(value, slot)?;
+                self.put(slot, calculating(calculation, local, right, local))
+            }
+        }
     }
 }

@@ -212,7 +212,7 @@ impl CodeBuilder {
     }
 
     /// Converts an operand where a conversion is named. Its value is in the slot that is given back.
-    fn conversion_before(
+    pub(crate) fn conversion_before(
         &mut self,
         before: Option<Conversion>,
         left: usize,
@@ -308,7 +308,7 @@ impl CodeBuilder {
 
     /// What operators make of the value of an expression, one after the other, before another operand.
     #[cycle(expressions)]
-    fn row(
+    pub(crate) fn row(
         &mut self,
         first: &Expr,
         operands: &[Operand],

@@ -4,7 +4,7 @@
 //! code does, wherever it stands.
 //!
 //! In reading order: `layout`, `builder`, `operators`, `expressions`, `places`, `calls`, `effects`, `blocks`, `bodies`,
-//! `looping`, `switching`, `initializers`, `frames`, `classes`, `module`.
+//! `continues`, `looping`, `switching`, `initializers`, `frames`, `classes`, `module`.
 #![tactic(auto)]
 
 mod blocks;
@@ -12,6 +12,7 @@ pub mod bodies;
 pub mod builder;
 mod calls;
 mod classes;
+mod continues;
 mod effects;
 pub mod expressions;
 mod frames;

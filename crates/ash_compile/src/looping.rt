@@ -1,20 +1,23 @@
 //! The code of loops.
 //!
 //! A loop has the tick of its first turn, or a jump to its body if the condition comes last. Then come the condition,
-//! the body, the steps, and the tick of the next turn, which leads back to the condition. A `continue` leads to a
-//! release point before the steps, a `break` to one behind the loop.
+//! the body, the steps, and the tick of the next turn, which leads back to the condition, or to the body if two locals
+//! are as the condition wants. A `continue` leads to a
+//! release point before the steps, a `break` to one behind the loop. A body without `continue` needs none.
 
-ghost use Rattle.std.specs.Prelude.{◌≡◌, ◌<◌, IfOk, option_map, IfSome};
+ghost use Rattle.std.specs.Prelude.{◌≡◌, ◌<◌, IfOk, option_map, IfSome, Some};
 ghost use Rattle.ash_typed.specs.TypedTreeViews.{expr_of};
 ghost use Rattle.ash_typed.specs.BodyViews.{stmt_of, loop_of, head_of};
 ghost use Rattle.ash_typed.specs.StatementTree.{Repeat, For};
 ghost use Rattle.ash_compile.specs.Emission.{end_of};
 ghost use Rattle.ash_compile.specs.EmittedStatements.{AreBelow, draft, EmitsStatement, EmitsLoop, EmitsLoopBody};
-ghost use Rattle.ash_compile.specs.EmittedStatements.{MayTest, MayLead, Landing, loop_entry};
+ghost use Rattle.ash_compile.specs.EmittedStatements.{MayTest, MayLead, Landing, EndsBody, NextTurn, loop_entry};
 
 use crate::blocks::line_of;
-use crate::bodies::{Jumps, Scope, branch_to};
+use crate::bodies::{Branch, Jumps, Scope, branch_to};
 use crate::builder::CodeBuilder;
+use crate::continues::has_no_continue;
+use crate::operators::local_comparison;
 use ash_code::instruction::Instruction;
 use ash_typed::{Expr, Head, Loop, Stmt, Test};
 use std::alloc::AllocError;
@@ -27,6 +30,32 @@ fn entry_of(test: Test, line: u32, body: usize) -> Instruction
     match test {
         Test::First => Instruction::Tick { line },
         Test::Last => Instruction::Jump { to: body },
+    }
+}
+
+/// What takes the tick of the next turn: it leads back to the condition, or compares two locals again.
+fn next_turn(condition: &Option<Expr>, line: u32, head: usize, body: usize) -> Instruction
+    ensures next { NextTurn (option_map expr_of condition.now) line head body result }
+{
+    match condition {
+        None => Instruction::Loop { line, to: head },
+        Some(condition) => next_test(condition, line, head, body),
+    }
+}
+
+/// The same, if there is a condition.
+fn next_test(condition: &Expr, line: u32, head: usize, body: usize) -> Instruction
+    ensures next { NextTurn (Some (expr_of condition.now)) line head body result }
+{
+    match local_comparison(condition) {
+        None => Instruction::Loop { line, to: head },
+        Some(compared) => Instruction::LoopWhile {
+            line,
+            comparison: compared.comparison,
+            left: compared.left,
+            right: compared.right,
+            to: body,
+        },
     }
 }
 
@@ -109,18 +138,18 @@ impl CodeBuilder {
         self.lead(entry, entry_of(inside.test, line, body));
         self.loop_body(&inside.body, scope, jumps)?;
         self.evaluations(&inside.steps, slot)?;
-        self.put(slot, Instruction::Loop { line, to: head })?;
+        self.put(slot, next_turn(&inside.condition, line, head, body))?;
         let end = self.here();
-        self.lead_out(branch, slot, end);
+        self.lead_out(branch, end);
         Ok(())
     }
 
-    /// The condition of a loop, if it has one. The place of its branch is returned.
+    /// The condition of a loop, if it has one. Its branch is returned.
     fn turn_condition(
         &mut self,
         condition: &Option<Expr>,
         slot: usize,
-    ) -> Result<Option<usize>, AllocError>
+    ) -> Result<Option<Branch>, AllocError>
         ensures tests { IfOk result (λ branch. MayTest self.old self.new (option_map expr_of condition.now) slot branch) }
     {
         match condition {
@@ -133,12 +162,12 @@ impl CodeBuilder {
     }
 
     /// The branch of a condition, if there is one, leads to a place.
-    fn lead_out(&mut self, branch: Option<usize>, slot: usize, to: usize)
-        requires there { IfSome branch (λ at. at < end_of self.old) }
-        ensures leads { MayLead self.old self.new branch slot to }
+    fn lead_out(&mut self, branch: Option<Branch>, to: usize)
+        requires there { IfSome branch (λ branch. branch.at < end_of self.old) }
+        ensures leads { MayLead self.old self.new branch to }
     {
-        if let Some(at) = branch {
-            self.lead(at, branch_to(slot, to));
+        if let Some(branch) = branch {
+            self.lead(branch.at, branch_to(branch.condition, to));
         }
     }
 
@@ -151,9 +180,22 @@ impl CodeBuilder {
         let outer = mem::replace(&mut jumps.continues, Vec::new(jumps.alloc));
         let continued = scope.locals;
         self.statement(body, Scope { continued, ..scope }, jumps)?;
-        self.landing(&jumps.continues, scope.locals)?;
+        self.body_end(body, &jumps.continues, scope.locals)?;
         jumps.continues = outer;
         Ok(())
+    }
+
+    /// Where the `continue` of a body leads: a release point, if it has one.
+    fn body_end(&mut self, body: &Stmt, places: &[usize], slot: usize) -> Result<(), AllocError>
+        requires there { AreBelow (end_of self.old) places.now }
+        ensures ends { IfOk result (λ u. EndsBody self.old self.new places.now (stmt_of body.now)) }
+    {
+        if has_no_continue(body) {
+            let end = self.here();
+            self.lead_all(places, end);
+            return Ok(());
+        }
+        self.landing(places, slot)
     }
 
     /// A release point where jumps lead. Code that comes here goes on behind it.

@@ -1,15 +1,19 @@
 //! What is simple in an operator: operands that need no code, and instructions that say more than `Calculate`.
 
 ghost use Rattle.std.specs.Prelude.{IsTrue, IfSome};
+ghost use Rattle.ash_typed.specs.declared.tree.operations.Operation.TheVariants as operations;
 ghost use Rattle.ash_typed.specs.TypedTree.{Expr as ExprData, Number, Read, Stored};
-ghost use Rattle.ash_typed.specs.TypedTreeViews.{expr_of};
+ghost use Rattle.ash_typed.specs.TypedTreeViews.{expr_of, chained, all_chained};
 ghost use Rattle.ash_code.specs.Performing.{of_int};
 ghost use Rattle.ash_compile.specs.Operands.{IsPlain, ReadsLocal, IsSimple, IsInt, Adds, AddsTo, IsAddition};
-ghost use Rattle.ash_compile.specs.Operands.{Calculates, Operates};
+ghost use Rattle.ash_compile.specs.Operands.{Calculates, Operates, ComparesBy, Compares, ComparesLocals};
 
 use ash_code::instruction::Instruction;
-use ash_integers::IntType;
-use ash_typed::{Calculation, Calculator, Expr, ExprKind, Operation, VarType, Variable};
+use ash_integers::{Comparison, IntType};
+use ash_typed::{
+    Calculation, Calculator, Comparator, Expr, ExprKind, Operand, Operands, Operation, VarType,
+    Variable,
+};
 
 /// Whether a type is one of numbers or of truth values.
 fn is_plain(of: VarType) -> bool
@@ -153,6 +157,96 @@ pub fn operating(operation: Operation, left: usize, right: usize, to: usize) -> 
             right,
             to,
         },
+    }
+}
+
+/// How a comparator compares integers.
+fn comparison_by(comparator: Comparator) -> Option<Comparison>
+    ensures compares { IfSome result (λ comparison. ComparesBy comparator comparison) }
+{
+    match comparator {
+        Comparator::Less => Some(Comparison::Less),
+        Comparator::LessOrEqual => Some(Comparison::LessOrEqual),
+        Comparator::Greater => Some(Comparison::Greater),
+        Comparator::GreaterOrEqual => Some(Comparison::GreaterOrEqual),
+        Comparator::Equal => Some(Comparison::Equal),
+        Comparator::NotEqual => Some(Comparison::NotEqual),
+        _ => None,
+    }
+}
+
+/// How a comparator compares operands, if they are integers.
+fn comparison_in(comparator: Comparator, operands: Operands) -> Option<Comparison>
+    ensures compares { IfSome result (λ comparison. Compares (operations.Compare comparator operands) comparison) }
+{
+    match operands {
+        Operands::Integers(_) => comparison_by(comparator),
+        _ => None,
+    }
+}
+
+/// How an operator compares integers, if it does.
+pub fn comparison_of(operation: Operation) -> Option<Comparison>
+    ensures compares { IfSome result (λ comparison. Compares operation comparison) }
+{
+    match operation {
+        Operation::Compare(comparator, operands) => comparison_in(comparator, operands),
+        Operation::Calculate(_) => None,
+    }
+}
+
+/// A comparison of the integers of two locals.
+#[derive(Clone, Copy)]
+pub struct LocalComparison {
+    pub comparison: Comparison,
+    pub left: usize,
+    pub right: usize,
+}
+
+/// The comparison that an operator makes of two operands, if both are locals.
+fn compared_with(first: &Expr, operand: &Operand) -> Option<LocalComparison>
+    ensures compares { IfSome result (λ c. ComparesLocals (chained (expr_of first.now) operand.now)
+        c.comparison c.left c.right) }
+{
+    match operand.before {
+        Some(_) => None,
+        None => {
+            let comparison = comparison_of(operand.operation)?;
+            let left = local_read(first)?;
+            let right = local_read(&operand.value)?;
+            Some(LocalComparison {
+                comparison,
+                left,
+                right,
+            })
+        }
+    }
+}
+
+/// The same of a row of operators, if it has one.
+fn compared_by(first: &Expr, operands: &[Operand]) -> Option<LocalComparison>
+    ensures compares { IfSome result (λ c. ComparesLocals (all_chained (expr_of first.now) operands.now)
+        c.comparison c.left c.right) }
+{
+    match operands.split_first() {
+        Some((operand, rest)) => {
+            if rest.is_empty() {
+                compared_with(first, operand)
+            } else {
+                None
+            }
+        }
+        None => None,
+    }
+}
+
+/// The comparison of two locals that an expression is.
+pub fn local_comparison(expr: &Expr) -> Option<LocalComparison>
+    ensures compares { IfSome result (λ c. ComparesLocals (expr_of expr.now) c.comparison c.left c.right) }
+{
+    match &*expr.kind {
+        ExprKind::Chain { first, operands } => compared_by(first, operands),
+        _ => None,
     }
 }
 

@@ -9,6 +9,9 @@ pub mod Jumps
 pub mod Lengths
 pub mod Loops
 pub mod Meant
+pub mod PlainSteps
+pub mod PlainTurns
+pub mod PlainWords
 pub mod Puts
 pub mod Regrouping
 pub mod Returns

@@ -6,5 +6,6 @@ pub mod Fetching
 pub mod Members
 pub mod ObjectClasses
 pub mod Outcomes
+pub mod PlainSteps
 pub mod Positions
 pub mod Turns

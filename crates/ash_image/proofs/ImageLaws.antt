@@ -29,11 +29,11 @@ use Rattle.ash_image.proofs.ObjectLaws.{kind_and_state_field, plain_field}
 
 -- ---- modules
 
-name_field : IsField (text 1) (λ name. (length name < 256 ^ 1) × IsTrue (is_module_name name)) name_at
+pub name_field : IsField (text 1) (λ name. (length name < 256 ^ 1) × IsTrue (is_module_name name)) name_at
 unfolding name_at
 name_field = checked_field is_module_name (text_field 1)
 
-source_field : IsField (text 4) (λ source. (length source < 256 ^ 4) × IsTrue (leb (length source) max_source_bytes))
+pub source_field : IsField (text 4) (λ source. (length source < 256 ^ 4) × IsTrue (leb (length source) max_source_bytes))
     source_at
 unfolding source_at
 source_field = checked_field (λ source. leb (length source) max_source_bytes) (text_field 4)
@@ -80,7 +80,7 @@ modules_field =
 
 -- ---- services
 
-services_field : IsField (items 2 service) FitServices services_at
+pub services_field : IsField (items 2 service) FitServices services_at
 unfolding services_at
 services_field =
     refit_field (items_field 2 (checked_field (λ n. leb n max_services) (number_field 2)) kind_and_state_field)
@@ -103,7 +103,7 @@ object_field version =
     (λ e h. record { number_fits = h.0; fits = h.1.0; is_there = h.1.1 })
     (λ e h. (h.number_fits, (h.fits, h.is_there)))
 
-objects_field : (version : Version) → IsField (items 4 object) (FitObjects version) (objects_at version)
+pub objects_field : (version : Version) → IsField (items 4 object) (FitObjects version) (objects_at version)
 unfolding objects_at
 objects_field version =
     refit_field

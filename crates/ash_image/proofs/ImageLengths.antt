@@ -15,19 +15,19 @@ use Rattle.ash_image.specs.Snapshots.{Loaded, Snapshot}
 use Rattle.ash_image.specs.Image.{loaded_module, service, object, version_number, state_bytes, image, FitsModule, FitsObject, FitsVersion}
 use Rattle.ash_image.proofs.NameLaws.{name_short}
 
-number_length : (size n : ℕ) → length (number size n) ≡ size
+pub number_length : (size n : ℕ) → length (number size n) ≡ size
 number_length size n = length-bytes_low_first 0 size n
 
-text_length : (size : ℕ) (bytes : List ℕ) → length (text size bytes) ≡ size + length bytes
+pub text_length : (size : ℕ) (bytes : List ℕ) → length (text size bytes) ≡ size + length bytes
 text_length size bytes =
     omega (arith, length-append (number size (length bytes)) bytes, number_length size (length bytes))
 
-items_length : {A : Type 0} (size : ℕ) (spell : A → List ℕ) (xs : List A)
+pub items_length : {A : Type 0} (size : ℕ) (spell : A → List ℕ) (xs : List A)
     → length (items size spell xs) ≡ size + length (flat_map spell xs)
 items_length size spell xs =
     omega (arith, length-append (number size (length xs)) (flat_map spell xs), number_length size (length xs))
 
-word_short : (w : Word) → length (word w) ≤ 9
+pub word_short : (w : Word) → length (word w) ≤ 9
 word_short (words.Bool value) = omega arith
 word_short (words.Int value) = omega arith
 word_short (words.Uint value) = omega arith
@@ -36,7 +36,7 @@ word_short (words.Uint64 value) = omega arith
 word_short words.Null = omega arith
 word_short (words.Object value) = omega arith
 
-words_short : (ws : List Word) → length (flat_map word ws) ≤ 9 * length ws
+pub words_short : (ws : List Word) → length (flat_map word ws) ≤ 9 * length ws
 words_short [] = omega arith
 words_short (w ∷ ws) = omega (arith, length-append (word w) (flat_map word ws), word_short w, words_short ws)
 
@@ -81,7 +81,7 @@ plain_short (Array of elements) h =
       h.few,
     )
 
-objects_short : (version : Version) (es : List (ℕ × Plain ℕ)) → AllByRecursion (FitsObject version) es
+pub objects_short : (version : Version) (es : List (ℕ × Plain ℕ)) → AllByRecursion (FitsObject version) es
     → length (flat_map object es) ≤ 36879 * length es
 objects_short version [] h = omega arith
 objects_short version (e ∷ es) h =
@@ -94,7 +94,7 @@ objects_short version (e ∷ es) h =
       objects_short version es h.1,
     )
 
-services_short : (ss : List (ℕ × List ℕ)) → AllByRecursion (λ (s : ℕ × List ℕ). FitsHost s.0 s.1) ss
+pub services_short : (ss : List (ℕ × List ℕ)) → AllByRecursion (λ (s : ℕ × List ℕ). FitsHost s.0 s.1) ss
     → length (flat_map service ss) ≤ 1028 * length ss
 services_short [] h = omega arith
 services_short (s ∷ ss) h =

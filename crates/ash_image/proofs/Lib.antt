@@ -1,8 +1,11 @@
 pub mod Appended
 pub mod BodyLaws
+pub mod DeltaLaws
+pub mod DeltaLengths
 pub mod ExampleLaws
 pub mod FieldLaws
 pub mod ImageLaws
+pub mod IndexedLaws
 pub mod ItemLoop
 pub mod ImageLengths
 pub mod Listed

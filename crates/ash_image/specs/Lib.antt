@@ -7,6 +7,10 @@ pub mod Image
 pub mod ImageReading
 pub mod SnapshotViews
 pub mod Rules
+pub mod Delta
+pub mod DeltaReading
+pub mod DeltaViews
+pub mod DeltaExamples
 pub mod Search
 pub mod ImageExamples
 pub mod Damage

@@ -16,7 +16,7 @@ ghost use Rattle.ash_image.specs.declared.version.Version.TheVariants.{Two};
 use crate::parts::{BodyParts, HostParts, ModuleParts, ObjectParts, StateParts};
 use ash_host::{ElementTag, Word};
 
-fn word_length(value: Word) -> usize
+pub fn word_length(value: Word) -> usize
     ensures exact { result ≡ length (word value) }
     ensures most { result ≤ 9 }
 {
@@ -28,7 +28,7 @@ fn word_length(value: Word) -> usize
     }
 }
 
-fn words_length(words: &[Word]) -> usize
+pub fn words_length(words: &[Word]) -> usize
     requires within { length words.now < 2 ^ 16 }
     ensures exact { result ≡ length (flat_map word words.now) }
     ensures most { result ≤ 9 * 2 ^ 16 }
@@ -55,7 +55,7 @@ fn element_length(of: ElementTag) -> usize
     }
 }
 
-fn host_length(parts: HostParts<'_>) -> usize
+pub fn host_length(parts: HostParts<'_>) -> usize
     requires fits_host { FitsHost parts.kind parts.state.now }
     ensures exact { result ≡ length (host parts.entry.kind parts.entry.state.now) }
     ensures most { result < 2 ^ 11 }
@@ -85,7 +85,7 @@ fn object_length(parts: ObjectParts<'_>) -> usize
     8 + body_length(parts.body)
 }
 
-fn objects_length(objects: &[ObjectParts<'_>]) -> usize
+pub fn objects_length(objects: &[ObjectParts<'_>]) -> usize
     requires fit_objects { FitObjects Two (objects_in objects.now) }
     ensures exact { result ≡ length (flat_map object (objects_in objects.now)) }
     ensures most { result ≤ 2 ^ 32 }

@@ -2,13 +2,21 @@
 //! registered, and the body of a record with one. It uses the words and the plain objects of `ash_host`. It promises,
 //! unless memory is refused, that bytes are read as a state, in version 1 or 2, exactly where they are its image and
 //! the state keeps the rules of its shape, and that the one image in version 2 is written of a state that has one. What
-//! sources declare and what is registered is not asked.
+//! sources declare and what is registered is not asked. It also has the delta, what a request changed, as bytes both
+//! ways: bytes are read as a delta exactly if they are its spelling, and the one spelling in version 2 is written.
 //!
 //! In reading order: `image`, and below it `modules`, `services`, `numbered`, `objects` and `words`, by the numbers and
 //! texts of `fields` and within `limits`. `rules` is what holds over more than one field, `reaching` what can be
-//! reached, `stored` what is read, `parts` what is written, with `lengths`. `examples` are images written by hand.
+//! reached, `stored` what is read, `parts` what is written, with `lengths`. `examples` are images written by hand. Of
+//! deltas: `delta` and `changed_modules`, `stored_delta` what is read, `delta_parts` what is written, with
+//! `delta_lengths`, and `delta_examples`.
 #![tactic(auto)]
 
+mod changed_modules;
+pub mod delta;
+pub mod delta_examples;
+mod delta_lengths;
+pub mod delta_parts;
 pub mod examples;
 mod fields;
 pub mod image;
@@ -23,5 +31,6 @@ mod reaching;
 mod rules;
 mod services;
 pub mod stored;
+pub mod stored_delta;
 pub mod version;
 mod words;

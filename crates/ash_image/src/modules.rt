@@ -8,9 +8,9 @@
 //! Names ascend byte by byte, so no two modules have one name.
 
 ghost use Rattle.std.specs.Prelude.{◌≡◌, ◌++◌, string_bytes, Some, None};
-ghost use Rattle.std.specs.Prelude.{if◌then◌else◌, OnOk, IsOkUnless};
+ghost use Rattle.std.specs.Prelude.{if◌then◌else◌, OnOk, IsOkUnless, IsTrue};
 ghost use Rattle.std.specs.List.{flat_map, AllByRecursion};
-ghost use Rattle.ash_image.specs.Fields.{ReturnsField, times_at, items};
+ghost use Rattle.ash_image.specs.Fields.{ReturnsField, times_at, items, text};
 ghost use Rattle.ash_image.specs.Image.{is_module_name, loaded_module};
 ghost use Rattle.ash_image.specs.Image.{FitsModule, FitModules};
 ghost use Rattle.ash_image.specs.ImageReading.{name_at, source_at, module_at, modules_at};
@@ -40,7 +40,7 @@ fn as_name(alloc: Global, bytes: &[u8]) -> Result<String, ReadError>
 }
 
 #[tactic(auto, unfolding(crate::specs::ImageReading::name_at))]
-fn name_of(alloc: Global, bytes: &[u8]) -> Result<(String, &[u8]), ReadError>
+pub fn name_of(alloc: Global, bytes: &[u8]) -> Result<(String, &[u8]), ReadError>
     ensures field { ReturnsField (λ x. (string_bytes x.0, x.1.now)) result (name_at bytes.now) }
 {
     let (length, rest) = u8_at(bytes)?;
@@ -51,7 +51,7 @@ fn name_of(alloc: Global, bytes: &[u8]) -> Result<(String, &[u8]), ReadError>
 
 /// The bytes of a source.
 #[tactic(auto, unfolding(crate::specs::ImageReading::source_at))]
-fn source_of(bytes: &[u8]) -> Result<(&[u8], &[u8]), ReadError>
+pub fn source_of(bytes: &[u8]) -> Result<(&[u8], &[u8]), ReadError>
     ensures read { ReturnsField (λ x. (x.0.now, x.1.now)) result (source_at bytes.now) }
     // It takes no memory.
     ensures no_memory { IsOkUnless result Damaged }
@@ -120,13 +120,21 @@ pub fn modules_of(alloc: Global, bytes: &[u8]) -> Result<(Vec<StoredModule>, &[u
     Ok((modules, rest))
 }
 
+/// A length, and a module's name.
+pub fn write_name(out: &mut Vec<u8>, name: &str) -> Result<(), AllocError>
+    requires fits_name { IsTrue (is_module_name name.now) }
+    ensures value { OnOk result (out.new.items ≡ out.old.items ++ text 1 name.now) }
+{
+    write_u8(out, name.len() as u8)?;
+    out.extend_from_slice(name.as_bytes())
+}
+
 fn write_module(out: &mut Vec<u8>, parts: ModuleParts<'_>) -> Result<(), AllocError>
     requires fits_module { FitsModule (module_in parts) }
     ensures value { OnOk result (out.new.items
         ≡ out.old.items ++ loaded_module (module_in parts.entry)) }
 {
-    write_u8(out, parts.name.len() as u8)?;
-    out.extend_from_slice(parts.name.as_bytes())?;
+    write_name(out, parts.name)?;
     write_u32(out, parts.source.len() as u32)?;
     out.extend_from_slice(parts.source)?;
     write_u16(out, parts.globals.len() as u16)?;

@@ -108,7 +108,7 @@ fn have_their_types(objects: &[StoredObject]) -> bool
     true
 }
 
-fn numbers_of(alloc: Global, objects: &[StoredObject]) -> Result<Vec<u64>, AllocError>
+pub fn numbers_of(alloc: Global, objects: &[StoredObject]) -> Result<Vec<u64>, AllocError>
     ensures value { IfOk result (λ found. found.items ≡ numbers (objects_of objects.now)) }
 {
     let mut found = Vec::with_capacity(alloc, objects.len())?;
@@ -118,7 +118,7 @@ fn numbers_of(alloc: Global, objects: &[StoredObject]) -> Result<Vec<u64>, Alloc
     Ok(found)
 }
 
-fn is_alive(alive: &[u64], number: u64) -> bool
+pub fn is_alive(alive: &[u64], number: u64) -> bool
     requires rising { IsTrue (do_rise alive.now) }
     ensures value { result ≡ is_among alive.now number }
 {

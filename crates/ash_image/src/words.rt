@@ -21,7 +21,7 @@ use ash_host::Word;
 use std::alloc::{AllocError, Global};
 
 #[tactic(auto, unfolding(crate::specs::ImageWords::word_at, crate::specs::ImageWords::value_at))]
-fn word_of(bytes: &[u8]) -> Result<(Word, &[u8]), ReadError>
+pub fn word_of(bytes: &[u8]) -> Result<(Word, &[u8]), ReadError>
     ensures read { ReturnsField (λ x. (x.0, x.1.now)) result (word_at bytes.now) }
     // It takes no memory.
     ensures no_memory { IsOkUnless result Damaged }
@@ -76,7 +76,7 @@ pub fn words_of(alloc: Global, count: u16, bytes: &[u8]) -> Result<(Vec<Word>, &
     Ok((words, rest))
 }
 
-fn write_word(out: &mut Vec<u8>, value: Word) -> Result<(), AllocError>
+pub fn write_word(out: &mut Vec<u8>, value: Word) -> Result<(), AllocError>
     ensures meaning { OnOk result (out.new.items ≡ out.old.items ++ word value) }
 {
     match value {

@@ -1,6 +1,6 @@
 //! The sweep: what no hold and no object that stays leads to goes.
 ghost use Rattle.std.specs.Prelude.{◌≡◌, ◌<◌, ◌≤◌, ◌+◌, ◌++◌, ℕ, Bool, List, []};
-ghost use Rattle.std.specs.Prelude.{length, map, nat_eq, IsSomeAnd, OnOk};
+ghost use Rattle.std.specs.Prelude.{length, map, nat_eq, IsSomeAnd, IsTrue, OnOk};
 ghost use Rattle.std.specs.Prelude.{OnErr, vec_len, vec_capacity};
 ghost use Rattle.std.specs.Map.{remove_entry};
 ghost use Rattle.ash_host.specs.Objects.{object_at, IsInOrder};
@@ -103,6 +103,18 @@ impl<B: HostObject> Objects<B> {
             return Ok(());
         }
         self.sweep_waiting(events)
+    }
+
+    /// Whether a sweep has nothing to do: no object was made or lost its last count since the last one. It costs one
+    /// test.
+    #[inline(always)]
+    pub fn is_swept(&self) -> bool
+        ensures collected { IsTrue result → Collects self.now self.now }
+        ensures dropped { IsTrue result → drops (gone_from self.now.objects self.now.objects) ≡ [] }
+        ensures reachable { IsTrue result → (rank : ℕ → ℕ) (top : ℕ) → RanksFall rank top self.now
+            → LeavesReachable self.now self.now }
+    {
+        self.store.none_waits()
     }
 
     // The sweep, where objects may wait for it.

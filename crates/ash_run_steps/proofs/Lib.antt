@@ -25,6 +25,7 @@ pub mod MadeObjects
 pub mod MakingSteps
 pub mod MarkedChanges
 pub mod PartSteps
+pub mod PlainStrips
 pub mod RankTests
 pub mod Roots
 pub mod Stacking

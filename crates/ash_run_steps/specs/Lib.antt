@@ -14,6 +14,7 @@ pub mod Keeping
 pub mod MakingSteps
 pub mod Outcomes
 pub mod PartSteps
+pub mod PlainStrips
 pub mod RankedObjects
 pub mod Ranks
 pub mod RunStates

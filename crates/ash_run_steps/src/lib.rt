@@ -7,7 +7,7 @@
 //! and no sound module's code comes to it.
 //!
 //! In reading order: `stack` (the frames), `state`, `stop` (why a run doesn't go on), `counting` (holds in the table),
-//! `holding` (what frames hold, ticks), `locals`, `declaring`, `globals`, `parts` (fields and elements),
+//! `holding` (what frames hold, ticks), `locals`, `declaring`, `globals`, `plain` (steps without objects), `parts` (fields and elements),
 //! `constructing`, `classes`, `arrays`, `releasing` (release points), `jumping`, `calling`, `entering`, `leaving`,
 //! `beginning`, `ending`, `answering` (who answers a call, and what is made of an answer), `host_calls`, `properties`,
 //! `drawing` (boxes of the pool, and host objects), `laws` (the test of ranks).
@@ -32,6 +32,7 @@ pub mod laws;
 pub mod leaving;
 pub mod locals;
 pub mod parts;
+pub mod plain;
 pub mod properties;
 pub mod releasing;
 pub mod stack;

@@ -4,9 +4,11 @@ ghost use Rattle.std.specs.Prelude.{ℕ, List, OnOk, OnErr, IfOk, slice_set, sli
 ghost use Rattle.ash_host.specs.Objects.{handles};
 ghost use Rattle.ash_host.specs.declared.word.Word.TheVariants as words;
 ghost use Rattle.ash_run_steps.specs.FrameChanges.{beginning, beginning_over};
+ghost use Rattle.ash_run_steps.specs.PlainStrips.{strip_in, Keeps};
 ghost use Rattle.ash_run_steps.specs.Stacks.{StackFrame, with_slots, locals_of, roots_of_frames};
 
 use crate::counting::handle;
+use crate::plain::{PlainRun, PlainRunner, Spot};
 use ash_host::{NoMemory, Word};
 use std::alloc::Global;
 use std::marker::Model;
@@ -294,6 +296,14 @@ impl Stack {
         &self.held[self.frame.mark..]
     }
 
+    /// Whether the frame holds no object.
+    #[inline(always)]
+    pub fn holds_nothing(&self) -> bool
+        ensures none { IsTrue result → self.now.frame.held ≡ [] }
+    {
+        self.held().is_empty()
+    }
+
     /// Holds none of them any more.
     #[inline(always)]
     pub fn clear_held(&mut self)
@@ -444,5 +454,43 @@ impl Stack {
             unreachable!()
         };
         self.frame = caller;
+    }
+
+    /// Does plain steps on the slots of the frame that runs.
+    #[inline(always)]
+    pub(crate) fn run_plain<R: PlainRunner>(
+        &mut self,
+        runner: &R,
+        globals: &mut [Word],
+        at: usize,
+        ticks: u64,
+        most: u64,
+    ) -> PlainRun
+        ensures ran { R.runs runner.now (strip_in at ticks globals.old self.old) result.done
+            (strip_in result.spot.at result.spot.ticks globals.new self.new) }
+        ensures keeps { Keeps (strip_in at ticks globals.old self.old)
+            (strip_in result.spot.at result.spot.ticks globals.new self.new) }
+        ensures within { self.old.frame.count ≤ length self.old.frame.slots }
+        ensures frames { self.new ≡ record self.old {
+          frame = record self.old.frame {
+            slots = self.new.frame.slots;
+            count = self.new.frame.count;
+            line = self.new.frame.line;
+          };
+        } }
+        ensures bounded { result.done ≤ most }
+    {
+        let (count, line) = (self.frame.count, self.frame.line);
+        let spot = Spot {
+            at,
+            count,
+            line,
+            ticks,
+        };
+        let slots = &mut self.slots[self.frame.base..];
+        let run = runner.run(slots, globals, spot, most);
+        self.frame.count = run.spot.count;
+        self.frame.line = run.spot.line;
+        run
     }
 }

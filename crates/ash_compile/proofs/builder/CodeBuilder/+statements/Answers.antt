@@ -19,14 +19,14 @@ use Rattle.std.specs.declared.vec.Vec.{Vec}
 use Rattle.std.specs.declared.alloc.Global.{Global}
 use Rattle.ash_compile.specs.Emission.{Puts, Leads, end_of}
 use Rattle.ash_compile.specs.EmittedStatements.{draft, with_jumps, EmitsStatement, EmitsStatements, EmitsListed, with_count}
-use Rattle.ash_compile.specs.EmittedStatements.{AreBelow, LeadsAll, Landing, EmitsLoopBody, EmitsLoop, EmitsEvaluations}
+use Rattle.ash_compile.specs.EmittedStatements.{AreBelow, LeadsAll, Landing, EndsBody, EmitsLoopBody, EmitsLoop}
+use Rattle.ash_compile.specs.EmittedStatements.{EmitsEvaluations}
 use Rattle.ash_compile.proofs.Emission.{put_one}
 use Rattle.ash_compile.proofs.EmittedBranches.{leads_end}
 use Rattle.ash_compile.proofs.Remaining.{next_of, none_of}
 use Rattle.ash_compile.proofs.Emitted.{if_ok}
 use Rattle.ash_compile.proofs.EmittedSingly as singly
 use Rattle.ash_compile.proofs.EmittedBlocks as blocks
-use Rattle.ash_compile.proofs.EmittedParts as parts
 use Rattle.ash_compile.proofs.EmittedLoops as loops
 use Rattle.ash_compile.proofs.EmittedSwitches as switches
 use Rattle.ash_compile.proofs.EmittedRepeats as repeats
@@ -69,9 +69,9 @@ if_only-returns t c = record {
   emits = blocks.if_only c.args.self.now c.tick.new.self c.condition.new.self c.statement.new.self c.lead.new.self
       (c.args.jumps.now.breaks).items (c.args.jumps.now.continues).items (c.statement.new.jumps.breaks).items
       (c.statement.new.jumps.continues).items c.args.line (expr_of c.args.condition.now) (stmt_of c.args.then.now) c.args.scope
-      c.in_ok-branch.branch c.here-end.result c.in_ok-tick.ensures.puts c.in_ok-branch.ensures.emits
+      c.in_ok-branch.branch.at c.here-end.result c.in_ok-branch.branch.condition c.in_ok-tick.ensures.puts c.in_ok-branch.ensures.emits
       c.in_ok-statement.ensures.emits c.here-end.ensures.place
-      (subst (λ (j : Instruction). Leads c.statement.new.self c.lead.new.self c.in_ok-branch.branch j) c.branch_to.ensures.branch
+      (subst (λ (j : Instruction). Leads c.statement.new.self c.lead.new.self c.in_ok-branch.branch.at j) c.branch_to.ensures.branch
       c.lead.ensures.leads);
 }
 
@@ -82,10 +82,11 @@ if_else-returns t c = record {
       (c.args.jumps.now.breaks).items (c.args.jumps.now.continues).items (c.statement.new.jumps.breaks).items
       (c.statement.new.jumps.continues).items (c.statement-2.new.jumps.breaks).items
       (c.statement-2.new.jumps.continues).items c.args.line (expr_of c.args.condition.now) (stmt_of c.args.then.now)
-      (stmt_of c.args.otherwise.now) c.args.scope c.in_ok-test.test c.here-back.result c.here-other.result c.here-end.result
+      (stmt_of c.args.otherwise.now) c.args.scope c.in_ok-test.test.at c.here-back.result c.here-other.result c.here-end.result
+      c.in_ok-test.test.condition
       c.in_ok-tick.ensures.puts c.in_ok-test.ensures.emits c.in_ok-statement.ensures.emits c.in_ok-put.ensures.puts
       c.in_ok-statement-2.ensures.emits c.here-back.ensures.place c.here-other.ensures.place c.here-end.ensures.place
-      (subst (λ (j : Instruction). Leads c.statement-2.new.self c.lead.new.self c.in_ok-test.test j) c.branch_to.ensures.branch
+      (subst (λ (j : Instruction). Leads c.statement-2.new.self c.lead.new.self c.in_ok-test.test.at j) c.branch_to.ensures.branch
       c.lead.ensures.leads)
       c.lead-2.ensures.leads;
 }
@@ -231,8 +232,7 @@ pub if_only-lead-requires : goal.if_only-lead-requires
 if_only-lead-requires t c = record {
   there = omega (
     arith,
-    parts.tests_end c.tick.new.self c.condition.new.self (expr_of c.args.condition.now) c.args.scope.locals
-        c.in_ok-branch.branch c.in_ok-branch.ensures.emits,
+    (c.in_ok-branch.ensures.emits).end,
     (((c.in_ok-statement.ensures.emits).grows).code).longer,
   );
 }
@@ -241,8 +241,7 @@ pub if_else-lead-requires : goal.if_else-lead-requires
 if_else-lead-requires t c = record {
   there = omega (
     arith,
-    parts.tests_end c.tick.new.self c.condition.new.self (expr_of c.args.condition.now) c.args.scope.locals
-        c.in_ok-test.test c.in_ok-test.ensures.emits,
+    (c.in_ok-test.ensures.emits).end,
     (((c.in_ok-statement.ensures.emits).grows).code).longer,
     put_one c.statement.new.self c.put.new.self c.args.scope.locals (i.Jump 0) c.in_ok-put.ensures.puts,
     (((c.in_ok-statement-2.ensures.emits).grows).code).longer,
@@ -256,14 +255,14 @@ if_else-lead-requires-2 t c = record {
     c.here-back.ensures.place,
     put_one c.statement.new.self c.put.new.self c.args.scope.locals (i.Jump 0) c.in_ok-put.ensures.puts,
     (((c.in_ok-statement-2.ensures.emits).grows).code).longer,
-    leads_end c.statement-2.new.self c.lead.new.self c.in_ok-test.test _ c.lead.ensures.leads,
+    leads_end c.statement-2.new.self c.lead.new.self c.in_ok-test.test.at _ c.lead.ensures.leads,
   );
 }
 
 -- loops
 
-pub loop_body-landing-requires : goal.loop_body-landing-requires
-loop_body-landing-requires t c = record {
+pub loop_body-body_end-requires : goal.loop_body-body_end-requires
+loop_body-body_end-requires t c = record {
   there =
       let none : (c.replace-outer.new.dest).items ≡ []
       = ap (λ (v : Vec ℕ Global). v.items) c.replace-outer.ensures.after ∙ c.new.ensures.items in
@@ -278,16 +277,16 @@ loop_body-returns t c = record {
       let none : (c.replace-outer.new.dest).items ≡ []
       = ap (λ (v : Vec ℕ Global). v.items) c.replace-outer.ensures.after ∙ c.new.ensures.items in
       subst (λ (places : List ℕ). EmitsLoopBody (draft c.args.self.now c.args.jumps.now)
-      (with_jumps c.landing.new.self (c.statement.new.jumps.breaks).items places) (stmt_of c.args.body.now) c.args.scope)
+      (with_jumps c.body_end.new.self (c.statement.new.jumps.breaks).items places) (stmt_of c.args.body.now) c.args.scope)
       (sym (ap (λ (v : Vec ℕ Global). v.items) c.replace-outer.ensures.value))
-      (loops.loop_body c.args.self.now c.statement.new.self c.landing.new.self (c.args.jumps.now.breaks).items
+      (loops.loop_body_ends c.args.self.now c.statement.new.self c.body_end.new.self (c.args.jumps.now.breaks).items
       (c.statement.new.jumps.breaks).items (c.args.jumps.now.continues).items (c.statement.new.jumps.continues).items
       (stmt_of c.args.body.now) c.args.scope
       (subst (λ (places : List ℕ). EmitsStatement (with_jumps c.args.self.now (c.args.jumps.now.breaks).items places)
       (draft c.statement.new.self c.statement.new.jumps) (stmt_of c.args.body.now)
       (record c.args.scope { continued = c.args.scope.locals })) none c.in_ok-statement.ensures.emits)
-      (subst (λ (places : List ℕ). Landing c.statement.new.self c.landing.new.self places) c.deref.ensures.value
-      c.in_ok-landing.ensures.lands));
+      (subst (λ (places : List ℕ). EndsBody c.statement.new.self c.body_end.new.self places (stmt_of c.args.body.now))
+      c.deref.ensures.value c.in_ok-body_end.ensures.ends));
 }
 
 pub repeat-landing-requires : goal.repeat-landing-requires
@@ -421,7 +420,7 @@ turns-returns t c = record {
       (with_jumps c.loop_body.new.self more places) (stmt_of c.deref.result.now) c.args.scope) body.continues body))
       (subst (λ (xs : List expr_code.Expr). EmitsEvaluations c.loop_body.new.self c.evaluations.new.self (map expr_of xs)
       c.args.scope.locals) c.deref-2.ensures.value c.in_ok-evaluations.ensures.emits)
-      c.in_ok-put-2.ensures.puts)));
+      c.next_turn.result c.next_turn.ensures.next c.in_ok-put-2.ensures.puts)));
 }
 
 -- `switch`

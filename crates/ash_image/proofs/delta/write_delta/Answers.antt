@@ -1,0 +1,18 @@
+use Rattle.std.proofs.Common.{◌≡◌, ℕ, List, ◌<◌, ◌^◌, length, ◌++◌, sym, ap, subst, ◌∙◌, arith}
+use Rattle.ash_image.specs.Delta.{delta}
+use Rattle.ash_image.specs.DeltaViews.{delta_in}
+use Rattle.ash_image.specs.declared.version.Version.TheVariants.{Two}
+use Rattle.ash_image.proofs.DeltaLengths.{delta_short}
+use Rattle.ash_image.proofs.delta.write_delta.Goals as goal
+
+pub returns-clause-written : goal.returns-clause-written
+returns-clause-written c =
+    let d = delta_in c.args.parts in
+    (c.requires.fits, c.in_ok-write_delta_into.ensures.value ∙ ap (λ (bytes : List ℕ). bytes ++ delta d) c.in_ok-bytes.ensures.items)
+
+pub returns-clause-short : goal.returns-clause-short
+returns-clause-short c = λ few.
+    let d = delta_in c.args.parts in
+    let written = c.in_ok-write_delta_into.ensures.value ∙ ap (λ (bytes : List ℕ). bytes ++ delta d) c.in_ok-bytes.ensures.items in
+    let short : length (delta d) < 2 ^ 28 = omega (arith, delta_short Two d c.requires.fits few) in
+    subst (λ (bytes : List ℕ). length bytes < 2 ^ 28) (sym written) short

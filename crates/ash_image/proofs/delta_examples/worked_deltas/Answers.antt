@@ -1,0 +1,61 @@
+use Rattle.std.proofs.Common.{◌≡◌, ◌<◌, ◌^◌, ℕ, List, [], refl, arith}
+use Rattle.std.specs.Prelude.{pos}
+use Rattle.ash_image.specs.declared.version.Version.TheVariants.{Two}
+use Rattle.ash_image.specs.Image.{FitObjects}
+use Rattle.ash_image.specs.Delta.{FitServiceStates, FitNumbers, indexed_from}
+use Rattle.ash_image.proofs.delta_examples.worked_deltas.Goals as goal
+
+no_services : FitServiceStates []
+no_services = record { few = omega arith; each = tt; order = refl }
+
+none_gone : FitNumbers []
+none_gone = record { few = omega arith; each = tt; order = refl }
+
+none_put : FitObjects Two []
+none_put = record { few = omega arith; each = tt; order = refl }
+
+pub returns : goal.returns
+unfolding indexed_from
+returns c = record {
+  added = (
+    record {
+      seq = omega arith;
+      last = omega arith;
+      services = no_services;
+      change = record { name_fits = refl; source_short = omega arith; few = omega arith; words = tt };
+      gone = none_gone;
+      put = none_put;
+      apart = refl;
+    },
+    refl,
+  );
+  removed = (
+    record {
+      seq = omega arith;
+      last = omega arith;
+      services = no_services;
+      change = refl;
+      gone = none_gone;
+      put = none_put;
+      apart = refl;
+    },
+    refl,
+  );
+  changed = (
+    record {
+      seq = omega arith;
+      last = omega arith;
+      services = no_services;
+      change = record {
+        name_fits = refl;
+        few = omega arith;
+        each = (record { index_fits = omega arith; word_fits = record { sfits = omega arith } }, tt);
+        order = refl;
+      };
+      gone = none_gone;
+      put = none_put;
+      apart = refl;
+    },
+    refl,
+  );
+}
