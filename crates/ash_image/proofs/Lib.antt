@@ -9,6 +9,7 @@ pub mod IndexedLaws
 pub mod ItemLoop
 pub mod ImageLengths
 pub mod Listed
+pub mod ModuleLaws
 pub mod MoveLaws
 pub mod NameLaws
 pub mod Numbers
