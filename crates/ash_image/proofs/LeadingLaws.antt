@@ -6,17 +6,19 @@ use Rattle.std.specs.List.{list_all, AllByRecursion}
 use Rattle.std.specs.Map.{lookup}
 use Rattle.std.specs.BTreeMap.{BTreeMap, is_at, get}
 use Rattle.std.specs.Ordering.{nat_cmp}
-use Rattle.std.proofs.lemmas.Bool.{eqb-true, ltb-true, lt-ltb}
+use Rattle.std.proofs.lemmas.Bool.{eqb-true, ltb-true, lt-ltb, false≢true}
 use Rattle.std.proofs.lemmas.Bool.Decides.{nat_tests}
-use Rattle.std.proofs.lemmas.List.{map-append, drop_all}
-use Rattle.std.proofs.Math.Seq.{drop-cons}
+use Rattle.std.proofs.lemmas.List.{map-append, map-set, drop_all}
+use Rattle.std.proofs.Math.Seq.{drop-cons, map-set_same}
+use Rattle.std.proofs.Math.ListN.{get_or-map}
 use Rattle.ash_host.specs.Objects.{Plain, object_at}
 use Rattle.ash_host.specs.Reach.{is_among}
 use Rattle.ash_host.proofs.Order.{object_here, object_later}
 use Rattle.ash_image.specs.declared.named_state.NamedObject.{NamedObject}
+use Rattle.ash_image.specs.declared.stored.StoredHost.{StoredHost}
 use Rattle.ash_image.specs.declared.stored.StoredObject.{StoredObject}
-use Rattle.ash_image.specs.ImageObjectViews.{plain_of}
-use Rattle.ash_image.specs.SnapshotViews.{object_of, objects_of}
+use Rattle.ash_image.specs.ImageObjectViews.{plain_of, service_of}
+use Rattle.ash_image.specs.SnapshotViews.{object_of, objects_of, services_of}
 use Rattle.ash_image.specs.Snapshots.{Loaded}
 use Rattle.ash_image.specs.Leading.{values_from, values_after, AreThere, by_name, object_by_name}
 use Rattle.ash_image.specs.NamedViews.{object_seen, objects_seen}
@@ -105,7 +107,7 @@ set_last {A} {B} see all left e vs new goal count is there size set_is so_far =
         (subst (λ (l : List (ℕ × A)). AreThere l count) split there) in
     let within : (see e).0 < count = parts.1 in
     let one : values_from 0 (see e ∷ []) vs ≡ set vs (see e).0 (see e).1 =
-        set_one 0 (see e).0 (see e).0 (see e).1 vs refl (omega (arith, within, size)) in
+        set_one 0 (see e).0 (see e).0 (see e).1 vs (omega arith) (omega (arith, within, size)) in
     ap (λ (ws : List A). values_after (map see left) ws) (set_is ∙ sym one)
     ∙ sym (last_first 0 (map see left) (see e) vs)
     ∙ sym (ap (λ (l : List (ℕ × A)). values_after l vs) split) ∙ so_far
@@ -128,6 +130,26 @@ pub none_left : {A B : Type 0} (see : B → ℕ × A) (left : List B) (vs goal :
     → values_after (map see left) vs ≡ goal → vs ≡ goal
 none_left see [] vs goal none so_far = sym (nothing_listed 0 vs) ∙ so_far
 none_left see (x ∷ left) vs goal none so_far = absurd (omega (arith, none))
+
+-- ---- services
+
+-- a service keeps its kind in another state
+pub kinds_stay : (xs : List StoredHost) (i : ℕ) (here other : StoredHost) → here ≡ get_or xs i here
+    → other.kind ≡ here.kind → map (λ (s : ℕ × List ℕ). s.0) (services_of (set xs i other))
+    ≡ map (λ (s : ℕ × List ℕ). s.0) (services_of xs)
+kinds_stay xs i here other is same =
+    ap (map (λ (s : ℕ × List ℕ). s.0)) (map-set service_of xs i other)
+    ∙ map-set_same (λ (s : ℕ × List ℕ). s.0) (services_of xs) i (service_of other) (service_of here)
+    (same ∙ ap (λ (h : StoredHost). h.kind) is
+    ∙ sym (ap (λ (s : ℕ × List ℕ). s.0) (get_or-map service_of xs i here)))
+
+-- a service has another state, and the others theirs
+pub states_set : (xs : List StoredHost) (i : ℕ) (other : StoredHost)
+    → map (λ (s : ℕ × List ℕ). s.1) (services_of (set xs i other))
+    ≡ set (map (λ (s : ℕ × List ℕ). s.1) (services_of xs)) i other.state.items
+states_set xs i other =
+    ap (map (λ (s : ℕ × List ℕ). s.1)) (map-set service_of xs i other)
+    ∙ map-set (λ (s : ℕ × List ℕ). s.1) (services_of xs) i (service_of other)
 
 -- ---- values in a map
 
@@ -263,3 +285,22 @@ pub there_passes : {A : Type 0} (listed : List (ℕ × A)) (count : ℕ) → Are
     → list_all (λ (e : ℕ × A). ltb e.0 count) listed ≡ true
 there_passes [] count h = refl
 there_passes (e ∷ listed) count h = rw (lt-ltb e.0 count h.0) (there_passes listed count h.1)
+
+-- indexes that passed a test of them are there
+pub passed_there : {A : Type 0} (listed words : List (ℕ × A)) (count size : ℕ) (passed : Bool)
+    → passed ≡ list_all (λ (e : ℕ × A). ltb e.0 count) words → words ≡ listed → count ≡ size → passed ≡ true
+    → AreThere listed size
+passed_there {A} listed words count size passed test same is holds =
+    they_are_there listed size
+    (ap (λ (n : ℕ). list_all (λ (e : ℕ × A). ltb e.0 n) listed) (sym is)
+    ∙ ap (list_all (λ (e : ℕ × A). ltb e.0 count)) (sym same) ∙ sym test ∙ holds)
+
+-- indexes that did not pass are not all there
+pub failed_there : {A : Type 0} (listed words : List (ℕ × A)) (count size : ℕ) (passed : Bool)
+    → passed ≡ list_all (λ (e : ℕ × A). ltb e.0 count) words → words ≡ listed → count ≡ size → passed ≡ false
+    → AreThere listed size → ⊥
+failed_there {A} listed words count size passed test same is fails there =
+    let passes : passed ≡ true =
+        test ∙ ap (list_all (λ (e : ℕ × A). ltb e.0 count)) same
+        ∙ ap (λ (n : ℕ). list_all (λ (e : ℕ × A). ltb e.0 n) listed) is ∙ there_passes listed size there in
+    absurd (false≢true (sym fails ∙ passes))

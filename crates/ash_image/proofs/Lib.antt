@@ -8,12 +8,14 @@ pub mod ImageLaws
 pub mod IndexedLaws
 pub mod ItemLoop
 pub mod ImageLengths
+pub mod LeadingLaws
 pub mod Listed
 pub mod ModuleLaws
 pub mod MoveLaws
 pub mod NameLaws
 pub mod Numbers
 pub mod ObjectLaws
+pub mod OneState
 pub mod OrderLaws
 pub mod RuleLaws
 pub mod SearchLaws

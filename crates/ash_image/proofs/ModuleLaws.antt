@@ -1,29 +1,35 @@
 -- What is at each name after a module was put in, or taken out.
-use Rattle.std.proofs.Common.{◌≡◌, ℕ, Bool, true, false, cond, ltb, length, List, [], ◌∷◌, map, string_bytes, Option, Some, None, refl, sym, subst}
-use Rattle.std.proofs.Common.{ap, ◌∙◌, Less, Equal, Greater}
-use Rattle.std.specs.Option.{option_map}
-use Rattle.std.specs.List.{list_all}
-use Rattle.std.specs.Map.{lookup, update}
-use Rattle.std.specs.BTreeMap.{BTreeMap, is_at, get_by_text}
-use Rattle.std.specs.Ordering.{is_eq, nat_cmp, ordering_reverse}
+use Rattle.std.proofs.Common.{◌≡◌, ℕ, Bool, true, false, ◌&&◌, cond, length, List, [], ◌∷◌, map, string_bytes}
+use Rattle.std.proofs.Common.{Option, Some, None, refl, sym, subst, ap, ◌∙◌, Less, Equal, Greater}
+use Rattle.std.specs.Prelude.{slice_get}
+use Rattle.std.specs.Option.{option_map, unwrap_or}
+use Rattle.std.specs.List.Sorted.{IsStrictlySortedBy, IsStrictlyIncreasing}
+use Rattle.std.specs.Map.{lookup, update, keys_of}
+use Rattle.std.specs.BTreeMap.{BTreeMap, is_at, get_by_text, keys, IsOrdered}
+use Rattle.std.specs.Ordering.{is_eq, is_lt, nat_cmp, ordering_reverse}
 use Rattle.std.specs.Cmp.Lexicographic.{slice_cmp}
 use Rattle.std.specs.Str.{bytes_eq}
+use Rattle.std.specs.String.{string_cmp}
 use Rattle.std.specs.declared.cmp.Ordering.{Ordering}
 use Rattle.std.specs.declared.alloc.Global.{Global}
 use Rattle.std.specs.declared.string.String.{String}
 use Rattle.std.proofs.lemmas.Cmp.{nat_list_cmp_total}
+use Rattle.std.proofs.lemmas.Map.Keys.{IsStrictlyIncreasing-from_sorted}
 use Rattle.std.proofs.lemmas.Map.Lookups.{exact_bytes}
+use Rattle.std.proofs.lemmas.Option.{slice_get-map}
 use Rattle.std.proofs.lemmas.Map.Text.{is_eq-slice_cmp}
+use Rattle.ash_host.specs.Objects.{numbers, IsInOrder}
 use Rattle.ash_image.specs.declared.named_state.NamedModule.{NamedModule}
+use Rattle.ash_image.specs.declared.named_state.NamedObject.{NamedObject}
 use Rattle.ash_image.specs.Snapshots.{Loaded}
-use Rattle.ash_image.specs.Image.{compare_names}
+use Rattle.ash_image.specs.Image.{compare_names, are_ascending, names_of}
 use Rattle.ash_host.specs.declared.word.Word.{Word}
 use Rattle.ash_image.specs.declared.stored.StoredModule.{StoredModule}
 use Rattle.ash_image.specs.SnapshotViews.{module_of}
 use Rattle.ash_image.specs.Delta.{Added, Removed, Globals}
 use Rattle.ash_image.specs.Leading.{module_named, with_globals, values_after, AreThere, IsChangeOf, LeadModules}
-use Rattle.ash_image.specs.NamedViews.{module_seen, modules_seen}
-use Rattle.ash_image.proofs.LeadingLaws.{there_passes}
+use Rattle.ash_image.specs.Leading.{name_there}
+use Rattle.ash_image.specs.NamedViews.{module_seen, modules_seen, object_seen, objects_seen}
 
 -- a module with a name
 abbrev pub loaded_as : List ℕ → NamedModule → Loaded
@@ -154,13 +160,61 @@ not_there name listed ms none change =
     let nothing = named_is name ms ∙ ap (option_map (loaded_as name)) none in
     absurd (let at = sym nothing ∙ change.1 in cc)
 
+-- one of the globals is not there
 pub globals_not_there : (name : List ℕ) (listed : List (ℕ × Word)) (ms : BTreeMap (String Global) NamedModule)
-    (found : NamedModule) → get_by_text ms name ≡ Some found
-    → list_all (λ (e : ℕ × Word). ltb e.0 (length found.globals.items)) listed ≡ false
+    (found : NamedModule) → get_by_text ms name ≡ Some found → (AreThere listed (length found.globals.items) → ⊥)
     → IsChangeOf (modules_seen ms) (Globals name listed) → ⊥
 globals_not_there name listed ms found is missing change =
     let at : Some (loaded_as name found) ≡ Some change.0 = sym (there_is name ms found is) ∙ change.1 in
     let same : loaded_as name found ≡ change.0 = cc in
-    let there = subst (λ (m : Loaded). AreThere listed (length m.globals)) (sym same) change.2 in
-    let passes = there_passes listed (length found.globals.items) there in
-    absurd cc
+    missing (subst (λ (m : Loaded). AreThere listed (length m.globals)) (sym same) change.2)
+
+-- globals of a module change, which the map knows by a key of its own
+pub changed_by : (name key stored : List ℕ) (listed : List (ℕ × Word)) (found again : NamedModule)
+    (old middle new : BTreeMap (String Global) NamedModule) → key ≡ name → compare_names key stored ≡ Equal
+    → get_by_text old key ≡ Some found → AreThere listed (length found.globals.items)
+    → ((q : List ℕ) → get_by_text middle q ≡ update bytes_eq (get_by_text old) key None q)
+    → ((q : List ℕ) → get_by_text new q ≡ update bytes_eq (get_by_text middle) stored (Some again) q)
+    → again.source.items ≡ found.source.items → again.globals.items ≡ values_after listed found.globals.items
+    → LeadModules (Globals name listed) (modules_seen old) (modules_seen new)
+changed_by name key stored listed found again old middle new same equal is there out in_again source globals =
+    changed_is name listed found again old middle new (ap (get_by_text old) (sym same) ∙ is) there
+    (λ q. out q ∙ ap (λ (k : List ℕ). update bytes_eq (get_by_text old) k None q) same)
+    (λ q. in_again q ∙ ap (λ (k : List ℕ). update bytes_eq (get_by_text middle) k (Some again) q)
+    (sym (exact_bytes key stored equal) ∙ same)) source globals
+
+-- ---- names by their indexes
+
+names_seen : (es : List (String Global × NamedModule))
+    → map string_bytes (keys_of es) ≡ map (λ (m : Loaded). m.name) (map module_seen es)
+names_seen [] = refl
+names_seen (e ∷ es) = ap (λ (more : List (List ℕ)). string_bytes e.0 ∷ more) (names_seen es)
+
+-- the name at an index is that of the key there
+pub name_is : (ms : BTreeMap (String Global) NamedModule) (i : ℕ)
+    → unwrap_or (slice_get (map string_bytes (keys ms)) i) [] ≡ name_there (modules_seen ms) i
+name_is ms i =
+    ap (λ (o : Option (List ℕ)). unwrap_or o [])
+    (ap (λ (names : List (List ℕ)). slice_get names i) (names_seen ms.entries)
+    ∙ slice_get-map (λ (m : Loaded). m.name) (modules_seen ms) i)
+
+-- the keys of a map ascend, and so do the names
+pub names_ascend : (es : List (String Global × NamedModule)) → IsStrictlySortedBy string_cmp (keys_of es)
+    → are_ascending (names_of (map module_seen es)) ≡ true
+unfolding IsStrictlySortedBy
+names_ascend [] sorted = refl
+names_ascend (e ∷ []) sorted = refl
+names_ascend (e ∷ f ∷ es) sorted =
+    let head : is_lt (compare_names (string_bytes e.0) (string_bytes f.0)) ≡ true = ap is_lt (sorted.0).0 in
+    ap (λ (b : Bool). b && are_ascending (names_of (map module_seen (f ∷ es)))) head ∙ names_ascend (f ∷ es) sorted.1
+
+numbers_seen : (es : List (ℕ × NamedObject))
+    → keys_of es ≡ numbers (map (λ (e : ℕ × NamedObject). (e.0, object_seen e.1)) es)
+numbers_seen [] = refl
+numbers_seen (e ∷ es) = ap (λ (more : List ℕ). e.0 ∷ more) (numbers_seen es)
+
+-- the keys of a map rise, and so do the numbers
+pub numbers_rise : (objects : BTreeMap ℕ NamedObject) → IsOrdered nat_cmp objects → IsInOrder (objects_seen objects)
+numbers_rise objects sorted =
+    subst (λ (ns : List ℕ). IsStrictlyIncreasing ns) (numbers_seen objects.entries)
+    (IsStrictlyIncreasing-from_sorted (keys objects) sorted)

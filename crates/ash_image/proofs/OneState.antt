@@ -1,17 +1,13 @@
 -- A delta leads from a state to one state at most.
 use Rattle.std.proofs.Common.{◌≡◌, ℕ, zero, suc, ◌<◌, ◌&&◌, Bool, true, false, List, [], ◌∷◌, length, map, refl, sym, ap, ◌∙◌}
-use Rattle.std.proofs.Common.{subst, inl, cond, nat_eq, Option, Some, None, Less, Equal, Greater, arith}
-use Rattle.std.specs.Prelude.{slice_get}
-use Rattle.std.specs.Option.{unwrap_or, option_map, option_or}
+use Rattle.std.proofs.Common.{subst, cond, Option, Some, None, Less, Equal, Greater, arith}
+use Rattle.std.specs.Option.{option_map, option_or}
 use Rattle.std.specs.List.{AllByRecursion}
-use Rattle.std.specs.List.Sorted.{IsStrictlySortedBy, IsStrictlyIncreasing}
-use Rattle.std.specs.Map.{lookup, keys_of}
-use Rattle.std.specs.BTreeMap.{is_at}
-use Rattle.std.specs.Layout.BTreeMap.{btree_map}
-use Rattle.std.specs.Ordering.{is_lt, is_eq}
+use Rattle.std.specs.List.Sorted.{IsStrictlyIncreasing}
+use Rattle.std.specs.Ordering.{is_lt, is_eq, ordering_reverse}
 use Rattle.std.specs.declared.cmp.Ordering.{Ordering}
 use Rattle.std.proofs.lemmas.Cmp.{nat_list_cmp_total, tied_itself}
-use Rattle.std.proofs.lemmas.Map.Lookups.{btree_map_from_get, exact_bytes}
+use Rattle.std.proofs.lemmas.Map.Lookups.{exact_bytes}
 use Rattle.ash_host.specs.Objects.{Elements, Bools, Ints, Uints, Int64s, Uint64s, Handles, Hosts, Plain, Script, Array, Host}
 use Rattle.ash_host.specs.Objects.{LiveObjects, numbers, IsInOrder}
 use Rattle.ash_host.proofs.Order.{same_in_order}
@@ -22,8 +18,9 @@ use Rattle.ash_image.specs.Rules.{IsPlaced}
 use Rattle.ash_image.specs.Delta.{Delta, IsDelta}
 use Rattle.ash_image.specs.Leading.{is_name_of, module_named, name_there, elements_known, plain_known, by_name}
 use Rattle.ash_image.specs.Leading.{object_by_name, kept, NamedSnapshot, objects_named, named, Leads, LeadsTo}
-use Rattle.ash_image.specs.Leading.{IsDeltaBetween}
+use Rattle.ash_image.specs.Leading.{IsOrdered, KnownByNames, IsDeltaBetween}
 use Rattle.ash_image.proofs.DeltaLaws.{one_delta}
+use Rattle.ash_image.proofs.ModuleLaws.{one_name}
 use Rattle.ash_image.proofs.NameLaws.{both}
 
 -- ---- services
@@ -63,26 +60,6 @@ services_same (x ∷ a) (y ∷ b) kinds states =
 
 -- ---- modules
 
--- modules by their names
-abbrev by_names : List Loaded → List (List ℕ × Loaded)
-by_names ms = map (λ (m : Loaded). (m.name, m)) ms
-
-named_is : (name : List ℕ) (ms : List Loaded) → module_named name ms ≡ lookup (is_at (compare_names name)) (by_names ms)
-unfolding module_named
-named_is name [] = refl
-named_is name (m ∷ ms) = ap (λ (o : Option Loaded). cond (is_name_of name m) (Some m) o) (named_is name ms)
-
-keys_are : (ms : List Loaded) → names_of ms ≡ keys_of (by_names ms)
-keys_are [] = refl
-keys_are (m ∷ ms) = ap (λ (more : List (List ℕ)). m.name ∷ more) (keys_are ms)
-
-abbrev modules_in : List (List ℕ × Loaded) → List Loaded
-modules_in entries = map (λ (e : List ℕ × Loaded). e.1) entries
-
-values_are : (ms : List Loaded) → modules_in (by_names ms) ≡ ms
-values_are [] = refl
-values_are (m ∷ ms) = ap (λ (more : List Loaded). m ∷ more) (values_are ms)
-
 is_less : (o : Ordering) → is_lt o ≡ true → o ≡ Less
 is_less Less h = refl
 is_less Equal h = absurd cc
@@ -110,23 +87,91 @@ below_later name (next ∷ more) h =
     let first = is_less (compare_names name next) p.0 in
     (first, all_later name next more first (below_later next more p.1))
 
-in_order : (names : List (List ℕ)) → are_ascending names ≡ true → IsStrictlySortedBy compare_names names
-unfolding IsStrictlySortedBy
-in_order [] h = tt
-in_order (name ∷ names) h = (below_later name names h, in_order names (ascending_after name names h))
+some_none : {A : Type 0} (x : A) → Some x ≡ None → ⊥
+some_none x same = absurd cc
+
+some_one : {A : Type 0} (x y : A) → Some x ≡ Some y → x ≡ y
+some_one x y same = cc
+
+none_there : (name : List ℕ) → module_named name [] ≡ None
+unfolding module_named
+none_there name = refl
+
+module_here : (m : Loaded) (ms : List Loaded) → module_named m.name (m ∷ ms) ≡ Some m
+unfolding module_named
+module_here m ms =
+    ap (λ (o : Ordering). cond (is_eq o) (Some m) (module_named m.name ms)) (tied_itself nat_list_cmp_total m.name)
+
+module_later : (name : List ℕ) (m : Loaded) (ms : List Loaded) → is_name_of name m ≡ false
+    → module_named name (m ∷ ms) ≡ module_named name ms
+unfolding module_named
+module_later name m ms other = ap (λ (b : Bool). cond b (Some m) (module_named name ms)) other
+
+-- no module has a name that is below all of theirs
+none_later : (name : List ℕ) (ms : List Loaded)
+    → AllByRecursion (λ n. compare_names name n ≡ Less) (names_of ms) → module_named name ms ≡ None
+unfolding module_named
+none_later name [] all = refl
+none_later name (m ∷ ms) all =
+    ap (λ (o : Ordering). cond (is_eq o) (Some m) (module_named name ms)) all.0 ∙ none_later name ms all.1
+
+-- the first name of one list is not below the first of another that has the same modules
+not_below : (x y : Loaded) (a b : List Loaded) → compare_names x.name y.name ≡ Less
+    → are_ascending (names_of (y ∷ b)) ≡ true → module_named x.name (x ∷ a) ≡ module_named x.name (y ∷ b) → ⊥
+not_below x y a b below up same =
+    let later = all_later x.name y.name (names_of b) below (below_later y.name (names_of b) up) in
+    some_none x (sym (module_here x a) ∙ same ∙ none_later x.name (y ∷ b) (below, later))
+
+first_same : (x y : Loaded) (a b : List Loaded) → compare_names x.name y.name ≡ Equal
+    → module_named x.name (x ∷ a) ≡ module_named x.name (y ∷ b) → x ≡ y
+first_same x y a b equal same =
+    let name : x.name ≡ y.name = exact_bytes x.name y.name equal in
+    let there = ap (λ (n : List ℕ). module_named n (y ∷ b)) name ∙ module_here y b in
+    some_one x y (sym (module_here x a) ∙ same ∙ there)
+
+-- after the first module, which is one, each name has the same
+rest_same : (x y : Loaded) (a b : List Loaded) → x ≡ y → are_ascending (names_of (x ∷ a)) ≡ true
+    → are_ascending (names_of (y ∷ b)) ≡ true
+    → ((name : List ℕ) → module_named name (x ∷ a) ≡ module_named name (y ∷ b)) → (name : List ℕ)
+    → module_named name a ≡ module_named name b
+rest_same x y a b one up_a up_b same name =
+    go (is_name_of name x) refl
+  where
+    none_in : (m : Loaded) (ms : List Loaded) → name ≡ m.name → are_ascending (names_of (m ∷ ms)) ≡ true
+        → module_named name ms ≡ None
+    none_in m ms is up =
+        ap (λ (n : List ℕ). module_named n ms) is ∙ none_later m.name ms (below_later m.name (names_of ms) up)
+
+    go : (t : Bool) → is_name_of name x ≡ t → module_named name a ≡ module_named name b
+    go true is =
+        let name_is = one_name name x.name is in
+        none_in x a name_is up_a ∙ sym (none_in y b (name_is ∙ ap (λ (m : Loaded). m.name) one) up_b)
+    go false is =
+        sym (module_later name x a is) ∙ same name
+        ∙ module_later name y b (subst (λ (m : Loaded). is_name_of name m ≡ false) one is)
 
 -- modules by ascending name are one list if they are the same at each name
 pub modules_same : (a b : List Loaded) → are_ascending (names_of a) ≡ true → are_ascending (names_of b) ≡ true
     → ((name : List ℕ) → module_named name a ≡ module_named name b) → a ≡ b
-modules_same a b up_a up_b same =
-    let sorted_a = subst (λ (names : List (List ℕ)). IsStrictlySortedBy compare_names names) (keys_are a)
-        (in_order (names_of a) up_a) in
-    let sorted_b = subst (λ (names : List (List ℕ)). IsStrictlySortedBy compare_names names) (keys_are b)
-        (in_order (names_of b) up_b) in
-    let entries : by_names a ≡ by_names b =
-        btree_map_from_get nat_list_cmp_total (btree_map (by_names a) (inl tt)) (btree_map (by_names b) (inl tt))
-        sorted_a sorted_b (λ name. sym (named_is name a) ∙ same name ∙ named_is name b) exact_bytes in
-    sym (values_are a) ∙ ap modules_in entries ∙ values_are b
+modules_same [] [] up_a up_b same = refl
+modules_same [] (y ∷ b) up_a up_b same =
+    absurd (some_none y (sym (module_here y b) ∙ sym (same y.name) ∙ none_there y.name))
+modules_same (x ∷ a) [] up_a up_b same =
+    absurd (some_none x (sym (module_here x a) ∙ same x.name ∙ none_there x.name))
+modules_same (x ∷ a) (y ∷ b) up_a up_b same =
+    go (compare_names x.name y.name) refl
+    (λ rest. modules_same a b (ascending_after x.name (names_of a) up_a) (ascending_after y.name (names_of b) up_b) rest)
+  where
+    go : (o : Ordering) → compare_names x.name y.name ≡ o
+        → (((name : List ℕ) → module_named name a ≡ module_named name b) → a ≡ b) → x ∷ a ≡ y ∷ b
+    go Less is later = absurd (not_below x y a b is up_b (same x.name))
+    go Equal is later =
+        let one = first_same x y a b is (same x.name) in
+        one_list x y a b one (later (rest_same x y a b one up_a up_b same))
+    go Greater is later =
+        let below : compare_names y.name x.name ≡ Less =
+            nat_list_cmp_total.antisymm y.name x.name ∙ ap ordering_reverse is in
+        absurd (not_below y x b a below up_a (sym (same y.name)))
 
 -- ---- objects
 
@@ -188,21 +233,28 @@ objects_back ms (e ∷ objects) up placed =
 
 one_named : (s t : NamedSnapshot) → s.registered ≡ t.registered → s.seq ≡ t.seq → s.last ≡ t.last
     → s.services ≡ t.services → s.modules ≡ t.modules → s.objects ≡ t.objects → s ≡ t
-one_named s t registered seq last services modules objects = cc
+one_named s t registered seq last services modules objects =
+    λ i. record {
+      registered = registered i;
+      seq = seq i;
+      last = last i;
+      services = services i;
+      modules = modules i;
+      objects = objects i;
+    }
 
--- states in order, to which a delta leads from one state, are one
-pub one_led : (d : Delta) (before s t : NamedSnapshot) → Leads d before s → Leads d before t
-    → are_ascending (names_of s.modules) ≡ true → are_ascending (names_of t.modules) ≡ true → IsInOrder s.objects
-    → IsInOrder t.objects → s ≡ t
-one_led d before s t one other up_s up_t order_s order_t =
+-- ordered states, to which a delta leads from one state, are one
+pub one_led : (d : Delta) (before s t : NamedSnapshot) → Leads d before s → Leads d before t → IsOrdered s
+    → IsOrdered t → s ≡ t
+one_led d before s t one other ordered_s ordered_t =
     let modules : s.modules ≡ t.modules =
-        modules_same s.modules t.modules up_s up_t
+        modules_same s.modules t.modules ordered_s.modules ordered_t.modules
         (λ name. one.modules.modules name ∙ sym (other.modules.modules name)) in
     let services : s.services ≡ t.services =
         services_same s.services t.services (one.services.kinds ∙ sym other.services.kinds)
         (one.services.states ∙ sym other.services.states) in
     let objects : s.objects ≡ t.objects =
-        same_in_order s.objects t.objects order_s order_t
+        same_in_order s.objects t.objects ordered_s.objects ordered_t.objects
         (λ n. one.objects n
         ∙ ap (λ (ms : List Loaded). option_or (object_by_name ms d.put n) (kept d.gone before.objects n)) modules
         ∙ sym (other.objects n)) in
@@ -211,7 +263,15 @@ one_led d before s t one other up_s up_t order_s order_t =
 
 one_snapshot : (s t : Snapshot) → s.registered ≡ t.registered → s.seq ≡ t.seq → s.last ≡ t.last
     → s.services ≡ t.services → s.modules ≡ t.modules → s.objects ≡ t.objects → s ≡ t
-one_snapshot s t registered seq last services modules objects = cc
+one_snapshot s t registered seq last services modules objects =
+    λ i. record {
+      registered = registered i;
+      seq = seq i;
+      last = last i;
+      services = services i;
+      modules = modules i;
+      objects = objects i;
+    }
 
 numbers_stay : (ms : List Loaded) (objects : LiveObjects ℕ) → numbers (objects_named ms objects) ≡ numbers objects
 numbers_stay ms [] = refl
@@ -239,15 +299,21 @@ one_from_names s t same up placed_s placed_t =
     one_snapshot s t (ap (λ (x : NamedSnapshot). x.registered) same) (ap (λ (x : NamedSnapshot). x.seq) same)
     (ap (λ (x : NamedSnapshot). x.last) same) (ap (λ (x : NamedSnapshot). x.services) same) modules objects
 
+-- a state in order is in order with names
+pub named_ordered : (s : Snapshot) → are_ascending (names_of s.modules) ≡ true → IsInOrder s.objects
+    → IsOrdered (named s)
+named_ordered s up order = record { modules = up; objects = named_order s.modules s.objects order }
+
+pub known_by_names : KnownByNames
+known_by_names s t up keeps_s keeps_t same = one_from_names s t same up keeps_s.whole.placed keeps_t.whole.placed
+
 pub one_state : (version : Version) (d : Delta) (before s t : Snapshot) → LeadsTo version d before s
     → LeadsTo version d before t → s ≡ t
 one_state version d before s t to_s to_t =
     let up_s = to_s.1.modules.order in
-    let up_t = to_t.1.modules.order in
-    let same : named s ≡ named t =
-        one_led d (named before) (named s) (named t) to_s.0 to_t.0 up_s up_t
-        (named_order s.modules s.objects to_s.2.whole.numbered.in_order)
-        (named_order t.modules t.objects to_t.2.whole.numbered.in_order) in
+    let ordered_s = named_ordered s up_s to_s.2.whole.numbered.in_order in
+    let ordered_t = named_ordered t to_t.1.modules.order to_t.2.whole.numbered.in_order in
+    let same : named s ≡ named t = one_led d (named before) (named s) (named t) to_s.0 to_t.0 ordered_s ordered_t in
     one_from_names s t same up_s to_s.2.whole.placed to_t.2.whole.placed
 
 same_bytes : (body a b : List ℕ) → body ≡ 2 ∷ a → body ≡ 2 ∷ b → a ≡ b

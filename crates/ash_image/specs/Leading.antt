@@ -2,16 +2,17 @@
 -- object of the same module, by name: its module has another index where modules before it came or went.
 use Rattle.std.specs.Prelude.{◌≡◌, ℕ, zero, suc, ◌<◌, ◌+◌, Bool, true, false, if◌then◌else◌, List, [], ◌∷◌, length, map, ⊤}
 use Rattle.std.specs.Prelude.{Option, Some, None, option_map, slice_get}
+use Rattle.std.specs.Bool.{IsTrue}
 use Rattle.std.specs.Option.{unwrap_or, option_or}
 use Rattle.std.specs.List.{AllByRecursion}
 use Rattle.std.specs.Ordering.{is_eq}
 use Rattle.ash_host.specs.declared.word.Word.{Word}
 use Rattle.ash_host.specs.Objects.{Elements, Bools, Ints, Uints, Int64s, Uint64s, Handles, Hosts, Plain, Script, Array, Host}
-use Rattle.ash_host.specs.Objects.{LiveObjects, object_at}
+use Rattle.ash_host.specs.Objects.{LiveObjects, object_at, IsInOrder}
 use Rattle.ash_host.specs.Reach.{is_among}
 use Rattle.ash_image.specs.declared.version.Version.{Version}
 use Rattle.ash_image.specs.Snapshots.{Loaded, Snapshot}
-use Rattle.ash_image.specs.Image.{compare_names, FitsVersion}
+use Rattle.ash_image.specs.Image.{compare_names, are_ascending, names_of, FitsVersion}
 use Rattle.ash_image.specs.Rules.{KeepsRules}
 use Rattle.ash_image.specs.Delta.{ModuleChange, Unchanged, Added, Removed, Globals, Delta, IsDelta, delta_tag}
 
@@ -133,6 +134,16 @@ named s = record {
   objects = objects_named s.modules s.objects;
 }
 
+-- the modules are by ascending name, and the objects by ascending number
+pub record IsOrdered (s : NamedSnapshot) : Type 0 where
+  pub modules : IsTrue (are_ascending (names_of s.modules))
+  pub objects : IsInOrder s.objects
+
+-- A state that keeps the rules, its modules by ascending name, is known by its names.
+abbrev pub KnownByNames : Type 0
+KnownByNames = (s t : Snapshot) → IsTrue (are_ascending (names_of s.modules)) → KeepsRules s → KeepsRules t
+    → named s ≡ named t → s ≡ t
+
 -- The delta leads from one state to the other, whatever the rules of a state are.
 pub record Leads (d : Delta) (before after : NamedSnapshot) : Type 0 where
   pub registered : after.registered ≡ before.registered
@@ -141,6 +152,11 @@ pub record Leads (d : Delta) (before after : NamedSnapshot) : Type 0 where
   pub services : LeadServices d.services before.services after.services
   pub modules : LeadModules d.change before.modules after.modules
   pub objects : LeadObjects d after.modules before.objects after.objects
+
+-- From one state a delta leads to one ordered state at most.
+abbrev pub LeadToOne : Type 0
+LeadToOne = (d : Delta) (before s t : NamedSnapshot) → Leads d before s → Leads d before t → IsOrdered s
+    → IsOrdered t → s ≡ t
 
 -- The delta leads to a state that has an image in the version.
 abbrev pub LeadsTo : Version → Delta → Snapshot → Snapshot → Type 0

@@ -16,8 +16,8 @@ ghost use Rattle.ash_image.specs.DeltaViews.{all_indexed, change_of, service_sta
 ghost use Rattle.ash_image.specs.Leading.{AreThere, values_after, LeadServices, IsChangeOf};
 ghost use Rattle.ash_image.specs.Leading.{LeadModules, name_there, plain_known, by_name};
 ghost use Rattle.ash_image.specs.Leading.{object_by_name, NamedSnapshot, Leads, LeadsTo};
-ghost use Rattle.ash_image.specs.Leading.{IsDeltaBetween};
-ghost use Rattle.ash_image.specs.NamedViews.{modules_seen, objects_seen, state_seen};
+ghost use Rattle.ash_image.specs.Leading.{IsDeltaBetween, IsOrdered, LeadToOne, KnownByNames};
+ghost use Rattle.ash_image.specs.NamedViews.{modules_seen, object_seen, objects_seen, state_seen};
 ghost use Rattle.ash_image.specs.declared.version.Version.{Version};
 
 use crate::named_state::{NamedModule, NamedModules, NamedObject, NamedObjects, NamedState};
@@ -26,13 +26,24 @@ use crate::stored_delta::{IndexedWord, StoredChange, StoredDelta, StoredGlobals,
 use ash_host::{ElementTag, Word};
 use std::alloc::{AllocError, Global};
 
-/// A delta leads from a state to one state at most. This function does nothing when it runs.
+/// A delta leads from a state to one state at most, and a state is known by its names. This function does nothing when
+/// it runs.
 pub fn deltas_lead_to_one_state()
     ensures one { (version : Version) (d : Delta) (before s t : Snapshot)
         → LeadsTo version d before s → LeadsTo version d before t → s ≡ t }
     ensures body { (body : List ℕ) (version : Version) (before s t : Snapshot)
         → IsDeltaBetween body version before s → IsDeltaBetween body version before t → s ≡ t }
+    ensures named { LeadToOne }
+    ensures known { KnownByNames }
 {}
+
+/// The names of a state's modules ascend, and so do the numbers of its objects. This function changes nothing.
+pub fn is_ordered(state: &NamedState)
+    ensures ordered { IsOrdered (state_seen state.now) }
+{
+    let _modules = state.modules.len();
+    let _objects = state.objects.len();
+}
 
 /// Whether each index is one of so many.
 fn are_globals_there(listed: &[IndexedWord], count: usize) -> bool
@@ -100,15 +111,15 @@ fn set_services(services: &mut Vec<StoredHost>, mut listed: Vec<StoredService>)
 }
 
 /// Puts a module in, in place of one of its name if that is there.
-fn add_module(modules: &mut NamedModules, module: StoredModule) -> Result<(), AllocError>
-    ensures led { OnOk result (LeadModules (Added (module_of module)) (modules_seen modules.old)
+fn add_module(modules: &mut NamedModules, added: StoredModule) -> Result<(), AllocError>
+    ensures led { OnOk result (LeadModules (Added (module_of added)) (modules_seen modules.old)
         (modules_seen modules.new)) }
 {
     let named = NamedModule {
-        source: module.source,
-        globals: module.globals,
+        source: added.source,
+        globals: added.globals,
     };
-    modules.insert(module.name, named)?;
+    modules.insert(added.name, named)?;
     Ok(())
 }
 
@@ -204,6 +215,19 @@ fn owner_name(
     }
 }
 
+/// An object with the name of its module.
+pub fn named_object(
+    alloc: Global,
+    modules: &NamedModules,
+    body: StoredBody,
+) -> Result<NamedObject, AllocError>
+    ensures seen { IfOk result (λ object. object_seen object
+        ≡ by_name (modules_seen modules.now) (plain_of body)) }
+{
+    let owner = owner_name(alloc, modules, &body)?;
+    Ok(NamedObject { owner, body })
+}
+
 /// Puts objects in, each in place of what lived at its number.
 fn put_objects(
     alloc: Global,
@@ -216,12 +240,9 @@ fn put_objects(
         (object_at number (objects_seen objects.old))) }
 {
     while let Some(object) = put.pop() {
-        let owner = owner_name(alloc, modules, &object.body)?;
-        let named = NamedObject {
-            owner,
-            body: object.body,
-        };
-        objects.insert(object.number, named)?;
+        let StoredObject { number, body } = object;
+        let named = named_object(alloc, modules, body)?;
+        objects.insert(number, named)?;
     }
     Ok(())
 }
@@ -235,6 +256,7 @@ pub fn lead(
 ) -> Result<Option<NamedState>, AllocError>
     ensures led { IfOk result (λ led. IfSome led (λ after.
         Leads (delta_of delta) (state_seen state) (state_seen after))) }
+    ensures ordered { IfOk result (λ led. IfSome led (λ after. IsOrdered (state_seen after))) }
     ensures only { (after : NamedSnapshot) → Leads (delta_of delta) (state_seen state) after
         → IfOk result (λ led. IsSome led) }
 {
@@ -249,5 +271,6 @@ pub fn lead(
     put_objects(alloc, &state.modules, &mut state.objects, delta.put)?;
     state.seq = delta.seq;
     state.last = delta.last;
+    is_ordered(&state);
     Ok(Some(state))
 }

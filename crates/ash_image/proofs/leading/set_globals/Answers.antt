@@ -1,5 +1,6 @@
-use Rattle.std.proofs.Common.{◌≡◌, length, refl, ◌∙◌, sym, subst, arith}
+use Rattle.std.proofs.Common.{◌≡◌, length, refl, ◌∙◌, sym, ap, subst, arith}
 use Rattle.std.proofs.lemmas.List.{length-set}
+use Rattle.std.proofs.lemmas.Option.{MatchOption-at_none}
 use Rattle.ash_image.specs.DeltaViews.{indexed_of, all_indexed}
 use Rattle.ash_image.specs.Leading.{AreThere}
 use Rattle.ash_image.proofs.LeadingLaws.{set_last, left_there, none_left}
@@ -27,7 +28,9 @@ loop-indexed-preserved c =
     }
 
 pub returns : goal.returns
-returns c = record {
-  led = none_left indexed_of c.loop-indexed.listed.items c.loop-indexed.globals.items _ c.in-None.ensures.was_empty
-      c.loop-indexed.invariant.led;
+returns c =
+    let empty = (MatchOption-at_none _ _ c.in_default.is c.pop.ensures.cases).0 in
+    record {
+  led = none_left indexed_of c.loop-indexed.listed.items c.loop-indexed.globals.items _
+      (omega (arith, empty, c.loop-indexed.listed.ok.0)) c.loop-indexed.invariant.led;
 }

@@ -1,4 +1,5 @@
-use Rattle.std.proofs.Common.{◌≡◌, ℕ, List, length, map, refl, sym, ◌∙◌, subst}
+use Rattle.std.proofs.Common.{◌≡◌, ℕ, List, length, map, refl, sym, ◌∙◌, subst, arith}
+use Rattle.std.proofs.lemmas.Option.{MatchOption-at_none}
 use Rattle.ash_image.specs.DeltaViews.{service_state_of, service_states_of}
 use Rattle.ash_image.specs.ImageObjectViews.{service_of}
 use Rattle.ash_image.specs.SnapshotViews.{services_of}
@@ -28,4 +29,19 @@ loop-service-preserved c =
           c.loop-service.invariant.there size c.set_service.ensures.states c.loop-service.invariant.states;
       there = subst (λ (count : ℕ). AreThere (service_states_of c.pop.new.self.items) count)
           (sym c.set_service.ensures.same_length) there.0;
+    }
+
+pub returns : goal.returns
+returns c =
+    let before = c.args.services.now.items in
+    let empty = (MatchOption-at_none _ _ c.in_default.is c.pop.ensures.cases).0 in
+    record {
+      led = record {
+          there = subst (λ (count : ℕ). AreThere (service_states_of c.args.listed.items) count)
+              (sym (seen_length service_of before)) c.requires.there;
+          kinds = c.loop-service.invariant.kinds;
+          states = none_left service_state_of c.loop-service.listed.items
+              (map (λ (s : ℕ × List ℕ). s.1) (services_of c.loop-service.services.items)) _
+              (omega (arith, empty, c.loop-service.listed.ok.0)) c.loop-service.invariant.states;
+        };
     }
