@@ -3,9 +3,11 @@
 //! What is listed is applied from the last on, so a list says the same as its look-ups: what comes first counts.
 
 ghost use Rattle.std.specs.Prelude.{◌≡◌, ◌<◌, ℕ, nat_lt, length, map, set, List, string_bytes};
-ghost use Rattle.std.specs.Prelude.{if◌then◌else◌, true, false, None, OnOk, IfOk, IfSome, IsSome};
+ghost use Rattle.std.specs.Prelude.{if◌then◌else◌, true, false, Some, None, OnOk, IfOk, IfSome, IsSome};
+ghost use Rattle.std.specs.BTreeMap.{Updates};
 ghost use Rattle.std.specs.List.{list_all};
 ghost use Rattle.std.specs.Option.{option_or};
+ghost use Rattle.std.specs.Ordering.{nat_cmp};
 ghost use Rattle.ash_host.specs.Objects.{object_at};
 ghost use Rattle.ash_host.specs.Reach.{is_among};
 ghost use Rattle.ash_image.specs.Snapshots.{Snapshot};
@@ -228,6 +230,18 @@ pub fn named_object(
     Ok(NamedObject { owner, body })
 }
 
+/// Puts an object in, in place of what lived at its number.
+fn put_object(
+    objects: &mut NamedObjects,
+    number: u64,
+    named: NamedObject,
+) -> Result<(), AllocError>
+    ensures put { OnOk result (Updates nat_cmp objects.old objects.new number (Some named)) }
+{
+    objects.insert(number, named)?;
+    Ok(())
+}
+
 /// Puts objects in, each in place of what lived at its number.
 fn put_objects(
     alloc: Global,
@@ -242,7 +256,7 @@ fn put_objects(
     while let Some(object) = put.pop() {
         let StoredObject { number, body } = object;
         let named = named_object(alloc, modules, body)?;
-        objects.insert(number, named)?;
+        put_object(objects, number, named)?;
     }
     Ok(())
 }
