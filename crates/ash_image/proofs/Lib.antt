@@ -4,6 +4,7 @@ pub mod DeltaLaws
 pub mod DeltaLengths
 pub mod ExampleLaws
 pub mod FieldLaws
+pub mod FittingLaws
 pub mod ImageLaws
 pub mod IndexedLaws
 pub mod ItemLoop
@@ -13,10 +14,12 @@ pub mod Listed
 pub mod ModuleLaws
 pub mod MoveLaws
 pub mod NameLaws
+pub mod NamingLaws
 pub mod Numbers
 pub mod ObjectLaws
 pub mod OneState
 pub mod OrderLaws
+pub mod Ranging
 pub mod RuleLaws
 pub mod SearchLaws
 pub mod Searching

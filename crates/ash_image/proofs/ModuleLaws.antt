@@ -185,7 +185,8 @@ changed_by name key stored listed found again old middle new same equal is there
 
 -- ---- names by their indexes
 
-names_seen : (es : List (String Global × NamedModule))
+-- the keys of a map are the names
+pub names_seen : (es : List (String Global × NamedModule))
     → map string_bytes (keys_of es) ≡ map (λ (m : Loaded). m.name) (map module_seen es)
 names_seen [] = refl
 names_seen (e ∷ es) = ap (λ (more : List (List ℕ)). string_bytes e.0 ∷ more) (names_seen es)

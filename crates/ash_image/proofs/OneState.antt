@@ -18,6 +18,7 @@ use Rattle.ash_image.specs.Rules.{IsPlaced}
 use Rattle.ash_image.specs.Delta.{Delta, IsDelta}
 use Rattle.ash_image.specs.Leading.{is_name_of, module_named, name_there, elements_known, plain_known, by_name}
 use Rattle.ash_image.specs.Leading.{object_by_name, kept, NamedSnapshot, objects_named, named, Leads, LeadsTo}
+use Rattle.ash_image.specs.Leading.{index_among, index_of_name, objects_indexed}
 use Rattle.ash_image.specs.Leading.{IsOrdered, KnownByNames, IsDeltaBetween}
 use Rattle.ash_image.proofs.DeltaLaws.{one_delta}
 use Rattle.ash_image.proofs.ModuleLaws.{one_name}
@@ -60,7 +61,7 @@ services_same (x ∷ a) (y ∷ b) kinds states =
 
 -- ---- modules
 
-is_less : (o : Ordering) → is_lt o ≡ true → o ≡ Less
+pub is_less : (o : Ordering) → is_lt o ≡ true → o ≡ Less
 is_less Less h = refl
 is_less Equal h = absurd cc
 is_less Greater h = absurd cc
@@ -175,11 +176,6 @@ modules_same (x ∷ a) (y ∷ b) up_a up_b same =
 
 -- ---- objects
 
--- the index of the module of a name
-unfoldable index_of_name : List Loaded → List ℕ → ℕ
-index_of_name [] name = 0
-index_of_name (m ∷ ms) name = cond (is_name_of name m) 0 (suc (index_of_name ms name))
-
 name_later : (low : List ℕ) (ms : List Loaded) (i : ℕ) → AllByRecursion (λ n. compare_names low n ≡ Less) (names_of ms)
     → i < length ms → compare_names low (name_there ms i) ≡ Less
 name_later low [] i all within = absurd (omega arith)
@@ -189,9 +185,9 @@ name_later low (m ∷ ms) (suc i) all within = name_later low ms i all.1 (omega 
 not_equal : (low high : List ℕ) → compare_names low high ≡ Less → is_eq (compare_names high low) ≡ false
 not_equal low high below = rw (nat_list_cmp_total.antisymm high low, below) refl
 
-index_is : (ms : List Loaded) (i : ℕ) → are_ascending (names_of ms) ≡ true → i < length ms
+pub index_is : (ms : List Loaded) (i : ℕ) → are_ascending (names_of ms) ≡ true → i < length ms
     → index_of_name ms (name_there ms i) ≡ i
-unfolding index_of_name
+unfolding index_among
 index_is [] i up within = absurd (omega arith)
 index_is (m ∷ ms) zero up within = rw (tied_itself nat_list_cmp_total m.name) refl
 index_is (m ∷ ms) (suc i) up within =
@@ -220,9 +216,9 @@ plain_back ms (Array of elements) up placed =
 plain_back ms (Host kind state) up placed = refl
 
 -- objects are known again by the names of their modules
-objects_back : (ms : List Loaded) (objects : LiveObjects ℕ) → are_ascending (names_of ms) ≡ true
+pub objects_back : (ms : List Loaded) (objects : LiveObjects ℕ) → are_ascending (names_of ms) ≡ true
     → AllByRecursion (λ (e : ℕ × Plain ℕ). IsPlaced (length ms) e.1) objects
-    → map (λ (e : ℕ × Plain (List ℕ)). (e.0, plain_known (index_of_name ms) e.1)) (objects_named ms objects) ≡ objects
+    → objects_indexed ms (objects_named ms objects) ≡ objects
 objects_back ms [] up placed = refl
 objects_back ms (e ∷ objects) up placed =
     let head = plain_back ms e.1 up placed.0 in
@@ -231,7 +227,7 @@ objects_back ms (e ∷ objects) up placed =
 
 -- ---- states
 
-one_named : (s t : NamedSnapshot) → s.registered ≡ t.registered → s.seq ≡ t.seq → s.last ≡ t.last
+pub one_named : (s t : NamedSnapshot) → s.registered ≡ t.registered → s.seq ≡ t.seq → s.last ≡ t.last
     → s.services ≡ t.services → s.modules ≡ t.modules → s.objects ≡ t.objects → s ≡ t
 one_named s t registered seq last services modules objects =
     λ i. record {
@@ -261,7 +257,7 @@ one_led d before s t one other ordered_s ordered_t =
     one_named s t (one.registered ∙ sym other.registered) (one.seq ∙ sym other.seq) (one.last ∙ sym other.last)
     services modules objects
 
-one_snapshot : (s t : Snapshot) → s.registered ≡ t.registered → s.seq ≡ t.seq → s.last ≡ t.last
+pub one_snapshot : (s t : Snapshot) → s.registered ≡ t.registered → s.seq ≡ t.seq → s.last ≡ t.last
     → s.services ≡ t.services → s.modules ≡ t.modules → s.objects ≡ t.objects → s ≡ t
 one_snapshot s t registered seq last services modules objects =
     λ i. record {
@@ -293,8 +289,7 @@ one_from_names s t same up placed_s placed_t =
         ∙ ap (λ (ms : List Loaded). objects_named ms t.objects) (sym modules) in
     let objects : s.objects ≡ t.objects =
         sym (objects_back s.modules s.objects up placed_s)
-        ∙ ap (λ (l : LiveObjects (List ℕ)). map (λ (e : ℕ × Plain (List ℕ)).
-        (e.0, plain_known (index_of_name s.modules) e.1)) l) again
+        ∙ ap (objects_indexed s.modules) again
         ∙ objects_back s.modules t.objects up placed in
     one_snapshot s t (ap (λ (x : NamedSnapshot). x.registered) same) (ap (λ (x : NamedSnapshot). x.seq) same)
     (ap (λ (x : NamedSnapshot). x.last) same) (ap (λ (x : NamedSnapshot). x.services) same) modules objects

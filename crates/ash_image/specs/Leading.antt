@@ -134,6 +134,29 @@ named s = record {
   objects = objects_named s.modules s.objects;
 }
 
+-- the index of a name among names; as many as there are, if it is not among them
+unfoldable pub index_among : List (List ℕ) → List ℕ → ℕ
+index_among [] name = 0
+index_among (n ∷ ns) name = if is_eq (compare_names name n) then 0 else suc (index_among ns name)
+
+-- the index of the module of a name
+abbrev pub index_of_name : List Loaded → List ℕ → ℕ
+index_of_name ms name = index_among (names_of ms) name
+
+abbrev pub objects_indexed : List Loaded → LiveObjects (List ℕ) → LiveObjects ℕ
+objects_indexed ms objects = map (λ (e : ℕ × Plain (List ℕ)). (e.0, plain_known (index_of_name ms) e.1)) objects
+
+-- each object has its module by index again
+abbrev pub indexed : NamedSnapshot → Snapshot
+indexed s = record {
+  registered = s.registered;
+  seq = s.seq;
+  last = s.last;
+  services = s.services;
+  modules = s.modules;
+  objects = objects_indexed s.modules s.objects;
+}
+
 -- the modules are by ascending name, and the objects by ascending number
 pub record IsOrdered (s : NamedSnapshot) : Type 0 where
   pub modules : IsTrue (are_ascending (names_of s.modules))

@@ -7,6 +7,7 @@ pub mod Image
 pub mod ImageReading
 pub mod SnapshotViews
 pub mod Rules
+pub mod Fitting
 pub mod Delta
 pub mod DeltaReading
 pub mod DeltaViews

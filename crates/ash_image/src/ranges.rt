@@ -1,7 +1,8 @@
 //! The numbers of a state are in the ranges of their types. These functions change nothing.
 
-ghost use Rattle.std.specs.Prelude.{ℕ, List, ◌<◌, ◌^◌};
+ghost use Rattle.std.specs.Prelude.{◌<◌, ◌^◌, string_bytes};
 ghost use Rattle.std.specs.List.{AllByRecursion};
+ghost use Rattle.std.specs.Str.{IsUtf8};
 ghost use Rattle.ash_host.specs.ElementTags.{element_of};
 ghost use Rattle.ash_image.specs.ImageWords.{FitsWord};
 ghost use Rattle.ash_image.specs.ObjectBytes.{FitsElement};
@@ -26,11 +27,17 @@ fn word_range(word: Word)
     }
 }
 
+fn seen_range(word: &Word)
+    ensures fits { FitsWord word.now }
+{
+    word_range(*word);
+}
+
 fn word_ranges(words: &[Word])
     ensures fit { AllByRecursion FitsWord words.now }
 {
     for word in words {
-        word_range(*word);
+        seen_range(word);
     }
 }
 
@@ -104,10 +111,22 @@ fn object_ranges(objects: &[StoredObject])
     }
 }
 
-/// The numbers of a state are in range.
+fn text_utf8(text: &str)
+    ensures utf8 { IsUtf8 text.now }
+{}
+
+fn string_utf8(text: &String)
+    ensures utf8 { IsUtf8 (string_bytes text.now) }
+{
+    text_utf8(text.as_str());
+}
+
+/// The numbers of a state are in range, and its text is UTF-8.
 pub fn state_range(state: &StoredState)
     ensures ranged { AreRanged (snapshot_of state.now) }
+    ensures utf8 { IsUtf8 (string_bytes state.now.registered) }
 {
+    string_utf8(&state.registered);
     let _seq = state.seq;
     let _last = state.last;
     service_ranges(&state.services);
