@@ -22,10 +22,11 @@ holds_all {A} {B} P see xs i goal past so_far =
     so_far (subst (λ (ys : List A). AllByRecursion P (map see ys)) (sym (drop_all i xs past)) tt)
 
 -- the same of what is not seen in another way
-pub each_more : {A : Type 0} (P : A → Type 0) (xs : List A) (i : ℕ) (x : A) (goal : Type 0) → i < length xs
-    → x ≡ get_or xs i x → P x → (AllByRecursion P (drop i xs) → goal) → AllByRecursion P (drop (i + 1) xs) → goal
-each_more {A} P xs i x goal within is holds so_far rest =
-    so_far (subst (λ (ys : List A). AllByRecursion P ys) (sym (split xs i x within is)) (holds, rest))
+pub each_more : {A : Type 0} (P : A → Type 0) (xs : List A) (i : ℕ) (d : A) (goal : Type 0) → i < length xs
+    → P (get_or xs i d) → (AllByRecursion P (drop i xs) → goal) → AllByRecursion P (drop (i + 1) xs) → goal
+each_more {A} P xs i d goal within holds so_far rest =
+    let first : drop i xs ≡ get_or xs i d ∷ drop (i + 1) xs = drop-cons xs i d within ∙ rw add-one refl in
+    so_far (subst (λ (ys : List A). AllByRecursion P ys) (sym first) (holds, rest))
 
 pub each_all : {A : Type 0} (P : A → Type 0) (xs : List A) (i : ℕ) (goal : Type 0) → length xs ≤ i
     → (AllByRecursion P (drop i xs) → goal) → goal

@@ -4,6 +4,7 @@ ghost use Rattle.std.specs.Prelude.{◌≡◌, ◌<◌, ◌≤◌, ◌^◌, ℕ,
 ghost use Rattle.std.specs.Prelude.{OnOk, IfOk, IfSome, IsSome, IsTrue};
 ghost use Rattle.std.specs.BTreeMap.{insert_entry};
 ghost use Rattle.std.specs.Ordering.{is_eq, nat_cmp};
+ghost use Rattle.std.specs.String.{string_cmp};
 ghost use Rattle.ash_host.specs.Objects.{numbers};
 ghost use Rattle.ash_host.specs.ElementTags.{element_of};
 ghost use Rattle.ash_image.specs.Snapshots.{Snapshot};
@@ -28,6 +29,19 @@ use ash_host::ElementTag;
 use std::alloc::{AllocError, Global};
 use std::collections::BTreeMap;
 
+/// Puts a module in, whose name is below all that are there.
+fn put_first_module(
+    modules: &mut NamedModules,
+    name: String,
+    named: NamedModule,
+) -> Result<(), AllocError>
+    ensures put { OnOk result (modules.new.entries
+        ≡ insert_entry string_cmp modules.old.entries name named) }
+{
+    modules.insert(name, named)?;
+    Ok(())
+}
+
 /// The modules by their names. The last goes in first.
 fn named_modules(
     alloc: Global,
@@ -43,13 +57,13 @@ fn named_modules(
             source,
             globals,
         } = last;
-        named.insert(name, NamedModule { source, globals })?;
+        put_first_module(&mut named, name, NamedModule { source, globals })?;
     }
     Ok(named)
 }
 
 /// Puts an object in, whose number is below all that are there.
-fn put_first(
+fn put_first_object(
     objects: &mut NamedObjects,
     number: u64,
     named: NamedObject,
@@ -75,7 +89,7 @@ fn named_objects(
     while let Some(last) = objects.pop() {
         let StoredObject { number, body } = last;
         let object = named_object(alloc, modules, body)?;
-        put_first(&mut named, number, object)?;
+        put_first_object(&mut named, number, object)?;
     }
     Ok(named)
 }

@@ -27,17 +27,11 @@ fn word_range(word: Word)
     }
 }
 
-fn seen_range(word: &Word)
-    ensures fits { FitsWord word.now }
-{
-    word_range(*word);
-}
-
 fn word_ranges(words: &[Word])
     ensures fit { AllByRecursion FitsWord words.now }
 {
     for word in words {
-        seen_range(word);
+        word_range(*word);
     }
 }
 

@@ -12,10 +12,10 @@ use Rattle.ash_image.proofs.naming.named_modules.Goals as goal
 pub loop-last-init : goal.loop-last-init
 loop-last-init c = none_seen (modules_of c.args.modules.items) c.new-named.result c.new-named.ensures.empty
 
-pub loop-last-preserved-in_ok-insert : goal.loop-last-preserved-in_ok-insert
-loop-last-preserved-in_ok-insert c =
-    module_next c.loop-last.modules.items c.pop.new.self.items c.in-Some.last c.loop-last.named c.insert.new.self _
-    c.in-Some.ensures.items c.in_ok-insert.ensures.entries c.requires.ascending c.loop-last.invariant
+pub loop-last-preserved : goal.loop-last-preserved
+loop-last-preserved c =
+    module_next c.loop-last.modules.items c.pop.new.self.items c.in-Some.last c.loop-last.named c.put_first_module.new.modules _
+    c.in-Some.ensures.items c.in_ok-put_first_module.ensures.put c.requires.ascending c.loop-last.invariant
 
 pub returns : goal.returns
 returns c =

@@ -15,8 +15,8 @@ pub loop-last-preserved : goal.loop-last-preserved
 loop-last-preserved c =
     let ms = modules_seen c.args.modules.now in
     object_next ms c.loop-last.objects.items c.pop.new.self.items c.in-Some.last c.in_ok-object.object
-    c.loop-last.named c.put_first.new.objects _ c.in-Some.ensures.items c.in_ok-object.ensures.seen
-    c.in_ok-put_first.ensures.put (named_rise ms (objects_of c.args.objects.items) c.requires.rising)
+    c.loop-last.named c.put_first_object.new.objects _ c.in-Some.ensures.items c.in_ok-object.ensures.seen
+    c.in_ok-put_first_object.ensures.put (named_rise ms (objects_of c.args.objects.items) c.requires.rising)
     c.loop-last.invariant
 
 pub returns : goal.returns

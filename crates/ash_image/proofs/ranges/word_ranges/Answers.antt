@@ -5,8 +5,8 @@ use Rattle.ash_image.proofs.ranges.word_ranges.Goals as goal
 
 pub loop-word-preserved : goal.loop-word-preserved
 loop-word-preserved c =
-    each_more FitsWord c.args.words.now c.loop-word.word-index c.word-item.result _ c.loop-word-test.true c.word-item.is
-    c.seen_range.ensures.fits c.loop-word.invariant
+    each_more FitsWord c.args.words.now c.loop-word.word-index _ _ c.loop-word-test.true
+    c.word_range.ensures.fits c.loop-word.invariant
 
 pub returns : goal.returns
 returns c = record {
