@@ -1,5 +1,5 @@
 use Rattle.std.proofs.Common.{◌≡◌, drop}
-use Rattle.std.specs.Prelude.{ℕ, nat_lt}
+use Rattle.std.specs.Prelude.{nat_lt}
 use Rattle.std.specs.List.{list_all}
 use Rattle.ash_image.specs.DeltaViews.{all_indexed}
 use Rattle.ash_image.proofs.leading.are_globals_there.Given as goal

@@ -1,5 +1,5 @@
 use Rattle.std.proofs.Common.{◌≡◌, drop}
-use Rattle.std.specs.Prelude.{ℕ, nat_lt}
+use Rattle.std.specs.Prelude.{nat_lt}
 use Rattle.std.specs.List.{list_all}
 use Rattle.ash_image.specs.DeltaViews.{service_states_of}
 use Rattle.ash_image.proofs.leading.are_services_there.Given as goal

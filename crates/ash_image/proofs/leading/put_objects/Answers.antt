@@ -1,4 +1,3 @@
-use Rattle.std.proofs.Common.{◌≡◌, ℕ}
 use Rattle.ash_image.specs.NamedViews.{modules_seen}
 use Rattle.ash_image.proofs.LeadingLaws.{put_last}
 use Rattle.ash_image.proofs.leading.put_objects.Goals as goal

@@ -1,11 +1,6 @@
-use Rattle.std.proofs.Common.{◌≡◌, ◌++◌, ◌∙◌, ap, List, [], arith}
-use Rattle.std.specs.declared.alloc.Global.{Global}
-use Rattle.std.specs.declared.string.String.{String}
-use Rattle.std.proofs.lemmas.List.{append-nil}
+use Rattle.std.proofs.Common.{arith}
 use Rattle.std.proofs.lemmas.Option.{MatchOption-at_none}
-use Rattle.ash_image.specs.declared.named_state.NamedModule.{NamedModule}
 use Rattle.ash_image.specs.SnapshotViews.{modules_of}
-use Rattle.ash_image.specs.NamedViews.{module_seen, modules_seen}
 use Rattle.ash_image.proofs.NamingLaws.{module_next, modules_in, none_seen}
 use Rattle.ash_image.proofs.naming.named_modules.Goals as goal
 

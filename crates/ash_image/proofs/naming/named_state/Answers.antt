@@ -1,8 +1,7 @@
-use Rattle.std.proofs.Common.{◌≡◌, ◌∙◌, ap, refl, List}
+use Rattle.std.proofs.Common.{◌∙◌, ap, refl, List}
 use Rattle.ash_image.specs.Snapshots.{Loaded}
 use Rattle.ash_image.specs.SnapshotViews.{objects_of, snapshot_of}
 use Rattle.ash_image.specs.Leading.{objects_named, named}
-use Rattle.ash_image.specs.NamedViews.{state_seen}
 use Rattle.ash_image.proofs.OneState.{one_named}
 use Rattle.ash_image.proofs.naming.named_state.Goals as goal
 

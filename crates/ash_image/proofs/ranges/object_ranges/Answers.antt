@@ -1,5 +1,4 @@
 use Rattle.std.proofs.Common.{arith}
-use Rattle.std.specs.List.{AllByRecursion}
 use Rattle.ash_image.specs.Fitting.{IsRangedEntry}
 use Rattle.ash_image.specs.SnapshotViews.{object_of}
 use Rattle.ash_image.proofs.Ranging.{holds_more, holds_all}

@@ -1,5 +1,4 @@
 use Rattle.std.proofs.Common.{arith}
-use Rattle.std.specs.List.{AllByRecursion}
 use Rattle.std.specs.Prelude.{ℕ, ◌<◌, ◌^◌, List}
 use Rattle.ash_image.specs.ImageObjectViews.{service_of}
 use Rattle.ash_image.proofs.Ranging.{holds_more, holds_all}
