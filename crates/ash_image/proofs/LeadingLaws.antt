@@ -51,7 +51,7 @@ unfolding values_from
 last_first k l e [] = refl
 last_first {A} k l e (v ∷ vs) =
     let head : unwrap_or (object_at k (l ++ e ∷ [])) v ≡ unwrap_or (object_at k l) (unwrap_or (object_at k (e ∷ [])) v) =
-        ap (λ (o : Option A). unwrap_or o v) (first_counts k l e) ∙ unwrapped (object_at k l) (object_at k (e ∷ [])) v in
+    ap (λ (o : Option A). unwrap_or o v) (first_counts k l e) ∙ unwrapped (object_at k l) (object_at k (e ∷ [])) v in
     let tail = last_first (suc k) l e vs in
     ap (λ (x : A). x ∷ values_from (suc k) (l ++ e ∷ []) vs) head
     ∙ ap (λ (xs : List A). unwrap_or (object_at k l) (unwrap_or (object_at k (e ∷ [])) v) ∷ xs) tail
@@ -83,7 +83,7 @@ set_one k j i v [] is within = absurd (omega (arith, within))
 set_one {A} k zero i v (w ∷ ws) is within =
     let same : k ≡ i = omega (arith, is) in
     let here : object_at k ((i, v) ∷ []) ≡ Some v =
-        ap (λ (n : ℕ). object_at n ((i, v) ∷ [])) same ∙ object_here (i, v) [] in
+    ap (λ (n : ℕ). object_at n ((i, v) ∷ [])) same ∙ object_here (i, v) [] in
     rw here (ap (λ (more : List A). v ∷ more) (passed_over (suc k) i v ws (omega (arith, is))))
 set_one {A} k (suc j) i v (w ∷ ws) is within =
     let other : nat_eq k i ≡ false = apart k i (nat_eq k i) refl (λ same. omega (arith, is, same)) in
@@ -104,10 +104,10 @@ pub set_last : {A B : Type 0} (see : B → ℕ × A) (all left : List B) (e : B)
 set_last {A} {B} see all left e vs new goal count is there size set_is so_far =
     let split : map see all ≡ map see left ++ see e ∷ [] = ap (map see) is ∙ map-append see left (e ∷ []) in
     let parts = last_there (λ (x : ℕ × A). x.0 < count) (map see left) (see e)
-        (subst (λ (l : List (ℕ × A)). AreThere l count) split there) in
+    (subst (λ (l : List (ℕ × A)). AreThere l count) split there) in
     let within : (see e).0 < count = parts.1 in
     let one : values_from 0 (see e ∷ []) vs ≡ set vs (see e).0 (see e).1 =
-        set_one 0 (see e).0 (see e).0 (see e).1 vs (omega arith) (omega (arith, within, size)) in
+    set_one 0 (see e).0 (see e).0 (see e).1 vs (omega arith) (omega (arith, within, size)) in
     ap (λ (ws : List A). values_after (map see left) ws) (set_is ∙ sym one)
     ∙ sym (last_first 0 (map see left) (see e) vs)
     ∙ sym (ap (λ (l : List (ℕ × A)). values_after l vs) split) ∙ so_far
@@ -239,17 +239,17 @@ pub put_last : (ms : List Loaded) (old new : BTreeMap ℕ NamedObject) (all left
     → option_or (object_by_name ms (objects_of left) n) (object_at n (objects_seen new)) ≡ goal
 put_last ms old new all left o named n goal is same updates so_far =
     let split : objects_of all ≡ objects_of left ++ object_of o ∷ [] =
-        ap (map object_of) is ∙ map-append object_of left (o ∷ []) in
+    ap (map object_of) is ∙ map-append object_of left (o ∷ []) in
     let last = object_by_name ms (object_of o ∷ []) n in
     let first = object_by_name ms (objects_of left) n in
     let parts : object_by_name ms (objects_of all) n ≡ option_or first last =
-        ap (λ (l : List (ℕ × Plain ℕ)). object_by_name ms l n) split
-        ∙ ap (option_map (by_name ms)) (first_counts n (objects_of left) (object_of o))
-        ∙ map_or (by_name ms) (object_at n (objects_of left)) (object_at n (object_of o ∷ [])) in
+    ap (λ (l : List (ℕ × Plain ℕ)). object_by_name ms l n) split
+    ∙ ap (option_map (by_name ms)) (first_counts n (objects_of left) (object_of o))
+    ∙ map_or (by_name ms) (object_at n (objects_of left)) (object_at n (object_of o ∷ [])) in
     let one : object_at n (objects_seen new) ≡ option_or last (object_at n (objects_seen old)) =
-        at_after object_seen old new o.number (Some named) n updates
-        ∙ ap (λ (p : Plain (List ℕ)). cond (nat_eq o.number n) (Some p) (object_at n (objects_seen old))) same
-        ∙ go (nat_eq o.number n) (nat_eq n o.number) (flipped o.number n) in
+    at_after object_seen old new o.number (Some named) n updates
+    ∙ ap (λ (p : Plain (List ℕ)). cond (nat_eq o.number n) (Some p) (object_at n (objects_seen old))) same
+    ∙ go (nat_eq o.number n) (nat_eq n o.number) (flipped o.number n) in
     ap (λ (v : Option (Plain (List ℕ))). option_or first v) one
     ∙ sym (either first last (object_at n (objects_seen old)))
     ∙ sym (ap (λ (v : Option (Plain (List ℕ))). option_or v (object_at n (objects_seen old))) parts) ∙ so_far
@@ -301,6 +301,6 @@ pub failed_there : {A : Type 0} (listed words : List (ℕ × A)) (count size : �
     → AreThere listed size → ⊥
 failed_there {A} listed words count size passed test same is fails there =
     let passes : passed ≡ true =
-        test ∙ ap (list_all (λ (e : ℕ × A). ltb e.0 count)) same
-        ∙ ap (λ (n : ℕ). list_all (λ (e : ℕ × A). ltb e.0 n) listed) is ∙ there_passes listed size there in
+    test ∙ ap (list_all (λ (e : ℕ × A). ltb e.0 count)) same
+    ∙ ap (λ (n : ℕ). list_all (λ (e : ℕ × A). ltb e.0 n) listed) is ∙ there_passes listed size there in
     absurd (false≢true (sym fails ∙ passes))

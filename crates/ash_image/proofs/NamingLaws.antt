@@ -48,7 +48,7 @@ module_first m (e ∷ es) up =
     let new : NamedModule = record { source = m.source; globals = m.globals } in
     let later = are_ascending (names_of (map module_seen (e ∷ es))) in
     let less : string_cmp m.name e.0 ≡ Less =
-        is_less (string_cmp m.name e.0) (both (is_lt (string_cmp m.name e.0)) later up).0 in
+    is_less (string_cmp m.name e.0) (both (is_lt (string_cmp m.name e.0)) later up).0 in
     ap (λ (o : Ordering). map module_seen (match_ordering o ((m.name, new) ∷ e ∷ es) ((e.0, new) ∷ es)
     (e ∷ insert_entry string_cmp es m.name new))) less
 
@@ -66,17 +66,17 @@ pub module_next : (all left : List StoredModule) (m : StoredModule) (old new : B
     → modules_of left ++ modules_seen new ≡ goal
 module_next all left m old new goal is entries up so_far =
     let split : modules_of all ≡ modules_of left ++ module_of m ∷ [] =
-        ap modules_of is ∙ map-append module_of left (m ∷ []) in
+    ap modules_of is ∙ map-append module_of left (m ∷ []) in
     let joined : modules_of left ++ (module_of m ∷ modules_seen old) ≡ goal =
-        sym (append_assoc (modules_of left) (module_of m ∷ []) (modules_seen old))
-        ∙ sym (ap (λ (ms : List Loaded). ms ++ modules_seen old) split) ∙ so_far in
+    sym (append_assoc (modules_of left) (module_of m ∷ []) (modules_seen old))
+    ∙ sym (ap (λ (ms : List Loaded). ms ++ modules_seen old) split) ∙ so_far in
     let name : Loaded → List ℕ = λ (m : Loaded). m.name in
     let parts : names_of (modules_of left ++ (module_of m ∷ modules_seen old))
-        ≡ names_of (modules_of left) ++ names_of (module_of m ∷ modules_seen old) =
-        map-append name (modules_of left) (module_of m ∷ modules_seen old) in
+    ≡ names_of (modules_of left) ++ names_of (module_of m ∷ modules_seen old) =
+    map-append name (modules_of left) (module_of m ∷ modules_seen old) in
     let rest : are_ascending (names_of (module_of m ∷ modules_seen old)) ≡ true =
-        ascending_end (names_of (modules_of left)) (names_of (module_of m ∷ modules_seen old))
-        (sym (ap are_ascending parts) ∙ ap (λ (ms : List Loaded). are_ascending (names_of ms)) joined ∙ up) in
+    ascending_end (names_of (modules_of left)) (names_of (module_of m ∷ modules_seen old))
+    (sym (ap are_ascending parts) ∙ ap (λ (ms : List Loaded). are_ascending (names_of ms)) joined ∙ up) in
     ap (λ (ms : List Loaded). modules_of left ++ ms) (ap (map module_seen) entries ∙ module_first m old.entries rest)
     ∙ joined
 
@@ -105,7 +105,7 @@ object_first : (number : ℕ) (o : NamedObject) (es : List (ℕ × NamedObject))
 object_first number o [] up = refl
 object_first number o (e ∷ es) up =
     let less : nat_cmp number e.0 ≡ Less =
-        below number e.0 (both (ltb number e.0) (do_rise (numbers (seen_in (e ∷ es)))) up).0 in
+    below number e.0 (both (ltb number e.0) (do_rise (numbers (seen_in (e ∷ es)))) up).0 in
     ap (λ (r : Ordering). seen_in (match_ordering r ((number, o) ∷ e ∷ es) ((e.0, o) ∷ es)
     (e ∷ insert_entry nat_cmp es number o))) less
 
@@ -135,18 +135,18 @@ object_next ms all left o named old new goal is same entries up so_far =
     let first : ℕ × Plain (List ℕ) = (o.number, object_seen named) in
     let front = objects_named ms (objects_of left) in
     let split : objects_named ms (objects_of all) ≡ front ++ (o.number, by_name ms (plain_of o.body)) ∷ [] =
-        ap (objects_named ms) (ap objects_of is ∙ map-append object_of left (o ∷ []))
-        ∙ map-append (λ (e : ℕ × Plain ℕ). (e.0, by_name ms e.1)) (objects_of left) (object_of o ∷ []) in
+    ap (objects_named ms) (ap objects_of is ∙ map-append object_of left (o ∷ []))
+    ∙ map-append (λ (e : ℕ × Plain ℕ). (e.0, by_name ms e.1)) (objects_of left) (object_of o ∷ []) in
     let as_seen : front ++ (o.number, by_name ms (plain_of o.body)) ∷ [] ≡ front ++ first ∷ [] =
-        ap (λ (p : Plain (List ℕ)). front ++ (o.number, p) ∷ []) (sym same) in
+    ap (λ (p : Plain (List ℕ)). front ++ (o.number, p) ∷ []) (sym same) in
     let joined : front ++ (first ∷ objects_seen old) ≡ goal =
-        sym (append_assoc front (first ∷ []) (objects_seen old))
-        ∙ sym (ap (λ (es : LiveObjects (List ℕ)). es ++ objects_seen old) (split ∙ as_seen)) ∙ so_far in
+    sym (append_assoc front (first ∷ []) (objects_seen old))
+    ∙ sym (ap (λ (es : LiveObjects (List ℕ)). es ++ objects_seen old) (split ∙ as_seen)) ∙ so_far in
     let parts : numbers (front ++ (first ∷ objects_seen old)) ≡ numbers front ++ numbers (first ∷ objects_seen old) =
-        map-append (λ (e : ℕ × Plain (List ℕ)). e.0) front (first ∷ objects_seen old) in
+    map-append (λ (e : ℕ × Plain (List ℕ)). e.0) front (first ∷ objects_seen old) in
     let rest : do_rise (numbers (first ∷ objects_seen old)) ≡ true =
-        rising_end (numbers front) (numbers (first ∷ objects_seen old))
-        (sym (ap do_rise parts) ∙ ap (λ (es : LiveObjects (List ℕ)). do_rise (numbers es)) joined ∙ up) in
+    rising_end (numbers front) (numbers (first ∷ objects_seen old))
+    (sym (ap do_rise parts) ∙ ap (λ (es : LiveObjects (List ℕ)). do_rise (numbers es)) joined ∙ up) in
     ap (λ (es : LiveObjects (List ℕ)). front ++ es) (ap seen_in entries ∙ object_first o.number named old.entries rest)
     ∙ joined
 
@@ -209,9 +209,9 @@ object_out ms old new e before after o goal first is number body so_far =
     let one : ℕ × Plain ℕ = (e.0, plain_known (index_of_name ms) (object_seen e.1)) in
     let same : object_of o ≡ one = λ i. (number i, body i) in
     let split : objects_of after ≡ objects_of before ++ object_of o ∷ [] =
-        ap objects_of is ∙ map-append object_of before (o ∷ []) in
+    ap objects_of is ∙ map-append object_of before (o ∷ []) in
     let head : objects_indexed ms (objects_seen old) ≡ one ∷ rest =
-        ap (λ (es : List (ℕ × NamedObject)). objects_indexed ms (seen_in es)) first in
+    ap (λ (es : List (ℕ × NamedObject)). objects_indexed ms (seen_in es)) first in
     ap (λ (es : LiveObjects ℕ). es ++ rest) split ∙ append_assoc (objects_of before) (object_of o ∷ []) rest
     ∙ ap (λ (x : ℕ × Plain ℕ). objects_of before ++ x ∷ rest) same
     ∙ sym (ap (λ (es : LiveObjects ℕ). objects_of before ++ es) head) ∙ so_far
@@ -231,7 +231,7 @@ pub module_out : (old new : BTreeMap (String Global) NamedModule) (e : String Gl
 module_out old new e before after m goal first is same so_far =
     let rest = modules_seen new in
     let split : modules_of after ≡ modules_of before ++ module_of m ∷ [] =
-        ap modules_of is ∙ map-append module_of before (m ∷ []) in
+    ap modules_of is ∙ map-append module_of before (m ∷ []) in
     ap (λ (ms : List Loaded). ms ++ rest) split ∙ append_assoc (modules_of before) (module_of m ∷ []) rest
     ∙ ap (λ (x : Loaded). modules_of before ++ x ∷ rest) same
     ∙ sym (ap (λ (es : List (String Global × NamedModule)). modules_of before ++ map module_seen es) first) ∙ so_far

@@ -171,7 +171,7 @@ modules_same (x ∷ a) (y ∷ b) up_a up_b same =
         one_list x y a b one (later (rest_same x y a b one up_a up_b same))
     go Greater is later =
         let below : compare_names y.name x.name ≡ Less =
-            nat_list_cmp_total.antisymm y.name x.name ∙ ap ordering_reverse is in
+        nat_list_cmp_total.antisymm y.name x.name ∙ ap ordering_reverse is in
         absurd (not_below y x b a below up_a (sym (same y.name)))
 
 -- ---- objects
@@ -244,16 +244,16 @@ pub one_led : (d : Delta) (before s t : NamedSnapshot) → Leads d before s → 
     → IsOrdered t → s ≡ t
 one_led d before s t one other ordered_s ordered_t =
     let modules : s.modules ≡ t.modules =
-        modules_same s.modules t.modules ordered_s.modules ordered_t.modules
-        (λ name. one.modules.modules name ∙ sym (other.modules.modules name)) in
+    modules_same s.modules t.modules ordered_s.modules ordered_t.modules
+    (λ name. one.modules.modules name ∙ sym (other.modules.modules name)) in
     let services : s.services ≡ t.services =
-        services_same s.services t.services (one.services.kinds ∙ sym other.services.kinds)
-        (one.services.states ∙ sym other.services.states) in
+    services_same s.services t.services (one.services.kinds ∙ sym other.services.kinds)
+    (one.services.states ∙ sym other.services.states) in
     let objects : s.objects ≡ t.objects =
-        same_in_order s.objects t.objects ordered_s.objects ordered_t.objects
-        (λ n. one.objects n
-        ∙ ap (λ (ms : List Loaded). option_or (object_by_name ms d.put n) (kept d.gone before.objects n)) modules
-        ∙ sym (other.objects n)) in
+    same_in_order s.objects t.objects ordered_s.objects ordered_t.objects
+    (λ n. one.objects n
+    ∙ ap (λ (ms : List Loaded). option_or (object_by_name ms d.put n) (kept d.gone before.objects n)) modules
+    ∙ sym (other.objects n)) in
     one_named s t (one.registered ∙ sym other.registered) (one.seq ∙ sym other.seq) (one.last ∙ sym other.last)
     services modules objects
 
@@ -283,14 +283,14 @@ one_from_names : (s t : Snapshot) → named s ≡ named t → are_ascending (nam
 one_from_names s t same up placed_s placed_t =
     let modules : s.modules ≡ t.modules = ap (λ (x : NamedSnapshot). x.modules) same in
     let placed = subst (λ (ms : List Loaded). AllByRecursion (λ (e : ℕ × Plain ℕ). IsPlaced (length ms) e.1) t.objects)
-        (sym modules) placed_t in
+    (sym modules) placed_t in
     let again : objects_named s.modules s.objects ≡ objects_named s.modules t.objects =
-        ap (λ (x : NamedSnapshot). x.objects) same
-        ∙ ap (λ (ms : List Loaded). objects_named ms t.objects) (sym modules) in
+    ap (λ (x : NamedSnapshot). x.objects) same
+    ∙ ap (λ (ms : List Loaded). objects_named ms t.objects) (sym modules) in
     let objects : s.objects ≡ t.objects =
-        sym (objects_back s.modules s.objects up placed_s)
-        ∙ ap (objects_indexed s.modules) again
-        ∙ objects_back s.modules t.objects up placed in
+    sym (objects_back s.modules s.objects up placed_s)
+    ∙ ap (objects_indexed s.modules) again
+    ∙ objects_back s.modules t.objects up placed in
     one_snapshot s t (ap (λ (x : NamedSnapshot). x.registered) same) (ap (λ (x : NamedSnapshot). x.seq) same)
     (ap (λ (x : NamedSnapshot). x.last) same) (ap (λ (x : NamedSnapshot). x.services) same) modules objects
 

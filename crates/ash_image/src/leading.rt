@@ -40,7 +40,7 @@ pub fn deltas_lead_to_one_state()
 {}
 
 /// The names of a state's modules ascend, and so do the numbers of its objects. This function changes nothing.
-pub fn is_ordered(state: &NamedState)
+pub fn keep_order(state: &NamedState)
     ensures ordered { IsOrdered (state_seen state.now) }
 {
     let _modules = state.modules.len();
@@ -231,11 +231,7 @@ pub fn named_object(
 }
 
 /// Puts an object in, in place of what lived at its number.
-fn put_object(
-    objects: &mut NamedObjects,
-    number: u64,
-    named: NamedObject,
-) -> Result<(), AllocError>
+fn put_object(objects: &mut NamedObjects, number: u64, named: NamedObject) -> Result<(), AllocError>
     ensures put { OnOk result (Updates nat_cmp objects.old objects.new number (Some named)) }
 {
     objects.insert(number, named)?;
@@ -285,6 +281,6 @@ pub fn lead(
     put_objects(alloc, &state.modules, &mut state.objects, delta.put)?;
     state.seq = delta.seq;
     state.last = delta.last;
-    is_ordered(&state);
+    keep_order(&state);
     Ok(Some(state))
 }

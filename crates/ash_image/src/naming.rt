@@ -17,7 +17,7 @@ ghost use Rattle.ash_image.specs.Leading.{index_of_name, objects_indexed, indexe
 ghost use Rattle.ash_image.specs.NamedViews.{modules_seen, object_seen, objects_seen, state_seen};
 
 use crate::fitting::fits_version;
-use crate::leading::{is_ordered, named_object};
+use crate::leading::{keep_order, named_object};
 use crate::limits::MAX_MODULES;
 use crate::named_state::{NamedModule, NamedModules, NamedObject, NamedObjects, NamedState};
 use crate::rules::keeps_rules;
@@ -43,10 +43,7 @@ fn put_first_module(
 }
 
 /// The modules by their names. The last goes in first.
-fn named_modules(
-    alloc: Global,
-    mut modules: Vec<StoredModule>,
-) -> Result<NamedModules, AllocError>
+fn named_modules(alloc: Global, mut modules: Vec<StoredModule>) -> Result<NamedModules, AllocError>
     requires ascending { IsTrue (are_ascending (names_of (modules_of modules.items))) }
     ensures named { IfOk result (λ named. modules_seen named ≡ modules_of modules.items) }
 {
@@ -111,7 +108,7 @@ pub fn named_state(alloc: Global, state: StoredState) -> Result<NamedState, Allo
         modules,
         objects,
     };
-    is_ordered(&named);
+    keep_order(&named);
     Ok(named)
 }
 
@@ -189,10 +186,7 @@ fn indexed_objects(
 }
 
 /// The modules by ascending name.
-fn listed_modules(
-    alloc: Global,
-    mut modules: NamedModules,
-) -> Result<Vec<StoredModule>, AllocError>
+fn listed_modules(alloc: Global, mut modules: NamedModules) -> Result<Vec<StoredModule>, AllocError>
     ensures listed { IfOk result (λ stored. modules_of stored.items ≡ modules_seen modules) }
 {
     let mut stored = Vec::with_capacity(alloc, modules.len())?;

@@ -16,8 +16,8 @@ returns-in_default-clause-missing c = λ fails change.
     let modules = c.args.modules.now in
     let same : c.as_str.result.now ≡ string_bytes c.args.changed.name = cc in
     let none : get_by_text modules c.as_str.result.now ≡ None =
-        sym c.remove_entry.ensures.value
-        ∙ ap (option_map (λ (p : String Global × NamedModule). p.1)) c.in_default.is in
+    sym c.remove_entry.ensures.value
+    ∙ ap (option_map (λ (p : String Global × NamedModule). p.1)) c.in_default.is in
     not_there (string_bytes c.args.changed.name) (all_indexed c.args.changed.globals.items) modules
     (ap (get_by_text modules) (sym same) ∙ none) change
 
@@ -27,13 +27,13 @@ returns-then-not-are_globals_there-clause-missing c = λ fails change.
     let listed = all_indexed c.args.changed.globals.items in
     let same : c.as_str.result.now ≡ string_bytes c.args.changed.name = cc in
     let found : get_by_text modules c.as_str.result.now ≡ Some c.in-Some.module =
-        sym c.remove_entry.ensures.value
-        ∙ ap (option_map (λ (p : String Global × NamedModule). p.1)) c.in-Some.is in
+    sym c.remove_entry.ensures.value
+    ∙ ap (option_map (λ (p : String Global × NamedModule). p.1)) c.in-Some.is in
     let size : c.len.result ≡ length c.in-Some.module.globals.items = omega arith in
     let failed : c.are_globals_there.result ≡ false = grind arith in
     let missing : AreThere listed (length c.in-Some.module.globals.items) → ⊥ =
-        failed_there listed (all_indexed c.deref.result.now) c.len.result (length c.in-Some.module.globals.items)
-        c.are_globals_there.result c.are_globals_there.ensures.value (ap all_indexed c.deref.ensures.value) size failed in
+    failed_there listed (all_indexed c.deref.result.now) c.len.result (length c.in-Some.module.globals.items)
+    c.are_globals_there.result c.are_globals_there.ensures.value (ap all_indexed c.deref.ensures.value) size failed in
     globals_not_there (string_bytes c.args.changed.name) listed modules c.in-Some.module
     (ap (get_by_text modules) (sym same) ∙ found) missing change
 
@@ -54,13 +54,13 @@ returns-clause-led c = λ holds.
     let listed = all_indexed c.args.changed.globals.items in
     let same : c.as_str.result.now ≡ string_bytes c.args.changed.name = cc in
     let found : get_by_text old c.as_str.result.now ≡ Some c.in-Some.module =
-        sym c.remove_entry.ensures.value
-        ∙ ap (option_map (λ (p : String Global × NamedModule). p.1)) c.in-Some.is in
+    sym c.remove_entry.ensures.value
+    ∙ ap (option_map (λ (p : String Global × NamedModule). p.1)) c.in-Some.is in
     let size : c.len.result ≡ length c.in-Some.module.globals.items = omega arith in
     let passed : c.are_globals_there.result ≡ true = grind arith in
     let there = passed_there listed (all_indexed c.deref.result.now) c.len.result
-        (length c.in-Some.module.globals.items) c.are_globals_there.result c.are_globals_there.ensures.value
-        (ap all_indexed c.deref.ensures.value) size passed in
+    (length c.in-Some.module.globals.items) c.are_globals_there.result c.are_globals_there.ensures.value
+    (ap all_indexed c.deref.ensures.value) size passed in
     changed_by (string_bytes c.args.changed.name) c.as_str.result.now (string_bytes c.in-Some.name) listed
     c.in-Some.module (record { source = c.in-Some.module.source; globals = c.set_globals.new.globals }) old middle
     c.insert.new.self same c.in-Some.ensures.same_key found there

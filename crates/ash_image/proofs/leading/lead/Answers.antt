@@ -9,7 +9,7 @@ pub returns-then-not-are_services_there-clause-only : goal.returns-then-not-are_
 returns-then-not-are_services_there-clause-only c = λ after leads.
     let services = c.args.state.services.items in
     let size : c.len.result ≡ length (services_of services) =
-        omega (arith, seen_length service_of services, c.args.state.services.ok.0) in
+    omega (arith, seen_length service_of services, c.args.state.services.ok.0) in
     let failed : c.are_services_there.result ≡ false = grind arith in
     absurd (failed_there (service_states_of c.args.delta.services.items) (service_states_of c.deref.result.now)
     c.len.result (length (services_of services)) c.are_services_there.result c.are_services_there.ensures.value

@@ -17,9 +17,12 @@ loop-indexed-preserved c =
     let before = c.loop-indexed.globals.items in
     let after = c.set_global.new.globals.items in
     let there = left_there indexed_of c.loop-indexed.listed.items c.pop.new.self.items c.in-Some.indexed (length before)
-        c.in-Some.ensures.items c.loop-indexed.invariant.there in
-    let same : length before ≡ length after = omega (arith, ap length c.set_global.ensures.value,
-        length-set before c.in-Some.indexed.index c.in-Some.indexed.word) in
+    c.in-Some.ensures.items c.loop-indexed.invariant.there in
+    let same : length before ≡ length after = omega (
+      arith,
+      ap length c.set_global.ensures.value,
+      length-set before c.in-Some.indexed.index c.in-Some.indexed.word,
+    ) in
     record {
       led = set_last indexed_of c.loop-indexed.listed.items c.pop.new.self.items c.in-Some.indexed before after _
           (length before) c.in-Some.ensures.items c.loop-indexed.invariant.there refl c.set_global.ensures.value
@@ -31,6 +34,6 @@ pub returns : goal.returns
 returns c =
     let empty = (MatchOption-at_none _ _ c.in_default.is c.pop.ensures.cases).0 in
     record {
-  led = none_left indexed_of c.loop-indexed.listed.items c.loop-indexed.globals.items _
-      (omega (arith, empty, c.loop-indexed.listed.ok.0)) c.loop-indexed.invariant.led;
-}
+      led = none_left indexed_of c.loop-indexed.listed.items c.loop-indexed.globals.items _
+          (omega (arith, empty, c.loop-indexed.listed.ok.0)) c.loop-indexed.invariant.led;
+    }

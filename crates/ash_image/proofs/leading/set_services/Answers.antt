@@ -19,9 +19,9 @@ loop-service-preserved c =
     let after = c.set_service.new.services.items in
     let states : List (List ℕ) = map (λ (s : ℕ × List ℕ). s.1) (services_of before) in
     let size : length before ≡ length states =
-        sym (seen_length (λ (s : ℕ × List ℕ). s.1) (services_of before) ∙ seen_length service_of before) in
+    sym (seen_length (λ (s : ℕ × List ℕ). s.1) (services_of before) ∙ seen_length service_of before) in
     let there = left_there service_state_of c.loop-service.listed.items c.pop.new.self.items c.in-Some.service
-        (length before) c.in-Some.ensures.items c.loop-service.invariant.there in
+    (length before) c.in-Some.ensures.items c.loop-service.invariant.there in
     record {
       kinds = c.set_service.ensures.kinds ∙ c.loop-service.invariant.kinds;
       states = set_last service_state_of c.loop-service.listed.items c.pop.new.self.items c.in-Some.service states
@@ -37,11 +37,11 @@ returns c =
     let empty = (MatchOption-at_none _ _ c.in_default.is c.pop.ensures.cases).0 in
     record {
       led = record {
-          there = subst (λ (count : ℕ). AreThere (service_states_of c.args.listed.items) count)
-              (sym (seen_length service_of before)) c.requires.there;
-          kinds = c.loop-service.invariant.kinds;
-          states = none_left service_state_of c.loop-service.listed.items
-              (map (λ (s : ℕ × List ℕ). s.1) (services_of c.loop-service.services.items)) _
-              (omega (arith, empty, c.loop-service.listed.ok.0)) c.loop-service.invariant.states;
-        };
+        there = subst (λ (count : ℕ). AreThere (service_states_of c.args.listed.items) count)
+            (sym (seen_length service_of before)) c.requires.there;
+        kinds = c.loop-service.invariant.kinds;
+        states = none_left service_state_of c.loop-service.listed.items
+            (map (λ (s : ℕ × List ℕ). s.1) (services_of c.loop-service.services.items)) _
+            (omega (arith, empty, c.loop-service.listed.ok.0)) c.loop-service.invariant.states;
+      };
     }
