@@ -1,8 +1,8 @@
 //! The program `ashd`: what it does, and its statuses.
 //!
 //! Only who makes boxes of host objects can name their type: what holds a host is generic in it. So the program has
-//! three parts. `prepare` reads its words and opens the files that they name; `main`, in the crate of the program,
-//! makes the boxes; `run_host` makes or opens a host with them, and serves.
+//! three parts. `prepare` reads its words and opens the files that they name; `main`, in the crate of the program, makes
+//! the boxes; `run_host` makes or opens a host with them, and serves.
 
 pub mod check;
 pub mod ending;

@@ -22,9 +22,8 @@ use std::io::{Read, Write};
 /// The most bytes of replies that are buffered.
 pub(crate) const MAX_BUFFERED_BYTES: usize = 8192;
 
-/// Reads requests, has the host handle each with this budget in ticks, and writes the replies in order. They are
-/// flushed before anything is read that may have to be waited for, and at the end: at most 8,192 bytes of replies wait
-/// for that.
+/// Reads requests, has the host handle each with this budget in ticks, and writes the replies in order. They are flushed
+/// before anything is read that may have to be waited for, and at the end: at most 8,192 bytes of replies wait for that.
 /// Ends at the end of the input between two requests, or when the reply to `quit` is written.
 ///
 /// `Truncated` where the input ends inside a request, `Read(TooLong)` past 2^40 bytes, `Read(Failed)` and `Write` where

@@ -13,9 +13,9 @@ use ash_lines::sink::{Sink, WriteFault};
 use ash_lines::source::Source;
 use std::alloc::Global;
 
-/// Reads requests, has the host handle each with this budget in ticks, and writes the replies in order. They are
-/// flushed before anything is read that may have to be waited for, and at the end. Ends at the end of the input between
-/// two requests, or when the reply to `quit` is written.
+/// Reads requests, has the host handle each with this budget in ticks, and writes the replies in order. They are flushed
+/// before anything is read that may have to be waited for, and at the end. Ends at the end of the input between two
+/// requests, or when the reply to `quit` is written.
 pub fn serve<S: Source, K: Sink, H: RequestHandler>(
     alloc: Global,
     input: &mut S,
