@@ -1,3 +1,6 @@
+pub mod Called
+pub mod Others
+pub mod Unmarked
 pub mod Untouched
 pub mod EntryNames
 pub mod SlotSearches

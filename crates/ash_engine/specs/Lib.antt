@@ -1,4 +1,5 @@
 pub mod LiveStates
+pub mod NamedChanges
 pub mod Drawing
 pub mod SavedDrawing
 pub mod LiveSteps

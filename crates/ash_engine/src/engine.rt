@@ -8,10 +8,12 @@ ghost use Rattle.ash_image.specs.declared.version.Version.TheVariants.{Two};
 ghost use Rattle.ash_states.specs.Images.{IsImageIn, IsBodyIn};
 ghost use Rattle.ash_engine.specs.LiveStates.{LiveState, AreOf, begin};
 ghost use Rattle.ash_engine.specs.LiveSteps.{reached_by, IsReached, Handled};
+ghost use Rattle.ash_engine.specs.NamedChanges.{changes_seen};
 ghost use Rattle.ash_engine.specs.RestoredBoxes.{HasServices, LacksService, IsShort};
 ghost use Rattle.ash_engine.specs.RestoredBoxes.{IsRefused, Restores};
 
 use crate::boxes::take_services;
+use crate::changes::Changes;
 use crate::live::Live;
 use crate::starting::{first_live, restored_live};
 use crate::steps::step_of;
@@ -147,6 +149,19 @@ impl<B: HostObject> Engine<B> {
             unreachable!()
         };
         live.loaded.seq
+    }
+
+    /// What the last request that was answered may have changed; nothing before the first.
+    #[tactic(auto, using(crate::proofs::LiveFacts::changes_in))]
+    pub fn changes(&self) -> &Changes
+        requires live { IsSome self.now.live }
+        ensures changes { (live : LiveState B) → self.now.live ≡ Some live
+            → changes_seen live.durable.state.modules result.now ≡ live.changes }
+    {
+        let Some(live) = &self.live else {
+            unreachable!()
+        };
+        &live.changes
     }
 
     /// The image of the state, in version 2. An `Err` means that memory was refused.

@@ -13,6 +13,7 @@
 #![tactic(auto)]
 
 mod boxes;
+pub mod changes;
 mod compiling;
 mod discarding;
 pub mod engine;
