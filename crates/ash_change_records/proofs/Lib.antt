@@ -1,0 +1,5 @@
+pub mod Listing
+pub mod ServicesLead
+pub mod ModulesLead
+pub mod ObjectsLead
+pub mod ChangesLead
