@@ -3,3 +3,5 @@ pub mod ServicesLead
 pub mod ModulesLead
 pub mod ObjectsLead
 pub mod ChangesLead
+pub mod ObjectsFit
+pub mod ListedFit

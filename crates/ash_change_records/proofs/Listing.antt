@@ -12,7 +12,7 @@ use Rattle.ash_change_records.specs.Leading.{values_from, values_after, AreThere
 use Rattle.ash_change_records.specs.ListedChanges.{listed}
 
 module _ {A : Type 0} (at : ℕ → Option A) where
-  abbrev paired : ℕ → Option A → Option (ℕ × A)
+  abbrev pub paired : ℕ → Option A → Option (ℕ × A)
   paired n o = option_map (λ (a : A). (n, a)) o
 
   either_way : (b : Bool) (o : Option A) → o ≡ None → cond b o None ≡ None
