@@ -5,3 +5,4 @@ pub mod ObjectsLead
 pub mod ChangesLead
 pub mod ObjectsFit
 pub mod ListedFit
+pub mod BodiesLead

@@ -26,6 +26,7 @@ use Rattle.ash_sources.proofs.SourceLaws.{read_sound}
 use Rattle.ash_sources.proofs.TypedSourceLaws.{typed_rules}
 use Rattle.ash_soundness.specs.WellFormed.{IsState}
 use Rattle.ash_soundness.proofs.Hosts.{rec_at}
+use Rattle.ash_soundness.proofs.Named.{rec_from}
 use Rattle.ash_image.specs.declared.version.Version.TheVariants.{Two}
 use Rattle.ash_image.specs.Snapshots.{Loaded}
 use Rattle.ash_image.specs.ImageWords.{FitsWord}
@@ -246,13 +247,13 @@ module _ (s : HostState) (h : IsAdmitted s) where
           (is_among_says n living (number_listed (λ n. object_at n objects) living n is).0))
       by false is rest = rest
 
-  pub delta_fits : (c : Changes) → AreListable c → AllByRecursion (λ n. n < 2 ^ 64) c.gone → HaveKinds (changes_listed c s).put → FitsDelta Two (changes_listed c s)
-  delta_fits c l small kinds = record {
+  pub delta_fits : (c : Changes) → AreListable c → HaveKinds (changes_listed c s).put → FitsDelta Two (changes_listed c s)
+  delta_fits c l kinds = record {
     seq = omega (arith, (h.formed).seq);
     last = omega (arith, (h.formed).last);
     services = services_fit c.services l.services;
     change = change_fits c.modules l.modules;
-    gone = record { few = omega (arith, l.few); each = small; order = rising_rise c.gone l.gone };
+    gone = record { few = omega (arith, l.few); each = l.given; order = rising_rise c.gone l.gone };
     put = put_fits c.living l.living kinds;
     apart = none_both c.gone c.living l.apart c.gone (λ n among. is_among_says n c.gone among);
   }
@@ -269,6 +270,7 @@ names_listable c happened before after was h services change living gone =
       living = living;
       gone = gone;
       few = omega (arith, few, (was.formed).few);
+      given = rec_from (λ (n : ℕ). n < 2 ^ 64) c.gone (λ n went. omega (arith, ((was.formed).numbered.given n (h.went n went).0).1, (was.formed).last));
       apart = λ n g l. by (object_at n (after.state).objects) (h.live n l) (h.went n g).1;
     }
   where

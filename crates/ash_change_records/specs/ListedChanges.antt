@@ -1,7 +1,7 @@
 -- What a request changed, as a delta: what the names of its changes name, as it is in the state after the request.
-use Rattle.std.specs.Prelude.{◌≡◌, ◌≤◌, ℕ, List, Option, slice_get, length, Contains, ⊤}
+use Rattle.std.specs.Prelude.{◌≡◌, ◌≤◌, ◌<◌, ◌^◌, ℕ, List, Option, slice_get, length, Contains, ⊤}
 use Rattle.std.specs.Bool.{IsTrue}
-use Rattle.std.specs.List.{filter_map}
+use Rattle.std.specs.List.{filter_map, AllByRecursion}
 use Rattle.std.specs.List.Sorted.{IsStrictlyIncreasing}
 use Rattle.std.specs.Option.{option_map, option_map_or}
 use Rattle.ash_host.specs.declared.event.Event.{Event}
@@ -53,13 +53,15 @@ IsListableChange (changed.Discarded name) = IsTrue (is_module_name name)
 IsListableChange (changed.Globals name places) = IsStrictlyIncreasing places
 IsListableChange _ = ⊤
 
--- Places and numbers ascend, no more objects went than live at most, and none of them lives.
+-- Places and numbers ascend, no more objects went than live at most, each by a number that one can have, and none that is
+-- named as living.
 pub record AreListable (c : Changes) : Type 0 where
   pub services : IsStrictlyIncreasing c.services
   pub modules : IsListableChange c.modules
   pub living : IsStrictlyIncreasing c.living
   pub gone : IsStrictlyIncreasing c.gone
   pub few : length c.gone ≤ max_objects
+  pub given : AllByRecursion (λ number. number < 2 ^ 64) c.gone
   pub apart : (number : ℕ) → Contains c.gone number → Contains c.living number → ⊥
 
 -- the laws

@@ -1,4 +1,3 @@
-use Rattle.ash_change_records.proofs.ListedFit.{delta_fits, names_listable}
 use Rattle.ash_change_records.proofs.ChangesLead.{changes_lead}
 use Rattle.ash_change_records.proofs.laws.listed_changes_lead.Goals as goal
 
