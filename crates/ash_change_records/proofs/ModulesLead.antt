@@ -36,7 +36,7 @@ test_is q name =
     ∙ tests_same (bytes_eq q name) (bytes_eq name q)
     (λ h. (bytes_decide name q).1 (sym ((bytes_decide q name).0 h))) (λ h. (bytes_decide q name).1 (sym ((bytes_decide name q).0 h)))
 
-named_is : (q : List ℕ) (ms : List LoadedModule) → module_named q (stored_modules_of ms) ≡ option_map stored_of (find (has_name q) ms)
+pub named_is : (q : List ℕ) (ms : List LoadedModule) → module_named q (stored_modules_of ms) ≡ option_map stored_of (find (has_name q) ms)
 unfolding module_named
 named_is q [] = refl
 named_is q (m ∷ ms) =

@@ -50,5 +50,6 @@ pub mod SavedTables
 pub mod StartedGlobals
 pub mod FirstLives
 pub mod RestoredLives
+pub mod ListedParts
 pub mod LiveFacts
 pub mod WrittenLives

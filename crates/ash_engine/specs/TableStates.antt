@@ -21,6 +21,7 @@ use Rattle.ash_table_states.specs.TableStates.{names_in, state_shown}
 use Rattle.ash_engine.specs.declared.live.Compiled.{Compiled}
 use Rattle.ash_engine.specs.declared.live.Live.{Live}
 use Rattle.ash_change_laws.specs.MarkedObjects.{IsSettled}
+use Rattle.ash_change_records.specs.ListedChanges.{AreListable}
 use Rattle.ash_engine.specs.LiveStates.{LiveState, plain_box}
 use Rattle.ash_engine.specs.NamedChanges.{changes_seen}
 
@@ -86,3 +87,5 @@ module _ {B : Type 0} (G : Ghosts B) where
     pub fit : BoxesFit (map (plain_box G) l.table.pool)
     -- nothing is marked between requests
     pub settled : IsSettled l.table
+    -- the names of what the last answered request changed can be listed
+    pub listable : AreListable (changes_seen (modules_seen l.loaded.modules.items) l.changes)

@@ -21,6 +21,7 @@ pub mod laws;
 mod live;
 mod loading;
 mod names;
+mod recording;
 mod runs;
 mod showing;
 mod starting;

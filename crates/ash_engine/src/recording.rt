@@ -9,15 +9,17 @@ ghost use Rattle.ash_soundness.specs.WellFormedStates.{Ascend, HasValidName};
 ghost use Rattle.ash_plain_steps.specs.StateViews.{modules_seen, loaded_seen};
 ghost use Rattle.ash_image.specs.SnapshotViews.{module_in};
 ghost use Rattle.ash_image.specs.DeltaViews.{indexed_of, all_indexed, service_state_of, service_states_of};
-ghost use Rattle.ash_image.specs.DeltaViews.{service_states_in, change_in};
+ghost use Rattle.ash_image.specs.DeltaViews.{service_states_in, change_in, delta_in};
+ghost use Rattle.ash_image.specs.Delta.{FitsDelta};
+ghost use Rattle.ash_image.specs.declared.version.Version.TheVariants.{Two};
 ghost use Rattle.ash_states.specs.Indexes.{stored_of, stored_modules_of};
 ghost use Rattle.ash_table_states.specs.WrittenObjects.{listed_entry, listed_entries};
-ghost use Rattle.ash_change_records.specs.ListedChanges.{listed, change_listed, IsBodyListing};
+ghost use Rattle.ash_change_records.specs.ListedChanges.{listed, change_listed, changes_listed, IsBodyListing};
 ghost use Rattle.ash_engine.specs.NamedChanges.{module_change_seen, changes_seen};
-ghost use Rattle.ash_engine.specs.RecordedChanges.{AreWordsOf};
+ghost use Rattle.ash_engine.specs.RecordedChanges.{AreWordsOf, AreListedParts};
 ghost use Rattle.ash_engine.specs.TableStates.{durable_seen, IsLive};
 
-use crate::changes::{Changes, ModuleChange};
+use crate::changes::ModuleChange;
 use crate::live::Live;
 use crate::writing::slots_of;
 use ash_host::{HostObject, Word};
@@ -207,27 +209,46 @@ fn objects_at<'a, B: HostObject>(
 }
 
 /// The parts of a delta of what the last answered request changed.
-fn delta_parts<'a, B>(
+fn delta_parts<'a, B: HostObject>(
     live: &'a Live<B>,
     services: &'a [ServiceParts<'a>],
-    change: ChangeParts<'a>,
+    words: &'a [IndexedWord],
     put: &'a [ObjectParts<'a>],
 ) -> DeltaParts<'a>
-    ensures seq { result.seq ≡ live.now.loaded.seq }
-    ensures last { result.last ≡ live.now.table.last }
-    ensures services { result.services.now ≡ services.now }
-    ensures change { result.change ≡ change }
-    ensures gone { result.gone.now ≡ live.now.changes.gone.items }
-    ensures put { result.put.now ≡ put.now }
+    requires listed { AreListedParts B.HostObject live.now services.now words.now put.now }
+    ensures same { (registered : List Registration) → delta_in result
+        ≡ changes_listed (changes_seen (modules_seen live.now.loaded.modules.items) live.now.changes)
+        (durable_seen B.HostObject registered live.now) }
+    ensures fits { FitsDelta Two (delta_in result) }
 {
     DeltaParts {
         seq: live.loaded.seq,
         last: live.table.last(),
         services,
-        change,
+        change: change_parts(&live.loaded.modules, &live.changes.modules, words),
         gone: &live.changes.gone,
         put,
     }
+}
+
+/// The body of a record of what the last answered request changed, by the parts of the services that were called, the
+/// words of globals, and the parts of the objects that were made or changed.
+fn body_by<B: HostObject>(
+    live: &Live<B>,
+    services: &[ServiceParts<'_>],
+    words: &[IndexedWord],
+    put: &[ObjectParts<'_>],
+) -> Result<Vec<u8>, AllocError>
+    requires listed { AreListedParts B.HostObject live.now services.now words.now put.now }
+    ensures body { (registered : List Registration) → IfOk result (λ body. IsBodyListing
+        (changes_seen (modules_seen live.now.loaded.modules.items) live.now.changes)
+        (durable_seen B.HostObject registered live.now) body.items) }
+    ensures short { IfOk result (λ body. length body.items < 2 ^ 28) }
+{
+    write_delta_body(
+        live.loaded.alloc,
+        delta_parts(live, services, words, put),
+    )
 }
 
 /// The body of a record of what the last answered request changed, in version 2.
@@ -239,14 +260,12 @@ pub(crate) fn delta_body<B: HostObject>(live: &Live<B>) -> Result<Vec<u8>, Alloc
     ensures short { IfOk result (λ body. length body.items < 2 ^ 28) }
 {
     let alloc = live.loaded.alloc;
-    let changes = &live.changes;
     let slots = slots_of(alloc, &live.compiled)?;
-    let called = services_at(alloc, live.table.services(), &changes.services)?;
+    let called = services_at(alloc, live.table.services(), &live.changes.services)?;
     let services = service_parts(alloc, &called)?;
-    let words = changed_words(alloc, &live.loaded.modules, &changes.modules)?;
-    let change = change_parts(&live.loaded.modules, &changes.modules, &words);
-    let objects = objects_at(alloc, &live.table, &changes.living)?;
+    let words = changed_words(alloc, &live.loaded.modules, &live.changes.modules)?;
+    let objects = objects_at(alloc, &live.table, &live.changes.living)?;
     let states = object_states(alloc, &objects)?;
     let put = object_parts(alloc, &slots, &objects, &states)?;
-    write_delta_body(alloc, delta_parts(live, &services, change, &put))
+    body_by(live, &services, &words, &put)
 }

@@ -1,0 +1,142 @@
+-- The parts that are listed of a live state are those of a delta of what its last request changed.
+use Rattle.std.proofs.Common.{◌≡◌, ℕ, Bool, true, false, cond, List, [], ◌∷◌, length, map, find, nat_eq, slice_get, refl, sym, ap, ◌∙◌, subst}
+use Rattle.std.specs.Prelude.{Option, Some, None, string_bytes}
+use Rattle.std.specs.List.{AllByRecursion, cons_option}
+use Rattle.std.specs.Option.{option_map, option_map_or}
+use Rattle.std.proofs.lemmas.List.{length-map}
+use Rattle.std.proofs.lemmas.Map.Made.{lookup-map_values}
+use Rattle.std.proofs.lemmas.Option.{slice_get-map, slice_get_within, get_or_from_slice_get}
+use Rattle.std.proofs.lemmas.Slice.Zip.{AllZip-long}
+use Rattle.ash_host.specs.declared.host_object.HostObject.{Ghosts}
+use Rattle.ash_host.specs.Objects.{Plain, LiveObjects, object_at}
+use Rattle.ash_registry.specs.AcceptedRegistrations.{Registration}
+use Rattle.ash_slots.specs.declared.body.Body.{Body}
+use Rattle.ash_objects.specs.Table.{Living, Table, body_of}
+use Rattle.ash_objects.specs.Restoring.{bodies_of}
+use Rattle.ash_object_ranks.specs.ShownTables.{objects_shown}
+use Rattle.ash_requests.specs.States as states
+use Rattle.ash_requests.specs.States.{has_name}
+use Rattle.ash_soundness.specs.WellFormedStates.{Ascend, HasValidName}
+use Rattle.ash_soundness.proofs.Ascending.{found_by_name}
+use Rattle.ash_soundness.proofs.Named.{name_says}
+use Rattle.ash_plain_steps.specs.declared.state.LoadedModule.{LoadedModule}
+use Rattle.ash_plain_steps.specs.StateViews.{loaded_seen, modules_seen}
+use Rattle.ash_image.specs.Snapshots.{Loaded}
+use Rattle.ash_image.specs.Delta.{ModuleChange, Unchanged, Added, Removed, Globals, Delta}
+use Rattle.ash_image.specs.DeltaViews.{all_indexed}
+use Rattle.ash_image.specs.declared.stored_delta.IndexedWord.{IndexedWord}
+use Rattle.ash_states.specs.HostStates.{HostState, IsAdmitted}
+use Rattle.ash_states.specs.Indexes.{index_in, entry_indexed, stored_of, stored_modules_of, snapshot_for, HaveKinds}
+use Rattle.ash_table_states.specs.TableStates.{names_in}
+use Rattle.ash_table_states.specs.WrittenObjects.{index_at, body_written, objects_written}
+use Rattle.ash_table_states.proofs.Shown.{written_same}
+use Rattle.ash_table_states.proofs.SlotNames.{index_same}
+use Rattle.ash_change_records.specs.Leading.{module_named}
+use Rattle.ash_change_records.specs.ListedChanges.{listed, change_listed}
+use Rattle.ash_change_records.proofs.ModulesLead.{named_is}
+use Rattle.ash_engine.specs.declared.changes.ModuleChange as code
+use Rattle.ash_engine.specs.declared.changes.ModuleChange.TheVariants as changes
+use Rattle.ash_engine.specs.declared.changes.ChangedGlobals.{ChangedGlobals}
+use Rattle.ash_engine.specs.declared.live.Compiled.{Compiled}
+use Rattle.ash_engine.specs.declared.live.Live.{Live}
+use Rattle.ash_engine.specs.NamedChanges.{name_at, module_change_seen}
+use Rattle.ash_engine.specs.RecordedChanges.{AreWordsOf}
+use Rattle.ash_engine.specs.TableStates.{slots_of, durable_seen, IsCompiledFrom, IsLive}
+use Rattle.ash_engine.proofs.NamedSlots.{not_empty}
+
+-- modules
+
+module _ (code_modules : List LoadedModule) (up : Ascend (modules_seen code_modules)) (valid : AllByRecursion HasValidName (modules_seen code_modules)) where
+  abbrev ms : List states.LoadedModule
+  ms = modules_seen code_modules
+
+  seen_at : (place : ℕ) (m : LoadedModule) → slice_get code_modules place ≡ Some m → slice_get ms place ≡ Some (loaded_seen m)
+  seen_at place m at = slice_get-map loaded_seen code_modules place ∙ ap (option_map loaded_seen) at
+
+  seen_none : (place : ℕ) → slice_get code_modules place ≡ None → slice_get ms place ≡ None
+  seen_none place at = slice_get-map loaded_seen code_modules place ∙ ap (option_map loaded_seen) at
+
+  -- the name of a place is that of the module that is there
+  pub name_there : (place : ℕ) (m : LoadedModule) → slice_get code_modules place ≡ Some m → name_at ms place ≡ (loaded_seen m).name
+  name_there place m at = ap (λ (o : Option states.LoadedModule). option_map_or (λ (x : states.LoadedModule). x.name) o []) (seen_at place m at)
+
+  -- which is found by it
+  pub found_there : (place : ℕ) (m : LoadedModule) → slice_get code_modules place ≡ Some m
+      → module_named (name_at ms place) (stored_modules_of ms) ≡ Some (stored_of (loaded_seen m))
+  found_there place m at =
+      let there = seen_at place m at in
+      ap (λ (name : List ℕ). module_named name (stored_modules_of ms)) (name_there place m at)
+      ∙ named_is (loaded_seen m).name ms
+      ∙ ap (option_map stored_of) (found_by_name ms up (loaded_seen m)
+      (place, slice_get_within ms place (loaded_seen m) there, λ d. get_or_from_slice_get ms place (loaded_seen m) d there))
+
+  none_named : (all : List states.LoadedModule) → AllByRecursion HasValidName all → find (has_name []) all ≡ None
+  none_named [] v = refl
+  none_named (m ∷ all) v = go (has_name [] m) refl (none_named all v.1)
+    where
+      go : (b : Bool) → has_name [] m ≡ b → find (has_name []) all ≡ None → cond b (Some m) (find (has_name []) all) ≡ None
+      go true is later = absurd (not_empty m.name v.0 (name_says [] m is))
+      go false is later = later
+
+  -- none is at a place that is no module's
+  pub lost_there : (place : ℕ) → slice_get code_modules place ≡ None → module_named (name_at ms place) (stored_modules_of ms) ≡ None
+  lost_there place at =
+      ap (λ (name : List ℕ). module_named name (stored_modules_of ms)) (ap (λ (o : Option states.LoadedModule). option_map_or (λ (x : states.LoadedModule). x.name) o []) (seen_none place at))
+      ∙ named_is [] ms ∙ ap (option_map stored_of) (none_named ms valid)
+
+  pub loaded_listed : (place : ℕ) (o : Option Loaded) → module_named (name_at ms place) (stored_modules_of ms) ≡ o
+      → change_listed (module_change_seen ms (changes.Loaded place)) (stored_modules_of ms) ≡ option_map_or (λ (m : Loaded). Added m) o Unchanged
+  loaded_listed place o is = ap (λ (x : Option Loaded). option_map_or (λ (m : Loaded). Added m) x Unchanged) is
+
+  pub globals_listed : (globals : ChangedGlobals) (o : Option Loaded) → module_named (name_at ms globals.module) (stored_modules_of ms) ≡ o
+      → change_listed (module_change_seen ms (changes.Globals globals)) (stored_modules_of ms)
+      ≡ option_map_or (λ (m : Loaded). Globals (name_at ms globals.module) (listed (slice_get m.globals) globals.places.items)) o Unchanged
+  globals_listed globals o is =
+      ap (λ (x : Option Loaded). option_map_or (λ (m : Loaded). Globals (name_at ms globals.module) (listed (slice_get m.globals) globals.places.items)) x Unchanged) is
+
+-- objects
+
+module _ {A C : Type 0} (f : A → C) (at : ℕ → Option A) where
+  abbrev paired : {D : Type 0} → ℕ → Option D → Option (ℕ × D)
+  paired {D} n o = option_map (λ (d : D). (n, d)) o
+
+  -- what is listed, each changed, is what is listed of the changed
+  pub listed_mapped : (ns : List ℕ) → map (λ (e : ℕ × A). (e.0, f e.1)) (listed at ns) ≡ listed (λ n. option_map f (at n)) ns
+  listed_mapped [] = refl
+  listed_mapped (m ∷ ns) = by (at m) (listed_mapped ns)
+    where
+      by : (o : Option A) → map (λ (e : ℕ × A). (e.0, f e.1)) (listed at ns) ≡ listed (λ n. option_map f (at n)) ns
+          → map (λ (e : ℕ × A). (e.0, f e.1)) (cons_option (paired m o) (listed at ns)) ≡ cons_option (paired m (option_map f o)) (listed (λ n. option_map f (at n)) ns)
+      by None rest = rest
+      by (Some a) rest = ap (λ (l : List (ℕ × C)). (m, f a) ∷ l) rest
+
+pub listed_same : {A : Type 0} (one other : ℕ → Option A) → ((n : ℕ) → one n ≡ other n) → (ns : List ℕ) → listed one ns ≡ listed other ns
+listed_same one other same [] = refl
+listed_same {A} one other same (m ∷ ns) =
+    ap (λ (o : Option A). cons_option (option_map (λ (a : A). (m, a)) o) (listed one ns)) (same m)
+    ∙ ap (cons_option (option_map (λ (a : A). (m, a)) (other m))) (listed_same one other same ns)
+
+module _ {B : Type 0} (G : Ghosts B) (registered : List Registration) (l : Live B) (h : IsLive G registered l) where
+  abbrev all : List states.LoadedModule
+  all = modules_seen l.loaded.modules.items
+
+  abbrev slots : List ℕ
+  slots = slots_of l.compiled.items
+
+  pub many : length slots ≡ length l.loaded.modules.items
+  many = length-map l.compiled.items (λ (c : Compiled). c.code.module) ∙ AllZip-long IsCompiledFrom l.loaded.modules.items l.compiled.items h.compiled.each
+
+  body_same : (n : ℕ) → option_map (body_written G (index_at slots)) (body_of n l.table) ≡ object_at n (snapshot_for (durable_seen G registered l)).objects
+  body_same n =
+      ap (option_map (body_written G (index_at slots))) (sym (lookup-map_values (λ (o : Living B). o.body) (nat_eq n) l.table.objects))
+      ∙ sym (lookup-map_values (body_written G (index_at slots)) (nat_eq n) (bodies_of l.table.objects))
+      ∙ ap (λ (os : LiveObjects ℕ). object_at n os)
+      (written_same G (index_at slots) (names_in all slots) (index_in all) l.table.objects
+      (λ slot. index_same all slots slot (h.admitted.formed).ascending (h.admitted.formed).valid (many ∙ sym (length-map l.loaded.modules.items loaded_seen))))
+
+  -- what is written of the objects at numbers is what a snapshot has at them
+  pub put_same : (ns : List ℕ) → objects_written G (index_at slots) (listed (λ n. body_of n l.table) ns)
+      ≡ listed (λ n. object_at n (snapshot_for (durable_seen G registered l)).objects) ns
+  put_same ns =
+      listed_mapped (body_written G (index_at slots)) (λ n. body_of n l.table) ns
+      ∙ listed_same (λ n. option_map (body_written G (index_at slots)) (body_of n l.table)) (λ n. object_at n (snapshot_for (durable_seen G registered l)).objects) body_same ns
