@@ -8,6 +8,7 @@ use Rattle.std.proofs.lemmas.Map.Made.{lookup-map_values}
 use Rattle.std.proofs.lemmas.Option.{slice_get-map, slice_get_within, get_or_from_slice_get}
 use Rattle.std.proofs.lemmas.Slice.Zip.{AllZip-long}
 use Rattle.ash_host.specs.declared.host_object.HostObject.{Ghosts}
+use Rattle.ash_host.specs.declared.word.Word.{Word}
 use Rattle.ash_host.specs.Objects.{Plain, LiveObjects, object_at}
 use Rattle.ash_registry.specs.AcceptedRegistrations.{Registration}
 use Rattle.ash_slots.specs.declared.body.Body.{Body}
@@ -46,29 +47,17 @@ use Rattle.ash_engine.proofs.NamedSlots.{not_empty}
 
 -- modules
 
-module _ (code_modules : List LoadedModule) (up : Ascend (modules_seen code_modules)) (valid : AllByRecursion HasValidName (modules_seen code_modules)) where
-  abbrev ms : List states.LoadedModule
-  ms = modules_seen code_modules
-
-  seen_at : (place : ℕ) (m : LoadedModule) → slice_get code_modules place ≡ Some m → slice_get ms place ≡ Some (loaded_seen m)
-  seen_at place m at = slice_get-map loaded_seen code_modules place ∙ ap (option_map loaded_seen) at
-
-  seen_none : (place : ℕ) → slice_get code_modules place ≡ None → slice_get ms place ≡ None
-  seen_none place at = slice_get-map loaded_seen code_modules place ∙ ap (option_map loaded_seen) at
-
+module _ (ms : List states.LoadedModule) (up : Ascend ms) (valid : AllByRecursion HasValidName ms) where
   -- the name of a place is that of the module that is there
-  pub name_there : (place : ℕ) (m : LoadedModule) → slice_get code_modules place ≡ Some m → name_at ms place ≡ (loaded_seen m).name
-  name_there place m at = ap (λ (o : Option states.LoadedModule). option_map_or (λ (x : states.LoadedModule). x.name) o []) (seen_at place m at)
+  pub name_there : (place : ℕ) (m : states.LoadedModule) → slice_get ms place ≡ Some m → name_at ms place ≡ m.name
+  name_there place m at = ap (λ (o : Option states.LoadedModule). option_map_or (λ (x : states.LoadedModule). x.name) o []) at
 
   -- which is found by it
-  pub found_there : (place : ℕ) (m : LoadedModule) → slice_get code_modules place ≡ Some m
-      → module_named (name_at ms place) (stored_modules_of ms) ≡ Some (stored_of (loaded_seen m))
+  found_there : (place : ℕ) (m : states.LoadedModule) → slice_get ms place ≡ Some m → module_named (name_at ms place) (stored_modules_of ms) ≡ Some (stored_of m)
   found_there place m at =
-      let there = seen_at place m at in
       ap (λ (name : List ℕ). module_named name (stored_modules_of ms)) (name_there place m at)
-      ∙ named_is (loaded_seen m).name ms
-      ∙ ap (option_map stored_of) (found_by_name ms up (loaded_seen m)
-      (place, slice_get_within ms place (loaded_seen m) there, λ d. get_or_from_slice_get ms place (loaded_seen m) d there))
+      ∙ named_is m.name ms
+      ∙ ap (option_map stored_of) (found_by_name ms up m (place, slice_get_within ms place m at, get_or_from_slice_get ms place m m at))
 
   none_named : (all : List states.LoadedModule) → AllByRecursion HasValidName all → find (has_name []) all ≡ None
   none_named [] v = refl
@@ -78,21 +67,37 @@ module _ (code_modules : List LoadedModule) (up : Ascend (modules_seen code_modu
       go true is later = absurd (not_empty m.name v.0 (name_says [] m is))
       go false is later = later
 
-  -- none is at a place that is no module's
-  pub lost_there : (place : ℕ) → slice_get code_modules place ≡ None → module_named (name_at ms place) (stored_modules_of ms) ≡ None
+  -- none is named by a place that is no module's
+  lost_there : (place : ℕ) → slice_get ms place ≡ None → module_named (name_at ms place) (stored_modules_of ms) ≡ None
   lost_there place at =
-      ap (λ (name : List ℕ). module_named name (stored_modules_of ms)) (ap (λ (o : Option states.LoadedModule). option_map_or (λ (x : states.LoadedModule). x.name) o []) (seen_none place at))
+      ap (λ (name : List ℕ). module_named name (stored_modules_of ms)) (ap (λ (o : Option states.LoadedModule). option_map_or (λ (x : states.LoadedModule). x.name) o []) at)
       ∙ named_is [] ms ∙ ap (option_map stored_of) (none_named ms valid)
 
-  pub loaded_listed : (place : ℕ) (o : Option Loaded) → module_named (name_at ms place) (stored_modules_of ms) ≡ o
-      → change_listed (module_change_seen ms (changes.Loaded place)) (stored_modules_of ms) ≡ option_map_or (λ (m : Loaded). Added m) o Unchanged
-  loaded_listed place o is = ap (λ (x : Option Loaded). option_map_or (λ (m : Loaded). Added m) x Unchanged) is
+  abbrev listed_of : code.ModuleChange → ModuleChange
+  listed_of change = change_listed (module_change_seen ms change) (stored_modules_of ms)
 
-  pub globals_listed : (globals : ChangedGlobals) (o : Option Loaded) → module_named (name_at ms globals.module) (stored_modules_of ms) ≡ o
-      → change_listed (module_change_seen ms (changes.Globals globals)) (stored_modules_of ms)
-      ≡ option_map_or (λ (m : Loaded). Globals (name_at ms globals.module) (listed (slice_get m.globals) globals.places.items)) o Unchanged
-  globals_listed globals o is =
-      ap (λ (x : Option Loaded). option_map_or (λ (m : Loaded). Globals (name_at ms globals.module) (listed (slice_get m.globals) globals.places.items)) x Unchanged) is
+  pub added_listed : (place : ℕ) (m : states.LoadedModule) (change : code.ModuleChange) → change ≡ changes.Loaded place → slice_get ms place ≡ Some m
+      → Added (stored_of m) ≡ listed_of change
+  added_listed place m change is at =
+      sym (ap listed_of is ∙ ap (λ (x : Option Loaded). option_map_or (λ (l : Loaded). Added l) x Unchanged) (found_there place m at))
+
+  pub none_added : (place : ℕ) (change : code.ModuleChange) → change ≡ changes.Loaded place → slice_get ms place ≡ None → Unchanged ≡ listed_of change
+  none_added place change is at =
+      sym (ap listed_of is ∙ ap (λ (x : Option Loaded). option_map_or (λ (l : Loaded). Added l) x Unchanged) (lost_there place at))
+
+  abbrev globals_at : ChangedGlobals → Option Loaded → ModuleChange
+  globals_at globals o = option_map_or (λ (l : Loaded). Globals (name_at ms globals.module) (listed (slice_get l.globals) globals.places.items)) o Unchanged
+
+  pub globals_listed : (globals : ChangedGlobals) (m : states.LoadedModule) (change : code.ModuleChange) → change ≡ changes.Globals globals
+      → slice_get ms globals.module ≡ Some m → (name : List ℕ) → name ≡ m.name → (words : List (ℕ × Word)) → words ≡ listed (slice_get m.globals) globals.places.items
+      → Globals name words ≡ listed_of change
+  globals_listed globals m change is at name named words are =
+      ap (λ (n : List ℕ). Globals n words) (named ∙ sym (name_there globals.module m at))
+      ∙ ap (Globals (name_at ms globals.module)) are
+      ∙ sym (ap listed_of is ∙ ap (globals_at globals) (found_there globals.module m at))
+
+  pub none_listed : (globals : ChangedGlobals) (change : code.ModuleChange) → change ≡ changes.Globals globals → slice_get ms globals.module ≡ None → Unchanged ≡ listed_of change
+  none_listed globals change is at = sym (ap listed_of is ∙ ap (globals_at globals) (lost_there globals.module at))
 
 -- objects
 

@@ -9,7 +9,9 @@ use Rattle.ash_image.specs.SnapshotViews.{objects_in}
 use Rattle.ash_image.specs.declared.parts.ObjectParts.{ObjectParts}
 use Rattle.ash_image.specs.declared.delta_parts.ServiceParts.{ServiceParts}
 use Rattle.ash_image.specs.declared.stored_delta.IndexedWord.{IndexedWord}
-use Rattle.ash_plain_steps.specs.declared.state.LoadedModule.{LoadedModule}
+use Rattle.ash_requests.specs.States.{LoadedModule}
+use Rattle.ash_plain_steps.specs.declared.state.LoadedModule as code
+use Rattle.ash_plain_steps.specs.StateViews.{modules_seen}
 use Rattle.ash_states.specs.Writing.{HavePartKinds}
 use Rattle.ash_table_states.specs.WrittenObjects.{index_at, objects_written}
 use Rattle.ash_change_records.specs.ListedChanges.{listed, changes_listed, IsBodyListing}
@@ -29,9 +31,9 @@ module _ {B : Type 0} where
   IsBodyOfChanges live body = IsBodyListing live.changes live.durable body
 
 -- Where globals of a module are named, the words are those that they hold, each with its place.
-abbrev pub AreWordsOf : List LoadedModule → ModuleChange → List IndexedWord → Type 0
-AreWordsOf ms (changes.Globals globals) words = (m : LoadedModule) → slice_get ms globals.module ≡ Some m
-    → all_indexed words ≡ listed (slice_get m.globals.items) globals.places.items
+abbrev pub AreWordsOf : List code.LoadedModule → ModuleChange → List IndexedWord → Type 0
+AreWordsOf ms (changes.Globals globals) words = (m : LoadedModule) → slice_get (modules_seen ms) globals.module ≡ Some m
+    → all_indexed words ≡ listed (slice_get m.globals) globals.places.items
 AreWordsOf ms _ words = ⊤
 
 -- The parts are those that a delta lists, and a host may be in the state.
