@@ -1,5 +1,5 @@
 -- The parts that are listed of a live state are those of a delta of what its last request changed.
-use Rattle.std.proofs.Common.{◌≡◌, ℕ, Bool, true, false, cond, List, [], ◌∷◌, length, map, find, nat_eq, slice_get, refl, sym, ap, ◌∙◌, subst}
+use Rattle.std.proofs.Common.{◌≡◌, ◌≤◌, arith, ℕ, Bool, true, false, cond, List, [], ◌∷◌, length, map, find, nat_eq, slice_get, refl, sym, ap, ◌∙◌, subst}
 use Rattle.std.specs.Prelude.{Option, Some, None, string_bytes}
 use Rattle.std.specs.List.{AllByRecursion, cons_option}
 use Rattle.std.specs.Option.{option_map, option_map_or}
@@ -23,24 +23,30 @@ use Rattle.ash_soundness.proofs.Named.{name_says}
 use Rattle.ash_plain_steps.specs.declared.state.LoadedModule.{LoadedModule}
 use Rattle.ash_plain_steps.specs.StateViews.{loaded_seen, modules_seen}
 use Rattle.ash_image.specs.Snapshots.{Loaded}
-use Rattle.ash_image.specs.Delta.{ModuleChange, Unchanged, Added, Removed, Globals, Delta}
+use Rattle.ash_image.specs.Delta.{ModuleChange, Unchanged, Added, Removed, Globals, Delta, FitsDelta}
+use Rattle.ash_image.specs.SnapshotViews.{object_in, objects_in}
+use Rattle.ash_image.specs.declared.parts.ObjectParts.{ObjectParts}
+use Rattle.ash_image.specs.declared.version.Version.TheVariants.{Two}
 use Rattle.ash_image.specs.DeltaViews.{all_indexed}
 use Rattle.ash_image.specs.declared.stored_delta.IndexedWord.{IndexedWord}
 use Rattle.ash_states.specs.HostStates.{HostState, IsAdmitted}
-use Rattle.ash_states.specs.Indexes.{index_in, entry_indexed, stored_of, stored_modules_of, snapshot_for, HaveKinds}
+use Rattle.ash_states.specs.Indexes.{index_in, entry_indexed, stored_of, stored_modules_of, snapshot_for, HasKind, HaveKinds}
+use Rattle.ash_states.specs.Writing.{HavePartKinds}
+use Rattle.ash_states.proofs.Lists.{all_map}
 use Rattle.ash_table_states.specs.TableStates.{names_in}
 use Rattle.ash_table_states.specs.WrittenObjects.{index_at, body_written, objects_written}
 use Rattle.ash_table_states.proofs.Shown.{written_same}
 use Rattle.ash_table_states.proofs.SlotNames.{index_same}
 use Rattle.ash_change_records.specs.Leading.{module_named}
-use Rattle.ash_change_records.specs.ListedChanges.{listed, change_listed}
+use Rattle.ash_change_records.specs.ListedChanges.{listed, change_listed, changes_listed}
+use Rattle.ash_change_records.proofs.ListedFit.{delta_fits}
 use Rattle.ash_change_records.proofs.ModulesLead.{named_is}
 use Rattle.ash_engine.specs.declared.changes.ModuleChange as code
 use Rattle.ash_engine.specs.declared.changes.ModuleChange.TheVariants as changes
 use Rattle.ash_engine.specs.declared.changes.ChangedGlobals.{ChangedGlobals}
 use Rattle.ash_engine.specs.declared.live.Compiled.{Compiled}
 use Rattle.ash_engine.specs.declared.live.Live.{Live}
-use Rattle.ash_engine.specs.NamedChanges.{name_at, module_change_seen}
+use Rattle.ash_engine.specs.NamedChanges.{name_at, module_change_seen, changes_seen}
 use Rattle.ash_engine.specs.RecordedChanges.{AreWordsOf}
 use Rattle.ash_engine.specs.TableStates.{slots_of, durable_seen, IsCompiledFrom, IsLive}
 use Rattle.ash_engine.proofs.NamedSlots.{not_empty}
@@ -131,6 +137,9 @@ module _ {B : Type 0} (G : Ghosts B) (registered : List Registration) (l : Live 
   pub many : length slots ≡ length l.loaded.modules.items
   many = length-map l.compiled.items (λ (c : Compiled). c.code.module) ∙ AllZip-long IsCompiledFrom l.loaded.modules.items l.compiled.items h.compiled.each
 
+  pub few_slots : (ns : List ℕ) → ns ≡ slots → length ns ≤ 16
+  few_slots ns same = omega (arith, ap (length {A = ℕ}) same, many, length-map l.loaded.modules.items loaded_seen, (h.admitted.formed).few_modules)
+
   body_same : (n : ℕ) → option_map (body_written G (index_at slots)) (body_of n l.table) ≡ object_at n (snapshot_for (durable_seen G registered l)).objects
   body_same n =
       ap (option_map (body_written G (index_at slots))) (sym (lookup-map_values (λ (o : Living B). o.body) (nat_eq n) l.table.objects))
@@ -145,3 +154,27 @@ module _ {B : Type 0} (G : Ghosts B) (registered : List Registration) (l : Live 
   put_same ns =
       listed_mapped (body_written G (index_at slots)) (λ n. body_of n l.table) ns
       ∙ listed_same (λ n. option_map (body_written G (index_at slots)) (body_of n l.table)) (λ n. object_at n (snapshot_for (durable_seen G registered l)).objects) body_same ns
+
+  -- what is given of a delta, part by part, is what its parts are of a live state
+  pub parts_same : (d : Delta) → d.seq ≡ l.loaded.seq → d.last ≡ l.table.last
+      → d.services ≡ listed (slice_get (map G.state l.table.services)) l.changes.services.items
+      → d.change ≡ change_listed (module_change_seen all l.changes.modules) (stored_modules_of all)
+      → d.gone ≡ l.changes.gone.items
+      → d.put ≡ objects_written G (index_at slots) (listed (λ n. body_of n l.table) l.changes.living.items)
+      → (rs : List Registration) → d ≡ changes_listed (changes_seen all l.changes) (durable_seen G rs l)
+  parts_same d seq last services change gone put rs =
+      let e = changes_listed (changes_seen all l.changes) (durable_seen G registered l) in
+      ap (λ (x : ℕ). let t : Delta = record { seq = x; last = d.last; services = d.services; change = d.change; gone = d.gone; put = d.put } in t) seq
+      ∙ ap (λ (x : ℕ). let t : Delta = record { seq = e.seq; last = x; services = d.services; change = d.change; gone = d.gone; put = d.put } in t) last
+      ∙ ap (λ (x : List (ℕ × List ℕ)). let t : Delta = record { seq = e.seq; last = e.last; services = x; change = d.change; gone = d.gone; put = d.put } in t) services
+      ∙ ap (λ (x : ModuleChange). let t : Delta = record { seq = e.seq; last = e.last; services = e.services; change = x; gone = d.gone; put = d.put } in t) change
+      ∙ ap (λ (x : List ℕ). let t : Delta = record { seq = e.seq; last = e.last; services = e.services; change = e.change; gone = x; put = d.put } in t) gone
+      ∙ ap (λ (x : LiveObjects ℕ). let t : Delta = record { seq = e.seq; last = e.last; services = e.services; change = e.change; gone = e.gone; put = x } in t) (put ∙ put_same l.changes.living.items)
+
+  pub parts_fit : (parts : List ObjectParts) → HavePartKinds parts
+      → objects_in parts ≡ objects_written G (index_at slots) (listed (λ n. body_of n l.table) l.changes.living.items)
+      → FitsDelta Two (changes_listed (changes_seen all l.changes) (durable_seen G registered l))
+  parts_fit parts kinds same =
+      delta_fits (durable_seen G registered l) h.admitted (changes_seen all l.changes) h.listable
+      (subst (λ (os : LiveObjects ℕ). HaveKinds os) (same ∙ put_same l.changes.living.items)
+      (all_map object_in (λ (e : ℕ × Plain ℕ). HasKind e.1) parts kinds))
