@@ -7,7 +7,8 @@ use Rattle.ash_host.specs.declared.host_object.HostObject.{Ghosts}
 use Rattle.ash_host.specs.Records.{HostRecord}
 use Rattle.ash_registry.specs.AcceptedRegistrations.{Registration}
 use Rattle.ash_meaning.specs.Ends.{End}
-use Rattle.ash_host.specs.Objects.{handles}
+use Rattle.std.specs.List.Sorted.{IsStrictlyIncreasing}
+use Rattle.ash_host.specs.Objects.{handles, IsInOrder}
 use Rattle.ash_objects.specs.Table.{Table}
 use Rattle.ash_objects.specs.Marking.{without_marks}
 use Rattle.ash_object_ranks.specs.ShownTables.{SlotNames, objects_shown}
@@ -27,6 +28,8 @@ use Rattle.ash_soundness.specs.WellFormedStates.{AreHosts}
 use Rattle.ash_plain_steps.specs.StateViews.{modules_seen}
 use Rattle.ash_states.specs.HostStates.{HostState, IsAdmitted, embedding_for, service_kinds}
 use Rattle.ash_table_states.specs.TableStates.{names_in, state_shown}
+use Rattle.ash_change_records.specs.ListedChanges.{IsListableChange, AreListable}
+use Rattle.ash_change_records.proofs.ListedFit.{names_listable}
 use Rattle.ash_engine.specs.declared.live.Live.{Live}
 use Rattle.ash_engine.specs.LiveStates.{plain_box}
 use Rattle.ash_engine.specs.LiveSteps.{TakesStep}
@@ -36,6 +39,7 @@ use Rattle.ash_engine.specs.TableStates.{slots_of, names_of, roots_of, BoxesFit,
 use Rattle.ash_engine.proofs.Admitted.{step_admitted}
 use Rattle.ash_engine.proofs.CallEnds.{numbered_from, boxes_answered, kinds_kept}
 use Rattle.ash_engine.proofs.GivenAnswers.{answers_fit}
+use Rattle.ash_engine.proofs.ListableChanges.{marked_rise}
 use Rattle.ash_engine.proofs.LoadEnds.{answered_with}
 use Rattle.ash_engine.proofs.TableCalls.{hosts_of}
 use Rattle.ash_engine.proofs.Unmarked.{same_boxes, same_state, still_holds}
@@ -56,6 +60,7 @@ pub record HasNames {B : Type 0} (G : Ghosts B) (old new : Live B) (events : Lis
   pub change : ModuleChange
   pub taken_so : AreTaken events change table new.changes
   pub change_is : IsModuleChange (module_change_seen modules change) (modules_seen old.loaded.modules.items) modules
+  pub listable : IsListableChange (module_change_seen modules change)
   pub names : SlotNames
   pub shown_before : objects_shown G (names_of old) old.table.objects ≡ objects_shown G names old.table.objects
   pub same_names : KeepNames G names (names_in modules slots) table
@@ -160,3 +165,15 @@ module _ {B : Type 0} (G : Ghosts B) (registered : List Registration) (request :
 
     pub still_settled : IsSettled new.table
     still_settled = subst (λ (t : Table B). IsSettled t) (sym shown.table_is) (clears_marks table).clear
+
+    in_order : IsInOrder table.objects
+    in_order = (numbered_from G (names_in modules slots) table ((kept.0).formed).numbered).in_order
+
+    listable : AreListable changes
+    listable = names_listable changes events durable reached is_live.admitted named (has.taken_so).services_rise
+        (subst (λ (x : ModuleChange). IsListableChange (module_change_seen modules x)) (sym (has.taken_so).same_modules) has.listable)
+        (subst (λ (ns : List ℕ). IsStrictlyIncreasing ns) (sym (has.taken_so).living) (marked_rise table in_order))
+        (has.taken_so).gone_rise
+
+    pub still_listable : AreListable (changes_seen (modules_seen new.loaded.modules.items) new.changes)
+    still_listable = subst (λ (ms : List LoadedModule). AreListable (changes_seen ms new.changes)) (sym shown.modules_are) listable

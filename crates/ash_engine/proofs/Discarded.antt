@@ -55,7 +55,10 @@ use Rattle.ash_engine.specs.TableSteps.{IsStepOf}
 use Rattle.ash_engine.specs.TableStates.{slots_of, names_of, IsCompiledFrom, durable_seen, live_seen, IsLive}
 use Rattle.ash_engine.specs.TableTasks.{IsAsked}
 use Rattle.ash_engine.proofs.Admitted.{step_admitted}
-use Rattle.ash_engine.proofs.AnsweredSteps.{IsShown, HasNames, taken, still_admitted, still_fit, still_kinds, still_held, still_settled}
+use Rattle.ash_engine.proofs.AnsweredSteps.{IsShown, HasNames, taken, still_admitted, still_fit, still_kinds, still_held, still_settled, still_listable}
+use Rattle.ash_states.proofs.Names.{one_name}
+use Rattle.ash_soundness.proofs.Hosts.{rec_at}
+use Rattle.ash_soundness.specs.WellFormedStates.{HasValidName}
 use Rattle.ash_engine.proofs.CallEnds.{numbered_from}
 use Rattle.ash_engine.proofs.ChangedModules.{held_before}
 use Rattle.ash_engine.proofs.KnownRanks.{class_ranks, known_sound, known_ranked}
@@ -234,6 +237,7 @@ module _ {B : Type 0} (G : Ghosts B) (registered : List Registration) (live : Li
           change = changed.Discarded m.name;
           taken_so = answered.taken;
           change_is = refl {A = List LoadedModule};
+          listable = one_name (loaded_seen m).name ∙ rec_at HasValidName seen place (loaded_seen m) ((is_live.admitted).formed).valid seen_at;
           names = names_of live;
           shown_before = refl;
           same_names = same_names;
@@ -258,6 +262,7 @@ module _ {B : Type 0} (G : Ghosts B) (registered : List Registration) (live : Li
               (subst (λ (l : List ℕ). HoldsRoots before.table l) roots_are releases.held);
           kinds = still_kinds G registered request budget live is_live (Finished None) events others other_slots before.table [] gave step_is one.live shown has;
           settled = still_settled G registered request budget live is_live (Finished None) events others other_slots before.table [] gave step_is one.live shown has;
+          listable = still_listable G registered request budget live is_live (Finished None) events others other_slots before.table [] gave step_is one.live shown has;
           fit = still_fit G registered request budget live is_live (Finished None) events others other_slots before.table [] gave step_is one.live shown has;
         }
 

@@ -24,6 +24,7 @@ use Rattle.ash_engine.specs.declared.live.Compiled.{Compiled}
 use Rattle.ash_engine.specs.declared.live.Live.{Live}
 use Rattle.ash_engine.specs.NamedChanges.{changes_seen}
 use Rattle.ash_engine.specs.LiveStates.{LiveState, plain_box, begin, services_for}
+use Rattle.ash_engine.proofs.ListableChanges.{nothing_listable}
 use Rattle.ash_engine.specs.TableStates.{AreCompiled, BoxesFit, durable_seen, live_seen, roots_of, IsLive}
 
 none_compiled : AreCompiled [] []
@@ -57,9 +58,9 @@ module _ {B : Type 0} (G : Ghosts B) where
       settled = settled ∙ sym last;
     }
 
-    pub lives_first : map G.kind_of services ≡ service_kinds registered → length services ≤ max_services
+    pub lives_first : changes_seen (modules_seen l.loaded.modules.items) l.changes ≡ nothing → map G.kind_of services ≡ service_kinds registered → length services ≤ max_services
         → All (λ (box : B). IsState (G.state box)) pool → All (λ (box : B). IsState (G.state box)) services → IsLive G registered l
-    lives_first kinds few pool_fits services_fit =
+    lives_first unchanged kinds few pool_fits services_fit =
         let many : length (map G.state services) ≡ length services = length-map services G.state in
         let as_many : length (map G.state services) ≡ length (service_kinds registered) = many ∙ sym (length-map services G.kind_of) ∙ ap (length {A = ℕ}) kinds in
         record {
@@ -71,6 +72,7 @@ module _ {B : Type 0} (G : Ghosts B) where
           kinds = ap (λ (boxes : List B). map G.kind_of boxes) served ∙ kinds;
           fit = subst (λ (boxes : List B). BoxesFit (map (plain_box G) boxes)) (sym pooled) (boxes_fit pool pool_fits);
           settled = none_marked;
+          listable = nothing_listable (changes_seen (modules_seen l.loaded.modules.items) l.changes) unchanged;
         }
 
     abbrev boxes_first : Boxes B

@@ -56,7 +56,7 @@ use Rattle.ash_engine.specs.TableStates.{slots_of, names_of, IsCompiledFrom, dur
 use Rattle.ash_engine.specs.TableStates.{live_seen, IsLive}
 use Rattle.ash_engine.specs.TableTasks.{codes_of, IsAsked}
 use Rattle.ash_engine.proofs.Admitted.{step_admitted}
-use Rattle.ash_engine.proofs.AnsweredSteps.{IsShown, HasNames, taken, still_admitted, still_fit, still_kinds, still_held, still_settled}
+use Rattle.ash_engine.proofs.AnsweredSteps.{IsShown, HasNames, taken, still_admitted, still_fit, still_kinds, still_held, still_settled, still_listable}
 use Rattle.ash_engine.proofs.CallEnds.{called_so}
 use Rattle.ash_engine.proofs.ChangedModules.{held_after, updated_names}
 use Rattle.ash_engine.proofs.GivenAnswers.{answers_fit}
@@ -271,6 +271,7 @@ module _ {B : Type 0} (G : Ghosts B) (live : Live B) (call : Invocation) (asked 
           taken_so = after.taken_so;
           change_is = subst (λ (n : List ℕ). HoldOthers n (after.others).places.items (modules_seen ms) changed_modules)
               (sym name_is) globals_are;
+          listable = (after.are_others).rise;
           names = names_of live;
           shown_before = refl;
           same_names = λ number. ap (λ (names : SlotNames). object_at number (objects_shown G names left.parts.table.objects))
@@ -307,6 +308,8 @@ module _ {B : Type 0} (G : Ghosts B) (live : Live B) (call : Invocation) (asked 
           fit = still_fit G registered asked.request budget live asked.live end left.parts.events.items
               changed_modules slots left.parts.table ran.records ran.gave step_is new shown has;
           settled = still_settled G registered asked.request budget live asked.live end left.parts.events.items
+              changed_modules slots left.parts.table ran.records ran.gave step_is new shown has;
+          listable = still_listable G registered asked.request budget live asked.live end left.parts.events.items
               changed_modules slots left.parts.table ran.records ran.gave step_is new shown has;
         }
 

@@ -53,6 +53,7 @@ use Rattle.ash_engine.specs.declared.steps.LiveStep.{LiveStep}
 use Rattle.ash_engine.specs.declared.changes.ChangedGlobals.{ChangedGlobals}
 use Rattle.ash_engine.specs.declared.changes.ModuleChange.TheVariants as changes_are
 use Rattle.ash_engine.specs.LiveStates.{plain_box}
+use Rattle.ash_change_records.specs.ListedChanges.{AreListable}
 use Rattle.ash_engine.specs.NamedChanges.{AreChanged, AreTaken, changes_seen}
 use Rattle.ash_engine.specs.LiveSteps.{LiveSteps, TakesStep}
 use Rattle.ash_engine.specs.TableRuns.{SaysOfCall, IsLent, IsGivenBack, IsAnswered, end_named}
@@ -212,6 +213,7 @@ module _ {B : Type 0} (G : Ghosts B) (live : Live B) (call : Invocation)
         kinds = ap (λ (t : Table B). map G.kind_of t.services) as_before.table ∙ asked.live.kinds;
         fit = subst (λ (t : Table B). BoxesFit (map (plain_box G) t.pool)) (sym as_before.table) asked.live.fit;
         settled = subst (λ (t : Table B). IsSettled t) (sym as_before.table) asked.live.settled;
+        listable = subst AreListable (sym (λ i. changes_seen (modules_before i) (as_before.changes i))) asked.live.listable;
       }
 
       refused_step : (budget : ℕ) (reply : Reply SourceFault) → reply ≡ Refused NoMemory

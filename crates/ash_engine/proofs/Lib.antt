@@ -1,3 +1,5 @@
+pub mod ListableChanges
+pub mod ListedParts
 pub mod Called
 pub mod Others
 pub mod Unmarked
@@ -50,6 +52,5 @@ pub mod SavedTables
 pub mod StartedGlobals
 pub mod FirstLives
 pub mod RestoredLives
-pub mod ListedParts
 pub mod LiveFacts
 pub mod WrittenLives

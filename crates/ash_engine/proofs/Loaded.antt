@@ -65,7 +65,7 @@ use Rattle.ash_engine.specs.TableSteps.{IsStepOf}
 use Rattle.ash_engine.specs.TableStates.{slots_of, IsCompiledFrom, AreCompiled, durable_seen, live_seen}
 use Rattle.ash_engine.specs.TableStates.{IsLive}
 use Rattle.ash_engine.specs.TableTasks.{entry_name}
-use Rattle.ash_engine.proofs.AnsweredSteps.{IsShown, HasNames, taken, still_admitted, still_fit, still_kinds, still_held, still_settled}
+use Rattle.ash_engine.proofs.AnsweredSteps.{IsShown, HasNames, taken, still_admitted, still_fit, still_kinds, still_held, still_settled, still_listable}
 use Rattle.ash_engine.proofs.CallEnds.{numbered_from}
 use Rattle.ash_engine.proofs.InsertedModules.{map_insert, zip_insert, distinct_insert, roots_with}
 use Rattle.ash_engine.proofs.InsertedSlots.{inserted_at}
@@ -248,6 +248,7 @@ module _ {B : Type 0} (G : Ghosts B) (registered : List Registration) (request :
         kept_has : HasNames G live one.live left.parts.events.items kept_modules kept_slots left.parts.table
         kept_has = record {
           change = changed.Loaded place;
+          listable = tt;
           taken_so = subst (λ (t : Table B). AreTaken left.parts.events.items (changed.Loaded place) t one.live.changes)
               kept.table answered.taken;
           change_is = (loaded_seen kept_module, sym kept_at, refl {A = List LoadedModule});
@@ -300,6 +301,8 @@ module _ {B : Type 0} (G : Ghosts B) (registered : List Registration) (request :
               kept_held;
           settled = still_settled G registered request budget live is_live (Finished value) left.parts.events.items
               kept_modules kept_slots left.parts.table run.records run.gave kept_step one.live kept_shown kept_has;
+          listable = still_listable G registered request budget live is_live (Finished value) left.parts.events.items
+              kept_modules kept_slots left.parts.table run.records run.gave kept_step one.live kept_shown kept_has;
           kinds = still_kinds G registered request budget live is_live (Finished value) left.parts.events.items
               kept_modules kept_slots left.parts.table run.records run.gave kept_step one.live kept_shown kept_has;
           fit = still_fit G registered request budget live is_live (Finished value) left.parts.events.items kept_modules
@@ -335,6 +338,7 @@ module _ {B : Type 0} (G : Ghosts B) (registered : List Registration) (request :
           change = changed.Unchanged;
           taken_so = answered.taken;
           change_is = refl {A = List LoadedModule};
+          listable = tt;
           names = names_in seen slots;
           shown_before = refl;
           same_names = λ number. refl;
@@ -387,6 +391,8 @@ module _ {B : Type 0} (G : Ghosts B) (registered : List Registration) (request :
           held = still_held G registered request budget live is_live end events seen slots before.table run.records
               gone_gave gone_step one.live gone_shown gone_has gone_held;
           settled = still_settled G registered request budget live is_live end events seen slots before.table
+              run.records gone_gave gone_step one.live gone_shown gone_has;
+          listable = still_listable G registered request budget live is_live end events seen slots before.table
               run.records gone_gave gone_step one.live gone_shown gone_has;
           kinds = still_kinds G registered request budget live is_live end events seen slots before.table run.records
               gone_gave gone_step one.live gone_shown gone_has;

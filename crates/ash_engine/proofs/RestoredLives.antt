@@ -25,6 +25,7 @@ use Rattle.ash_table_states.specs.TableStates.{names_in, places_from, state_show
 use Rattle.ash_table_states.proofs.Saved.{back}
 use Rattle.ash_engine.specs.declared.live.Live.{Live}
 use Rattle.ash_engine.specs.LiveStates.{plain_box, services_for}
+use Rattle.ash_engine.proofs.ListableChanges.{nothing_listable}
 use Rattle.ash_engine.specs.NamedChanges.{changes_seen}
 use Rattle.ash_engine.specs.RestoredBoxes.{HasServices, IsShort, IsRefused, Restores}
 use Rattle.ash_engine.specs.RestoredTables.{IsTableOf, IsShortOf, IsRefusedOf}
@@ -111,8 +112,8 @@ module _ {B : Type 0} (G : Ghosts B) where
           ∙ ap (λ (st : State). let r : HostState = record { registered = registered; state = st } in r)
           (restored_state.state_is G (state_seen s) pool before l.table t more.same (back (held_with registered s) held.admitted) both.0)
 
-      pub lives : AreCompiled s.modules.items l.compiled.items → All (λ (box : B). IsState (G.state box)) pool → IsLive G registered l
-      lives compiled fit = record {
+      pub lives : changes_seen (modules_seen l.loaded.modules.items) l.changes ≡ nothing → AreCompiled s.modules.items l.compiled.items → All (λ (box : B). IsState (G.state box)) pool → IsLive G registered l
+      lives unchanged compiled fit = record {
         admitted = subst (λ (st : HostState). IsAdmitted st) (sym durable_is) held.admitted;
         consistent = subst (λ (ms : Vec LoadedModule _). AreConsistent (embedding_for registered) ms.items) (sym modules) held.consistent;
         compiled = subst (λ (ms : Vec LoadedModule _). AreCompiled ms.items l.compiled.items) (sym modules) compiled;
@@ -126,6 +127,7 @@ module _ {B : Type 0} (G : Ghosts B) where
           none_gone = ap (λ (b : Table B). b.gone) more.same ∙ t.gone;
           settled = ap (λ (b : Table B). b.settled) more.same ∙ t.settled ∙ sym t.last ∙ sym (ap (λ (b : Table B). b.last) more.same);
         };
+        listable = nothing_listable (changes_seen (modules_seen l.loaded.modules.items) l.changes) unchanged;
       }
 
       pub restores : IsLive G registered l → changes_seen (modules_seen l.loaded.modules.items) l.changes ≡ nothing → (given : List B) → HasServices G registered given → services ≡ services_for registered given

@@ -19,7 +19,8 @@ returns g c =
     let seq = ap (λ (s : State). s.seq) c.new-2.ensures.is_empty in
     record {
       live = lives_first G here pool services l c.new-2.ensures.no_modules seq c.new-3.ensures.items
-          c.new-4.ensures.objects c.new-4.ensures.pool c.new-4.ensures.services c.new-4.ensures.last c.new-4.ensures.settled c.new-4.ensures.gone c.requires.kinds c.requires.few
+          c.new-4.ensures.objects c.new-4.ensures.pool c.new-4.ensures.services c.new-4.ensures.last c.new-4.ensures.settled c.new-4.ensures.gone
+          (c.none.ensures.nothing (modules_seen c.new-2.result.modules.items)) c.requires.kinds c.requires.few
           (subst (λ (boxes : List B). All (λ (box : B). IsState (G.state box)) boxes) c.deref.ensures.value c.boxes_fit.ensures.fit)
           (subst (λ (boxes : List B). All (λ (box : B). IsState (G.state box)) boxes) c.deref-2.ensures.value c.boxes_fit-2.ensures.fit);
       begun = begun G here pool services l c.new-2.ensures.no_modules seq c.new-3.ensures.items
