@@ -196,7 +196,6 @@ impl<B: HostObject> Engine<B> {
 
     /// The body of a record of what the last request that was answered changed, in version 2: it lists what the
     /// changes name, as it is in the state, and nothing else. An `Err` means that memory was refused.
-    #[tactic(auto, using(crate::proofs::LiveFacts::recorded_in))]
     pub fn delta_body(&self) -> Result<Vec<u8>, AllocError>
         requires live { IsSome self.now.live }
         ensures delta { (live : LiveState B) → self.now.live ≡ Some live
