@@ -87,16 +87,16 @@ module _ (c : Changes) (happened : List Event) (before after : HostState) (body 
       by : (b : Bool) → is_among c.living e.0 ≡ b → (g : Bool) → is_among c.gone e.0 ≡ g → HasKind (plain_indexed index e.1)
       by true living g gone =
           let put : object_at e.0 (changes_listed c after).put ≡ Some (plain_indexed index e.1) =
-              at_listed (λ n. object_at n (snapshot_for after).objects) e.0 c.living
-              ∙ ap (λ (b : Bool). cond b (object_at e.0 (snapshot_for after).objects) None) living
-              ∙ at_indexed after e.0 e.1 at in
+          at_listed (λ n. object_at n (snapshot_for after).objects) e.0 c.living
+          ∙ ap (λ (b : Bool). cond b (object_at e.0 (snapshot_for after).objects) None) living
+          ∙ at_indexed after e.0 e.1 at in
           has_kind (plain_indexed index e.1) (at_holds (FitsObject Two) (changes_listed c after).put ((written.0).put).each e.0 (plain_indexed index e.1) put).fits
       by false living true gone =
           let none : Some e.1 ≡ None = sym at ∙ (h.went e.0 (is_among_says e.0 c.gone gone)).1 in
           absurd (cc)
       by false living false gone =
           let stays : object_at e.0 (before.state).objects ≡ Some e.1 =
-              sym (h.objects e.0 (λ i. let yes = is_among_yes e.0 c.living i in absurd (cc)) (λ i. let yes = is_among_yes e.0 c.gone i in absurd (cc))) ∙ at in
+          sym (h.objects e.0 (λ i. let yes = is_among_yes e.0 c.living i in absurd (cc)) (λ i. let yes = is_among_yes e.0 c.gone i in absurd (cc))) ∙ at in
           let there = at_indexed before e.0 e.1 stays in
           other_kind (index_in (before.state).modules) index e.1
           (has_kind (plain_indexed (index_in (before.state).modules) e.1)
@@ -117,8 +117,14 @@ module _ (c : Changes) (happened : List Event) (before after : HostState) (body 
       kinds
 
 pub bodies_lead : BodiesLead
-bodies_lead c happened before after body was is same h fits written =
-    (delta (changes_listed c after), changes_listed c after, written.1, (written.0, refl),
-    (changes_lead c happened before after was is same h,
+bodies_lead c happened before after body was is same h fits written = (
+  delta (changes_listed c after),
+  changes_listed c after,
+  written.1,
+  (written.0, refl),
+  (
+    changes_lead c happened before after was is same h,
     after_fits c happened before after body was is same h fits written,
-    rules (embedding_for after.registered) (offered_to after.registered) (read_sound after.registered) after.state is.formed after.registered))
+    rules (embedding_for after.registered) (offered_to after.registered) (read_sound after.registered) after.state is.formed after.registered,
+  ),
+)

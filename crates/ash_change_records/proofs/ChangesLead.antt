@@ -11,7 +11,7 @@ use Rattle.ash_states.specs.Indexes.{snapshot_for, stored_modules_of}
 use Rattle.ash_states.proofs.Lists.{all_more}
 use Rattle.ash_states.proofs.SnapshotRules.{IsWritten, each_written}
 use Rattle.ash_change_laws.specs.ChangedStates.{Changes, Names}
-use Rattle.ash_change_records.specs.Leading.{named, Leads, LeadServices, LeadObjects, objects_named}
+use Rattle.ash_image.specs.Leading.{named, Leads, LeadServices, LeadObjects, objects_named}
 use Rattle.ash_change_records.specs.ListedChanges.{listed, changes_listed, ListedChangesLead}
 use Rattle.ash_change_records.proofs.ServicesLead.{services_lead}
 use Rattle.ash_change_records.proofs.ModulesLead.{modules_lead}

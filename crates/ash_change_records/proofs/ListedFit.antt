@@ -40,7 +40,7 @@ use Rattle.ash_states.proofs.Renamed.{at_renamed}
 use Rattle.ash_states.proofs.Fitting.{modules_fit, fields_indexed}
 use Rattle.ash_change_laws.specs.ChangedStates as changed
 use Rattle.ash_change_laws.specs.ChangedStates.{Changes, Names}
-use Rattle.ash_change_records.specs.Leading.{is_name_of, module_named}
+use Rattle.ash_image.specs.Leading.{is_name_of, module_named}
 use Rattle.ash_change_records.specs.ListedChanges.{listed, change_listed, changes_listed, IsListableChange, AreListable}
 use Rattle.ash_change_records.proofs.Listing.{paired, at_listed, each_listed}
 use Rattle.ash_change_records.proofs.ObjectsFit.{object_fits}
@@ -113,8 +113,8 @@ module _ {A : Type 0} (at : ℕ → Option A) where
 pub few_places : {A : Type 0} (xs : List A) (ns : List ℕ) → IsStrictlyIncreasing ns → length (listed (slice_get xs) ns) ≤ length xs
 few_places {A} xs ns rise =
     let few : length (numbers (listed (slice_get xs) ns)) ≤ length xs =
-        length-le_from_distinct_below (numbers (listed (slice_get xs) ns)) (length xs) (listed_differ (slice_get xs) ns rise)
-        (λ q h. within q (slice_get xs q) refl (number_listed (slice_get xs) ns q h).1) in
+    length-le_from_distinct_below (numbers (listed (slice_get xs) ns)) (length xs) (listed_differ (slice_get xs) ns rise)
+    (λ q h. within q (slice_get xs q) refl (number_listed (slice_get xs) ns q h).1) in
     omega (arith, few, length-map (listed (slice_get xs) ns) (λ (e : ℕ × A). e.0))
   where
     within : (q : ℕ) (o : Option A) → slice_get xs q ≡ o → is_some o ≡ true → q < length xs
@@ -125,8 +125,8 @@ few_places {A} xs ns rise =
 pub few_numbers : {A : Type 0} (es : List (ℕ × A)) (ns : List ℕ) → IsStrictlyIncreasing ns → length (listed (λ n. object_at n es) ns) ≤ length es
 few_numbers {A} es ns rise =
     let few : length (numbers (listed (λ n. object_at n es) ns)) ≤ length es =
-        length-le_from_keys nat_eq_equiv (numbers (listed (λ n. object_at n es) ns)) es (listed_differ (λ n. object_at n es) ns rise)
-        (λ q h. (number_listed (λ n. object_at n es) ns q h).1) in
+    length-le_from_keys nat_eq_equiv (numbers (listed (λ n. object_at n es) ns)) es (listed_differ (λ n. object_at n es) ns rise)
+    (λ q h. (number_listed (λ n. object_at n es) ns q h).1) in
     omega (arith, few, length-map (listed (λ n. object_at n es) ns) (λ (e : ℕ × A). e.0))
 
 -- modules
@@ -219,7 +219,7 @@ module _ (s : HostState) (h : IsAdmitted s) where
     each = both_hold (λ (e : ℕ × Plain ℕ). HasKind e.1) (FitsObject Two) (listed (λ n. object_at n objects) ns)
         (each_listed (λ n. object_at n objects) (λ n a. HasKind a → FitsObject Two (n, a))
         (λ n a there. mapped n a (object_at n (s.state).objects) refl
-            (sym (at_renamed (plain_indexed (index_in (s.state).modules)) (fields_indexed (index_in (s.state).modules)) n (s.state).objects) ∙ there)) ns)
+        (sym (at_renamed (plain_indexed (index_in (s.state).modules)) (fields_indexed (index_in (s.state).modules)) n (s.state).objects) ∙ there)) ns)
         kinds;
     order = listed_rise (λ n. object_at n objects) ns rise;
   }
@@ -263,7 +263,7 @@ pub names_listable : (c : Changes) (happened : List Event) (before after : HostS
     → IsStrictlyIncreasing c.services → IsListableChange c.modules → IsStrictlyIncreasing c.living → IsStrictlyIncreasing c.gone → AreListable c
 names_listable c happened before after was h services change living gone =
     let few : length c.gone ≤ length (before.state).objects =
-        length-le_from_keys nat_eq_equiv c.gone (before.state).objects (rising_differ c.gone gone) (λ q among. (h.went q (is_among_says q c.gone among)).0) in
+    length-le_from_keys nat_eq_equiv c.gone (before.state).objects (rising_differ c.gone gone) (λ q among. (h.went q (is_among_says q c.gone among)).0) in
     record {
       services = services;
       modules = change;

@@ -8,7 +8,7 @@ use Rattle.std.proofs.lemmas.Option.{same_Some, slice_get_within}
 use Rattle.ash_host.specs.Objects.{object_at}
 use Rattle.ash_host.specs.Reach.{is_among}
 use Rattle.ash_host.proofs.Membership.{is_among_yes}
-use Rattle.ash_change_records.specs.Leading.{values_from, values_after, AreThere}
+use Rattle.ash_image.specs.Leading.{values_from, values_after, AreThere}
 use Rattle.ash_change_records.specs.ListedChanges.{listed}
 
 module _ {A : Type 0} (at : ℕ → Option A) where

@@ -18,7 +18,7 @@ use Rattle.ash_image.specs.Delta.{ModuleChange, Unchanged, Added, Removed, Globa
 use Rattle.ash_change_laws.specs.ChangedStates as changed
 use Rattle.ash_change_laws.specs.ChangedStates.{HoldOthers, IsModuleChange}
 use Rattle.ash_states.specs.Indexes.{stored_of, stored_modules_of}
-use Rattle.ash_change_records.specs.Leading.{is_name_of, module_named, with_globals, module_after, values_after, LeadModules}
+use Rattle.ash_image.specs.Leading.{is_name_of, module_named, with_globals, module_after, values_after, LeadModules}
 use Rattle.ash_change_records.specs.ListedChanges.{listed, change_listed}
 use Rattle.ash_change_records.proofs.Listing.{listed_values, listed_there}
 

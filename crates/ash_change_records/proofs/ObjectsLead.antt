@@ -12,7 +12,7 @@ use Rattle.ash_image.specs.Snapshots.{Loaded}
 use Rattle.ash_image.specs.Delta.{Delta}
 use Rattle.ash_states.specs.Indexes.{stored_of, stored_modules_of, index_in, plain_indexed, entry_indexed}
 use Rattle.ash_states.specs.Images.{name_at, element_named, plain_named}
-use Rattle.ash_change_records.specs.Leading.{name_there, elements_known, plain_known, by_name, object_by_name, objects_named, kept, LeadObjects}
+use Rattle.ash_image.specs.Leading.{name_there, elements_known, plain_known, by_name, object_by_name, objects_named, kept, LeadObjects}
 use Rattle.ash_change_records.specs.ListedChanges.{listed}
 use Rattle.ash_change_records.proofs.Listing.{at_listed}
 

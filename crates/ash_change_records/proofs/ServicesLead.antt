@@ -1,7 +1,7 @@
 -- Services lead to those after a request, if those that were not called stayed.
 use Rattle.std.proofs.Common.{◌≡◌, ℕ, List, [], ◌∷◌, length, map, zip, slice_get, refl, sym, ap, ◌∙◌, subst, arith}
 use Rattle.std.specs.Prelude.{Contains}
-use Rattle.ash_change_records.specs.Leading.{LeadServices, AreThere, values_after}
+use Rattle.ash_image.specs.Leading.{LeadServices, AreThere, values_after}
 use Rattle.ash_change_records.specs.ListedChanges.{listed}
 use Rattle.ash_states.proofs.Lists.{zip_firsts, zip_seconds}
 use Rattle.ash_change_records.proofs.Listing.{listed_values, listed_there}

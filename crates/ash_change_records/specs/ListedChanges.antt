@@ -15,7 +15,7 @@ use Rattle.ash_states.specs.HostStates.{HostState, IsAdmitted}
 use Rattle.ash_states.specs.Indexes.{snapshot_for}
 use Rattle.ash_change_laws.specs.ChangedStates as changed
 use Rattle.ash_change_laws.specs.ChangedStates.{Changes, Names}
-use Rattle.ash_change_records.specs.Leading.{module_named, named, Leads, IsDeltaBetween}
+use Rattle.ash_image.specs.Leading.{module_named, named, Leads, IsDeltaBetween}
 
 -- what there is at each of these numbers, with the number; of a number at which there is nothing, nothing
 abbrev pub listed : {A : Type 0} → (ℕ → Option A) → List ℕ → List (ℕ × A)

@@ -150,11 +150,7 @@ fn is_other_at(before: &[Word], after: &[Word], place: usize) -> bool
 }
 
 // The places at which other words are than before, in ascending order.
-fn places_of_others(
-    alloc: Global,
-    before: &[Word],
-    after: &[Word],
-) -> Result<Vec<u16>, AllocError>
+fn places_of_others(alloc: Global, before: &[Word], after: &[Word]) -> Result<Vec<u16>, AllocError>
     requires few { length before.now ≤ 256 }
     ensures others { IfOk result (λ places. AreOthers before.now after.now places.items) }
     ensures rise { IfOk result (λ places. IsStrictlyIncreasing places.items) }

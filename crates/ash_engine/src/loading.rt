@@ -312,8 +312,12 @@ fn finish_load<B: HostObject>(
         × IsAnswered live (end_named (entry_name (module_of new_module.tree)) outcome) events changes.Unchanged one) }
     ensures refused { left.outcome ≡ Err faults.NotBegun
         → IfOk result (λ one. (reply_seen fault_of one.reply ≡ Refused NoMemoryRefusal)
-        × (one.live ≡ record { loaded = rest.loaded; compiled = rest.compiled; table = left.parts.table;
-        changes = rest.changes })) }
+        × (one.live ≡ record {
+          loaded = rest.loaded;
+          compiled = rest.compiled;
+          table = left.parts.table;
+          changes = rest.changes;
+        })) }
     ensures lost { left.outcome ≡ Err faults.NoMemory → IfOk result (λ one. ⊥) }
     ensures never { left.outcome ≡ Err faults.Unsound → IfOk result (λ one. ⊥) }
     ensures memory { IfErr result (λ error. error ≡ StepError.NoMemory) }

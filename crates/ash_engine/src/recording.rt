@@ -104,11 +104,7 @@ fn word_at(globals: &[Word], place: u16) -> Option<IndexedWord>
 }
 
 /// The words of the globals at places.
-fn words_at(
-    alloc: Global,
-    globals: &[Word],
-    places: &[u16],
-) -> Result<Vec<IndexedWord>, AllocError>
+fn words_at(alloc: Global, globals: &[Word], places: &[u16]) -> Result<Vec<IndexedWord>, AllocError>
     ensures words { IfOk result (λ words. all_indexed words.items
         ≡ listed (slice_get globals.now) places.now) }
 {
@@ -245,10 +241,7 @@ fn body_by<B: HostObject>(
         (durable_seen B.HostObject registered live.now) body.items) }
     ensures short { IfOk result (λ body. length body.items < 2 ^ 28) }
 {
-    write_delta_body(
-        live.loaded.alloc,
-        delta_parts(live, services, words, put),
-    )
+    write_delta_body(live.loaded.alloc, delta_parts(live, services, words, put))
 }
 
 /// The body of a record of what the last answered request changed, in version 2.

@@ -20,7 +20,7 @@ returns-in-Some c =
     let place = c.in-Loaded.place in
     let m = loaded_seen c.in-Some.m.now in
     let there : slice_get ms place ≡ Some m =
-        sym (got_seen loaded_seen c.args.modules.now place c.get.result c.get.ensures.lookup) ∙ ap (option_map (λ (x : Bor LoadedModule). loaded_seen x.now)) c.in-Some.is in
+    sym (got_seen loaded_seen c.args.modules.now place c.get.result c.get.ensures.lookup) ∙ ap (option_map (λ (x : Bor LoadedModule). loaded_seen x.now)) c.in-Some.is in
     record { listed = ap Added c.added.ensures.same ∙ added_listed ms c.requires.ascending c.requires.valid place m c.args.change.now c.in-Loaded.is there }
 
 pub returns-in-None : goal.returns-in-None
@@ -28,7 +28,7 @@ returns-in-None c =
     let ms = modules_seen c.args.modules.now in
     let place = c.in-Loaded.place in
     let there : slice_get ms place ≡ None =
-        sym (got_seen loaded_seen c.args.modules.now place c.get.result c.get.ensures.lookup) ∙ ap (option_map (λ (x : Bor LoadedModule). loaded_seen x.now)) c.in-None.is in
+    sym (got_seen loaded_seen c.args.modules.now place c.get.result c.get.ensures.lookup) ∙ ap (option_map (λ (x : Bor LoadedModule). loaded_seen x.now)) c.in-None.is in
     record { listed = none_added ms c.requires.ascending c.requires.valid place c.args.change.now c.in-Loaded.is there }
 
 pub returns-in-Some-get : goal.returns-in-Some-get
@@ -37,8 +37,8 @@ returns-in-Some-get c =
     let globals = c.in-Globals.globals in
     let m = loaded_seen c.in-Some-get.m.now in
     let there : slice_get ms globals.module ≡ Some m =
-        sym (got_seen loaded_seen c.args.modules.now globals.module c.get-in-Globals.result c.get-in-Globals.ensures.lookup)
-        ∙ ap (option_map (λ (x : Bor LoadedModule). loaded_seen x.now)) c.in-Some-get.is in
+    sym (got_seen loaded_seen c.args.modules.now globals.module c.get-in-Globals.result c.get-in-Globals.ensures.lookup)
+    ∙ ap (option_map (λ (x : Bor LoadedModule). loaded_seen x.now)) c.in-Some-get.is in
     let words = subst (λ (change : code.ModuleChange). AreWordsOf c.args.modules.now change c.args.words.now) c.in-Globals.is c.requires.words in
     let are : all_indexed c.args.words.now ≡ listed (slice_get m.globals) globals.places.items = words m there in
     record {
@@ -51,6 +51,6 @@ returns-in-None-get c =
     let ms = modules_seen c.args.modules.now in
     let globals = c.in-Globals.globals in
     let there : slice_get ms globals.module ≡ None =
-        sym (got_seen loaded_seen c.args.modules.now globals.module c.get-in-Globals.result c.get-in-Globals.ensures.lookup)
-        ∙ ap (option_map (λ (x : Bor LoadedModule). loaded_seen x.now)) c.in-None-get.is in
+    sym (got_seen loaded_seen c.args.modules.now globals.module c.get-in-Globals.result c.get-in-Globals.ensures.lookup)
+    ∙ ap (option_map (λ (x : Bor LoadedModule). loaded_seen x.now)) c.in-None-get.is in
     record { listed = none_listed ms c.requires.ascending c.requires.valid globals c.args.change.now c.in-Globals.is there }
