@@ -40,7 +40,7 @@ pub(crate) fn int_at<B: HostObject>(state: &RunState<B>, slot: usize) -> Option<
 }
 
 // Stores a word in a local.
-#[inline(never)]
+#[inline(always)]
 fn put_local<B: HostObject>(
     state: &mut RunState<B>,
     at: usize,
