@@ -10,8 +10,6 @@ pub mod Rules
 pub mod Delta
 pub mod DeltaReading
 pub mod DeltaViews
-pub mod Leading
-pub mod NamedViews
 pub mod DeltaExamples
 pub mod Search
 pub mod ImageExamples

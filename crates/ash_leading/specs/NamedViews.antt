@@ -4,13 +4,13 @@ use Rattle.std.specs.BTreeMap.{BTreeMap}
 use Rattle.std.specs.declared.alloc.Global.{Global}
 use Rattle.std.specs.declared.string.String.{String}
 use Rattle.ash_host.specs.Objects.{LiveObjects, Plain}
-use Rattle.ash_image.specs.declared.named_state.NamedModule.{NamedModule}
-use Rattle.ash_image.specs.declared.named_state.NamedObject.{NamedObject}
-use Rattle.ash_image.specs.declared.named_state.NamedState.{NamedState}
+use Rattle.ash_leading.specs.declared.named_state.NamedModule.{NamedModule}
+use Rattle.ash_leading.specs.declared.named_state.NamedObject.{NamedObject}
+use Rattle.ash_leading.specs.declared.named_state.NamedState.{NamedState}
 use Rattle.ash_image.specs.ImageObjectViews.{plain_of}
 use Rattle.ash_image.specs.SnapshotViews.{services_of}
 use Rattle.ash_image.specs.Snapshots.{Loaded}
-use Rattle.ash_image.specs.Leading.{plain_known, NamedSnapshot}
+use Rattle.ash_leading.specs.Leading.{plain_known, NamedSnapshot}
 
 abbrev pub module_seen : String Global × NamedModule → Loaded
 module_seen e = record { name = string_bytes e.0; source = (e.1).source.items; globals = (e.1).globals.items }

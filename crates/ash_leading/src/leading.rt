@@ -2,11 +2,11 @@
 
 ghost use Rattle.std.specs.Prelude.{IfOk, IfSome, IsSome};
 ghost use Rattle.ash_image.specs.DeltaViews.{delta_of};
-ghost use Rattle.ash_image.specs.Leading.{NamedSnapshot, Leads, IsOrdered};
-ghost use Rattle.ash_image.specs.NamedViews.{state_seen};
+ghost use Rattle.ash_leading.specs.Leading.{NamedSnapshot, Leads, IsOrdered};
+ghost use Rattle.ash_leading.specs.NamedViews.{state_seen};
 
 use crate::named_state::NamedState;
-use crate::stored_delta::StoredDelta;
+use ash_image::stored_delta::StoredDelta;
 use std::alloc::{AllocError, Global};
 
 /// The state to which a delta leads from a state, whatever the rules of a state are. `None` where it leads to none: a

@@ -5,11 +5,11 @@ ghost use Rattle.ash_image.specs.Snapshots.{Snapshot};
 ghost use Rattle.ash_image.specs.SnapshotViews.{snapshot_of};
 ghost use Rattle.ash_image.specs.Image.{FitsVersion};
 ghost use Rattle.ash_image.specs.Rules.{KeepsRules};
-ghost use Rattle.ash_image.specs.Leading.{named, IsOrdered};
-ghost use Rattle.ash_image.specs.NamedViews.{state_seen};
+ghost use Rattle.ash_leading.specs.Leading.{named, IsOrdered};
+ghost use Rattle.ash_leading.specs.NamedViews.{state_seen};
 
-use crate::stored::{StoredBody, StoredHost, StoredState};
-use crate::version::Version;
+use ash_image::stored::{StoredBody, StoredHost, StoredState};
+use ash_image::version::Version;
 use ash_host::Word;
 use std::alloc::{AllocError, Global};
 use std::collections::BTreeMap;

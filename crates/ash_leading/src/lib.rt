@@ -1,0 +1,5 @@
+//! Stubs.
+#![tactic(auto)]
+
+pub mod leading;
+pub mod named_state;

@@ -1,0 +1,153 @@
+-- Reading an image and the records after it, step by step.
+use Rattle.std.proofs.Common.{◌≡◌, ◌⊎◌, inl, inr, ℕ, ◌+◌, ◌<◌, ◌∙◌, ◌↔◌, IsTrue, Bool, true, false, List, [], ◌∷◌, length}
+use Rattle.std.proofs.Common.{drop, get_or, Option, Some, None, option_map, Result, Ok, Err, refl, sym, ap, subst}
+use Rattle.std.proofs.lemmas.List.{drop_more}
+use Rattle.ash_journal.specs.declared.record.Record.{Record}
+use Rattle.ash_journal.specs.Reading.{AreAt, bodies_of}
+use Rattle.ash_image.specs.declared.stored.StoredImage.{StoredImage}
+use Rattle.ash_leading.specs.declared.named_state.NamedState.{NamedState}
+use Rattle.ash_image.specs.declared.version.Version.{Version}
+use Rattle.ash_image.specs.Snapshots.{Snapshot}
+use Rattle.ash_image.specs.Rules.{IsImage, IsImageBody}
+use Rattle.ash_image.specs.SnapshotViews.{image_read, snapshot_of}
+use Rattle.ash_leading.specs.Leading.{NamedSnapshot, named}
+use Rattle.ash_replay.specs.declared.fault.ReplayFault.{ReplayFault}
+use Rattle.ash_replay.specs.declared.fault.ReplayFault.TheVariants as faults
+use Rattle.ash_replay.specs.Replay.{LeadsByImage, IsRecordBetween, LeadThrough, LeadTo}
+use Rattle.ash_replay.specs.ReplayFaults.{record_header_size, after_image, last_gate_from, IsNoImage, StopsAt}
+use Rattle.ash_replay.specs.ReplayFaults.{BreaksRules, IsMisshapen}
+use Rattle.ash_replay.specs.ReplaySteps.{ReportsDamage, LeadsOn, StopsAtGate, LeadsThrough, newest_gate}
+
+-- what is said of the offset of damage may be said otherwise
+pub damage_is : (P Q : ℕ → Type 0) → ((at : ℕ) → P at → Q at) → (fault : ReplayFault) → ReportsDamage P fault
+    → ReportsDamage Q fault
+damage_is P Q says (faults.Damaged at) reported = says at reported
+damage_is P Q says faults.NoMemory reported = tt
+damage_is P Q says faults.OtherInterface reported = absurd reported
+
+-- ---- images
+
+none_is_some : {A : Type 0} (x : A) → None ≡ Some x → ⊥
+none_is_some x is = cc
+
+-- bytes of which no image is read are the image of nothing
+pub reads_nothing : (image : List ℕ) (found : Option StoredImage) → found ≡ None
+    → ((version : Version) (s : Snapshot) → IsImage image version s → option_map image_read found ≡ Some (version, s))
+    → IsNoImage image
+reads_nothing image (Some stored) is only = absurd (cc)
+reads_nothing image None is only = λ version s image_is.
+    none_is_some {A = Version × Snapshot} (version, s) (only version s image_is)
+
+-- a body of which no image is read leads nowhere by one
+pub no_body : (version : Version) (body : List ℕ) (before after : NamedSnapshot) (found : Option StoredImage)
+    → found ≡ None
+    → ((version : Version) (s : Snapshot) → IsImageBody body version s → option_map image_read found ≡ Some (version, s))
+    → LeadsByImage version body before after → ⊥
+no_body version body before after (Some stored) is only leads = absurd (cc)
+no_body version body before after None is only leads =
+    none_is_some {A = Version × Snapshot} (version, leads.state) (only version leads.state leads.is_body)
+
+some_once : {A : Type 0} (x y : A) → Some x ≡ Some y → x ≡ y
+some_once x y is = cc
+
+-- a body leads by the image that is read of it, which has the version and the text of what was registered
+pub read_with : (version : Version) (body : List ℕ) (before after : NamedSnapshot) (stored : StoredImage)
+    → ((version : Version) (s : Snapshot) → IsImageBody body version s
+    → option_map image_read (Some stored) ≡ Some (version, s))
+    → LeadsByImage version body before after
+    → (stored.version ≡ version) × ((snapshot_of stored.state).registered ≡ before.registered)
+read_with version body before after stored only leads =
+    let same : (stored.version, snapshot_of stored.state) ≡ (version, leads.state) =
+        some_once {A = Version × Snapshot} _ _ (only version leads.state leads.is_body) in
+    (
+      ap (λ (x : Version × Snapshot). x.0) same,
+      ap (λ (x : Version × Snapshot). (x.1).registered) same ∙ leads.registered,
+    )
+
+-- ---- from record to record
+
+-- the records that are left begin with this one
+pub left_from : (records : List Record) (i : ℕ) (r : Record) → i < length records → r ≡ get_or records i r
+    → drop i records ≡ r ∷ drop (i + 1) records
+left_from records i r within is = drop_more records i r within ∙ ap (λ (x : Record). x ∷ drop (i + 1) records) (sym is)
+
+-- a record leads to a state, and those after it on from there
+pub through_more : (version : Version) (before next : NamedSnapshot) (r : Record) (records : List Record)
+    (result : Result NamedState ReplayFault) → IsRecordBetween version r.body.items before next
+    → LeadsThrough version next records result → LeadsThrough version before (r ∷ records) result
+through_more version before next r records (Ok last) on through = (next, on, through)
+through_more version before next r records (Err fault) on through =
+    damage_is (StopsAtGate version records next) (StopsAtGate version (r ∷ records) before)
+    (λ at later. inr (next, on, later)) fault through
+
+-- a record leads nowhere, and is reported
+pub through_none : (version : Version) (before : NamedSnapshot) (r : Record) (records : List Record)
+    (fault : ReplayFault) → LeadsOn version before r.body.items r.gate (Err fault)
+    → LeadsThrough version before (r ∷ records) (Err fault)
+through_none version before r records fault on =
+    damage_is _ (StopsAtGate version (r ∷ records) before) (λ at none. inl none) fault on
+
+-- ---- offsets
+
+-- the first record that leads nowhere, if the offsets of records are those of their gates
+stops_at : (version : Version) (offset at : ℕ) (records : List Record) (before : NamedSnapshot) → AreAt offset records
+    → StopsAtGate version records before at → StopsAt version offset (bodies_of records) before at
+stops_at version offset at [] before placed stops = stops
+stops_at version offset at (r ∷ records) before placed stops = elim stops [
+  | inl here ↦ inl (here.0, here.1 ∙ placed.0)
+  | inr later ↦ inr (
+    later.0,
+    later.1,
+    stops_at version (offset + record_header_size + length r.body.items) at records later.0 placed.1 later.2,
+  )
+]
+
+-- the gate before the last record
+newest_is : (other offset : ℕ) (records : List Record) → AreAt offset records
+    → newest_gate other records ≡ last_gate_from other offset (bodies_of records)
+newest_is other offset [] placed = refl
+newest_is other offset (r ∷ records) placed =
+    let next = offset + record_header_size + length r.body.items in
+    newest_is r.gate next records placed.1
+    ∙ ap (λ (gate : ℕ). last_gate_from gate next (bodies_of records)) placed.0
+
+-- ---- all of it
+
+-- the image is none
+pub image_fault : (image : List ℕ) (bodies : List (List ℕ)) (fault : ReplayFault)
+    → ReportsDamage (λ at. IsNoImage image × (at ≡ 0)) fault → ReportsDamage (IsMisshapen (image, bodies)) fault
+image_fault image bodies fault reported =
+    damage_is (λ at. IsNoImage image × (at ≡ 0)) (IsMisshapen (image, bodies)) (λ at none. inl none) fault reported
+
+-- a record leads nowhere
+pub record_fault : (image : List ℕ) (records : List Record) (version : Version) (s : Snapshot) (first : NamedSnapshot)
+    (fault : ReplayFault) → IsImage image version s → first ≡ named s → AreAt (after_image image) records
+    → ReportsDamage (StopsAtGate version records first) fault
+    → ReportsDamage (IsMisshapen (image, bodies_of records)) fault
+record_fault image records version s first fault is same placed reported =
+    damage_is (StopsAtGate version records first) (IsMisshapen (image, bodies_of records))
+    (λ at stops. inr (inl (
+      version,
+      s,
+      is,
+      stops_at version (after_image image) at records (named s) placed
+          (subst (λ (from : NamedSnapshot). StopsAtGate version records from at) same stops),
+    )))
+    fault reported
+
+-- records lead on from the image
+pub led_to : (image : List ℕ) (records : List Record) (version : Version) (s : Snapshot) (first last : NamedSnapshot)
+    → IsImage image version s → first ≡ named s → LeadThrough version (bodies_of records) first last
+    → LeadTo version (image, bodies_of records) last
+led_to image records version s first last is same through = record {
+  first = s;
+  image = is;
+  records = subst (λ (from : NamedSnapshot). LeadThrough version (bodies_of records) from last) same through;
+}
+
+-- the last state breaks the rules
+pub rules_fault : (image : List ℕ) (records : List Record) (version : Version) (last : NamedSnapshot) (gate : ℕ)
+    → LeadTo version (image, bodies_of records) last → BreaksRules version last → AreAt (after_image image) records
+    → gate ≡ newest_gate 0 records → IsMisshapen (image, bodies_of records) gate
+rules_fault image records version last gate led breaks placed at_gate =
+    inr (inr (version, last, led, breaks, at_gate ∙ newest_is 0 (after_image image) records placed))

@@ -1,0 +1,3 @@
+pub mod Replay
+pub mod ReplayFaults
+pub mod ReplaySteps

@@ -1,0 +1,9 @@
+//! Reading the state of a store.
+#![tactic(auto)]
+
+pub mod fault;
+pub mod laws;
+mod records;
+pub mod replay;
+
+pub use fault::ReplayFault;
