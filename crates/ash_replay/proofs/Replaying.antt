@@ -1,21 +1,26 @@
 -- Reading an image and the records after it, step by step.
-use Rattle.std.proofs.Common.{◌≡◌, ◌⊎◌, inl, inr, ℕ, ◌+◌, ◌<◌, ◌∙◌, ◌↔◌, IsTrue, Bool, true, false, List, [], ◌∷◌, length}
+use Rattle.std.proofs.Common.{◌≡◌, ◌⊎◌, inl, inr, ℕ, ◌+◌, ◌<◌, ◌∙◌, true, false, List, [], ◌∷◌, length}
 use Rattle.std.proofs.Common.{drop, get_or, Option, Some, None, option_map, Result, Ok, Err, refl, sym, ap, subst}
+use Rattle.std.specs.Prelude.{IsSome}
 use Rattle.std.proofs.lemmas.List.{drop_more}
 use Rattle.ash_journal.specs.declared.record.Record.{Record}
+use Rattle.ash_journal.specs.Current.{Contents}
 use Rattle.ash_journal.specs.Reading.{AreAt, bodies_of}
 use Rattle.ash_image.specs.declared.stored.StoredImage.{StoredImage}
+use Rattle.ash_image.specs.declared.stored.StoredState.{StoredState}
 use Rattle.ash_leading.specs.declared.named_state.NamedState.{NamedState}
 use Rattle.ash_image.specs.declared.version.Version.{Version}
 use Rattle.ash_image.specs.Snapshots.{Snapshot}
-use Rattle.ash_image.specs.Rules.{IsImage, IsImageBody}
+use Rattle.ash_image.specs.Image.{FitsVersion}
+use Rattle.ash_image.specs.Rules.{KeepsRules, IsImage, IsImageBody}
+use Rattle.ash_image.specs.Delta.{delta_tag}
 use Rattle.ash_image.specs.SnapshotViews.{image_read, snapshot_of}
 use Rattle.ash_leading.specs.Leading.{NamedSnapshot, named}
 use Rattle.ash_replay.specs.declared.fault.ReplayFault.{ReplayFault}
 use Rattle.ash_replay.specs.declared.fault.ReplayFault.TheVariants as faults
-use Rattle.ash_replay.specs.Replay.{LeadsByImage, IsRecordBetween, LeadThrough, LeadTo}
+use Rattle.ash_replay.specs.Replay.{LeadsByImage, LeadsByDelta, IsRecordBetween, LeadThrough, LeadTo, IsStateIn}
 use Rattle.ash_replay.specs.ReplayFaults.{record_header_size, after_image, last_gate_from, IsNoImage, StopsAt}
-use Rattle.ash_replay.specs.ReplayFaults.{BreaksRules, IsMisshapen}
+use Rattle.ash_replay.specs.ReplayFaults.{LeadsNowhere, BreaksRules, IsMisshapen}
 use Rattle.ash_replay.specs.ReplaySteps.{ReportsDamage, LeadsOn, StopsAtGate, LeadsThrough, newest_gate}
 
 -- what is said of the offset of damage may be said otherwise
@@ -64,6 +69,41 @@ read_with version body before after stored only leads =
       ap (λ (x : Version × Snapshot). (x.1).registered) same ∙ leads.registered,
     )
 
+-- ---- bodies
+
+same_tail : (body a b : List ℕ) (tag : ℕ) → body ≡ tag ∷ a → body ≡ tag ∷ b → a ≡ b
+same_tail body a b tag p q = cc
+
+other_tag : (body a b : List ℕ) → body ≡ 1 ∷ a → body ≡ 2 ∷ b → ⊥
+other_tag body a b p q = cc
+
+-- a body with the tag of a delta leads by it
+pub delta_only : (version : Version) (body bytes : List ℕ) (before after : NamedSnapshot) → body ≡ delta_tag ∷ bytes
+    → IsRecordBetween version body before after → LeadsByDelta version bytes before after
+delta_only version body bytes before after tagged (inl by_image) =
+    absurd (other_tag body (by_image.is_body).0 bytes (by_image.is_body).1 tagged)
+delta_only version body bytes before after tagged (inr (other, is, by_delta)) =
+    let same : other ≡ bytes = same_tail body other bytes 2 is tagged in
+    subst (λ (b : List ℕ). LeadsByDelta version b before after) same by_delta
+
+-- another leads by an image
+pub image_only : (version : Version) (body : List ℕ) (before after : NamedSnapshot)
+    → ((bytes : List ℕ) → body ≡ delta_tag ∷ bytes → ⊥) → IsRecordBetween version body before after
+    → LeadsByImage version body before after
+image_only version body before after others (inl by_image) = by_image
+image_only version body before after others (inr (bytes, is, by_delta)) = absurd (others bytes is)
+
+-- where no state is found, a body leads nowhere
+pub nowhere : (version : Version) (bytes body : List ℕ) (before : NamedSnapshot) (found : Option NamedState)
+    → bytes ≡ body → found ≡ None
+    → ((after : NamedSnapshot) → IsRecordBetween version bytes before after → IsSome found)
+    → LeadsNowhere version body before
+nowhere version bytes body before (Some next) same is only after leads = absurd (cc)
+nowhere version bytes body before None same is only after leads =
+    let found : false ≡ true = only after
+        (subst (λ (b : List ℕ). IsRecordBetween version b before after) (sym same) leads) in
+    absurd (cc)
+
 -- ---- from record to record
 
 -- the records that are left begin with this one
@@ -103,7 +143,7 @@ stops_at version offset at (r ∷ records) before placed stops = elim stops [
 ]
 
 -- the gate before the last record
-newest_is : (other offset : ℕ) (records : List Record) → AreAt offset records
+pub newest_is : (other offset : ℕ) (records : List Record) → AreAt offset records
     → newest_gate other records ≡ last_gate_from other offset (bodies_of records)
 newest_is other offset [] placed = refl
 newest_is other offset (r ∷ records) placed =
@@ -144,6 +184,24 @@ led_to image records version s first last is same through = record {
   image = is;
   records = subst (λ (from : NamedSnapshot). LeadThrough version (bodies_of records) from last) same through;
 }
+
+-- the last state keeps the rules
+pub state_led : (version : Version) (contents : Contents) (last : NamedSnapshot) (state : Snapshot)
+    → LeadTo version contents last → named state ≡ last → FitsVersion version state → KeepsRules state
+    → IsStateIn version contents state
+state_led version contents last state led same fits keeps = record {
+  led = subst (λ (to : NamedSnapshot). LeadTo version contents to) (sym same) led;
+  fits = fits;
+  rules = keeps;
+}
+
+-- no state is stored, since the last one breaks the rules
+pub breaks : (version : Version) (last : NamedSnapshot) (found : Option StoredState) → found ≡ None
+    → ((s : Snapshot) → named s ≡ last → FitsVersion version s → KeepsRules s → IsSome found)
+    → BreaksRules version last
+breaks version last (Some stored) is only state same fits keeps = absurd (cc)
+breaks version last None is only state same fits keeps =
+    let found : false ≡ true = only state same fits keeps in absurd (cc)
 
 -- the last state breaks the rules
 pub rules_fault : (image : List ℕ) (records : List Record) (version : Version) (last : NamedSnapshot) (gate : ℕ)

@@ -5,5 +5,6 @@ pub mod fault;
 pub mod laws;
 mod records;
 pub mod replay;
+pub mod state;
 
 pub use fault::ReplayFault;

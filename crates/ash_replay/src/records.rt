@@ -106,14 +106,14 @@ fn next_state(
     alloc: Global,
     version: Version,
     before: NamedState,
-    record: &Record,
+    next: &Record,
 ) -> Result<NamedState, ReplayFault>
-    ensures leads_on { LeadsOn version (state_seen before) record.now.body.items record.now.gate
+    ensures leads_on { LeadsOn version (state_seen before) next.now.body.items next.now.gate
         result }
 {
-    match state_by_body(alloc, version, before, &record.body)? {
-        Some(next) => Ok(next),
-        None => Err(ReplayFault::Damaged(record.gate)),
+    match state_by_body(alloc, version, before, &next.body)? {
+        Some(state) => Ok(state),
+        None => Err(ReplayFault::Damaged(next.gate)),
     }
 }
 
