@@ -1,0 +1,2 @@
+pub mod ModuleLaws
+pub mod OneState

@@ -2,10 +2,10 @@
 -- object of the same module, by name: its module has another index where modules before it came or went.
 use Rattle.std.specs.Prelude.{◌≡◌, ℕ, zero, suc, ◌<◌, ◌+◌, Bool, true, false, if◌then◌else◌, List, [], ◌∷◌, length, map, ⊤}
 use Rattle.std.specs.Prelude.{Option, Some, None, option_map, slice_get}
+use Rattle.std.specs.Bool.{IsTrue}
 use Rattle.std.specs.Option.{unwrap_or, option_or}
 use Rattle.std.specs.List.{AllByRecursion}
 use Rattle.std.specs.Ordering.{is_eq}
-use Rattle.std.specs.Bool.{IsTrue}
 use Rattle.ash_host.specs.declared.word.Word.{Word}
 use Rattle.ash_host.specs.Objects.{Elements, Bools, Ints, Uints, Int64s, Uint64s, Handles, Hosts, Plain, Script, Array, Host}
 use Rattle.ash_host.specs.Objects.{LiveObjects, object_at, IsInOrder}
@@ -134,10 +134,38 @@ named s = record {
   objects = objects_named s.modules s.objects;
 }
 
--- modules ascend by name, and objects by number
+-- the index of a name among names; as many as there are, if it is not among them
+unfoldable pub index_among : List (List ℕ) → List ℕ → ℕ
+index_among [] name = 0
+index_among (n ∷ ns) name = if is_eq (compare_names name n) then 0 else suc (index_among ns name)
+
+-- the index of the module of a name
+abbrev pub index_of_name : List Loaded → List ℕ → ℕ
+index_of_name ms name = index_among (names_of ms) name
+
+abbrev pub objects_indexed : List Loaded → LiveObjects (List ℕ) → LiveObjects ℕ
+objects_indexed ms objects = map (λ (e : ℕ × Plain (List ℕ)). (e.0, plain_known (index_of_name ms) e.1)) objects
+
+-- each object has its module by index again
+abbrev pub indexed : NamedSnapshot → Snapshot
+indexed s = record {
+  registered = s.registered;
+  seq = s.seq;
+  last = s.last;
+  services = s.services;
+  modules = s.modules;
+  objects = objects_indexed s.modules s.objects;
+}
+
+-- the modules are by ascending name, and the objects by ascending number
 pub record IsOrdered (s : NamedSnapshot) : Type 0 where
   pub modules : IsTrue (are_ascending (names_of s.modules))
   pub objects : IsInOrder s.objects
+
+-- A state that keeps the rules, its modules by ascending name, is known by its names.
+abbrev pub KnownByNames : Type 0
+KnownByNames = (s t : Snapshot) → IsTrue (are_ascending (names_of s.modules)) → KeepsRules s → KeepsRules t
+    → named s ≡ named t → s ≡ t
 
 -- The delta leads from one state to the other, whatever the rules of a state are.
 pub record Leads (d : Delta) (before after : NamedSnapshot) : Type 0 where
@@ -148,6 +176,11 @@ pub record Leads (d : Delta) (before after : NamedSnapshot) : Type 0 where
   pub modules : LeadModules d.change before.modules after.modules
   pub objects : LeadObjects d after.modules before.objects after.objects
 
+-- From one state a delta leads to one ordered state at most.
+abbrev pub LeadToOne : Type 0
+LeadToOne = (d : Delta) (before s t : NamedSnapshot) → Leads d before s → Leads d before t → IsOrdered s
+    → IsOrdered t → s ≡ t
+
 -- The delta leads to a state that has an image in the version.
 abbrev pub LeadsTo : Version → Delta → Snapshot → Snapshot → Type 0
 LeadsTo version d before after = Leads d (named before) (named after) × FitsVersion version after × KeepsRules after
@@ -156,13 +189,3 @@ LeadsTo version d before after = Leads d (named before) (named after) × FitsVer
 abbrev pub IsDeltaBetween : List ℕ → Version → Snapshot → Snapshot → Type 0
 IsDeltaBetween body version before after = (bytes : List ℕ) × (d : Delta) × (body ≡ delta_tag ∷ bytes)
     × IsDelta bytes version d × LeadsTo version d before after
-
--- Names tell states with a spelling apart.
-abbrev pub NamesTellStates : Type 0
-NamesTellStates = (version : Version) (s t : Snapshot) → named s ≡ named t → FitsVersion version s → KeepsRules s
-    → KeepsRules t → s ≡ t
-
--- A delta leads from a state to one in order at most.
-abbrev pub DeltasLeadToOne : Type 0
-DeltasLeadToOne = (d : Delta) (before s t : NamedSnapshot) → Leads d before s → Leads d before t → IsOrdered s
-    → IsOrdered t → s ≡ t

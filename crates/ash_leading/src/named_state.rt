@@ -1,9 +1,10 @@
 //! A state in which each object has its module by name, so a module that comes or goes leaves objects as they are.
 
-ghost use Rattle.std.specs.Prelude.{◌≡◌, IfOk, IfSome, IsSome};
+ghost use Rattle.std.specs.Prelude.{◌≡◌, IfOk, IfSome, IsSome, IsTrue};
 ghost use Rattle.ash_image.specs.Snapshots.{Snapshot};
-ghost use Rattle.ash_image.specs.SnapshotViews.{snapshot_of};
-ghost use Rattle.ash_image.specs.Image.{FitsVersion};
+ghost use Rattle.ash_image.specs.SnapshotViews.{modules_of, objects_of, snapshot_of};
+ghost use Rattle.ash_image.specs.Image.{are_ascending, names_of, do_rise, FitsVersion};
+ghost use Rattle.ash_host.specs.Objects.{numbers};
 ghost use Rattle.ash_image.specs.Rules.{KeepsRules};
 ghost use Rattle.ash_leading.specs.Leading.{named, IsOrdered};
 ghost use Rattle.ash_leading.specs.NamedViews.{state_seen};
@@ -54,8 +55,10 @@ pub struct NamedState {
 
 /// A state, each object with the name of its module.
 pub fn named_state(_alloc: Global, state: StoredState) -> Result<NamedState, AllocError>
-    requires rules { KeepsRules (snapshot_of state) }
+    requires ascending { IsTrue (are_ascending (names_of (modules_of state.modules.items))) }
+    requires rising { IsTrue (do_rise (numbers (objects_of state.objects.items))) }
     ensures named { IfOk result (λ n. state_seen n ≡ named (snapshot_of state)) }
+    ensures ordered { IfOk result (λ n. IsOrdered (state_seen n)) }
 {
     Err(AllocError)
 }

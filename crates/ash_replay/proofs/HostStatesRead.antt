@@ -5,7 +5,6 @@ use Rattle.ash_registry.specs.AcceptedRegistrations.{Registration}
 use Rattle.ash_registry.specs.RegistryText.{text_of}
 use Rattle.ash_image.specs.declared.version.Version.{Version}
 use Rattle.ash_image.specs.Snapshots.{Snapshot}
-use Rattle.ash_leading.specs.Leading.{NamesTellStates, DeltasLeadToOne}
 use Rattle.ash_states.specs.HostStates.{HostState}
 use Rattle.ash_states.specs.Images.{HasServices, IsDepicted, IsImageRestored, state_of}
 use Rattle.ash_replay.specs.Replay.{IsStateIn}
@@ -50,9 +49,8 @@ same_host : (s t : HostState) → s.registered ≡ t.registered → s.state ≡ 
 same_host s t registered same = rw (registered, same) refl
 
 -- contents are of one state with the same registered
-pub host_state_once : DeltasLeadToOne → NamesTellStates → ContentsHaveOneState
-host_state_once deltas_lead names_tell s t contents registered one other =
-    let same = state_once deltas_lead names_tell one.version other.version contents one.snapshot other.snapshot one.led
-        other.led in
+pub host_state_once : ContentsHaveOneState
+host_state_once s t contents registered one other =
+    let same = state_once one.version other.version contents one.snapshot other.snapshot one.led other.led in
     same_host s t registered
     (sym one.depicts.state_is ∙ ap state_of same.1 ∙ other.depicts.state_is)

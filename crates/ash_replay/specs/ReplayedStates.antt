@@ -1,14 +1,16 @@
 -- Which state of a host an image and the records after it are read as, and what is wrong with those that are read as
 -- none.
-use Rattle.std.specs.Prelude.{◌≡◌, ◌⊎◌, ℕ, List, Result, Ok, Err}
+use Rattle.std.specs.Prelude.{◌≡◌, ◌⊎◌, ℕ, List, [], ◌∷◌, ◌++◌}
 use Rattle.ash_journal.specs.Current.{Contents}
 use Rattle.ash_registry.specs.AcceptedRegistrations.{Registration}
 use Rattle.ash_registry.specs.RegistryText.{text_of}
 use Rattle.ash_image.specs.declared.version.Version.{Version}
 use Rattle.ash_image.specs.Snapshots.{Snapshot}
 use Rattle.ash_image.specs.Rules.{IsImage}
-use Rattle.ash_states.specs.HostStates.{HostState}
-use Rattle.ash_states.specs.Images.{IsDepicted}
+use Rattle.ash_leading.specs.Leading.{IsDeltaBetween}
+use Rattle.ash_states.specs.HostStates.{HostState, IsAdmitted}
+use Rattle.ash_states.specs.Images.{IsDepicted, IsImageIn}
+use Rattle.ash_states.specs.Indexes.{snapshot_for}
 use Rattle.ash_replay.specs.Replay.{IsStateIn}
 use Rattle.ash_replay.specs.ReplayFaults.{last_gate, IsMisshapen}
 use Rattle.ash_replay.specs.declared.state.StateRead.{StateRead}
@@ -25,6 +27,13 @@ pub record IsStateOf (state : HostState) (contents : Contents) : Type 0 where
   pub snapshot : Snapshot
   pub led : IsStateIn version contents snapshot
   pub depicts : IsDepicted snapshot state
+
+-- The body of a record leads by a delta from the state of a host to another, which a host with the same registered may
+-- be in.
+pub record IsDeltaOf (version : Version) (body : List ℕ) (before after : HostState) : Type 0 where
+  pub registered : after.registered ≡ before.registered
+  pub between : IsDeltaBetween body version (snapshot_for before) (snapshot_for after)
+  pub admitted : IsAdmitted after
 
 -- An image and the records after it lead to a state with another text of what was registered.
 abbrev pub AreOfOthers : List Registration → Contents → Type 0
@@ -60,3 +69,20 @@ pub record IsRead (registered : List Registration) (contents : Contents) (read :
 abbrev pub ContentsHaveOneState : Type 0
 ContentsHaveOneState = (s t : HostState) (contents : Contents) → s.registered ≡ t.registered → IsStateOf s contents
     → IsStateOf t contents → s ≡ t
+
+-- An image without records is of its state.
+abbrev pub ImagesHaveTheirState : Type 0
+ImagesHaveTheirState = (version : Version) (state : HostState) (image : List ℕ) → IsImageIn version image state
+    → IsStateOf state (image, [])
+
+-- Contents of a state are of the next with a record more that leads there, in their version.
+abbrev pub RecordsLeadOn : Type 0
+RecordsLeadOn = (version : Version) (before after : HostState) (image : List ℕ) (bodies : List (List ℕ))
+    (body : List ℕ) → IsStateOf before (image, bodies) → AreIn version (image, bodies)
+    → IsDeltaOf version body before after → IsStateOf after (image, bodies ++ body ∷ [])
+
+-- If contents are of a state of a host with this registered, out of memory is the one fault that they are read as.
+abbrev pub StatesHaveNoFault : Type 0
+StatesHaveNoFault = (registered : List Registration) (contents : Contents) (state : HostState) (fault : ReplayFault)
+    → state.registered ≡ registered → IsStateOf state contents → IsReadFault registered contents fault
+    → fault ≡ faults.NoMemory

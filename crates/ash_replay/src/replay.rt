@@ -29,11 +29,10 @@ fn stored_image(alloc: Global, image: &[u8]) -> Result<StoredImage, ReplayFault>
 pub(crate) fn last_gate(records: &[Record]) -> u64
     ensures value { result ≡ newest_gate 0 records.now }
 {
-    let mut gate = 0;
-    for record in records {
-        gate = record.gate;
+    match records.last() {
+        Some(last) => last.gate,
+        None => 0,
     }
-    gate
 }
 
 /// The state to which an image and the records after it lead, and the version of the image. It takes time in proportion

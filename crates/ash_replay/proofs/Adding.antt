@@ -1,0 +1,98 @@
+-- A record more leads to the next state.
+use Rattle.std.proofs.Common.{◌≡◌, ◌∙◌, inr, ℕ, List, [], ◌∷◌, ◌++◌, refl, sym, subst}
+use Rattle.ash_image.specs.declared.version.Version.{Version}
+use Rattle.ash_image.specs.Snapshots.{Snapshot}
+use Rattle.ash_image.specs.Image.{FitsVersion}
+use Rattle.ash_image.specs.Rules.{KeepsRules}
+use Rattle.ash_leading.specs.Leading.{NamedSnapshot, named, Leads, IsDeltaBetween}
+use Rattle.ash_states.specs.HostStates.{HostState}
+use Rattle.ash_states.specs.Images.{IsDepicted, IsImageIn}
+use Rattle.ash_states.specs.Indexes.{snapshot_for}
+use Rattle.ash_states.proofs.Depicted.{depicted}
+use Rattle.ash_replay.specs.Replay.{IsRecordBetween, LeadThrough, LeadTo, IsStateIn}
+use Rattle.ash_replay.specs.ReplayedStates.{AreIn, IsStateOf, IsDeltaOf}
+use Rattle.ash_replay.proofs.Names.{names_of_one, in_order}
+use Rattle.ash_replay.proofs.Once.{image_once}
+
+-- a record after the last leads on from where those before it lead
+through_push : (version : Version) (bodies : List (List ℕ)) (body : List ℕ) (first before after : NamedSnapshot)
+    → LeadThrough version bodies first before → IsRecordBetween version body before after
+    → LeadThrough version (bodies ++ body ∷ []) first after
+through_push version [] body first before after same leads =
+    (after, subst (λ (from : NamedSnapshot). IsRecordBetween version body from after) same leads, refl)
+through_push version (first_body ∷ bodies) body first before after more leads =
+    (more.0, more.1, through_push version bodies body more.0 before after more.2 leads)
+
+-- contents with a record more
+led_push : (version : Version) (image : List ℕ) (bodies : List (List ℕ)) (body : List ℕ) (before after : NamedSnapshot)
+    → LeadTo version (image, bodies) before → IsRecordBetween version body before after
+    → LeadTo version (image, bodies ++ body ∷ []) after
+led_push version image bodies body before after led leads = record {
+  first = led.first;
+  image = led.image;
+  records = through_push version bodies body (named led.first) before after led.records leads;
+}
+
+-- a delta between two snapshots leads from each that is the first by names
+by_delta : (version : Version) (body : List ℕ) (from before after : Snapshot) → named from ≡ named before
+    → IsDeltaBetween body version before after → IsRecordBetween version body (named from) (named after)
+by_delta version body from before after same between = inr (
+  between.0,
+  between.2,
+  record {
+    changes = between.1;
+    is_delta = between.3;
+    leads = subst (λ (x : NamedSnapshot). Leads between.1 x (named after)) (sym same) between.4.0;
+    ordered = in_order version after between.4.1 between.4.2;
+  },
+)
+
+-- contents with a record more are of the state to which it leads
+pub state_of_push : (version : Version) (before after : HostState) (image : List ℕ) (bodies : List (List ℕ))
+    (body : List ℕ) → IsStateOf before (image, bodies) → AreIn version (image, bodies)
+    → IsDeltaOf version body before after → IsStateOf after (image, bodies ++ body ∷ [])
+state_of_push version before after image bodies body is_state in_version is_delta =
+    let v = is_state.version in
+    let same : v ≡ version =
+        (image_once image v version is_state.led.led.first in_version.0 is_state.led.led.image in_version.1).0 in
+    let led : LeadTo version (image, bodies) (named is_state.snapshot) =
+        subst (λ (w : Version). LeadTo w (image, bodies) (named is_state.snapshot)) same is_state.led.led in
+    let names : named is_state.snapshot ≡ named (snapshot_for before) =
+        names_of_one is_state.snapshot (snapshot_for before) before is_state.depicts
+        (depicted before is_state.depicts.admitted) in
+    let leads = by_delta version body is_state.snapshot (snapshot_for before) (snapshot_for after) names
+        is_delta.between in
+    record {
+      version = version;
+      snapshot = snapshot_for after;
+      led = record {
+        led = led_push version image bodies body (named is_state.snapshot) (named (snapshot_for after)) led leads;
+        fits = is_delta.between.4.1;
+        rules = is_delta.between.4.2;
+      };
+      depicts = depicted after is_delta.admitted;
+    }
+
+-- contents with a record more are in the same version
+pub push_in : (version : Version) (image : List ℕ) (bodies : List (List ℕ)) (body : List ℕ)
+    → AreIn version (image, bodies) → AreIn version (image, bodies ++ body ∷ [])
+push_in version image bodies body is = is
+
+-- an image without records is in its version
+pub alone_in : (version : Version) (state : HostState) (image : List ℕ) → IsImageIn version image state
+    → AreIn version (image, [])
+alone_in version state image is = (is.0, is.1)
+
+-- and of its state
+pub state_of_alone : (version : Version) (state : HostState) (image : List ℕ) → IsImageIn version image state
+    → IsStateOf state (image, [])
+state_of_alone version state image is = record {
+  version = version;
+  snapshot = is.0;
+  led = record {
+    led = record { first = is.0; image = is.1; records = refl };
+    fits = is.1.0.0;
+    rules = is.1.1;
+  };
+  depicts = is.2;
+}
