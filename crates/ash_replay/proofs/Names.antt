@@ -9,7 +9,7 @@ use Rattle.ash_image.specs.Image.{FitsVersion}
 use Rattle.ash_image.specs.Rules.{KeepsRules}
 use Rattle.ash_leading.specs.Leading.{NamedSnapshot, named, name_there, elements_known, plain_known, by_name}
 use Rattle.ash_leading.specs.Leading.{objects_named, IsOrdered}
-use Rattle.ash_leading.proofs.OneState.{named_ordered}
+use Rattle.ash_leading.proofs.OneState.{named_ordered, one_named}
 use Rattle.ash_states.specs.HostStates.{HostState}
 use Rattle.ash_states.specs.Images.{name_at, element_named, plain_named, entry_named, loaded_of, loaded_modules_of}
 use Rattle.ash_states.specs.Images.{state_of, kinds_in, IsDepicted}
@@ -80,9 +80,6 @@ services_same (x ∷ a) (y ∷ b) kinds states =
 
 -- ---- states
 
-one_named : (s t : NamedSnapshot) → s.registered ≡ t.registered → s.seq ≡ t.seq → s.last ≡ t.last
-    → s.services ≡ t.services → s.modules ≡ t.modules → s.objects ≡ t.objects → s ≡ t
-one_named s t registered seq last services modules objects = cc
 
 -- snapshots of one state are one by names
 pub names_of_one : (s t : Snapshot) (state : HostState) → IsDepicted s state → IsDepicted t state → named s ≡ named t

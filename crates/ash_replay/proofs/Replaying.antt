@@ -1,7 +1,7 @@
 -- Reading an image and the records after it, step by step.
-use Rattle.std.proofs.Common.{◌≡◌, ◌⊎◌, inl, inr, ℕ, ◌+◌, ◌<◌, ◌∙◌, true, false, List, [], ◌∷◌, length}
+use Rattle.std.proofs.Common.{◌≡◌, ◌⊎◌, inl, inr, ℕ, zero, suc, arith, ◌+◌, ◌<◌, ◌∙◌, true, false, List, [], ◌∷◌, length}
 use Rattle.std.proofs.Common.{drop, get_or, Option, Some, None, option_map, Result, Ok, Err, refl, sym, ap, subst}
-use Rattle.std.specs.Prelude.{IsSome}
+use Rattle.std.specs.Prelude.{IsSome, slice_get}
 use Rattle.std.proofs.lemmas.List.{drop_more}
 use Rattle.ash_journal.specs.declared.record.Record.{Record}
 use Rattle.ash_journal.specs.Current.{Contents}
@@ -141,6 +141,16 @@ stops_at version offset at (r ∷ records) before placed stops = elim stops [
     stops_at version (offset + record_header_size + length r.body.items) at records later.0 placed.1 later.2,
   )
 ]
+
+-- the gate of the last record is the newest
+pub last_newest : (other : ℕ) (records : List Record) (i : ℕ) (last : Record) → suc i ≡ length records
+    → Some last ≡ slice_get records i → last.gate ≡ newest_gate other records
+last_newest other [] i last is found = absurd (omega arith)
+last_newest other (r ∷ []) zero last is found = ap (λ (x : Record). x.gate) (some_once last r found)
+last_newest other (r ∷ []) (suc i) last is found = absurd (omega arith)
+last_newest other (r ∷ s ∷ records) zero last is found = absurd (omega arith)
+last_newest other (r ∷ s ∷ records) (suc i) last is found =
+    last_newest r.gate (s ∷ records) i last (omega arith) found
 
 -- the gate before the last record
 pub newest_is : (other offset : ℕ) (records : List Record) → AreAt offset records
