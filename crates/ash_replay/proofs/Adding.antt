@@ -1,15 +1,13 @@
 -- A record more leads to the next state.
-use Rattle.std.proofs.Common.{◌≡◌, ◌∙◌, inr, ℕ, List, [], ◌∷◌, ◌++◌, refl, sym, subst}
+use Rattle.std.proofs.Common.{◌≡◌, inr, ℕ, List, [], ◌∷◌, ◌++◌, refl, sym, subst}
 use Rattle.ash_image.specs.declared.version.Version.{Version}
 use Rattle.ash_image.specs.Snapshots.{Snapshot}
-use Rattle.ash_image.specs.Image.{FitsVersion}
-use Rattle.ash_image.specs.Rules.{KeepsRules}
 use Rattle.ash_leading.specs.Leading.{NamedSnapshot, named, Leads, IsDeltaBetween}
 use Rattle.ash_states.specs.HostStates.{HostState}
-use Rattle.ash_states.specs.Images.{IsDepicted, IsImageIn}
+use Rattle.ash_states.specs.Images.{IsImageIn}
 use Rattle.ash_states.specs.Indexes.{snapshot_for}
 use Rattle.ash_states.proofs.Depicted.{depicted}
-use Rattle.ash_replay.specs.Replay.{IsRecordBetween, LeadThrough, LeadTo, IsStateIn}
+use Rattle.ash_replay.specs.Replay.{IsRecordBetween, LeadThrough, LeadTo}
 use Rattle.ash_replay.specs.ReplayedStates.{AreIn, IsStateOf, IsDeltaOf}
 use Rattle.ash_replay.proofs.Names.{names_of_one, in_order}
 use Rattle.ash_replay.proofs.Once.{image_once}
@@ -54,14 +52,14 @@ pub state_of_push : (version : Version) (before after : HostState) (image : List
 state_of_push version before after image bodies body is_state in_version is_delta =
     let v = is_state.version in
     let same : v ≡ version =
-        (image_once image v version is_state.led.led.first in_version.0 is_state.led.led.image in_version.1).0 in
+    (image_once image v version is_state.led.led.first in_version.0 is_state.led.led.image in_version.1).0 in
     let led : LeadTo version (image, bodies) (named is_state.snapshot) =
-        subst (λ (w : Version). LeadTo w (image, bodies) (named is_state.snapshot)) same is_state.led.led in
+    subst (λ (w : Version). LeadTo w (image, bodies) (named is_state.snapshot)) same is_state.led.led in
     let names : named is_state.snapshot ≡ named (snapshot_for before) =
-        names_of_one is_state.snapshot (snapshot_for before) before is_state.depicts
-        (depicted before is_state.depicts.admitted) in
+    names_of_one is_state.snapshot (snapshot_for before) before is_state.depicts
+    (depicted before is_state.depicts.admitted) in
     let leads = by_delta version body is_state.snapshot (snapshot_for before) (snapshot_for after) names
-        is_delta.between in
+    is_delta.between in
     record {
       version = version;
       snapshot = snapshot_for after;

@@ -1,5 +1,5 @@
 -- Contents of a state are read as nothing else.
-use Rattle.std.proofs.Common.{◌≡◌, ◌⊎◌, inl, inr, ◌∙◌, ℕ, ◌+◌, List, [], ◌∷◌, length, refl, sym, ap, subst}
+use Rattle.std.proofs.Common.{◌≡◌, inl, inr, ◌∙◌, ℕ, ◌+◌, List, [], ◌∷◌, length, refl, sym, ap, subst}
 use Rattle.ash_journal.specs.Current.{Contents}
 use Rattle.ash_registry.specs.AcceptedRegistrations.{Registration}
 use Rattle.ash_registry.specs.RegistryText.{text_of}
@@ -37,7 +37,7 @@ none_stops contents state at is_state (version, first, image, stops) =
     let led = is_state.led.led in
     let same = image_once contents.0 is_state.version version led.first first led.image image in
     let there = subst (λ (v : Version). LeadThrough v contents.1 (named led.first) (named is_state.snapshot)) same.0
-        led.records in
+    led.records in
     never_stops version (after_image contents.0) at contents.1 (named led.first) (named first)
     (named is_state.snapshot) (ap named same.1) there stops
 

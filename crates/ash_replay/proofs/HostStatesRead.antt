@@ -8,7 +8,7 @@ use Rattle.ash_image.specs.Snapshots.{Snapshot}
 use Rattle.ash_states.specs.HostStates.{HostState}
 use Rattle.ash_states.specs.Images.{HasServices, IsDepicted, IsImageRestored, state_of}
 use Rattle.ash_replay.specs.Replay.{IsStateIn}
-use Rattle.ash_replay.specs.ReplayedStates.{IsOfNone, IsRead, IsStateOf, ContentsHaveOneState}
+use Rattle.ash_replay.specs.ReplayedStates.{IsOfNone, IsRead, ContentsHaveOneState}
 use Rattle.ash_replay.proofs.Once.{state_once}
 
 -- what was restored of a snapshot is the state that the snapshot is of

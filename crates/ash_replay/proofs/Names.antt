@@ -1,19 +1,19 @@
 -- Snapshots of one state are one by names.
-use Rattle.std.proofs.Common.{◌≡◌, ◌∙◌, ℕ, zero, suc, List, [], ◌∷◌, map, refl, sym, ap, subst}
-use Rattle.ash_host.specs.Objects.{LiveObjects, IsInOrder}
+use Rattle.std.proofs.Common.{◌≡◌, ◌∙◌, ℕ, zero, suc, List, [], ◌∷◌, map, refl, sym, ap}
+use Rattle.ash_host.specs.Objects.{LiveObjects}
 use Rattle.ash_host.specs.Objects.{Elements, Bools, Ints, Uints, Int64s, Uint64s, Handles, Hosts, Plain, Script, Array, Host}
-use Rattle.ash_requests.specs.States.{LoadedModule, State}
+use Rattle.ash_requests.specs.States.{State}
 use Rattle.ash_image.specs.declared.version.Version.{Version}
 use Rattle.ash_image.specs.Snapshots.{Loaded, Snapshot}
 use Rattle.ash_image.specs.Image.{FitsVersion}
 use Rattle.ash_image.specs.Rules.{KeepsRules}
-use Rattle.ash_leading.specs.Leading.{NamedSnapshot, named, name_there, elements_known, plain_known, by_name}
+use Rattle.ash_leading.specs.Leading.{named, name_there, elements_known, by_name}
 use Rattle.ash_leading.specs.Leading.{objects_named, IsOrdered}
 use Rattle.ash_leading.proofs.OneState.{named_ordered, one_named}
 use Rattle.ash_states.specs.HostStates.{HostState}
-use Rattle.ash_states.specs.Images.{name_at, element_named, plain_named, entry_named, loaded_of, loaded_modules_of}
+use Rattle.ash_states.specs.Images.{name_at, element_named, plain_named, entry_named, loaded_modules_of}
 use Rattle.ash_states.specs.Images.{state_of, kinds_in, IsDepicted}
-use Rattle.ash_states.specs.Indexes.{stored_of, stored_modules_of}
+use Rattle.ash_states.specs.Indexes.{stored_modules_of}
 
 -- ---- objects, their modules by name
 
@@ -74,26 +74,25 @@ services_same (x ∷ a) (y ∷ b) kinds states =
     let kind = head_is x.0 y.0 (kinds_in a) (kinds_in b) kinds in
     let state = head_is x.1 y.1 (states_in a) (states_in b) states in
     let rest = services_same a b (tail_is x.0 y.0 (kinds_in a) (kinds_in b) kinds)
-        (tail_is x.1 y.1 (states_in a) (states_in b) states) in
+    (tail_is x.1 y.1 (states_in a) (states_in b) states) in
     ap (λ (k : ℕ). (k, x.1) ∷ a) kind ∙ ap (λ (v : List ℕ). (y.0, v) ∷ a) state
     ∙ ap (λ (more : List (ℕ × List ℕ)). y ∷ more) rest
 
 -- ---- states
-
 
 -- snapshots of one state are one by names
 pub names_of_one : (s t : Snapshot) (state : HostState) → IsDepicted s state → IsDepicted t state → named s ≡ named t
 names_of_one s t state one other =
     let same : state_of s ≡ state_of t = one.state_is ∙ sym other.state_is in
     let services : s.services ≡ t.services =
-        services_same s.services t.services (one.services_are ∙ sym other.services_are)
-        (ap (λ (x : State). x.services) same) in
+    services_same s.services t.services (one.services_are ∙ sym other.services_are)
+    (ap (λ (x : State). x.services) same) in
     let modules : s.modules ≡ t.modules =
-        sym (modules_back s.modules) ∙ ap (λ (x : State). stored_modules_of x.modules) same
-        ∙ modules_back t.modules in
+    sym (modules_back s.modules) ∙ ap (λ (x : State). stored_modules_of x.modules) same
+    ∙ modules_back t.modules in
     let objects : objects_named s.modules s.objects ≡ objects_named t.modules t.objects =
-        objects_same s.modules s.objects ∙ ap (λ (x : State). x.objects) same
-        ∙ sym (objects_same t.modules t.objects) in
+    objects_same s.modules s.objects ∙ ap (λ (x : State). x.objects) same
+    ∙ sym (objects_same t.modules t.objects) in
     one_named (named s) (named t) (one.text_is ∙ sym other.text_is) (ap (λ (x : State). x.seq) same)
     (ap (λ (x : State). x.last) same) services modules objects
 

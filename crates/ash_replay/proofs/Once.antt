@@ -1,10 +1,10 @@
 -- An image and records lead to one state.
-use Rattle.std.proofs.Common.{◌≡◌, ◌⊎◌, inl, inr, ◌∙◌, ℕ, List, [], ◌∷◌, refl, sym, ap, subst}
+use Rattle.std.proofs.Common.{◌≡◌, inl, inr, ◌∙◌, ℕ, List, [], ◌∷◌, sym, ap, subst}
 use Rattle.ash_journal.specs.Current.{Contents}
 use Rattle.ash_image.specs.declared.version.Version.{Version}
 use Rattle.ash_image.specs.Snapshots.{Snapshot}
 use Rattle.ash_image.specs.Rules.{IsImage, IsImageBody}
-use Rattle.ash_image.specs.Delta.{Delta, IsDelta}
+use Rattle.ash_image.specs.Delta.{Delta}
 use Rattle.ash_leading.specs.Leading.{NamedSnapshot, named, Leads}
 use Rattle.ash_image.proofs.ImageLaws.{spelled_once}
 use Rattle.ash_image.proofs.DeltaLaws.{one_delta}
@@ -40,7 +40,7 @@ by_delta_once : (version : Version) (bytes : List ℕ) (before s t : NamedSnapsh
     → LeadsByDelta version bytes before s → LeadsByDelta version bytes before t → s ≡ t
 by_delta_once version bytes before s t one other =
     let same : other.changes ≡ one.changes =
-        one_delta bytes version other.changes one.changes other.is_delta one.is_delta in
+    one_delta bytes version other.changes one.changes other.is_delta one.is_delta in
     one_led one.changes before s t one.leads
     (subst (λ (d : Delta). Leads d before t) same other.leads) one.ordered other.ordered
 
@@ -71,7 +71,7 @@ pub led_once : (v w : Version) (contents : Contents) (s t : NamedSnapshot) → L
 led_once v w contents s t one other =
     let same = image_once contents.0 v w one.first other.first one.image other.image in
     let there = subst (λ (version : Version). LeadThrough version contents.1 (named other.first) t) (sym same.0)
-        other.records in
+    other.records in
     (same.0, through_once v contents.1 (named one.first) (named other.first) s t (ap named same.1) one.records there)
 
 -- and to one state

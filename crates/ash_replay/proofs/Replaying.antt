@@ -1,5 +1,5 @@
 -- Reading an image and the records after it, step by step.
-use Rattle.std.proofs.Common.{◌≡◌, ◌⊎◌, inl, inr, ℕ, zero, suc, arith, ◌+◌, ◌<◌, ◌∙◌, true, false, List, [], ◌∷◌, length}
+use Rattle.std.proofs.Common.{◌≡◌, inl, inr, ℕ, zero, suc, arith, ◌+◌, ◌<◌, ◌∙◌, true, false, List, [], ◌∷◌, length}
 use Rattle.std.proofs.Common.{drop, get_or, Option, Some, None, option_map, Result, Ok, Err, refl, sym, ap, subst}
 use Rattle.std.specs.Prelude.{IsSome, slice_get}
 use Rattle.std.proofs.lemmas.List.{drop_more}
@@ -63,8 +63,7 @@ pub read_with : (version : Version) (body : List ℕ) (before after : NamedSnaps
     → (stored.version ≡ version) × ((snapshot_of stored.state).registered ≡ before.registered)
 read_with version body before after stored only leads =
     let same : (stored.version, snapshot_of stored.state) ≡ (version, leads.state) =
-        some_once {A = Version × Snapshot} _ _ (only version leads.state leads.is_body) in
-    (
+    some_once {A = Version × Snapshot} _ _ (only version leads.state leads.is_body) in (
       ap (λ (x : Version × Snapshot). x.0) same,
       ap (λ (x : Version × Snapshot). (x.1).registered) same ∙ leads.registered,
     )
@@ -101,7 +100,7 @@ pub nowhere : (version : Version) (bytes body : List ℕ) (before : NamedSnapsho
 nowhere version bytes body before (Some next) same is only after leads = absurd (cc)
 nowhere version bytes body before None same is only after leads =
     let found : false ≡ true = only after
-        (subst (λ (b : List ℕ). IsRecordBetween version b before after) (sym same) leads) in
+    (subst (λ (b : List ℕ). IsRecordBetween version b before after) (sym same) leads) in
     absurd (cc)
 
 -- ---- from record to record

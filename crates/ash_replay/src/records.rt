@@ -12,11 +12,11 @@ ghost use Rattle.ash_replay.specs.ReplaySteps.{LeadsOn, LeadsThrough};
 use crate::fault::ReplayFault;
 use ash_image::delta::read_delta;
 use ash_image::image::read_body;
-use ash_leading::leading::lead;
-use ash_leading::named_state::{NamedState, named_state};
 use ash_image::stored::StoredImage;
 use ash_image::version::Version;
 use ash_journal::Record;
+use ash_leading::leading::lead;
+use ash_leading::named_state::{NamedState, named_state};
 use std::alloc::{AllocError, Global};
 
 /// The tag of a record's body that is a delta.

@@ -10,9 +10,9 @@ ghost use Rattle.ash_replay.specs.ReplaySteps.{newest_gate, ReadsImage, ReportsD
 use crate::fault::ReplayFault;
 use crate::records::last_state;
 use ash_image::image::read_image;
-use ash_leading::named_state::{named_state, stored_state};
 use ash_image::stored::StoredImage;
 use ash_journal::Record;
+use ash_leading::named_state::{named_state, stored_state};
 use std::alloc::Global;
 
 /// The state of a generation's image.
@@ -42,11 +42,7 @@ pub(crate) fn last_gate(records: &[Record]) -> u64
 /// none; a record leads nowhere, the first that does so; the last state breaks the rules of a state. Whether what is
 /// between the image and the last state keeps the rules is not asked. `NoMemory` may come at any time, and
 /// `OtherInterface` does not come.
-pub fn replay(
-    alloc: Global,
-    image: &[u8],
-    records: &[Record],
-) -> Result<StoredImage, ReplayFault>
+pub fn replay(alloc: Global, image: &[u8], records: &[Record]) -> Result<StoredImage, ReplayFault>
     ensures state { IfOk result (λ stored. IsStateIn stored.version
         (image.now, bodies_of records.now) (snapshot_of stored.state)) }
     ensures fault { AreAt (after_image image.now) records.now

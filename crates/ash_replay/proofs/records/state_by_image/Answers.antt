@@ -1,8 +1,4 @@
-use Rattle.std.proofs.Common.{◌≡◌, Option, Some, subst, false, true, sym, ◌∙◌}
-use Rattle.ash_image.specs.declared.stored.StoredImage.{StoredImage}
-use Rattle.ash_image.specs.declared.version.Version.{Version}
-use Rattle.ash_image.specs.Snapshots.{Snapshot}
-use Rattle.ash_image.specs.SnapshotViews.{snapshot_of}
+use Rattle.std.proofs.Common.{◌≡◌, true, sym, ◌∙◌}
 use Rattle.ash_leading.specs.NamedViews.{state_seen}
 use Rattle.ash_replay.proofs.Replaying.{no_body, read_with}
 use Rattle.ash_replay.proofs.records.state_by_image.Goals as goal
@@ -16,6 +12,6 @@ pub returns-then-not-is_with-clause-only : goal.returns-then-not-is_with-clause-
 returns-then-not-is_with-clause-only c after leads =
     let stored = c.in-Some.stored in
     let both = read_with c.args.version c.args.body.now (state_seen c.args.before.now) after stored
-        (rw c.in-Some.is at c.in_ok-stored.ensures.only) leads in
+    (rw c.in-Some.is at c.in_ok-stored.ensures.only) leads in
     let is : c.is_with.result ≡ true = c.is_with.ensures.exact.1 (both.0, both.1 ∙ sym c.deref.ensures) in
     absurd (cc)

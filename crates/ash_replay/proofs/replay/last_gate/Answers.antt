@@ -1,4 +1,4 @@
-use Rattle.std.proofs.Common.{◌≡◌, ◌-◌, suc, length, arith}
+use Rattle.std.proofs.Common.{◌-◌, length, arith}
 use Rattle.ash_replay.proofs.Replaying.{last_newest}
 use Rattle.ash_replay.proofs.replay.last_gate.Goals as goal
 

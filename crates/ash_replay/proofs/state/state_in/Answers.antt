@@ -1,4 +1,4 @@
-use Rattle.std.proofs.Common.{rules, ◌≡◌, ◌∙◌, inr, sym}
+use Rattle.std.proofs.Common.{rules, ◌≡◌, ◌∙◌, inr}
 use Rattle.ash_journal.specs.Reading.{bodies_of}
 use Rattle.ash_registry.specs.RegistryViews.{registered}
 use Rattle.ash_registry.specs.RegistryText.{text_of}
