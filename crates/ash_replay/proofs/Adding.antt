@@ -1,14 +1,17 @@
 -- A record more leads to the next state.
-use Rattle.std.proofs.Common.{◌≡◌, inr, ℕ, List, [], ◌∷◌, ◌++◌, refl, sym, subst}
+use Rattle.std.proofs.Common.{◌≡◌, ◌∙◌, inl, inr, ℕ, List, [], ◌∷◌, ◌++◌, refl, sym, ap, subst}
 use Rattle.ash_image.specs.declared.version.Version.{Version}
 use Rattle.ash_image.specs.Snapshots.{Snapshot}
+use Rattle.ash_image.specs.Image.{FitsVersion}
+use Rattle.ash_image.specs.Rules.{KeepsRules}
 use Rattle.ash_leading.specs.Leading.{NamedSnapshot, named, Leads, IsDeltaBetween}
+use Rattle.ash_registry.specs.RegistryText.{text_of}
 use Rattle.ash_states.specs.HostStates.{HostState}
-use Rattle.ash_states.specs.Images.{IsImageIn}
+use Rattle.ash_states.specs.Images.{IsDepicted, IsImageIn}
 use Rattle.ash_states.specs.Indexes.{snapshot_for}
 use Rattle.ash_states.proofs.Depicted.{depicted}
 use Rattle.ash_replay.specs.Replay.{IsRecordBetween, LeadThrough, LeadTo}
-use Rattle.ash_replay.specs.ReplayedStates.{AreIn, IsStateOf, IsDeltaOf}
+use Rattle.ash_replay.specs.ReplayedStates.{AreIn, IsStateOf, IsBodyBetween, RecordsLeadOn}
 use Rattle.ash_replay.proofs.Names.{names_of_one, in_order}
 use Rattle.ash_replay.proofs.Once.{image_once}
 
@@ -45,30 +48,57 @@ by_delta version body from before after same between = inr (
   },
 )
 
+-- a record leads to the snapshot of its image, or to the snapshot that a delta leads to
+record NextState (version : Version) (body : List ℕ) (from : Snapshot) (after : HostState) : Type 0 where
+  pub snapshot : Snapshot
+  pub between : IsRecordBetween version body (named from) (named snapshot)
+  pub fits : FitsVersion version snapshot
+  pub rules : KeepsRules snapshot
+  pub depicts : IsDepicted snapshot after
+
+led_by : (version : Version) (body : List ℕ) (from : Snapshot) (before after : HostState) → IsDepicted from before
+    → IsBodyBetween version body before after → NextState version body from after
+led_by version body from before after depicts body_is = elim body_is.leads [
+  | inl image ↦ record {
+    snapshot = image.2.0;
+    between = inl (record {
+      state = image.2.0;
+      is_body = (image.0, image.1, image.2.1);
+      registered = image.2.2.text_is ∙ ap text_of body_is.registered ∙ sym depicts.text_is;
+      after_is = refl;
+    });
+    fits = image.2.1.0.0;
+    rules = image.2.1.1;
+    depicts = image.2.2;
+  }
+  | inr delta ↦ record {
+    snapshot = snapshot_for after;
+    between = by_delta version body from (snapshot_for before) (snapshot_for after)
+        (names_of_one from (snapshot_for before) before depicts (depicted before depicts.admitted)) delta.0;
+    fits = delta.0.4.1;
+    rules = delta.0.4.2;
+    depicts = depicted after delta.1;
+  }
+]
+
 -- contents with a record more are of the state to which it leads
-pub state_of_push : (version : Version) (before after : HostState) (image : List ℕ) (bodies : List (List ℕ))
-    (body : List ℕ) → IsStateOf before (image, bodies) → AreIn version (image, bodies)
-    → IsDeltaOf version body before after → IsStateOf after (image, bodies ++ body ∷ [])
-state_of_push version before after image bodies body is_state in_version is_delta =
+pub state_of_push : RecordsLeadOn
+state_of_push version before after image bodies body is_state in_version body_is =
     let v = is_state.version in
     let same : v ≡ version =
-    (image_once image v version is_state.led.led.first in_version.0 is_state.led.led.image in_version.1).0 in
+        (image_once image v version is_state.led.led.first in_version.0 is_state.led.led.image in_version.1).0 in
     let led : LeadTo version (image, bodies) (named is_state.snapshot) =
-    subst (λ (w : Version). LeadTo w (image, bodies) (named is_state.snapshot)) same is_state.led.led in
-    let names : named is_state.snapshot ≡ named (snapshot_for before) =
-    names_of_one is_state.snapshot (snapshot_for before) before is_state.depicts
-    (depicted before is_state.depicts.admitted) in
-    let leads = by_delta version body is_state.snapshot (snapshot_for before) (snapshot_for after) names
-    is_delta.between in
+        subst (λ (w : Version). LeadTo w (image, bodies) (named is_state.snapshot)) same is_state.led.led in
+    let next = led_by version body is_state.snapshot before after is_state.depicts body_is in
     record {
       version = version;
-      snapshot = snapshot_for after;
+      snapshot = next.snapshot;
       led = record {
-        led = led_push version image bodies body (named is_state.snapshot) (named (snapshot_for after)) led leads;
-        fits = is_delta.between.4.1;
-        rules = is_delta.between.4.2;
+        led = led_push version image bodies body (named is_state.snapshot) (named next.snapshot) led next.between;
+        fits = next.fits;
+        rules = next.rules;
       };
-      depicts = depicted after is_delta.admitted;
+      depicts = next.depicts;
     }
 
 -- contents with a record more are in the same version

@@ -9,7 +9,7 @@ use Rattle.ash_image.specs.Snapshots.{Snapshot}
 use Rattle.ash_image.specs.Rules.{IsImage}
 use Rattle.ash_leading.specs.Leading.{IsDeltaBetween}
 use Rattle.ash_states.specs.HostStates.{HostState, IsAdmitted}
-use Rattle.ash_states.specs.Images.{IsDepicted, IsImageIn}
+use Rattle.ash_states.specs.Images.{IsDepicted, IsImageIn, IsBodyIn}
 use Rattle.ash_states.specs.Indexes.{snapshot_for}
 use Rattle.ash_replay.specs.Replay.{IsStateIn}
 use Rattle.ash_replay.specs.ReplayFaults.{last_gate, IsMisshapen}
@@ -28,12 +28,16 @@ pub record IsStateOf (state : HostState) (contents : Contents) : Type 0 where
   pub led : IsStateIn version contents snapshot
   pub depicts : IsDepicted snapshot state
 
--- The body of a record leads by a delta from the state of a host to another, which a host with the same registered may
--- be in.
-pub record IsDeltaOf (version : Version) (body : List ℕ) (before after : HostState) : Type 0 where
+-- a delta leads from the state of a host to one that a host may be in
+abbrev pub IsDeltaTo : Version → List ℕ → HostState → HostState → Type 0
+IsDeltaTo version body before after =
+    IsDeltaBetween body version (snapshot_for before) (snapshot_for after) × IsAdmitted after
+
+-- The body of a record leads from the state of a host to another with the same registered: it has an image of that, or
+-- it is a delta that leads there.
+pub record IsBodyBetween (version : Version) (body : List ℕ) (before after : HostState) : Type 0 where
   pub registered : after.registered ≡ before.registered
-  pub between : IsDeltaBetween body version (snapshot_for before) (snapshot_for after)
-  pub admitted : IsAdmitted after
+  pub leads : IsBodyIn version body after ⊎ IsDeltaTo version body before after
 
 -- An image and the records after it lead to a state with another text of what was registered.
 abbrev pub AreOfOthers : List Registration → Contents → Type 0
@@ -79,7 +83,7 @@ ImagesHaveTheirState = (version : Version) (state : HostState) (image : List ℕ
 abbrev pub RecordsLeadOn : Type 0
 RecordsLeadOn = (version : Version) (before after : HostState) (image : List ℕ) (bodies : List (List ℕ))
     (body : List ℕ) → IsStateOf before (image, bodies) → AreIn version (image, bodies)
-    → IsDeltaOf version body before after → IsStateOf after (image, bodies ++ body ∷ [])
+    → IsBodyBetween version body before after → IsStateOf after (image, bodies ++ body ∷ [])
 
 -- If contents are of a state of a host with this registered, out of memory is the one fault that they are read as.
 abbrev pub StatesHaveNoFault : Type 0
