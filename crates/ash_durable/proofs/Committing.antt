@@ -1,5 +1,5 @@
 -- A state in a journal, by what the journal's calls say of bytes.
-use Rattle.std.proofs.Common.{◌≡◌, ℕ, ◌+◌, List, [], ◌∷◌, ◌++◌, length, Ok, Err, sym}
+use Rattle.std.proofs.Common.{◌≡◌, inl, ℕ, ◌+◌, List, [], ◌∷◌, ◌++◌, length, Ok, Err, sym}
 use Rattle.ash_disk.specs.Device.{Device}
 use Rattle.ash_journal.specs.declared.journal.Journal.{Journal}
 use Rattle.ash_journal.specs.Current.{IsContents, HoldsOneOf}
@@ -8,13 +8,14 @@ use Rattle.ash_journal.specs.Journal.{first_disk, second_disk, generation, recor
 use Rattle.ash_journal.specs.SettledSince.{HoldsSince, Extends}
 use Rattle.ash_states.specs.HostStates.{HostState}
 use Rattle.ash_requests.specs.declared.refusal.Refusal.TheVariants as the
-use Rattle.ash_durable.specs.Contents.{record_header_size}
+use Rattle.ash_replay.specs.ReplayFaults.{record_header_size}
 use Rattle.ash_durable.specs.Saving.{Adds, Installs, last_generation}
 use Rattle.ash_image.specs.declared.version.Version.TheVariants.{Two}
 use Rattle.ash_states.specs.Images.{IsImageIn, IsBodyIn}
 use Rattle.ash_durable.specs.StoredStates.{HoldsState, ExtendsHistory, BeginsAnew}
 use Rattle.ash_durable.proofs.Settling.{record_goes_on, image_begins_anew}
-use Rattle.ash_durable.proofs.ContentsStates.{alone_in, push_in, state_of_alone, state_of_push}
+use Rattle.ash_replay.specs.ReplayedStates.{IsBodyBetween}
+use Rattle.ash_replay.proofs.Adding.{alone_in, state_of_alone, state_of_push}
 
 module _ {D : Type 0} (device : Device D) (state : HostState) (old new : Journal D) where
   -- what is said of the disks, whatever came of a call
@@ -24,6 +25,11 @@ module _ {D : Type 0} (device : Device D) (state : HostState) (old new : Journal
     pub honesty_first : device.honest (first_disk new) ≡ device.honest (first_disk old)
     pub honesty_second : device.honest (second_disk new) ≡ device.honest (second_disk old)
 
+  -- the body of an image leads to its state
+  by_image : (body : List ℕ) (before : HostState) → IsBodyIn Two body state → before.registered ≡ state.registered
+      → IsBodyBetween Two body before state
+  by_image body before is_body same = record { registered = sym same; leads = inl is_body }
+
   added_moments : (body : List ℕ) → IsBodyIn Two body state
       → ((image : List ℕ) (bodies : List (List ℕ)) → Holds device old image bodies
       → Extends device (first_disk old) (second_disk old) (first_disk new) (second_disk new)
@@ -31,7 +37,7 @@ module _ {D : Type 0} (device : Device D) (state : HostState) (old new : Journal
       → HoldsState device before old → ExtendsHistory device before state old new
   added_moments body is_body extends before same holds =
       record_goes_on device before state holds.contents.0 body holds.contents.1 old new holds.is_state holds.in_two
-      (sym same) is_body (extends holds.contents.0 holds.contents.1 holds.holds)
+      (by_image body before is_body same) (extends holds.contents.0 holds.contents.1 holds.holds)
 
   pub adds : (body : List ℕ) → IsBodyIn Two body state
       → ((image : List ℕ) (bodies : List (List ℕ)) → Holds device old image bodies
@@ -45,9 +51,9 @@ module _ {D : Type 0} (device : Device D) (state : HostState) (old new : Journal
     holds = λ before same holds. record {
       contents = (holds.contents.0, holds.contents.1 ++ body ∷ []);
       holds = acknowledged holds.contents.0 holds.contents.1 holds.holds;
-      is_state = state_of_push before state holds.contents.0 holds.contents.1 body holds.is_state holds.in_two (sym same)
-          is_body;
-      in_two = push_in Two holds.contents.0 holds.contents.1 body state holds.in_two is_body;
+      is_state = state_of_push Two before state holds.contents.0 holds.contents.1 body holds.is_state holds.in_two
+          (by_image body before is_body same);
+      in_two = holds.in_two;
     };
     moments = added_moments body is_body extends;
     failures = disks.failures;

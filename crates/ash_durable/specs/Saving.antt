@@ -10,7 +10,7 @@ use Rattle.ash_requests.specs.declared.refusal.Refusal.TheVariants as the
 use Rattle.ash_image.specs.declared.version.Version.TheVariants.{Two}
 use Rattle.ash_states.specs.HostStates.{HostState}
 use Rattle.ash_states.specs.Images.{IsBodyIn}
-use Rattle.ash_durable.specs.Contents.{record_header_size}
+use Rattle.ash_replay.specs.ReplayFaults.{record_header_size}
 use Rattle.ash_durable.specs.StoredStates.{HoldsState, ExtendsHistory, BeginsAnew}
 
 -- Why the code refuses a request.

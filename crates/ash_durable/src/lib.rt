@@ -10,8 +10,7 @@
 //! every moment; that a store is opened with the registry's text that it was made with and no other; and that a
 //! generation of version 1 is moved to version 2 when it is opened.
 //!
-//! In reading order: `fault` (why there is no store), `contents` (which state an image and records are read as),
-//! `saving` (a state as a record more, or as a new generation), `header` (how a file begins), `store` (making a store
+//! In reading order: `fault` (why there is no store), `saving` (a state as a record more, or as a new generation), `header` (how a file begins), `store` (making a store
 //! and finding its state), `host`, `lives` (the theorem). The words of the clauses are in `specs/StoreFaults`,
 //! `specs/StoredStates` (what files hold, said of states), `specs/Contents`, `specs/Saving`, `specs/HandedBoxes` (the
 //! boxes that are handed over), `specs/Store` (making a store), `specs/OpenedStore`, `specs/Hosting` (a host and its
@@ -20,7 +19,6 @@
 //! happen to a store).
 #![tactic(auto)]
 
-mod contents;
 pub mod fault;
 mod header;
 pub mod host;
