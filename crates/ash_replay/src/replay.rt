@@ -35,8 +35,8 @@ pub(crate) fn last_gate(records: &[Record]) -> u64
     }
 }
 
-/// The state to which an image and the records after it lead, and the version of the image. It takes time in proportion
-/// to their bytes: each record is applied to the state in place.
+/// The state to which an image and the records after it lead, and the version of the image. Each record is applied to
+/// the state in place, and the rules of a state are tested on the last.
 ///
 /// Faults, the first that holds, each at the offset of the gate before the record, or 0 for the image: the image is
 /// none; a record leads nowhere, the first that does so; the last state breaks the rules of a state. Whether what is
