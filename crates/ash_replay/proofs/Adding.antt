@@ -6,12 +6,15 @@ use Rattle.ash_image.specs.Image.{FitsVersion}
 use Rattle.ash_image.specs.Rules.{KeepsRules}
 use Rattle.ash_leading.specs.Leading.{NamedSnapshot, named, Leads, IsDeltaBetween}
 use Rattle.ash_registry.specs.RegistryText.{text_of}
-use Rattle.ash_states.specs.HostStates.{HostState}
+use Rattle.ash_leading.proofs.OneState.{known_by_names}
+use Rattle.ash_sources.proofs.SourceLaws.{read_sound}
+use Rattle.ash_states.specs.HostStates.{HostState, embedding_for, offered_to}
 use Rattle.ash_states.specs.Images.{IsDepicted, IsImageIn}
 use Rattle.ash_states.specs.Indexes.{snapshot_for}
 use Rattle.ash_states.proofs.Depicted.{depicted}
+use Rattle.ash_states.proofs.SnapshotRules.{rules}
 use Rattle.ash_replay.specs.Replay.{IsRecordBetween, LeadThrough, LeadTo}
-use Rattle.ash_replay.specs.ReplayedStates.{AreIn, IsStateOf, IsBodyBetween, RecordsLeadOn}
+use Rattle.ash_replay.specs.ReplayedStates.{AreIn, IsStateOf, IsBodyBetween, RecordsLeadOn, StatesFit}
 use Rattle.ash_replay.proofs.Names.{names_of_one, in_order}
 use Rattle.ash_replay.proofs.Once.{image_once}
 
@@ -105,6 +108,23 @@ state_of_push version before after image bodies body is_state in_version body_is
 pub push_in : (version : Version) (image : List ℕ) (bodies : List (List ℕ)) (body : List ℕ)
     → AreIn version (image, bodies) → AreIn version (image, bodies ++ body ∷ [])
 push_in version image bodies body is = is
+
+-- the state of contents has an image in their version
+pub fits_in : StatesFit
+fits_in version state contents is_state in_version =
+    let s = is_state.snapshot in
+    let led = is_state.led in
+    let same : is_state.version ≡ version =
+        (image_once contents.0 is_state.version version led.led.first in_version.0 led.led.image in_version.1).0 in
+    let admitted = is_state.depicts.admitted in
+    let keeps : KeepsRules (snapshot_for state) =
+        rules (embedding_for state.registered) (offered_to state.registered) (read_sound state.registered) state.state
+        admitted.formed state.registered in
+    let names = names_of_one s (snapshot_for state) state is_state.depicts (depicted state admitted) in
+    let is : s ≡ snapshot_for state =
+        known_by_names s (snapshot_for state) led.fits.modules.order led.rules keeps names in
+    subst (λ (x : Snapshot). FitsVersion version x) is
+    (subst (λ (v : Version). FitsVersion v s) same led.fits)
 
 -- an image without records is in its version
 pub alone_in : (version : Version) (state : HostState) (image : List ℕ) → IsImageIn version image state

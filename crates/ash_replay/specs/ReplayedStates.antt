@@ -6,6 +6,7 @@ use Rattle.ash_registry.specs.AcceptedRegistrations.{Registration}
 use Rattle.ash_registry.specs.RegistryText.{text_of}
 use Rattle.ash_image.specs.declared.version.Version.{Version}
 use Rattle.ash_image.specs.Snapshots.{Snapshot}
+use Rattle.ash_image.specs.Image.{FitsVersion}
 use Rattle.ash_image.specs.Rules.{IsImage}
 use Rattle.ash_leading.specs.Leading.{IsDeltaBetween}
 use Rattle.ash_states.specs.HostStates.{HostState, IsAdmitted}
@@ -84,6 +85,11 @@ abbrev pub RecordsLeadOn : Type 0
 RecordsLeadOn = (version : Version) (before after : HostState) (image : List ℕ) (bodies : List (List ℕ))
     (body : List ℕ) → IsStateOf before (image, bodies) → AreIn version (image, bodies)
     → IsBodyBetween version body before after → IsStateOf after (image, bodies ++ body ∷ [])
+
+-- The state of contents has an image in their version.
+abbrev pub StatesFit : Type 0
+StatesFit = (version : Version) (state : HostState) (contents : Contents) → IsStateOf state contents
+    → AreIn version contents → FitsVersion version (snapshot_for state)
 
 -- If contents are of a state of a host with this registered, out of memory is the one fault that they are read as.
 abbrev pub StatesHaveNoFault : Type 0
