@@ -283,12 +283,12 @@ const LATER_DAMAGED: Option<StoreFault> = Some(StoreFault::Open(OpenFault::Damag
 // is at 93; the image in it is the empty one with the text, whose last `l` is at 108.
 static ROWS_OF_BOTH: [Row; 8] = [
     (Place::ImageBeforeRecord, Damage::Cut(500), "Tall", None),
-    // What the image holds must be admitted, though the record leads away from it.
+    // What the image holds need not be admitted, since the record leads away from it.
     (
         Place::ImageBeforeRecord,
         Damage::Word(79, NULL, 17, 63),
         "Tall",
-        DAMAGED,
+        None,
     ),
     (
         Place::ImageBeforeRecord,
@@ -300,7 +300,7 @@ static ROWS_OF_BOTH: [Row; 8] = [
         Place::ImageBeforeRecord,
         Damage::Two(35, 108, b'e'),
         "Tale",
-        DAMAGED,
+        None,
     ),
     (
         Place::ImageBeforeRecord,
@@ -308,7 +308,7 @@ static ROWS_OF_BOTH: [Row; 8] = [
         "Tall",
         OTHER,
     ),
-    // The shape of the record comes before that, and so does the shape of the image.
+    // The shapes of the record and of the image come before the text.
     (
         Place::ImageBeforeRecord,
         Damage::Byte(93, 9),
