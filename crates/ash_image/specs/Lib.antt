@@ -7,9 +7,12 @@ pub mod Image
 pub mod ImageReading
 pub mod SnapshotViews
 pub mod Rules
+pub mod Fitting
 pub mod Delta
 pub mod DeltaReading
 pub mod DeltaViews
+pub mod Leading
+pub mod NamedViews
 pub mod DeltaExamples
 pub mod Search
 pub mod ImageExamples

@@ -23,7 +23,7 @@ use ash_host::MAX_OBJECTS;
 use std::alloc::{AllocError, Global};
 
 /// Whether a version has such objects.
-fn has_version(version: Version, body: &StoredBody) -> bool
+pub fn has_version(version: Version, body: &StoredBody) -> bool
     ensures value { result ≡ has_version version (plain_of body.now) }
 {
     match (version, body) {
@@ -83,7 +83,7 @@ fn counted_objects(
 }
 
 /// Whether each number is below the next.
-fn do_rise(objects: &[StoredObject]) -> bool
+pub fn do_rise(objects: &[StoredObject]) -> bool
     ensures value { result ≡ do_rise (numbers (objects_of objects.now)) }
 {
     let Some((mut last, rest)) = objects.split_first() else {
