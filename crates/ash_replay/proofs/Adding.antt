@@ -4,9 +4,9 @@ use Rattle.ash_image.specs.declared.version.Version.{Version}
 use Rattle.ash_image.specs.Snapshots.{Snapshot}
 use Rattle.ash_image.specs.Image.{FitsVersion}
 use Rattle.ash_image.specs.Rules.{KeepsRules}
-use Rattle.ash_leading.specs.Leading.{NamedSnapshot, named, Leads, IsDeltaBetween}
+use Rattle.ash_image.specs.Leading.{NamedSnapshot, named, Leads, IsDeltaBetween}
 use Rattle.ash_registry.specs.RegistryText.{text_of}
-use Rattle.ash_leading.proofs.OneState.{known_by_names}
+use Rattle.ash_image.proofs.OneState.{known_by_names}
 use Rattle.ash_sources.proofs.SourceLaws.{read_sound}
 use Rattle.ash_states.specs.HostStates.{HostState, embedding_for, offered_to}
 use Rattle.ash_states.specs.Images.{IsDepicted, IsImageIn}

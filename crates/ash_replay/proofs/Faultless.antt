@@ -7,7 +7,7 @@ use Rattle.ash_image.specs.declared.version.Version.{Version}
 use Rattle.ash_image.specs.declared.version.Version.TheVariants.{Two}
 use Rattle.ash_image.specs.Snapshots.{Snapshot}
 use Rattle.ash_image.specs.Image.{FitsVersion}
-use Rattle.ash_leading.specs.Leading.{NamedSnapshot, named}
+use Rattle.ash_image.specs.Leading.{NamedSnapshot, named}
 use Rattle.ash_states.specs.HostStates.{HostState}
 use Rattle.ash_states.specs.Images.{IsDepicted, IsImageIn}
 use Rattle.ash_replay.specs.Replay.{LeadThrough}

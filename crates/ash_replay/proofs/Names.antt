@@ -7,9 +7,9 @@ use Rattle.ash_image.specs.declared.version.Version.{Version}
 use Rattle.ash_image.specs.Snapshots.{Loaded, Snapshot}
 use Rattle.ash_image.specs.Image.{FitsVersion}
 use Rattle.ash_image.specs.Rules.{KeepsRules}
-use Rattle.ash_leading.specs.Leading.{named, name_there, elements_known, by_name}
-use Rattle.ash_leading.specs.Leading.{objects_named, IsOrdered}
-use Rattle.ash_leading.proofs.OneState.{named_ordered, one_named}
+use Rattle.ash_image.specs.Leading.{named, name_there, elements_known, by_name}
+use Rattle.ash_image.specs.Leading.{objects_named, IsOrdered}
+use Rattle.ash_image.proofs.OneState.{named_ordered, one_named}
 use Rattle.ash_states.specs.HostStates.{HostState}
 use Rattle.ash_states.specs.Images.{name_at, element_named, plain_named, entry_named, loaded_modules_of}
 use Rattle.ash_states.specs.Images.{state_of, kinds_in, IsDepicted}

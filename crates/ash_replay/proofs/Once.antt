@@ -5,10 +5,10 @@ use Rattle.ash_image.specs.declared.version.Version.{Version}
 use Rattle.ash_image.specs.Snapshots.{Snapshot}
 use Rattle.ash_image.specs.Rules.{IsImage, IsImageBody}
 use Rattle.ash_image.specs.Delta.{Delta}
-use Rattle.ash_leading.specs.Leading.{NamedSnapshot, named, Leads}
+use Rattle.ash_image.specs.Leading.{NamedSnapshot, named, Leads}
 use Rattle.ash_image.proofs.ImageLaws.{spelled_once}
 use Rattle.ash_image.proofs.DeltaLaws.{one_delta}
-use Rattle.ash_leading.proofs.OneState.{known_by_names, one_led}
+use Rattle.ash_image.proofs.OneState.{known_by_names, one_led}
 use Rattle.ash_replay.specs.Replay.{LeadsByImage, LeadsByDelta, IsRecordBetween, LeadThrough, LeadTo}
 use Rattle.ash_replay.specs.Replay.{ContentsLeadToOne}
 

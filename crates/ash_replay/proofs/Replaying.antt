@@ -8,14 +8,14 @@ use Rattle.ash_journal.specs.Current.{Contents}
 use Rattle.ash_journal.specs.Reading.{AreAt, bodies_of}
 use Rattle.ash_image.specs.declared.stored.StoredImage.{StoredImage}
 use Rattle.ash_image.specs.declared.stored.StoredState.{StoredState}
-use Rattle.ash_leading.specs.declared.named_state.NamedState.{NamedState}
+use Rattle.ash_image.specs.declared.named_state.NamedState.{NamedState}
 use Rattle.ash_image.specs.declared.version.Version.{Version}
 use Rattle.ash_image.specs.Snapshots.{Snapshot}
 use Rattle.ash_image.specs.Image.{FitsVersion}
 use Rattle.ash_image.specs.Rules.{KeepsRules, IsImage, IsImageBody}
 use Rattle.ash_image.specs.Delta.{delta_tag}
 use Rattle.ash_image.specs.SnapshotViews.{image_read, snapshot_of}
-use Rattle.ash_leading.specs.Leading.{NamedSnapshot, named}
+use Rattle.ash_image.specs.Leading.{NamedSnapshot, named}
 use Rattle.ash_replay.specs.declared.fault.ReplayFault.{ReplayFault}
 use Rattle.ash_replay.specs.declared.fault.ReplayFault.TheVariants as faults
 use Rattle.ash_replay.specs.Replay.{LeadsByImage, LeadsByDelta, IsRecordBetween, LeadThrough, LeadTo, IsStateIn}

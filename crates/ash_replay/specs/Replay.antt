@@ -6,7 +6,7 @@ use Rattle.ash_image.specs.Snapshots.{Snapshot}
 use Rattle.ash_image.specs.Image.{FitsVersion}
 use Rattle.ash_image.specs.Rules.{KeepsRules, IsImage, IsImageBody}
 use Rattle.ash_image.specs.Delta.{Delta, IsDelta, delta_tag}
-use Rattle.ash_leading.specs.Leading.{NamedSnapshot, named, Leads, IsOrdered}
+use Rattle.ash_image.specs.Leading.{NamedSnapshot, named, Leads, IsOrdered}
 
 -- The body of a record has an image: it leads to the state of that image, if the text of what was registered is the
 -- same.

@@ -6,7 +6,7 @@ use Rattle.ash_image.specs.declared.version.Version.{Version}
 use Rattle.ash_image.specs.Snapshots.{Snapshot}
 use Rattle.ash_image.specs.Image.{FitsVersion}
 use Rattle.ash_image.specs.Rules.{KeepsRules, IsImage}
-use Rattle.ash_leading.specs.Leading.{NamedSnapshot, named}
+use Rattle.ash_image.specs.Leading.{NamedSnapshot, named}
 use Rattle.ash_replay.specs.Replay.{IsRecordBetween, LeadTo}
 
 -- offsets in the file

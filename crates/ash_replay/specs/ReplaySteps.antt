@@ -3,12 +3,12 @@ use Rattle.std.specs.Prelude.{◌≡◌, ◌⊎◌, ℕ, List, [], ◌∷◌, Re
 use Rattle.ash_journal.specs.declared.record.Record.{Record}
 use Rattle.ash_journal.specs.Reading.{bodies_of}
 use Rattle.ash_image.specs.declared.stored.StoredImage.{StoredImage}
-use Rattle.ash_leading.specs.declared.named_state.NamedState.{NamedState}
+use Rattle.ash_image.specs.declared.named_state.NamedState.{NamedState}
 use Rattle.ash_image.specs.declared.version.Version.{Version}
 use Rattle.ash_image.specs.Rules.{IsImage}
 use Rattle.ash_image.specs.SnapshotViews.{snapshot_of}
-use Rattle.ash_leading.specs.Leading.{NamedSnapshot}
-use Rattle.ash_leading.specs.NamedViews.{state_seen}
+use Rattle.ash_image.specs.Leading.{NamedSnapshot}
+use Rattle.ash_image.specs.NamedViews.{state_seen}
 use Rattle.ash_replay.specs.declared.fault.ReplayFault.{ReplayFault}
 use Rattle.ash_replay.specs.declared.fault.ReplayFault.TheVariants as faults
 use Rattle.ash_replay.specs.Replay.{IsRecordBetween, LeadThrough}

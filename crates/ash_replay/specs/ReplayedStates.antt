@@ -8,7 +8,7 @@ use Rattle.ash_image.specs.declared.version.Version.{Version}
 use Rattle.ash_image.specs.Snapshots.{Snapshot}
 use Rattle.ash_image.specs.Image.{FitsVersion}
 use Rattle.ash_image.specs.Rules.{IsImage}
-use Rattle.ash_leading.specs.Leading.{IsDeltaBetween}
+use Rattle.ash_image.specs.Leading.{IsDeltaBetween}
 use Rattle.ash_states.specs.HostStates.{HostState, IsAdmitted}
 use Rattle.ash_states.specs.Images.{IsDepicted, IsImageIn, IsBodyIn}
 use Rattle.ash_states.specs.Indexes.{snapshot_for}

@@ -3,8 +3,8 @@
 ghost use Rattle.std.specs.Prelude.{◌≡◌, ◌↔◌, ◌∷◌, List, ℕ, None, IsTrue, IfOk, IfSome, IsSome};
 ghost use Rattle.ash_image.specs.SnapshotViews.{snapshot_of};
 ghost use Rattle.ash_image.specs.Delta.{delta_tag};
-ghost use Rattle.ash_leading.specs.Leading.{NamedSnapshot};
-ghost use Rattle.ash_leading.specs.NamedViews.{state_seen};
+ghost use Rattle.ash_image.specs.Leading.{NamedSnapshot};
+ghost use Rattle.ash_image.specs.NamedViews.{state_seen};
 ghost use Rattle.ash_image.specs.declared.version.Version.{Version};
 ghost use Rattle.ash_replay.specs.Replay.{IsRecordBetween, LeadsByDelta, LeadsByImage};
 ghost use Rattle.ash_replay.specs.ReplaySteps.{LeadsOn, LeadsThrough};
@@ -15,8 +15,9 @@ use ash_image::image::read_body;
 use ash_image::stored::StoredImage;
 use ash_image::version::Version;
 use ash_journal::Record;
-use ash_leading::leading::lead;
-use ash_leading::named_state::{NamedState, named_state};
+use ash_image::leading::lead;
+use ash_image::named_state::NamedState;
+use ash_image::naming::named_state;
 use std::alloc::{AllocError, Global};
 
 /// The tag of a record's body that is a delta.

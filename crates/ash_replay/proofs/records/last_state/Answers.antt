@@ -1,6 +1,6 @@
 use Rattle.std.proofs.Common.{rules, ◌≡◌, ◌+◌, List, Err, drop, sym, subst}
 use Rattle.ash_journal.specs.declared.record.Record.{Record}
-use Rattle.ash_leading.specs.NamedViews.{state_seen}
+use Rattle.ash_image.specs.NamedViews.{state_seen}
 use Rattle.ash_replay.specs.ReplaySteps.{LeadsThrough}
 use Rattle.ash_replay.proofs.Replaying.{left_from, through_none}
 use Rattle.ash_replay.proofs.records.last_state.Goals as goal

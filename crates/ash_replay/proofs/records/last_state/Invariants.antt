@@ -1,6 +1,6 @@
 use Rattle.std.proofs.Common.{Result, drop}
-use Rattle.ash_leading.specs.declared.named_state.NamedState.{NamedState}
-use Rattle.ash_leading.specs.NamedViews.{state_seen}
+use Rattle.ash_image.specs.declared.named_state.NamedState.{NamedState}
+use Rattle.ash_image.specs.NamedViews.{state_seen}
 use Rattle.ash_replay.specs.declared.fault.ReplayFault.{ReplayFault}
 use Rattle.ash_replay.specs.ReplaySteps.{LeadsThrough}
 use Rattle.ash_replay.proofs.records.last_state.Given as goal

@@ -1,5 +1,5 @@
 use Rattle.std.proofs.Common.{refl}
-use Rattle.ash_leading.specs.NamedViews.{state_seen}
+use Rattle.ash_image.specs.NamedViews.{state_seen}
 use Rattle.ash_replay.proofs.Replaying.{nowhere}
 use Rattle.ash_replay.proofs.records.next_state.Goals as goal
 

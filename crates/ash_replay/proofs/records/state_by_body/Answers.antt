@@ -1,5 +1,5 @@
 use Rattle.std.proofs.Common.{refl}
-use Rattle.ash_leading.specs.NamedViews.{state_seen}
+use Rattle.ash_image.specs.NamedViews.{state_seen}
 use Rattle.ash_replay.proofs.Replaying.{delta_only, image_only}
 use Rattle.ash_replay.proofs.records.state_by_body.Goals as goal
 

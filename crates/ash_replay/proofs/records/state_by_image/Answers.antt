@@ -1,5 +1,5 @@
 use Rattle.std.proofs.Common.{◌≡◌, true, sym, ◌∙◌}
-use Rattle.ash_leading.specs.NamedViews.{state_seen}
+use Rattle.ash_image.specs.NamedViews.{state_seen}
 use Rattle.ash_replay.proofs.Replaying.{no_body, read_with}
 use Rattle.ash_replay.proofs.records.state_by_image.Goals as goal
 

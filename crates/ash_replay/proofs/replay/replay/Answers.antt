@@ -1,7 +1,7 @@
 use Rattle.std.proofs.lemmas.Result.{err_from_is_err_and}
 use Rattle.ash_journal.specs.Reading.{bodies_of}
 use Rattle.ash_image.specs.SnapshotViews.{snapshot_of}
-use Rattle.ash_leading.specs.NamedViews.{state_seen}
+use Rattle.ash_image.specs.NamedViews.{state_seen}
 use Rattle.ash_replay.proofs.Replaying.{record_fault, rules_fault, led_to, state_led, breaks}
 use Rattle.ash_replay.proofs.replay.replay.Goals as goal
 

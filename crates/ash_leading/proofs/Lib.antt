@@ -1,2 +1,0 @@
-pub mod ModuleLaws
-pub mod OneState

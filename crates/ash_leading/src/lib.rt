@@ -1,5 +1,0 @@
-//! Stubs.
-#![tactic(auto)]
-
-pub mod leading;
-pub mod named_state;
