@@ -67,9 +67,19 @@ verdict $? "a full disk as standard output"
 [ $? -eq 1 ] && [ "$(cat "$scratch/error")" = "ashd: 605 Read" ]
 verdict $? "a folder as standard input"
 
+# A program that is talked to over pipes.
+begin_talk() {
+    coproc talk { "$ashd" try --budget 1000 --counters 0; }
+    exec {replies}<&"${talk[0]}" {requests}>&"${talk[1]}"
+}
+
+end_talk() {
+    exec {replies}<&- {requests}>&-
+    wait
+}
+
 # Each reply comes before the next request is sent.
-coproc talk { "$ashd" try --budget 1000 --counters 0; }
-exec {replies}<&"${talk[0]}" {requests}>&"${talk[1]}"
+begin_talk
 printf 'load m 10\nint n = 7;\n' >&"$requests"
 read -r -t 10 loaded <&"$replies"
 printf 'get m n\n' >&"$requests"
@@ -78,12 +88,10 @@ printf 'quit\n' >&"$requests"
 read -r -t 10 left <&"$replies"
 [ "$loaded/$value/$left" = "ok seq 1/ok 7/ok" ]
 verdict $? "a conversation over a pipe: $loaded/$value/$left"
-exec {replies}<&- {requests}>&-
-wait
+end_talk
 
 # A reply comes while the next request is not whole: of a line a part is there, and of a load the line without its source.
-coproc talk { "$ashd" try --budget 1000 --counters 0; }
-exec {replies}<&"${talk[0]}" {requests}>&"${talk[1]}"
+begin_talk
 printf 'seq\nse' >&"$requests"
 read -r -t 10 first <&"$replies"
 printf 'q\nseq\nload m 10\nint' >&"$requests"
@@ -96,5 +104,4 @@ read -r -t 10 empty <&"$replies"
 read -r -t 10 left <&"$replies"
 [ "$first/$second/$third/$loaded/$empty/$left" = "ok 0/ok 0/ok 0/ok seq 1/ok seq 2/ok" ]
 verdict $? "requests that come in parts: $first/$second/$third/$loaded/$empty/$left"
-exec {replies}<&- {requests}>&-
-wait
+end_talk

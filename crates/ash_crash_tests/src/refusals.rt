@@ -171,7 +171,7 @@ fn go_on<B: HostObject>(
 
 /// How often a store is begun at most: it is made, and opened again after a making, an opening or a request that was
 /// refused memory.
-const MOST_BEGINNINGS: usize = 4;
+const MAX_BEGINNINGS: usize = 4;
 
 /// Plays a plan to its end. A store that must be opened again is opened with new boxes.
 fn play(rt: &impl Abort, alloc: Global, plan: &Plan) -> Result<(), NoMemory> {
@@ -180,7 +180,7 @@ fn play(rt: &impl Abort, alloc: Global, plan: &Plan) -> Result<(), NoMemory> {
         place: 0,
         disks: (MemoryDisk::new(alloc), MemoryDisk::new(alloc)),
     };
-    for _ in 0..MOST_BEGINNINGS {
+    for _ in 0..MAX_BEGINNINGS {
         progress = go_on(rt, alloc, plan, progress, new_boxes(alloc)?)?;
         if progress.place == requests_in(plan) {
             return Ok(());

@@ -37,6 +37,7 @@ module _ {B : Type 0} (G : Ghosts B) where
     taken = record { stepped = refl; registered = refl };
     gave = unasked live.boxes;
     unchanged = λ no. refl;
+    named = λ answered. absurd (answered tt);
   }
 
   pub snapshot_step : (budget : ℕ) (live : LiveState B) → TakesStep G budget Snapshot live Done live
@@ -45,4 +46,5 @@ module _ {B : Type 0} (G : Ghosts B) where
     taken = record { stepped = refl; registered = refl };
     gave = unasked live.boxes;
     unchanged = λ no. refl;
+    named = λ answered. absurd (answered tt);
   }

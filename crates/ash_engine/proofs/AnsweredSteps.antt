@@ -7,10 +7,19 @@ use Rattle.ash_host.specs.declared.host_object.HostObject.{Ghosts}
 use Rattle.ash_host.specs.Records.{HostRecord}
 use Rattle.ash_registry.specs.AcceptedRegistrations.{Registration}
 use Rattle.ash_meaning.specs.Ends.{End}
+use Rattle.std.specs.List.Sorted.{IsStrictlyIncreasing}
+use Rattle.ash_host.specs.Objects.{handles, IsInOrder}
 use Rattle.ash_objects.specs.Table.{Table}
-use Rattle.ash_run_steps.specs.Answered.{Answered, boxes_of}
+use Rattle.ash_objects.specs.Marking.{without_marks}
+use Rattle.ash_object_ranks.specs.ShownTables.{SlotNames, objects_shown}
+use Rattle.ash_run_steps.specs.Answered.{Answered, Boxes, boxes_of}
+use Rattle.ash_run_steps.specs.RunStates.{HoldsRoots}
+use Rattle.ash_change_laws.specs.MarkedObjects.{IsSettled, KeepNames}
+use Rattle.ash_change_laws.specs.ChangedStates.{Changes, Names, AreNamedBy, IsModuleChange}
+use Rattle.ash_change_laws.proofs.ChangedStates.{steps_are_named}
+use Rattle.ash_change_laws.proofs.MarkedObjects.{clears_marks}
 use Rattle.ash_run_steps.specs.Becoming.{Gave}
-use Rattle.ash_requests.specs.States.{LoadedModule}
+use Rattle.ash_requests.specs.States.{LoadedModule, globals_of}
 use Rattle.ash_requests.specs.Requests.{Request}
 use Rattle.ash_requests.specs.Requests as replies
 use Rattle.ash_requests.specs.Steps.{performed}
@@ -19,15 +28,21 @@ use Rattle.ash_soundness.specs.WellFormedStates.{AreHosts}
 use Rattle.ash_plain_steps.specs.StateViews.{modules_seen}
 use Rattle.ash_states.specs.HostStates.{HostState, IsAdmitted, embedding_for, service_kinds}
 use Rattle.ash_table_states.specs.TableStates.{names_in, state_shown}
+use Rattle.ash_change_records.specs.ListedChanges.{IsListableChange, AreListable}
+use Rattle.ash_change_records.proofs.ListedFit.{names_listable}
 use Rattle.ash_engine.specs.declared.live.Live.{Live}
 use Rattle.ash_engine.specs.LiveStates.{plain_box}
 use Rattle.ash_engine.specs.LiveSteps.{TakesStep}
-use Rattle.ash_engine.specs.TableStates.{slots_of, names_of, BoxesFit, durable_seen, live_seen, IsLive}
+use Rattle.ash_engine.specs.declared.changes.ModuleChange.{ModuleChange}
+use Rattle.ash_engine.specs.NamedChanges.{AreTaken, changes_seen, module_change_seen}
+use Rattle.ash_engine.specs.TableStates.{slots_of, names_of, roots_of, BoxesFit, durable_seen, live_seen, IsLive}
 use Rattle.ash_engine.proofs.Admitted.{step_admitted}
 use Rattle.ash_engine.proofs.CallEnds.{numbered_from, boxes_answered, kinds_kept}
 use Rattle.ash_engine.proofs.GivenAnswers.{answers_fit}
+use Rattle.ash_engine.proofs.ListableChanges.{marked_rise}
 use Rattle.ash_engine.proofs.LoadEnds.{answered_with}
 use Rattle.ash_engine.proofs.TableCalls.{hosts_of}
+use Rattle.ash_engine.proofs.Unmarked.{same_boxes, same_state, still_holds}
 
 -- what a live state shows, if these modules are loaded, in these slots
 pub record IsShown {B : Type 0} (l : Live B) (modules : List LoadedModule) (slots : List ℕ) (seq : ℕ)
@@ -35,7 +50,20 @@ pub record IsShown {B : Type 0} (l : Live B) (modules : List LoadedModule) (slot
   pub modules_are : modules_seen l.loaded.modules.items ≡ modules
   pub slots_are : slots_of l.compiled.items ≡ slots
   pub seq_is : l.loaded.seq ≡ seq
-  pub table_is : l.table ≡ table
+  pub table_is : l.table ≡ without_marks table
+
+-- The names that a live state has of what changed: those of the events, of the change of the modules, and of the marks
+-- of a table, if these modules are loaded, in these slots. Some names of modules are those of the objects before and
+-- after.
+pub record HasNames {B : Type 0} (G : Ghosts B) (old new : Live B) (events : List Event) (modules : List LoadedModule)
+    (slots : List ℕ) (table : Table B) : Type 0 where
+  pub change : ModuleChange
+  pub taken_so : AreTaken events change table new.changes
+  pub change_is : IsModuleChange (module_change_seen modules change) (modules_seen old.loaded.modules.items) modules
+  pub listable : IsListableChange (module_change_seen modules change)
+  pub names : SlotNames
+  pub shown_before : objects_shown G (names_of old) old.table.objects ≡ objects_shown G names old.table.objects
+  pub same_names : KeepNames G names (names_in modules slots) table
 
 module _ {B : Type 0} (G : Ghosts B) (registered : List Registration) (request : Request) (budget : ℕ) (live : Live B)
     (is_live : IsLive G registered live) where
@@ -47,7 +75,8 @@ module _ {B : Type 0} (G : Ghosts B) (registered : List Registration) (request :
       (gave : Gave G records live.table [] table events)
       (step_is : steps.step (embedding_for registered) budget request durable.state
       (hosts_of G live.table records) ≡ Some (answered_with G live.loaded.seq end events modules slots table))
-      (new : Live B) (shown : IsShown new modules slots (live.loaded.seq + 1) table) where
+      (new : Live B) (shown : IsShown new modules slots (live.loaded.seq + 1) table)
+      (has : HasNames G live new events modules slots table) where
     abbrev reached : HostState
     reached = record { registered = registered; state = state_shown G modules slots (live.loaded.seq + 1) table }
 
@@ -57,6 +86,7 @@ module _ {B : Type 0} (G : Ghosts B) (registered : List Registration) (request :
       state = state_shown G (shown.modules_are i) (shown.slots_are i)
           (shown.seq_is i) (shown.table_is i);
     })
+        ∙ (λ i. record { registered = registered; state = same_state G modules slots (live.loaded.seq + 1) table i })
 
     hosts_fit : AreHosts (hosts_of G live.table records)
     hosts_fit = record { pool = is_live.fit; answers = answers_fit G records live.table table [] events gave }
@@ -64,6 +94,29 @@ module _ {B : Type 0} (G : Ghosts B) (registered : List Registration) (request :
     kept : IsAdmitted reached × AreHosts (hosts_of G table [])
     kept = step_admitted budget request durable (hosts_of G live.table records) _ is_live.admitted hosts_fit
         (performed step_is)
+
+    abbrev changes : Changes
+    changes = changes_seen modules new.changes
+
+    named_by : AreNamedBy G has.names (names_in modules slots) live.table table events durable.state reached.state changes
+    named_by = record {
+      settled = is_live.settled;
+      numbered = numbered_from G (names_of live) live.table ((is_live.admitted).formed).numbered;
+      keeps = (gave.follows).marks;
+      shown_before = has.shown_before;
+      shown_after = refl;
+      same_names = has.same_names;
+      called = (has.taken_so).called;
+      modules = subst (λ (x : ModuleChange). IsModuleChange (module_change_seen modules x)
+          (modules_seen live.loaded.modules.items) modules) (sym (has.taken_so).same_modules) has.change_is;
+      living = (has.taken_so).living;
+      gone = (has.taken_so).gone;
+    }
+
+    named : Names changes events durable.state reached.state
+    named = steps_are_named G (embedding_for registered) budget request durable.state (hosts_of G live.table records)
+        (answered_with G live.loaded.seq end events modules slots table) has.names (names_in modules slots)
+        live.table table changes step_is named_by
 
     pub taken : TakesStep G budget request (live_seen G registered live)
         (replies.Answered end (live.loaded.seq + 1) events) (live_seen G registered new)
@@ -78,10 +131,14 @@ module _ {B : Type 0} (G : Ghosts B) (registered : List Registration) (request :
         registered = refl;
       };
       gave = subst (λ (t : Table B). Answered G (boxes_of live.table) events records (boxes_of t)) (sym shown.table_is)
+          (subst (λ (b : Boxes B). Answered G (boxes_of live.table) events records b) (sym (same_boxes table))
           (boxes_answered G records live.table table events
           (numbered_from G (names_of live) live.table ((is_live.admitted).formed).numbered)
-          (numbered_from G (names_in modules slots) table ((kept.0).formed).numbered) gave);
+          (numbered_from G (names_in modules slots) table ((kept.0).formed).numbered) gave));
       unchanged = λ none. absurd none;
+      named = λ answered. subst (λ (ms : List LoadedModule). Names (changes_seen ms new.changes) events durable.state
+          (durable_seen G registered new).state) (sym shown.modules_are)
+          (subst (λ (h : HostState). Names changes events durable.state h.state) (sym reached_is) named);
     }
 
     pub still_admitted : IsAdmitted (durable_seen G registered new)
@@ -99,3 +156,24 @@ module _ {B : Type 0} (G : Ghosts B) (registered : List Registration) (request :
     pub still_kinds : map G.kind_of new.table.services ≡ service_kinds registered
     still_kinds = ap (λ (t : Table B). map G.kind_of t.services) shown.table_is
         ∙ kinds_kept G gave.drawn live.table table ((gave.follows).boxes) as_many ∙ is_live.kinds
+
+    -- what is held is as before
+    pub still_held : HoldsRoots table (handles (globals_of modules)) → HoldsRoots new.table (roots_of new)
+    still_held held = subst (λ (t : Table B). HoldsRoots t (roots_of new)) (sym shown.table_is)
+        (still_holds table (roots_of new)
+        (subst (λ (l : List LoadedModule). HoldsRoots table (handles (globals_of l))) (sym shown.modules_are) held))
+
+    pub still_settled : IsSettled new.table
+    still_settled = subst (λ (t : Table B). IsSettled t) (sym shown.table_is) (clears_marks table).clear
+
+    in_order : IsInOrder table.objects
+    in_order = (numbered_from G (names_in modules slots) table ((kept.0).formed).numbered).in_order
+
+    listable : AreListable changes
+    listable = names_listable changes events durable reached is_live.admitted named (has.taken_so).services_rise
+        (subst (λ (x : ModuleChange). IsListableChange (module_change_seen modules x)) (sym (has.taken_so).same_modules) has.listable)
+        (subst (λ (ns : List ℕ). IsStrictlyIncreasing ns) (sym (has.taken_so).living) (marked_rise table in_order))
+        (has.taken_so).gone_rise
+
+    pub still_listable : AreListable (changes_seen (modules_seen new.loaded.modules.items) new.changes)
+    still_listable = subst (λ (ms : List LoadedModule). AreListable (changes_seen ms new.changes)) (sym shown.modules_are) listable

@@ -1,12 +1,12 @@
 -- A module that the code discarded is gone by a step of the live state.
 use Rattle.std.proofs.Common.{◌≡◌, ◌<◌, ◌≤◌, ◌+◌, ℕ, List, [], ◌++◌, length, map, refl, sym, ap, ◌∙◌, subst, slice_get, nat_eq, inl, arith}
-use Rattle.std.specs.Prelude.{Some, None, Ok, Err, IsSome, option_map}
+use Rattle.std.specs.Prelude.{Some, None, Result, Ok, Err, IfOk, IfErr, IsSome, option_map}
 use Rattle.std.specs.List.{AllZip, IsDistinct, remove}
 use Rattle.std.proofs.lemmas.List.{append-nil}
 use Rattle.std.proofs.lemmas.Option.{slice_get-map, slice_get_within}
 use Rattle.ash_host.specs.declared.event.Event.{Event}
 use Rattle.ash_host.specs.declared.host_object.HostObject.{Ghosts}
-use Rattle.ash_host.specs.Objects.{LiveObjects, handles, IsInOrder}
+use Rattle.ash_host.specs.Objects.{LiveObjects, object_at, handles, IsInOrder}
 use Rattle.ash_registry.specs.AcceptedRegistrations.{Registration}
 use Rattle.ash_meaning.specs.Activity.{World}
 use Rattle.ash_meaning.specs.Ends.{Finished}
@@ -18,6 +18,7 @@ use Rattle.ash_run_steps.specs.Becoming.{Gave}
 use Rattle.ash_run_steps.specs.Ranks.{rank_test}
 use Rattle.ash_run_steps.specs.RunStates.{Names, HoldsRoots, times}
 use Rattle.ash_run_steps.proofs.Roots.{times_append}
+use Rattle.ash_requests.specs.declared.step_error.StepError.{StepError}
 use Rattle.ash_requests.specs.declared.step_error.StepError.TheVariants as errors
 use Rattle.ash_requests.specs.RequestViews.{reply_seen}
 use Rattle.ash_requests.specs.States.{LoadedModule, Hosts, Embedding, globals_of, without_module, world_of}
@@ -41,18 +42,23 @@ use Rattle.ash_plain_steps.specs.Consistency.{AreConsistent}
 use Rattle.ash_plain_steps.proofs.Changed.{globals_set, removed_there, consistent_remove}
 use Rattle.ash_plain_steps.proofs.Places.{map-remove}
 use Rattle.ash_states.specs.HostStates.{HostState, IsAdmitted, embedding_for, offered_to}
-use Rattle.ash_states.specs.StateSteps.{task_of}
+use Rattle.ash_states.specs.StateSteps.{task_of, FailsInChange}
 use Rattle.ash_table_states.specs.TableStates.{names_in}
+use Rattle.ash_change_laws.specs.MarkedObjects.{KeepNames}
+use Rattle.ash_engine.specs.declared.changes.ModuleChange.TheVariants as changed
 use Rattle.ash_engine.specs.declared.live.Compiled.{Compiled}
 use Rattle.ash_engine.specs.declared.live.Live.{Live}
 use Rattle.ash_engine.specs.declared.steps.LiveStep.{LiveStep}
 use Rattle.ash_engine.specs.LiveSteps.{TakesStep}
 use Rattle.ash_engine.specs.TableRuns.{IsAnswered, IsRemoved}
 use Rattle.ash_engine.specs.TableSteps.{IsStepOf}
-use Rattle.ash_engine.specs.TableStates.{slots_of, names_of, roots_of, IsCompiledFrom, durable_seen, live_seen, IsLive}
+use Rattle.ash_engine.specs.TableStates.{slots_of, names_of, IsCompiledFrom, durable_seen, live_seen, IsLive}
 use Rattle.ash_engine.specs.TableTasks.{IsAsked}
 use Rattle.ash_engine.proofs.Admitted.{step_admitted}
-use Rattle.ash_engine.proofs.AnsweredSteps.{IsShown, taken, still_admitted, still_fit, still_kinds}
+use Rattle.ash_engine.proofs.AnsweredSteps.{IsShown, HasNames, taken, still_admitted, still_fit, still_kinds, still_held, still_settled, still_listable}
+use Rattle.ash_states.proofs.Names.{one_name}
+use Rattle.ash_soundness.proofs.Hosts.{rec_at}
+use Rattle.ash_soundness.specs.WellFormedStates.{HasValidName}
 use Rattle.ash_engine.proofs.CallEnds.{numbered_from}
 use Rattle.ash_engine.proofs.ChangedModules.{held_before}
 use Rattle.ash_engine.proofs.KnownRanks.{class_ranks, known_sound, known_ranked}
@@ -207,7 +213,11 @@ module _ {B : Type 0} (G : Ghosts B) (registered : List Registration) (live : Li
       gave = released_gave G names (rank_test (known_of embedding seen) ranks) outside m.globals.items live.table before.table [] events
           (numbered_from G (names_of live) live.table formed.numbered) order held_apart gone.released
 
-      module _ (one : LiveStep B) (answered : IsAnswered before (Finished None) events one) where
+      -- the objects that are left are of the same modules
+      same_names : KeepNames G (names_of live) (names_in others other_slots) before.table
+      same_names number = ap (object_at number) (shown_as ∙ sym releases.shown)
+
+      module _ (one : LiveStep B) (answered : IsAnswered before (Finished None) events (changed.Discarded m.name) one) where
         items_are : one.live.loaded.modules.items ≡ remove ms place
         items_are = ap (λ (l : Live B). l.loaded.modules.items) answered.live ∙ gone.modules
 
@@ -222,31 +232,49 @@ module _ {B : Type 0} (G : Ghosts B) (registered : List Registration) (live : Li
           table_is = ap (λ (l : Live B). l.table) answered.live;
         }
 
+        has : HasNames G live one.live events others other_slots before.table
+        has = record {
+          change = changed.Discarded m.name;
+          taken_so = answered.taken;
+          change_is = refl {A = List LoadedModule};
+          listable = one_name (loaded_seen m).name ∙ rec_at HasValidName seen place (loaded_seen m) ((is_live.admitted).formed).valid seen_at;
+          names = names_of live;
+          shown_before = refl;
+          same_names = same_names;
+        }
+
         discard_taken : TakesStep G budget request (live_seen G registered live) (reply_seen fault_of one.reply) (live_seen G registered one.live)
         discard_taken =
             subst (λ (r : replies.Reply SourceFault). TakesStep G budget request (live_seen G registered live) r (live_seen G registered one.live))
             (sym (answered.reply ∙ ap (λ (s : PlainState). replies.Answered (Finished None) (s.seq + 1) events) gone.loaded))
-            (taken G registered request budget live is_live (Finished None) events others other_slots before.table [] gave step_is one.live shown)
+            (taken G registered request budget live is_live (Finished None) events others other_slots before.table [] gave step_is one.live shown has)
 
         discard_live : IsLive G registered one.live
         discard_live = record {
-          admitted = still_admitted G registered request budget live is_live (Finished None) events others other_slots before.table [] gave step_is one.live shown;
+          admitted = still_admitted G registered request budget live is_live (Finished None) events others other_slots before.table [] gave step_is one.live shown has;
           consistent = subst (λ (l : List code_module.LoadedModule). AreConsistent embedding l) (sym items_are) (consistent_remove embedding ms place m is_live.consistent at);
           compiled = record {
             each = subst (λ (l : List code_module.LoadedModule). AllZip IsCompiledFrom l one.live.compiled.items) (sym items_are)
                 (subst (λ (l : List Compiled). AllZip IsCompiledFrom (remove ms place) l) (sym codes_are) (zip_remove IsCompiledFrom ms cs place (is_live.compiled).each));
             apart = subst (IsDistinct nat_eq) (sym shown.slots_are) (distinct_remove slots place (is_live.compiled).apart);
           };
-          held = subst (λ (t : Table B). HoldsRoots t (roots_of one.live)) (sym shown.table_is)
-              (subst (λ (l : List LoadedModule). HoldsRoots before.table (handles (globals_of l))) (sym shown.modules_are)
-              (subst (λ (l : List ℕ). HoldsRoots before.table l) roots_are releases.held));
-          kinds = still_kinds G registered request budget live is_live (Finished None) events others other_slots before.table [] gave step_is one.live shown;
-          fit = still_fit G registered request budget live is_live (Finished None) events others other_slots before.table [] gave step_is one.live shown;
+          held = still_held G registered request budget live is_live (Finished None) events others other_slots before.table [] gave step_is one.live shown has
+              (subst (λ (l : List ℕ). HoldsRoots before.table l) roots_are releases.held);
+          kinds = still_kinds G registered request budget live is_live (Finished None) events others other_slots before.table [] gave step_is one.live shown has;
+          settled = still_settled G registered request budget live is_live (Finished None) events others other_slots before.table [] gave step_is one.live shown has;
+          listable = still_listable G registered request budget live is_live (Finished None) events others other_slots before.table [] gave step_is one.live shown has;
+          fit = still_fit G registered request budget live is_live (Finished None) events others other_slots before.table [] gave step_is one.live shown has;
         }
 
-        -- The removal that the code did is a step.
-        pub discarded : IsStepOf G registered budget request live (Ok one)
-        discarded = (inl discard_taken, discard_live)
+        step_of : IsStepOf G registered budget request live (Ok one)
+        step_of = (inl discard_taken, discard_live)
+
+      -- What the code gives for the removal is a step.
+      pub discarded : (result : Result (LiveStep B) StepError)
+          → IfOk result (λ one. IsAnswered before (Finished None) events (changed.Discarded m.name) one)
+          → IfErr result (λ error. error ≡ errors.NoMemory) → IsStepOf G registered budget request live result
+      discarded (Ok one) answered memory = step_of one answered
+      discarded (Err error) answered memory = subst (λ (e : StepError). FailsInChange request durable e) (sym memory) changes
 
 -- what is asked for is a module that is there
 module _ {B : Type 0} (G : Ghosts B) (live : Live B) (place : ℕ) (asked : IsAsked G live (tasks.Remove place)) where

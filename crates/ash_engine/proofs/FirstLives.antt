@@ -1,6 +1,6 @@
 -- The live state before any request.
 use Rattle.std.proofs.Common.{◌≡◌, ◌≤◌, ℕ, suc, List, [], ◌∷◌, length, map, refl, sym, ap, ◌∙◌, subst, arith}
-use Rattle.std.specs.Prelude.{All}
+use Rattle.std.specs.Prelude.{All, IfSome, false}
 use Rattle.std.specs.List.{AllByRecursion, IsDistinct}
 use Rattle.std.specs.Option.{option_map_or}
 use Rattle.std.proofs.lemmas.List.{length-map}
@@ -18,9 +18,13 @@ use Rattle.ash_plain_steps.specs.StateViews.{modules_seen}
 use Rattle.ash_plain_steps.specs.Consistency.{AreConsistent}
 use Rattle.ash_states.specs.HostStates.{HostState, IsAdmitted, embedding_for, service_kinds, empty}
 use Rattle.ash_states.proofs.Admitted.{first_admitted}
+use Rattle.ash_change_laws.specs.ChangedStates.{nothing}
+use Rattle.ash_change_laws.specs.MarkedObjects.{IsSettled}
 use Rattle.ash_engine.specs.declared.live.Compiled.{Compiled}
 use Rattle.ash_engine.specs.declared.live.Live.{Live}
+use Rattle.ash_engine.specs.NamedChanges.{changes_seen}
 use Rattle.ash_engine.specs.LiveStates.{LiveState, plain_box, begin, services_for}
+use Rattle.ash_engine.proofs.ListableChanges.{nothing_listable}
 use Rattle.ash_engine.specs.TableStates.{AreCompiled, BoxesFit, durable_seen, live_seen, roots_of, IsLive}
 
 none_compiled : AreCompiled [] []
@@ -37,7 +41,8 @@ module _ {B : Type 0} (G : Ghosts B) where
   boxes_fit (box ∷ boxes) all = (all 0 box (omega arith), boxes_fit boxes (λ k d inside. all (suc k) d (omega (arith, inside))))
 
   module _ (registered : List Registration) (pool services : List B) (l : Live B) (none : l.loaded.modules.items ≡ []) (seq : l.loaded.seq ≡ 0) (compiled : l.compiled.items ≡ [])
-      (objects : l.table.objects ≡ []) (pooled : l.table.pool ≡ pool) (served : l.table.services ≡ services) (last : l.table.last ≡ 0) where
+      (objects : l.table.objects ≡ []) (pooled : l.table.pool ≡ pool) (served : l.table.services ≡ services) (last : l.table.last ≡ 0)
+      (settled : l.table.settled ≡ 0) (gone : l.table.gone ≡ []) where
     durable_is : durable_seen G registered l ≡ empty registered (map G.state services)
     durable_is = rw (none, seq, objects, served, last) refl
 
@@ -46,9 +51,16 @@ module _ {B : Type 0} (G : Ghosts B) where
         ap (λ (os : List (ℕ × Living B)). option_map_or (λ (object : Living B). object.holds) (object_at n os) 0) objects
         ∙ ap (λ (ms : List LoadedModule). times n (handles (globals_of (modules_seen ms)))) (sym none)
 
-    pub lives_first : map G.kind_of services ≡ service_kinds registered → length services ≤ max_services
+    none_marked : IsSettled l.table
+    none_marked = record {
+      unmarked = λ n. subst (λ (os : List (ℕ × Living B)). IfSome (object_at n os) (λ object. object.touched ≡ false)) (sym objects) tt;
+      none_gone = gone;
+      settled = settled ∙ sym last;
+    }
+
+    pub lives_first : changes_seen (modules_seen l.loaded.modules.items) l.changes ≡ nothing → map G.kind_of services ≡ service_kinds registered → length services ≤ max_services
         → All (λ (box : B). IsState (G.state box)) pool → All (λ (box : B). IsState (G.state box)) services → IsLive G registered l
-    lives_first kinds few pool_fits services_fit =
+    lives_first unchanged kinds few pool_fits services_fit =
         let many : length (map G.state services) ≡ length services = length-map services G.state in
         let as_many : length (map G.state services) ≡ length (service_kinds registered) = many ∙ sym (length-map services G.kind_of) ∙ ap (length {A = ℕ}) kinds in
         record {
@@ -59,6 +71,8 @@ module _ {B : Type 0} (G : Ghosts B) where
           held = nothing_held;
           kinds = ap (λ (boxes : List B). map G.kind_of boxes) served ∙ kinds;
           fit = subst (λ (boxes : List B). BoxesFit (map (plain_box G) boxes)) (sym pooled) (boxes_fit pool pool_fits);
+          settled = none_marked;
+          listable = nothing_listable (changes_seen (modules_seen l.loaded.modules.items) l.changes) unchanged;
         }
 
     abbrev boxes_first : Boxes B
@@ -67,13 +81,18 @@ module _ {B : Type 0} (G : Ghosts B) where
     boxes_are : boxes_of l.table ≡ boxes_first
     boxes_are = rw (objects, pooled, served) refl
 
-    pub begun : (given : List B) → services ≡ services_for registered given → live_seen G registered l ≡ begin G registered pool given
-    begun given are =
-        ap (λ (s : HostState). let r : LiveState B = record { durable = s; pool = map (plain_box G) l.table.pool; boxes = boxes_of l.table } in r) durable_is
-        ∙ ap (λ (p : List B). let r : LiveState B = record { durable = empty registered (map G.state services); pool = map (plain_box G) p; boxes = boxes_of l.table } in r) pooled
-        ∙ ap (λ (b : Boxes B). let r : LiveState B = record { durable = empty registered (map G.state services); pool = map (plain_box G) pool; boxes = b } in r) boxes_are
+    pub begun : changes_seen (modules_seen l.loaded.modules.items) l.changes ≡ nothing → (given : List B) → services ≡ services_for registered given
+        → live_seen G registered l ≡ begin G registered pool given
+    begun unchanged given are =
+        (λ i. let r : LiveState B = record {
+          durable = durable_is i;
+          pool = map (plain_box G) (pooled i);
+          boxes = boxes_are i;
+          changes = unchanged i;
+        } in r)
         ∙ ap (λ (ss : List B). let r : LiveState B = record {
           durable = empty registered (map G.state ss);
           pool = map (plain_box G) pool;
           boxes = record { objects = []; pool = pool; services = ss };
+          changes = nothing;
         } in r) are

@@ -1,7 +1,7 @@
 -- Modules of which one is new: their code, their slots, and what they hold.
-use Rattle.std.proofs.Common.{◌≡◌, ◌+◌, ℕ, zero, suc, Bool, true, false, List, [], ◌∷◌, ◌++◌, length, map, refl, sym}
+use Rattle.std.proofs.Common.{◌≡◌, ◌≤◌, ◌+◌, ℕ, zero, suc, Bool, true, false, List, [], ◌∷◌, ◌++◌, length, map, refl, sym}
 use Rattle.std.proofs.Common.{ap, ◌∙◌, subst, nat_eq, if◌then◌else◌, arith}
-use Rattle.std.specs.Prelude.{Contains}
+use Rattle.std.specs.Prelude.{Contains, Some, slice_get}
 use Rattle.std.specs.List.{AllByRecursion, AllZip, IsDistinct, insert}
 use Rattle.std.specs.Ordering.{is_lt}
 use Rattle.std.proofs.lemmas.Bool.{eqb-true}
@@ -14,6 +14,13 @@ use Rattle.ash_run_steps.specs.RunStates.{times}
 use Rattle.ash_run_steps.proofs.Roots.{times_append}
 use Rattle.ash_soundness.proofs.Values.{first_in, later_in}
 use Rattle.ash_engine.proofs.ChangedModules.{handles_append}
+
+-- what was inserted is in its place
+pub got_inserted : {A : Type 0} (xs : List A) (place : ℕ) (x : A) → place ≤ length xs
+    → slice_get (insert xs place x) place ≡ Some x
+got_inserted xs zero x within = refl
+got_inserted [] (suc place) x within = absurd (omega (arith, within))
+got_inserted (y ∷ ys) (suc place) x within = got_inserted ys place x (omega (arith, within))
 
 pub map_insert : {A C : Type 0} (f : A → C) (xs : List A) (place : ℕ) (x : A)
     → map f (insert xs place x) ≡ insert (map f xs) place (f x)

@@ -1,19 +1,22 @@
 -- A call that the code ran is a step of the live state.
 use Rattle.std.proofs.Common.{◌≡◌, ◌+◌, ℕ, zero, suc, List, [], ◌∷◌, ◌++◌, length, map, set, refl, sym, ap, ◌∙◌, subst}
-use Rattle.std.proofs.Common.{slice_get, nat_eq, arith}
-use Rattle.std.specs.Prelude.{Some, Ok, option_map}
+use Rattle.std.proofs.Common.{slice_get, nat_eq, arith, ⊎_elim}
+use Rattle.std.specs.Prelude.{◌≢◌, ◌↔◌, Option, Some, Result, Ok, Contains, option_map}
+use Rattle.std.specs.Option.{option_map_or}
 use Rattle.std.specs.List.{AllZip, IsDistinct}
-use Rattle.std.proofs.lemmas.List.{length-map}
-use Rattle.std.proofs.lemmas.Option.{slice_get-map}
+use Rattle.std.proofs.lemmas.Bool.{cases_lt}
+use Rattle.std.proofs.lemmas.Option.{slice_get-map, slice_get_past}
 use Rattle.ash_host.specs.declared.host_object.HostObject.{Ghosts}
 use Rattle.ash_host.specs.declared.word.Word.{Word}
-use Rattle.ash_host.specs.Objects.{handles}
+use Rattle.ash_host.specs.Objects.{object_at, handles}
 use Rattle.ash_registry.specs.AcceptedRegistrations.{Registration}
-use Rattle.ash_typed.specs.Modules.{module_of}
+use Rattle.ash_typed.specs.Modules.{Module, module_of}
+use Rattle.ash_typed.specs.Signatures.{types_of_globals}
 use Rattle.ash_meaning.specs.Ends.{End}
-use Rattle.ash_objects.specs.Table.{Table}
+use Rattle.ash_objects.specs.Marking.{without_marks}
+use Rattle.ash_object_ranks.specs.ShownTables.{SlotNames, objects_shown}
 use Rattle.ash_run_steps.specs.declared.beginning.Parts.{Parts}
-use Rattle.ash_run_steps.specs.Answered.{Answered, boxes_of}
+use Rattle.ash_change_laws.specs.ChangedStates.{HoldOthers}
 use Rattle.ash_run_steps.specs.RunStates.{HoldsRoots}
 use Rattle.ash_code.specs.CompiledCode.{IsCodeOf}
 use Rattle.ash_code.specs.declared.code.CodeParts.{CodeParts}
@@ -26,9 +29,11 @@ use Rattle.ash_requests.specs.Steps.{performed, unless_refused}
 use Rattle.ash_requests.specs.Steps as steps
 use Rattle.ash_requests.specs.Tasks.{Task, TaskResult, Invoke}
 use Rattle.ash_soundness.specs.WellFormed.{Context, IsContext}
-use Rattle.ash_soundness.specs.WellFormedStates.{AreHosts}
+use Rattle.ash_soundness.specs.WellFormedStates.{AreHosts, IsLoaded}
 use Rattle.ash_soundness.proofs.Asked.{IsTask, calls, task_is}
 use Rattle.ash_soundness.proofs.Entries.{mapped}
+use Rattle.ash_soundness.proofs.Lists.{values_length}
+use Rattle.ash_soundness.proofs.Named.{rec_of}
 use Rattle.ash_sources.specs.SourceFaults.{SourceFault}
 use Rattle.ash_sources.proofs.SourceLaws.{read_sound}
 use Rattle.ash_plain_steps.specs.declared.state.LoadedModule as code_module
@@ -36,22 +41,27 @@ use Rattle.ash_plain_steps.specs.declared.task.Invocation.{Invocation}
 use Rattle.ash_plain_steps.specs.declared.task.Task.TheVariants as tasks
 use Rattle.ash_plain_steps.specs.StateViews.{loaded_seen, modules_seen}
 use Rattle.ash_plain_steps.specs.Consistency.{AreConsistent}
-use Rattle.ash_plain_steps.proofs.Changed.{seen_set, consistent_set}
+use Rattle.ash_plain_steps.proofs.Changed.{seen_set, consistent_set, got_set}
 use Rattle.ash_states.specs.HostStates.{HostState, IsAdmitted, embedding_for, offered_to}
 use Rattle.ash_table_states.specs.TableStates.{names_in, state_shown}
 use Rattle.ash_engine.specs.declared.live.Compiled.{Compiled}
 use Rattle.ash_engine.specs.declared.live.Live.{Live}
-use Rattle.ash_engine.specs.LiveStates.{plain_box}
+use Rattle.ash_engine.specs.declared.changes.ChangedGlobals.{ChangedGlobals}
+use Rattle.ash_engine.specs.declared.changes.ModuleChange.TheVariants as changes
+use Rattle.ash_engine.specs.NamedChanges.{name_at, AreOthers, AreChanged, AreTaken}
 use Rattle.ash_engine.specs.LiveSteps.{TakesStep}
 use Rattle.ash_engine.specs.RankedSources.{ReadsRanked}
 use Rattle.ash_engine.specs.TableRuns.{SaysOfCall}
-use Rattle.ash_engine.specs.TableStates.{slots_of, names_of, roots_of, IsCompiledFrom, BoxesFit, durable_seen}
+use Rattle.ash_engine.specs.TableStates.{slots_of, names_of, IsCompiledFrom, durable_seen}
 use Rattle.ash_engine.specs.TableStates.{live_seen, IsLive}
 use Rattle.ash_engine.specs.TableTasks.{codes_of, IsAsked}
 use Rattle.ash_engine.proofs.Admitted.{step_admitted}
-use Rattle.ash_engine.proofs.CallEnds.{called, called_so, numbered_from, boxes_answered, kinds_kept}
-use Rattle.ash_engine.proofs.ChangedModules.{held_after}
+use Rattle.ash_engine.proofs.AnsweredSteps.{IsShown, HasNames, taken, still_admitted, still_fit, still_kinds, still_held, still_settled, still_listable}
+use Rattle.ash_engine.proofs.CallEnds.{called_so}
+use Rattle.ash_engine.proofs.ChangedModules.{held_after, updated_names}
 use Rattle.ash_engine.proofs.GivenAnswers.{answers_fit}
+use Rattle.ash_engine.proofs.LoadEnds.{answered_with}
+use Rattle.ash_engine.proofs.NamedSlots.{names_same, contains_at}
 use Rattle.ash_engine.proofs.RunSettings.{names_for}
 use Rattle.ash_engine.proofs.TableCalls.{CallSteps, Takes, call_steps, hosts_of}
 
@@ -88,6 +98,21 @@ set_compiled (x ∷ ms) (c ∷ cs) zero m new each at tree =
       each.1,
     )
 set_compiled (x ∷ ms) (c ∷ cs) (suc place) m new each at tree = (each.0, set_compiled ms cs place m new each.1 at tree)
+
+-- a source that is read is read as one tree
+same_Ok : {A F : Type 0} (x y : A) → ◌≡◌ {A = Result A F} (Ok x) (Ok y) → x ≡ y
+same_Ok x y e = cc
+
+-- past the words there are none, so none that differ
+only_within : (before after : List Word) (places : List ℕ) → length after ≡ length before
+    → AreOthers before after places → (place : ℕ)
+    → Contains places place ↔ (slice_get after place ≢ slice_get before place)
+only_within before after places many others place = (
+  λ is. ((others place).0 is).1,
+  λ differ. ⊎_elim (λ within. (others place).1 (within, differ))
+      (λ past. absurd (differ (slice_get_past after place (omega (arith, many, past))
+      ∙ sym (slice_get_past before place past)))) (cases_lt place (length before)),
+)
 
 -- a module as the definitions have it, in its place
 pub seen_at : (ms : List code_module.LoadedModule) (place : ℕ) (m : code_module.LoadedModule)
@@ -128,7 +153,7 @@ module _ {B : Type 0} (G : Ghosts B) (live : Live B) (call : Invocation) (asked 
     is_task = subst (IsTask embedding durable.state) (sym one)
         (task_is embedding durable.state asked.request asked.one asked.is)
 
-    -- what the run left is in the live state
+    -- what the run left is in the live state, which has the names of what it changed
     pub record IsAfterCall (new : Live B) : Type 0 where
       pub changed : code_module.LoadedModule
       pub same : changed ≡ record m { globals = changed.globals }
@@ -136,9 +161,13 @@ module _ {B : Type 0} (G : Ghosts B) (live : Live B) (call : Invocation) (asked 
       pub modules : new.loaded.modules.items ≡ set ms call.module changed
       pub seq : new.loaded.seq ≡ live.loaded.seq + 1
       pub codes : codes_of new.compiled.items ≡ codes_of live.compiled.items
-      pub table : new.table ≡ left.parts.table
+      pub table : new.table ≡ without_marks left.parts.table
+      pub others : ChangedGlobals
+      pub are_others : AreChanged call.module m.globals.items left.parts.globals.items others
+      pub taken_so : AreTaken left.parts.events.items (changes.Globals others) left.parts.table new.changes
 
-    module _ (o : run_outcome.Outcome) (new : Live B) (after : IsAfterCall new)
+    module _ (o : run_outcome.Outcome) (new : Live B)
+        (after : IsAfterCall new)
         (held : HoldsRoots left.parts.table (left.parts.outside.items ++ handles left.parts.globals.items)) where
       abbrev end : End
       end = end_said (names_for (names_of live) (module_of m.tree)) o
@@ -153,19 +182,31 @@ module _ {B : Type 0} (G : Ghosts B) (live : Live B) (call : Invocation) (asked 
             (live.loaded.seq + 1) left.parts.table;
       }
 
-      modules_are : modules_seen new.loaded.modules.items ≡ changed_modules
-      modules_are = ap modules_seen after.modules
-          ∙ seen_set ms call.module m after.changed ((asked.live).consistent).ascending at after.same
+      modules_set : modules_seen (set ms call.module after.changed) ≡ changed_modules
+      modules_set = seen_set ms call.module m after.changed ((asked.live).consistent).ascending at after.same
           ∙ ap (λ (ws : List Word). update_globals (loaded_seen m).name ws (modules_seen ms)) after.globals
 
-      slots_are : slots_of new.compiled.items ≡ slots
-      slots_are = slots_from new.compiled.items live.compiled.items after.codes
+      shown : IsShown new changed_modules slots (live.loaded.seq + 1) left.parts.table
+      shown = record {
+        modules_are = ap modules_seen after.modules ∙ modules_set;
+        slots_are = slots_from new.compiled.items live.compiled.items after.codes;
+        seq_is = after.seq;
+        table_is = after.table;
+      }
 
-      reached_is : durable_seen G registered new ≡ reached
-      reached_is = (λ i. record {
-        registered = registered;
-        state = state_shown G (modules_are i) (slots_are i) (after.seq i) (after.table i);
-      })
+      -- the module is in its place
+      was_there : slice_get (modules_seen ms) call.module ≡ Some (loaded_seen m)
+      was_there = seen_at ms call.module m at
+
+      now_there : slice_get changed_modules call.module ≡ Some (loaded_seen after.changed)
+      now_there = ap (λ (l : List LoadedModule). slice_get l call.module) (sym modules_set)
+          ∙ seen_at (set ms call.module after.changed) call.module after.changed
+          (got_set ms call.module m after.changed at)
+
+      name_is : name_at changed_modules (after.others).module ≡ (loaded_seen m).name
+      name_is = ap (name_at changed_modules) (after.are_others).of_module
+          ∙ ap (λ (x : Option LoadedModule). option_map_or (λ (y : LoadedModule). y.name) x []) now_there
+          ∙ ap (λ (x : code_module.LoadedModule). (loaded_seen x).name) after.same
 
       module _ (ran : CallSteps embedding (offered_to registered) (read_sound registered) ranked G
           (modules_seen ms) slots live.loaded.seq live.table
@@ -178,8 +219,7 @@ module _ {B : Type 0} (G : Ghosts B) (live : Live B) (call : Invocation) (asked 
         }
 
         step_is : steps.step embedding budget asked.request durable.state (hosts_of G live.table ran.records)
-            ≡ Some (called embedding (offered_to registered) (read_sound registered) ranked G
-            (modules_seen ms) slots live.loaded.seq live.table (loaded_seen m) end left.parts)
+            ≡ Some (answered_with G live.loaded.seq end left.parts.events.items changed_modules slots left.parts.table)
         step_is = ap (λ (d : TaskResult SourceFault). unless_refused budget d durable.state
             (hosts_of G live.table ran.records))
             (asked.is ∙ ap (λ (t : Task). Ok t) (sym one))
@@ -191,42 +231,63 @@ module _ {B : Type 0} (G : Ghosts B) (live : Live B) (call : Invocation) (asked 
         kept = step_admitted budget asked.request durable (hosts_of G live.table ran.records) _
             (asked.live).admitted hosts_fit (performed step_is)
 
-        pub call_taken : TakesStep G budget asked.request (live_seen G registered live)
-            (replies.Answered end (live.loaded.seq + 1) left.parts.events.items) (live_seen G registered new)
-        call_taken = record {
-          answers = ran.records;
-          taken = record {
-            stepped = step_is ∙ (λ i. Some (record {
-              reply = replies.Answered end (live.loaded.seq + 1) left.parts.events.items;
-              state = (sym reached_is i).state;
-              hosts = hosts_of G (sym after.table i) [];
-            }));
-            registered = refl;
-          };
-          gave = subst (λ (t : Table B). Answered G (boxes_of live.table) left.parts.events.items ran.records
-              (boxes_of t)) (sym after.table)
-              (boxes_answered G ran.records live.table left.parts.table left.parts.events.items
-              (numbered_from G (names_of live) live.table (((asked.live).admitted).formed).numbered)
-              (numbered_from G (names_in changed_modules slots) left.parts.table ((kept.0).formed).numbered) ran.gave);
-          unchanged = λ none. absurd none;
+        -- the module has as many globals as before
+        as_many : length left.parts.globals.items ≡ length m.globals.items
+        as_many =
+            let was = rec_of (IsLoaded embedding (durable.state).objects) (modules_seen ms)
+            (((asked.live).admitted).formed).loaded (loaded_seen m)
+            (contains_at (modules_seen ms) call.module (loaded_seen m) was_there) in
+            let now = rec_of (IsLoaded embedding (reached.state).objects) changed_modules ((kept.0).formed).loaded
+            (loaded_seen after.changed)
+            (contains_at changed_modules call.module (loaded_seen after.changed) now_there) in
+            let source : (loaded_seen after.changed).source ≡ (loaded_seen m).source =
+            ap (λ (x : code_module.LoadedModule). (loaded_seen x).source) after.same in
+            let read : embedding.read (loaded_seen m).source ≡ Ok now.tree = ap embedding.read (sym source) ∙ now.is in
+            let same : now.tree ≡ was.tree = same_Ok now.tree was.tree (sym read ∙ was.is) in
+            ap (length {A = Word}) (sym after.globals)
+            ∙ values_length now.values
+            ∙ ap (λ (t : Module). length (types_of_globals t.globals)) same
+            ∙ sym (values_length was.values)
+
+        others_are : (place : ℕ) → Contains (after.others).places.items place
+            ↔ (slice_get left.parts.globals.items place ≢ slice_get m.globals.items place)
+        others_are place = only_within m.globals.items left.parts.globals.items (after.others).places.items as_many
+            (after.are_others).others place
+
+        globals_are : HoldOthers (loaded_seen m).name (after.others).places.items (modules_seen ms) changed_modules
+        globals_are = record {
+          was = loaded_seen m;
+          words = left.parts.globals.items;
+          named = refl;
+          many = as_many;
+          others = others_are;
+          there = contains_at (modules_seen ms) call.module (loaded_seen m) was_there;
+          changed = refl {A = List LoadedModule};
         }
 
-        as_many : length left.parts.table.services ≡ length live.table.services
-        as_many =
-            let now = (kept.0).served in
-            let was = ((asked.live).admitted).served in
-            omega (
-              arith,
-              now,
-              was,
-              length-map left.parts.table.services G.state,
-              length-map live.table.services
-                  G.state,
-            )
+        has : HasNames G live new left.parts.events.items changed_modules slots left.parts.table
+        has = record {
+          change = changes.Globals after.others;
+          taken_so = after.taken_so;
+          change_is = subst (λ (n : List ℕ). HoldOthers n (after.others).places.items (modules_seen ms) changed_modules)
+              (sym name_is) globals_are;
+          listable = (after.are_others).rise;
+          names = names_of live;
+          shown_before = refl;
+          same_names = λ number. ap (λ (names : SlotNames). object_at number (objects_shown G names left.parts.table.objects))
+              (names_same changed_modules (modules_seen ms) slots
+              (updated_names (loaded_seen m).name left.parts.globals.items (modules_seen ms)));
+        }
+
+        pub call_taken : TakesStep G budget asked.request (live_seen G registered live)
+            (replies.Answered end (live.loaded.seq + 1) left.parts.events.items) (live_seen G registered new)
+        call_taken = taken G registered asked.request budget live asked.live end left.parts.events.items changed_modules
+            slots left.parts.table ran.records ran.gave step_is new shown has
 
         pub call_live : IsLive G registered new
         call_live = record {
-          admitted = subst IsAdmitted (sym reached_is) kept.0;
+          admitted = still_admitted G registered asked.request budget live asked.live end left.parts.events.items
+              changed_modules slots left.parts.table ran.records ran.gave step_is new shown has;
           consistent = subst (AreConsistent embedding) (sym after.modules)
               (consistent_set embedding ms call.module m after.changed (asked.live).consistent at after.same);
           compiled = record {
@@ -235,21 +296,26 @@ module _ {B : Type 0} (G : Ghosts B) (live : Live B) (call : Invocation) (asked 
                 (still_compiled (set ms call.module after.changed) live.compiled.items new.compiled.items
                 (set_compiled ms live.compiled.items call.module m after.changed ((asked.live).compiled).each at
                 (ap (λ (x : code_module.LoadedModule). x.tree) after.same)) after.codes);
-            apart = subst (IsDistinct nat_eq) (sym slots_are) ((asked.live).compiled).apart;
+            apart = subst (IsDistinct nat_eq) (sym shown.slots_are) ((asked.live).compiled).apart;
           };
-          held = subst (λ (t : Table B). HoldsRoots t (roots_of new)) (sym after.table)
-              (subst (λ (l : List LoadedModule). HoldsRoots left.parts.table (handles (globals_of l))) (sym modules_are)
+          held = still_held G registered asked.request budget live asked.live end left.parts.events.items
+              changed_modules slots left.parts.table ran.records ran.gave step_is new shown has
               (held_after left.parts.table left.parts.outside.items left.parts.globals.items
               (modules_seen ms) call.module (loaded_seen m)
-              ((((asked.live).admitted).formed).ascending) (seen_at ms call.module m at) ran.outside held));
-          kinds = ap (λ (t : Table B). map G.kind_of t.services) after.table
-              ∙ kinds_kept G (ran.gave).drawn live.table left.parts.table (((ran.gave).follows).boxes) as_many
-              ∙ (asked.live).kinds;
-          fit = subst (λ (t : Table B). BoxesFit (map (plain_box G) t.pool)) (sym after.table) (kept.1).pool;
+              ((((asked.live).admitted).formed).ascending) was_there ran.outside held);
+          kinds = still_kinds G registered asked.request budget live asked.live end left.parts.events.items
+              changed_modules slots left.parts.table ran.records ran.gave step_is new shown has;
+          fit = still_fit G registered asked.request budget live asked.live end left.parts.events.items
+              changed_modules slots left.parts.table ran.records ran.gave step_is new shown has;
+          settled = still_settled G registered asked.request budget live asked.live end left.parts.events.items
+              changed_modules slots left.parts.table ran.records ran.gave step_is new shown has;
+          listable = still_listable G registered asked.request budget live asked.live end left.parts.events.items
+              changed_modules slots left.parts.table ran.records ran.gave step_is new shown has;
         }
 
     -- the answer of a call, once the machine has said how the run ended
-    pub call_answered : (o : run_outcome.Outcome) (new : Live B) → left.outcome ≡ Ok o → IsAfterCall new
+    pub call_answered : (o : run_outcome.Outcome) (new : Live B) → left.outcome ≡ Ok o
+        → IsAfterCall new
         → HoldsRoots left.parts.table (left.parts.outside.items ++ handles left.parts.globals.items)
         → TakesStep G budget asked.request (live_seen G registered live)
         (replies.Answered (end_said (names_for (names_of live) (module_of m.tree)) o)

@@ -1,5 +1,5 @@
 -- What a call takes of a live state, and what it gives back.
-use Rattle.std.proofs.Common.{◌≡◌, ◌<◌, ◌+◌, ◌++◌, ℕ, zero, suc, List, [], ◌∷◌, length, map, set, refl, sym, ap, ◌∙◌}
+use Rattle.std.proofs.Common.{◌≡◌, ◌<◌, ◌≤◌, ◌+◌, ◌++◌, ℕ, zero, suc, List, [], ◌∷◌, length, map, set, refl, sym, ap, ◌∙◌}
 use Rattle.std.proofs.Common.{subst, slice_get, nat_eq, inl, inr, arith}
 use Rattle.std.specs.Prelude.{Some, Result, Ok, Err, All, IsTrue, IfOk, IfErr, option_map}
 use Rattle.std.specs.List.{AllZip, IsDistinct, remove}
@@ -10,7 +10,10 @@ use Rattle.ash_host.specs.declared.word.Word.{Word}
 use Rattle.ash_host.specs.Objects.{handles}
 use Rattle.ash_registry.specs.AcceptedRegistrations.{Registration}
 use Rattle.ash_typed.specs.Modules.{module_of}
+use Rattle.ash_typed.specs.Signatures.{types_of_globals}
 use Rattle.ash_objects.specs.Table.{Table}
+use Rattle.ash_objects.specs.Marking.{without_marks}
+use Rattle.ash_change_laws.specs.MarkedObjects.{IsSettled}
 use Rattle.ash_run_steps.specs.declared.beginning.Parts.{Parts}
 use Rattle.ash_run_steps.specs.Answered.{boxes_of}
 use Rattle.ash_run_steps.specs.RunStates.{HoldsRoots, Names, is_alive_in}
@@ -27,7 +30,11 @@ use Rattle.ash_requests.specs.RequestViews.{reply_seen}
 use Rattle.ash_requests.specs.States.{LoadedModule, Embedding, globals_of, without_module, update_globals}
 use Rattle.ash_requests.specs.TaskResults.{TaskChangesState}
 use Rattle.ash_requests.specs.Tasks.{Task, TaskResult, Invoke, max_seq}
+use Rattle.ash_soundness.specs.WellFormedStates.{IsLoaded}
 use Rattle.ash_soundness.proofs.Asked.{IsTask, calls, task_is}
+use Rattle.ash_soundness.proofs.Lists.{values_length}
+use Rattle.ash_soundness.proofs.Named.{rec_of}
+use Rattle.ash_sources.proofs.SourceLaws.{read_sound}
 use Rattle.ash_sources.specs.SourceFaults.{SourceFault, fault_of}
 use Rattle.ash_plain_steps.specs.declared.state.LoadedModule as code_module
 use Rattle.ash_plain_steps.specs.declared.state.PlainState.{PlainState}
@@ -43,7 +50,11 @@ use Rattle.ash_engine.specs.declared.live.Compiled.{Compiled}
 use Rattle.ash_engine.specs.declared.live.Live.{Live}
 use Rattle.ash_engine.specs.declared.live.Rest.{Rest}
 use Rattle.ash_engine.specs.declared.steps.LiveStep.{LiveStep}
+use Rattle.ash_engine.specs.declared.changes.ChangedGlobals.{ChangedGlobals}
+use Rattle.ash_engine.specs.declared.changes.ModuleChange.TheVariants as changes_are
 use Rattle.ash_engine.specs.LiveStates.{plain_box}
+use Rattle.ash_change_records.specs.ListedChanges.{AreListable}
+use Rattle.ash_engine.specs.NamedChanges.{AreChanged, AreTaken, changes_seen}
 use Rattle.ash_engine.specs.LiveSteps.{LiveSteps, TakesStep}
 use Rattle.ash_engine.specs.TableRuns.{SaysOfCall, IsLent, IsGivenBack, IsAnswered, end_named}
 use Rattle.ash_engine.specs.TableStates.{slots_of, names_of, roots_of, IsCompiledFrom, BoxesFit, durable_seen}
@@ -54,6 +65,7 @@ use Rattle.ash_engine.proofs.ArgumentsAlive.{arguments_alive}
 use Rattle.ash_engine.proofs.ChangedModules.{held_before}
 use Rattle.ash_engine.proofs.Invoked.{slots_from, still_compiled, set_compiled, seen_at, call_answered}
 use Rattle.ash_engine.proofs.Looked.{ran_out}
+use Rattle.ash_engine.proofs.NamedSlots.{contains_at}
 use Rattle.ash_engine.proofs.ReadRanks.{read_ranked}
 use Rattle.ash_engine.proofs.RunSettings.{names_for}
 use Rattle.ash_engine.proofs.TableCalls.{Takes}
@@ -119,6 +131,16 @@ module _ {B : Type 0} (G : Ghosts B) (live : Live B) (call : Invocation)
     pub within_codes : call.module < length live.compiled.items
     within_codes = slice_get_within live.compiled.items call.module has_code.0 has_code.1
 
+    -- there are few globals
+    pub few_globals : length m.globals.items ≤ 256
+    few_globals =
+        let known = rec_of (IsLoaded embedding (durable.state).objects) (modules_seen ms)
+        asked.live.admitted.formed.loaded (loaded_seen m)
+        (contains_at (modules_seen ms) call.module (loaded_seen m) (seen_at ms call.module m at)) in
+        let few = (read_sound registered m.source.items known.tree known.is).few_globals in
+        let many : length m.globals.items ≡ length (types_of_globals (known.tree).globals) = values_length known.values in
+        omega (arith, many, few)
+
     pub numbered : live.loaded.seq < max_seq
     numbered = from is_task
       where
@@ -146,6 +168,7 @@ module _ {B : Type 0} (G : Ghosts B) (live : Live B) (call : Invocation)
       pub seq : new.loaded.seq ≡ live.loaded.seq
       pub codes : codes_of new.compiled.items ≡ codes_of live.compiled.items
       pub table : new.table ≡ live.table
+      pub changes : new.changes ≡ live.changes
 
     module _ (new : Live B) (as_before : IsAsBefore new) where
       modules_before : modules_seen new.loaded.modules.items ≡ modules_seen ms
@@ -168,6 +191,7 @@ module _ {B : Type 0} (G : Ghosts B) (live : Live B) (call : Invocation)
         durable = durable_before i;
         pool = map (plain_box G) (as_before.table i).pool;
         boxes = boxes_of (as_before.table i);
+        changes = changes_seen (modules_before i) (as_before.changes i);
       })
 
       still_live : IsLive G registered new
@@ -188,6 +212,8 @@ module _ {B : Type 0} (G : Ghosts B) (live : Live B) (call : Invocation)
             (sym modules_before) asked.live.held);
         kinds = ap (λ (t : Table B). map G.kind_of t.services) as_before.table ∙ asked.live.kinds;
         fit = subst (λ (t : Table B). BoxesFit (map (plain_box G) t.pool)) (sym as_before.table) asked.live.fit;
+        settled = subst (λ (t : Table B). IsSettled t) (sym as_before.table) asked.live.settled;
+        listable = subst AreListable (sym (λ i. changes_seen (modules_before i) (as_before.changes i))) asked.live.listable;
       }
 
       refused_step : (budget : ℕ) (reply : Reply SourceFault) → reply ≡ Refused NoMemory
@@ -254,6 +280,8 @@ module _ {B : Type 0} (G : Ghosts B) (live : Live B) (call : Invocation)
 
       module _ (budget : ℕ) (left : Left B) (after : Rest) (same_loaded : after.loaded ≡ rest.loaded)
           (same_codes : codes_of after.compiled.items ≡ codes_of rest.compiled.items)
+          (same_changes : after.changes ≡ rest.changes)
+          (words : List Word) (words_are : words ≡ m.globals.items)
           (says : (c : Compiled) → slice_get rest.compiled.items call.module ≡ Some c
           → SaysOfCall G c.code parts call.function call.args.items budget left)
           (unchanged : left.outcome ≡ Err faults.NotBegun → left.parts ≡ parts)
@@ -288,10 +316,12 @@ module _ {B : Type 0} (G : Ghosts B) (live : Live B) (call : Invocation)
               ∙ ap (λ (v : _). codes_of v.items) lent.compiled
 
           -- the run had an outcome
-          answers : (o : run_outcome.Outcome) (step : LiveStep B) → left.outcome ≡ Ok o
-              → IsAnswered back (end_named (entry_name (module_of lending.tree)) o) left.parts.events.items step
+          answers : (o : run_outcome.Outcome) (step : LiveStep B) (others : ChangedGlobals) → left.outcome ≡ Ok o
+              → AreChanged call.module words left.parts.globals.items others
+              → IsAnswered back (end_named (entry_name (module_of lending.tree)) o) left.parts.events.items
+              (changes_are.Globals others) step
               → IsStepOf G registered budget asked.request live (Ok step)
-          answers o step e answered =
+          answers o step others e are_others answered =
               let tree : module_of lending.tree ≡ module_of m.tree =
               ap (λ (x : code_module.LoadedModule). module_of x.tree) lent.same in
               let end : end_named (entry_name (module_of lending.tree)) o
@@ -310,7 +340,12 @@ module _ {B : Type 0} (G : Ghosts B) (live : Live B) (call : Invocation)
                 modules = ap (λ (l : Live B). l.loaded.modules.items) answered.live ∙ modules_back;
                 seq = ap (λ (l : Live B). l.loaded.seq) answered.live ∙ ap (λ (n : ℕ). n + 1) seq_back;
                 codes = ap (λ (l : Live B). codes_of l.compiled.items) answered.live ∙ codes_back;
-                table = ap (λ (l : Live B). l.table) answered.live ∙ given.table;
+                table = ap (λ (l : Live B). l.table) answered.live ∙ ap (λ (t : Table B). without_marks t) given.table;
+                others = others;
+                are_others = subst (λ (ws : List Word). AreChanged call.module ws left.parts.globals.items others)
+                    words_are are_others;
+                taken_so = subst (λ (t : Table B). AreTaken left.parts.events.items (changes_are.Globals others) t
+                    step.live.changes) given.table answered.taken;
               }) held in (
                 inl (subst (λ (r : Reply SourceFault). TakesStep G budget asked.request (live_seen G registered live) r
                     (live_seen G registered step.live)) (sym reply) came.0),
@@ -332,14 +367,18 @@ module _ {B : Type 0} (G : Ghosts B) (live : Live B) (call : Invocation)
             seq = seq_back;
             codes = codes_back;
             table = given.table ∙ ap (λ (p : Parts B). p.table) (unchanged e) ∙ lent.table;
+            changes = given.changes ∙ same_changes ∙ lent.changes;
           }) budget reply refused
 
         -- what the code gives for what the run left
         pub call_stepped : (result : Result (LiveStep B) StepError) (o : Result run_outcome.Outcome RunFault)
             → left.outcome ≡ o
             → ((outcome : run_outcome.Outcome) → left.outcome ≡ Ok outcome
-            → IfOk result (λ step. (back : Live B) × IsGivenBack after call.module lending left.parts back
-            × IsAnswered back (end_named (entry_name (module_of lending.tree)) outcome) left.parts.events.items step))
+            → IfOk result (λ step. (back : Live B) × (others : ChangedGlobals)
+            × IsGivenBack after call.module lending left.parts back
+            × AreChanged call.module words left.parts.globals.items others
+            × IsAnswered back (end_named (entry_name (module_of lending.tree)) outcome) left.parts.events.items
+            (changes_are.Globals others) step))
             → (left.outcome ≡ Err faults.NotBegun
             → IfOk result (λ step. (reply_seen fault_of step.reply ≡ Refused NoMemory)
             × IsGivenBack after call.module lending left.parts step.live))
@@ -351,7 +390,7 @@ module _ {B : Type 0} (G : Ghosts B) (live : Live B) (call : Invocation)
             subst (FailsInChange asked.request durable) (sym memory) changes
         call_stepped (Ok step) (Ok outcome) is answered refused lost never memory =
             let found = answered outcome is in
-            answers found.0 found.1 outcome step is found.2
+            answers found.0 found.2 outcome step found.1 is found.3 found.4
         call_stepped (Ok step) (Err faults.NotBegun) is answered refused lost never memory =
             let found = refused is in
             refuses step.live found.1 (reply_seen fault_of step.reply) is found.0

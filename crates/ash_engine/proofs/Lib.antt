@@ -1,3 +1,8 @@
+pub mod ListableChanges
+pub mod ListedParts
+pub mod Called
+pub mod Others
+pub mod Unmarked
 pub mod Untouched
 pub mod EntryNames
 pub mod SlotSearches

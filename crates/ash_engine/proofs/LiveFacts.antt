@@ -1,12 +1,16 @@
 -- What is known of the live state of an engine, if there is one.
-use Rattle.std.proofs.Common.{◌≡◌, List, sym, ap, ◌∙◌, subst}
-use Rattle.std.specs.Prelude.{Option, Some, None, IfSome, option_map}
+use Rattle.std.proofs.Common.{◌≡◌, ℕ, Vec, Global, List, sym, ap, ◌∙◌, subst}
+use Rattle.std.specs.Prelude.{Option, Some, None, IfSome, option_map, Result, IfOk}
 use Rattle.ash_host.specs.declared.host_object.HostObject.{Ghosts}
 use Rattle.ash_registry.specs.AcceptedRegistrations.{Registration}
+use Rattle.ash_plain_steps.specs.StateViews.{modules_seen}
 use Rattle.ash_engine.specs.declared.live.Live.{Live}
+use Rattle.ash_change_records.specs.ListedChanges.{IsBodyListing}
+use Rattle.ash_engine.specs.RecordedChanges.{IsBodyOfChanges}
 use Rattle.ash_engine.specs.LiveStates.{LiveState, AreOf}
+use Rattle.ash_engine.specs.NamedChanges.{changes_seen}
 use Rattle.ash_engine.specs.LiveSteps.{reached_by, IsReached}
-use Rattle.ash_engine.specs.TableStates.{live_seen, IsLive}
+use Rattle.ash_engine.specs.TableStates.{durable_seen, live_seen, IsLive}
 use Rattle.ash_engine.proofs.Living.{boxes_are, is_reached}
 
 module _ {B : Type 0} (G : Ghosts B) (registered : List Registration) where
@@ -34,3 +38,24 @@ module _ {B : Type 0} (G : Ghosts B) (registered : List Registration) where
       let same : live_seen G registered x ≡ live = cc in
       let one : x ≡ l = cc in
       ap (λ (y : Live B). y.loaded.seq) (sym one) ∙ ap (λ (y : LiveState B). ((y.durable).state).seq) same
+
+  -- the body that is written of the live state is that of its changes
+  pub recorded_in : (o : Option (Live B)) (l : Live B) → o ≡ Some l → (live : LiveState B) → option_map (live_seen G registered) o ≡ Some live
+      → {E : Type 0} (r : Result (Vec ℕ Global) E)
+      → IfOk r (λ body. IsBodyListing (changes_seen (modules_seen l.loaded.modules.items) l.changes) (durable_seen G registered l) body.items)
+      → IfOk r (λ body. IsBodyOfChanges live body.items)
+  recorded_in None l there live is r written = absurd (cc)
+  recorded_in (Some x) l there live is r written =
+      let same : live_seen G registered x ≡ live = cc in
+      let one : x ≡ l = cc in
+      let both : live_seen G registered l ≡ live = ap (live_seen G registered) (sym one) ∙ same in
+      subst (λ (y : LiveState B). IfOk r (λ body. IsBodyOfChanges y body.items)) both written
+
+  pub changes_in : (o : Option (Live B)) (l : Live B) → o ≡ Some l → (live : LiveState B) → option_map (live_seen G registered) o ≡ Some live
+      → changes_seen ((live.durable).state).modules l.changes ≡ live.changes
+  changes_in None l there live is = absurd (cc)
+  changes_in (Some x) l there live is =
+      let same : live_seen G registered x ≡ live = cc in
+      let one : x ≡ l = cc in
+      subst (λ (y : LiveState B). changes_seen ((y.durable).state).modules l.changes ≡ y.changes) same
+      (ap (λ (y : Live B). changes_seen (modules_seen x.loaded.modules.items) y.changes) (sym one))

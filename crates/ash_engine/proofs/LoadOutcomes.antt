@@ -9,6 +9,7 @@ use Rattle.ash_run_steps.specs.declared.beginning.Parts.{Parts}
 use Rattle.ash_context.specs.declared.outcome.Outcome.{Outcome}
 use Rattle.ash_context.specs.declared.outcome.Outcome.TheVariants as outcomes
 use Rattle.ash_context.specs.declared.outcome.RunFault.{RunFault}
+use Rattle.ash_engine.specs.declared.changes.ModuleChange.TheVariants as changes
 use Rattle.ash_engine.specs.declared.live.Live.{Live}
 use Rattle.ash_engine.specs.declared.live.Rest.{Rest}
 use Rattle.ash_engine.specs.declared.steps.LiveStep.{LiveStep}
@@ -30,9 +31,9 @@ same_value one other e = cc
 pub abandoned_as : {B : Type 0} (rest : Rest) (parts : Parts B) (tree : Module) (result : Result (LiveStep B) StepError)
     (one other : Outcome) → one ≡ other
     → IfOk result (λ s. (live : Live B) × (events : List Event) × IsAbandoned rest parts live events × IsAnswered live
-    (end_named (entry_name tree) one) events s)
+    (end_named (entry_name tree) one) events changes.Unchanged s)
     → IfOk result (λ s. (live : Live B) × (events : List Event) × IsAbandoned rest parts live events × IsAnswered live
-    (end_named (entry_name tree) other) events s)
+    (end_named (entry_name tree) other) events changes.Unchanged s)
 abandoned_as {B} rest parts tree result one other same h =
     subst (λ (o : Outcome). IfOk result (λ s. (live : Live B) × (events : List Event) × IsAbandoned rest parts live
-    events × IsAnswered live (end_named (entry_name tree) o) events s)) same h
+    events × IsAnswered live (end_named (entry_name tree) o) events changes.Unchanged s)) same h

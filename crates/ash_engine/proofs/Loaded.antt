@@ -1,9 +1,12 @@
 -- A load that the code ran is a step of the live state.
-use Rattle.std.proofs.Common.{◌≡◌, ◌<◌, ◌+◌, ℕ, true, List, [], ◌∷◌, ◌++◌, length, map, find, refl, sym, ap, ◌∙◌, subst}
-use Rattle.std.proofs.Common.{nat_eq, inl, inr, arith}
-use Rattle.std.specs.Prelude.{Option, Some, None, Result, Ok, Err, Contains, IfOk, IfErr, string_bytes}
+use Rattle.std.proofs.Common.{◌≡◌, ◌<◌, ◌+◌, ℕ, Bool, true, false, List, [], ◌∷◌, ◌++◌, length, map, find, refl, sym, ap, ◌∙◌, subst}
+use Rattle.std.proofs.Common.{nat_eq, inl, inr, slice_get, if◌then◌else◌, arith}
+use Rattle.std.specs.Prelude.{Option, Some, None, Result, Ok, Err, Contains, IfOk, IfErr, IsSome, option_map, string_bytes}
+use Rattle.std.specs.Option.{option_map_or}
 use Rattle.std.specs.List.{AllZip, IsDistinct, insert}
+use Rattle.std.proofs.lemmas.Bool.{eqb-true}
 use Rattle.std.proofs.lemmas.List.{length-map}
+use Rattle.std.proofs.lemmas.Option.{slice_get-map}
 use Rattle.std.proofs.lemmas.Slice.Zip.{AllZip-long}
 use Rattle.ash_host.specs.declared.event.Event.{Event}
 use Rattle.ash_host.specs.declared.host_object.HostObject.{Ghosts}
@@ -15,7 +18,8 @@ use Rattle.ash_typed.specs.Signatures.{types_of_globals}
 use Rattle.ash_meaning.specs.Ends.{End, Finished}
 use Rattle.ash_meaning.specs.OperatorMeaning.{zero_of}
 use Rattle.ash_objects.specs.Table.{Table}
-use Rattle.ash_object_ranks.specs.ShownTables.{SlotNames}
+use Rattle.ash_objects.specs.Marking.{without_marks}
+use Rattle.ash_object_ranks.specs.ShownTables.{SlotNames, objects_shown}
 use Rattle.ash_run_steps.specs.declared.beginning.Parts.{Parts}
 use Rattle.ash_run_steps.specs.Becoming.{Gave}
 use Rattle.ash_run_steps.specs.Ranks.{rank_test}
@@ -48,26 +52,30 @@ use Rattle.ash_plain_steps.proofs.Changed.{consistent_insert}
 use Rattle.ash_states.specs.HostStates.{HostState, embedding_for, offered_to}
 use Rattle.ash_states.specs.StateSteps.{task_of, FailsInChange}
 use Rattle.ash_table_states.specs.TableStates.{names_in}
+use Rattle.ash_engine.specs.declared.changes.ModuleChange.TheVariants as changed
 use Rattle.ash_engine.specs.declared.live.Compiled.{Compiled}
 use Rattle.ash_engine.specs.declared.live.Live.{Live}
 use Rattle.ash_engine.specs.declared.live.Rest.{Rest}
 use Rattle.ash_engine.specs.declared.steps.LiveStep.{LiveStep}
 use Rattle.ash_engine.specs.LiveSteps.{LiveSteps, TakesStep}
+use Rattle.ash_engine.specs.NamedChanges.{name_at, AreTaken}
 use Rattle.ash_engine.specs.RankedSources.{ReadsRanked}
 use Rattle.ash_engine.specs.TableRuns.{end_named, SaysOfLoad, IsAnswered, IsKept, IsAbandoned}
 use Rattle.ash_engine.specs.TableSteps.{IsStepOf}
-use Rattle.ash_engine.specs.TableStates.{slots_of, roots_of, IsCompiledFrom, AreCompiled, durable_seen, live_seen}
+use Rattle.ash_engine.specs.TableStates.{slots_of, IsCompiledFrom, AreCompiled, durable_seen, live_seen}
 use Rattle.ash_engine.specs.TableStates.{IsLive}
 use Rattle.ash_engine.specs.TableTasks.{entry_name}
-use Rattle.ash_engine.proofs.AnsweredSteps.{IsShown, taken, still_admitted, still_fit, still_kinds}
+use Rattle.ash_engine.proofs.AnsweredSteps.{IsShown, HasNames, taken, still_admitted, still_fit, still_kinds, still_held, still_settled, still_listable}
 use Rattle.ash_engine.proofs.CallEnds.{numbered_from}
 use Rattle.ash_engine.proofs.InsertedModules.{map_insert, zip_insert, distinct_insert, roots_with}
 use Rattle.ash_engine.proofs.InsertedSlots.{inserted_at}
 use Rattle.ash_engine.proofs.KnownRanks.{class_ranks}
 use Rattle.ash_engine.proofs.LoadEnds.{answered_with, kept_so, abandoned_so, left_held, left_services}
 use Rattle.ash_engine.proofs.Looked.{ran_out}
+use Rattle.ash_engine.proofs.NamedSlots.{IsSlotOf, slot_known, contains_at}
 use Rattle.ash_engine.proofs.ReleasedGlobals.{run_released}
 use Rattle.ash_engine.proofs.RunSettings.{names_for}
+use Rattle.ash_engine.proofs.ShownAlike.{shown_alike}
 use Rattle.ash_engine.proofs.TableCalls.{Takes, hosts_of}
 use Rattle.ash_engine.proofs.TableLoads.{LoadSteps, load_steps}
 
@@ -78,21 +86,29 @@ ends_same tree (outcomes.Finished value) names = refl
 ends_same tree (outcomes.Exception x function line) names = refl
 ends_same tree (outcomes.Aborted function line) names = refl
 
+-- what a run does not take
+abbrev pub rest_of : {B : Type 0} → Live B → Rest
+rest_of live = record { loaded = live.loaded; compiled = live.compiled; changes = live.changes }
+
 -- what is left of a load
 pub record IsLeft {B : Type 0} (live : Live B) (m : code_module.LoadedModule) (c : Compiled) (left : Left B)
     (result : Result (LiveStep B) StepError) : Type 0 where
   pub kept : (value : Option Word) → left.outcome ≡ Ok (outcomes.Finished value)
-      → IfOk result (λ one. (before : Live B) × IsKept (record { loaded = live.loaded; compiled = live.compiled }) m c
-      left.parts before
-      × IsAnswered before (Finished value) left.parts.events.items one)
+      → IfOk result (λ one. (before : Live B) × IsKept (rest_of live) m c left.parts before
+      × (place : ℕ) × (slice_get before.loaded.modules.items place ≡ Some (record m { globals = left.parts.globals }))
+      × IsAnswered before (Finished value) left.parts.events.items (changed.Loaded place) one)
   pub abandoned : (o : run_outcome.Outcome) → left.outcome ≡ Ok o
       → ((value : Option Word) → o ≡ outcomes.Finished value → ⊥)
-      → IfOk result (λ one. (before : Live B) × (events : List Event) × IsAbandoned
-      (record { loaded = live.loaded; compiled = live.compiled }) left.parts before events
-      × IsAnswered before (end_named (entry_name (module_of m.tree)) o) events one)
+      → IfOk result (λ one. (before : Live B) × (events : List Event) × IsAbandoned (rest_of live) left.parts before events
+      × IsAnswered before (end_named (entry_name (module_of m.tree)) o) events changed.Unchanged one)
   pub refused : left.outcome ≡ Err faults.NotBegun
       → IfOk result (λ one. (reply_seen fault_of one.reply ≡ Refused NoMemoryRefusal)
-      × (one.live ≡ record { loaded = live.loaded; compiled = live.compiled; table = left.parts.table }))
+      × (one.live ≡ record {
+        loaded = live.loaded;
+        compiled = live.compiled;
+        table = left.parts.table;
+        changes = live.changes;
+      }))
   pub lost : left.outcome ≡ Err faults.NoMemory → IfOk result (λ one. ⊥)
   pub never : left.outcome ≡ Err faults.Unsound → IfOk result (λ one. ⊥)
   pub memory : IfErr result (λ error. error ≡ errors.NoMemory)
@@ -134,7 +150,7 @@ module _ {B : Type 0} (G : Ghosts B) (registered : List Registration) (request :
 
   -- what a run does not take
   abbrev rest : Rest
-  rest = record { loaded = live.loaded; compiled = live.compiled }
+  rest = rest_of live
 
   module _ (asked : task_of request durable ≡ Ok task) (c : Compiled) (fresh : Contains slots c.code.module
       → ⊥) (compiled : IsCompiledFrom m c) (parts : Parts B) (left : Left B)
@@ -171,7 +187,9 @@ module _ {B : Type 0} (G : Ghosts B) (registered : List Registration) (request :
 
       module _ (value : Option Word) (run : Loads (outcomes.Finished value)) (before : Live B)
           (kept : IsKept rest m c left.parts before)
-          (one : LiveStep B) (answered : IsAnswered before (Finished value) left.parts.events.items one) where
+          (place : ℕ) (in_place : slice_get before.loaded.modules.items place
+          ≡ Some (record m { globals = left.parts.globals })) (one : LiveStep B)
+          (answered : IsAnswered before (Finished value) left.parts.events.items (changed.Loaded place) one) where
         abbrev kept_module : code_module.LoadedModule
         kept_module = record m { globals = left.parts.globals }
 
@@ -192,7 +210,7 @@ module _ {B : Type 0} (G : Ghosts B) (registered : List Registration) (request :
           modules_are = ap (λ (l : Live B). modules_seen l.loaded.modules.items) answered.live ∙ kept.by_name;
           slots_are = ap slots_of kept_codes ∙ map_insert (λ (x : Compiled). x.code.module) cs kept.place c;
           seq_is = ap (λ (l : Live B). l.loaded.seq) answered.live ∙ ap (λ (s : PlainState). s.seq + 1) kept.loaded;
-          table_is = ap (λ (l : Live B). l.table) answered.live ∙ kept.table;
+          table_is = ap (λ (l : Live B). l.table) answered.live ∙ ap (λ (t : Table B). without_marks t) kept.table;
         }
 
         kept_named : (at : ℕ) → names_in kept_modules kept_slots at ≡ new_names at
@@ -200,6 +218,44 @@ module _ {B : Type 0} (G : Ghosts B) (registered : List Registration) (request :
             ap (λ (l : List LoadedModule). names_in l kept_slots at) (sym kept.by_name ∙ ap modules_seen kept.modules
             ∙ map_insert loaded_seen ms kept.place kept_module)
             ∙ inserted_at (loaded_seen kept_module) c.code.module seen slots kept.place at long fresh
+
+        -- no object that was there is in the slot of the module
+        kept_agree : (slot : ℕ) → IsSome (known_of embedding seen (names_in seen slots slot))
+            → names_in kept_modules kept_slots slot ≡ names_in seen slots slot
+        kept_agree slot known = kept_named slot ∙ go (nat_eq slot c.code.module) refl
+          where
+            there : IsSlotOf seen slots slot
+            there = slot_known embedding seen slots slot ((is_live.admitted).formed).valid known
+
+            go : (b : Bool) → nat_eq slot c.code.module ≡ b
+                → (if b then name else names_in seen slots slot) ≡ names_in seen slots slot
+            go true same =
+                let level : slot ≡ c.code.module = eqb-true slot c.code.module same in
+                absurd (fresh (subst (λ (n : ℕ). Contains slots n) level (contains_at slots there.place slot there.in_slot)))
+            go false same = refl
+
+        kept_before : objects_shown G (names_in kept_modules kept_slots) live.table.objects
+            ≡ objects_shown G (names_in seen slots) live.table.objects
+        kept_before = shown_alike G (known_of embedding seen) (names_in seen slots) (names_in kept_modules kept_slots)
+            kept_agree live.table.objects (((is_live.admitted).formed).numbered).in_order
+            ((is_live.admitted).formed).living
+
+        kept_at : name_at kept_modules place ≡ name
+        kept_at = ap (λ (l : List LoadedModule). name_at l place) (sym kept.by_name)
+            ∙ ap (λ (x : Option LoadedModule). option_map_or (λ (y : LoadedModule). y.name) x [])
+            (slice_get-map loaded_seen before.loaded.modules.items place ∙ ap (option_map loaded_seen) in_place)
+
+        kept_has : HasNames G live one.live left.parts.events.items kept_modules kept_slots left.parts.table
+        kept_has = record {
+          change = changed.Loaded place;
+          listable = tt;
+          taken_so = subst (λ (t : Table B). AreTaken left.parts.events.items (changed.Loaded place) t one.live.changes)
+              kept.table answered.taken;
+          change_is = (loaded_seen kept_module, sym kept_at, refl {A = List LoadedModule});
+          names = names_in kept_modules kept_slots;
+          shown_before = sym kept_before;
+          same_names = λ number. refl;
+        }
 
         kept_step : steps.step embedding budget request durable.state (hosts_of G live.table run.records)
             ≡ Some (answered_with G live.loaded.seq (Finished value) left.parts.events.items kept_modules kept_slots
@@ -223,12 +279,12 @@ module _ {B : Type 0} (G : Ghosts B) (registered : List Registration) (request :
             ∙ ap (λ (s : PlainState). replies.Answered (Finished value) (s.seq + 1) left.parts.events.items)
             kept.loaded))
             (taken G registered request budget live is_live (Finished value) left.parts.events.items kept_modules
-            kept_slots left.parts.table run.records run.gave kept_step one.live kept_shown)
+            kept_slots left.parts.table run.records run.gave kept_step one.live kept_shown kept_has)
 
         kept_live : IsLive G registered one.live
         kept_live = record {
           admitted = still_admitted G registered request budget live is_live (Finished value) left.parts.events.items
-              kept_modules kept_slots left.parts.table run.records run.gave kept_step one.live kept_shown;
+              kept_modules kept_slots left.parts.table run.records run.gave kept_step one.live kept_shown kept_has;
           consistent = consistent_insert embedding kept_module ms one.live.loaded.modules.items is_live.consistent is
               free kept_shown.modules_are (kept.place, kept_items);
           compiled = record {
@@ -240,13 +296,17 @@ module _ {B : Type 0} (G : Ghosts B) (registered : List Registration) (request :
             apart = subst (IsDistinct nat_eq) (sym kept_shown.slots_are)
                 (distinct_insert c.code.module slots kept.place fresh (is_live.compiled).apart);
           };
-          held = subst (λ (t : Table B). HoldsRoots t (roots_of one.live)) (sym kept_shown.table_is)
-              (subst (λ (l : List LoadedModule). HoldsRoots left.parts.table (handles (globals_of l)))
-              (sym kept_shown.modules_are) kept_held);
+          held = still_held G registered request budget live is_live (Finished value) left.parts.events.items
+              kept_modules kept_slots left.parts.table run.records run.gave kept_step one.live kept_shown kept_has
+              kept_held;
+          settled = still_settled G registered request budget live is_live (Finished value) left.parts.events.items
+              kept_modules kept_slots left.parts.table run.records run.gave kept_step one.live kept_shown kept_has;
+          listable = still_listable G registered request budget live is_live (Finished value) left.parts.events.items
+              kept_modules kept_slots left.parts.table run.records run.gave kept_step one.live kept_shown kept_has;
           kinds = still_kinds G registered request budget live is_live (Finished value) left.parts.events.items
-              kept_modules kept_slots left.parts.table run.records run.gave kept_step one.live kept_shown;
+              kept_modules kept_slots left.parts.table run.records run.gave kept_step one.live kept_shown kept_has;
           fit = still_fit G registered request budget live is_live (Finished value) left.parts.events.items kept_modules
-              kept_slots left.parts.table run.records run.gave kept_step one.live kept_shown;
+              kept_slots left.parts.table run.records run.gave kept_step one.live kept_shown kept_has;
         }
 
       -- a module that is given up
@@ -254,7 +314,7 @@ module _ {B : Type 0} (G : Ghosts B) (registered : List Registration) (request :
       module _ (o : run_outcome.Outcome) (run : Loads o) (other : (value : Option Word) → o ≡ outcomes.Finished value
           → ⊥) (before : Live B) (events : List Event)
           (gone : IsAbandoned rest left.parts before events) (one : LiveStep B)
-          (answered : IsAnswered before (end_named (entry_name tree) o) events one) where
+          (answered : IsAnswered before (end_named (entry_name tree) o) events changed.Unchanged one) where
         abbrev end : End
         end = end_named (entry_name tree) o
 
@@ -271,6 +331,17 @@ module _ {B : Type 0} (G : Ghosts B) (registered : List Registration) (request :
           slots_are = ap slots_of gone_codes;
           seq_is = ap (λ (l : Live B). l.loaded.seq) answered.live ∙ ap (λ (s : PlainState). s.seq + 1) gone.loaded;
           table_is = ap (λ (l : Live B). l.table) answered.live;
+        }
+
+        gone_has : HasNames G live one.live events seen slots before.table
+        gone_has = record {
+          change = changed.Unchanged;
+          taken_so = answered.taken;
+          change_is = refl {A = List LoadedModule};
+          listable = tt;
+          names = names_in seen slots;
+          shown_before = refl;
+          same_names = λ number. refl;
         }
 
         gone_gave : Gave G run.records live.table [] before.table events
@@ -304,12 +375,12 @@ module _ {B : Type 0} (G : Ghosts B) (registered : List Registration) (request :
             (live_seen G registered one.live))
             (sym (answered.reply ∙ ap (λ (s : PlainState). replies.Answered end (s.seq + 1) events) gone.loaded))
             (taken G registered request budget live is_live end events seen slots before.table run.records gone_gave
-            gone_step one.live gone_shown)
+            gone_step one.live gone_shown gone_has)
 
         gone_live : IsLive G registered one.live
         gone_live = record {
           admitted = still_admitted G registered request budget live is_live end events seen slots before.table
-              run.records gone_gave gone_step one.live gone_shown;
+              run.records gone_gave gone_step one.live gone_shown gone_has;
           consistent = subst (AreConsistent embedding) (sym gone_items) is_live.consistent;
           compiled = record {
             each = subst (λ (l : List code_module.LoadedModule). AllZip IsCompiledFrom l one.live.compiled.items)
@@ -317,13 +388,16 @@ module _ {B : Type 0} (G : Ghosts B) (registered : List Registration) (request :
                 (subst (λ (l : List Compiled). AllZip IsCompiledFrom ms l) (sym gone_codes) (is_live.compiled).each);
             apart = subst (IsDistinct nat_eq) (sym gone_shown.slots_are) (is_live.compiled).apart;
           };
-          held = subst (λ (t : Table B). HoldsRoots t (roots_of one.live)) (sym gone_shown.table_is)
-              (subst (λ (l : List LoadedModule). HoldsRoots before.table (handles (globals_of l)))
-              (sym gone_shown.modules_are) gone_held);
+          held = still_held G registered request budget live is_live end events seen slots before.table run.records
+              gone_gave gone_step one.live gone_shown gone_has gone_held;
+          settled = still_settled G registered request budget live is_live end events seen slots before.table
+              run.records gone_gave gone_step one.live gone_shown gone_has;
+          listable = still_listable G registered request budget live is_live end events seen slots before.table
+              run.records gone_gave gone_step one.live gone_shown gone_has;
           kinds = still_kinds G registered request budget live is_live end events seen slots before.table run.records
-              gone_gave gone_step one.live gone_shown;
+              gone_gave gone_step one.live gone_shown gone_has;
           fit = still_fit G registered request budget live is_live end events seen slots before.table run.records
-              gone_gave gone_step one.live gone_shown;
+              gone_gave gone_step one.live gone_shown gone_has;
         }
 
     -- Memory was refused before the run began.
@@ -345,10 +419,10 @@ module _ {B : Type 0} (G : Ghosts B) (registered : List Registration) (request :
       where
         ended : (o : run_outcome.Outcome) → left.outcome ≡ Ok o → IsStepOf G registered budget request live (Ok one)
         ended (outcomes.Finished value) came =
-            let (before, kept, answered) = l.kept value came in
+            let (before, kept, place, in_place, answered) = l.kept value came in
             let run = loads good is free few numbered (outcomes.Finished value) came in (
-              inl (kept_taken good is free few numbered value run before kept one answered),
-              kept_live good is free few numbered value run before kept one answered,
+              inl (kept_taken good is free few numbered value run before kept place in_place one answered),
+              kept_live good is free few numbered value run before kept place in_place one answered,
             )
         ended (outcomes.Exception x function line) came =
             let other : (value : Option Word) → outcomes.Exception x function line ≡ outcomes.Finished value
@@ -381,6 +455,7 @@ module _ {B : Type 0} (G : Ghosts B) (registered : List Registration) (request :
               loaded = live.loaded;
               compiled = live.compiled;
               table = t;
+              changes = live.changes;
             } in same) (unchanged came))
         by (Err faults.NoMemory) came = absurd (l.lost came)
         by (Err faults.Unsound) came = absurd (l.never came)

@@ -18,7 +18,7 @@ use Rattle.ash_sources.specs.SourceFaults.{SourceFault}
 use Rattle.ash_states.specs.HostStates.{HostState, embedding_for}
 use Rattle.ash_states.specs.StateSteps.{task_of}
 use Rattle.ash_engine.specs.declared.live.Live.{Live}
-use Rattle.ash_engine.specs.LiveSteps.{TakesStep, RanOut}
+use Rattle.ash_engine.specs.LiveSteps.{IsNoAnswer, TakesStep, RanOut}
 use Rattle.ash_engine.specs.TableStates.{durable_seen, live_seen}
 use Rattle.ash_engine.proofs.TableCalls.{hosts_of}
 use Rattle.ash_engine.proofs.Unanswered.{nothing_answered}
@@ -30,8 +30,9 @@ module _ {B : Type 0} (G : Ghosts B) (registered : List Registration) (live : Li
   -- The step of a request whose task, or whose refusal, is replied so, and changes nothing.
   pub looked : (budget : ℕ) (request : Request) (d : TaskResult SourceFault) (reply : Reply SourceFault) → task_of request durable ≡ d
       → unless_refused budget d durable.state (hosts_of G live.table []) ≡ Some (replied reply durable.state (hosts_of G live.table []))
-      → events_of_reply reply ≡ [] → TakesStep G budget request (live_seen G registered live) reply (live_seen G registered live)
-  looked budget request d reply is does none = record {
+      → events_of_reply reply ≡ [] → IsNoAnswer reply
+      → TakesStep G budget request (live_seen G registered live) reply (live_seen G registered live)
+  looked budget request d reply is does none silent = record {
     answers = [];
     taken = record {
       stepped = ap (λ (x : TaskResult SourceFault). unless_refused budget x durable.state (hosts_of G live.table [])) is ∙ does;
@@ -39,6 +40,7 @@ module _ {B : Type 0} (G : Ghosts B) (registered : List Registration) (live : Li
     };
     gave = subst (λ (es : List Event). Answered G (boxes_of live.table) es [] (boxes_of live.table)) (sym none) (nothing_answered G (boxes_of live.table));
     unchanged = λ no. refl;
+    named = λ answered. absurd (answered silent);
   }
 
   -- A request whose task changes the state takes memory.

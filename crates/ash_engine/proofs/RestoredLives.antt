@@ -1,14 +1,16 @@
 -- The live state of one that was stored.
 use Rattle.std.proofs.Common.{◌≡◌, ℕ, suc, List, [], ◌∷◌, length, map, refl, sym, ap, ◌∙◌, subst, arith}
-use Rattle.std.specs.Prelude.{All, IsTrue, Vec, filter_map}
+use Rattle.std.specs.Prelude.{All, IsTrue, Option, Some, None, IfSome, Vec, false, filter_map, option_map}
 use Rattle.std.specs.List.{AllByRecursion, cons_option}
 use Rattle.std.proofs.lemmas.List.{length-map}
 use Rattle.ash_host.specs.declared.host_object.HostObject.{Ghosts}
 use Rattle.ash_host.specs.declared.word.Word.{Word}
-use Rattle.ash_host.specs.Objects.{handles}
+use Rattle.ash_host.specs.Objects.{object_at, handles}
 use Rattle.ash_registry.specs.AcceptedRegistrations.{Registration}
 use Rattle.ash_objects.specs.Restoring.{RestoresServices}
 use Rattle.ash_objects.specs.Table.{Living, Table}
+use Rattle.ash_objects.proofs.Marks.{object_at-mapped}
+use Rattle.ash_change_laws.specs.ChangedStates.{nothing}
 use Rattle.ash_run_steps.specs.Answered.{Boxes, boxed_entry, boxes_of}
 use Rattle.ash_run_steps.specs.RunStates.{HoldsRoots, HoldsMore, bare, bare_living, is_alive_in}
 use Rattle.ash_requests.specs.States.{State, globals_of}
@@ -23,6 +25,8 @@ use Rattle.ash_table_states.specs.TableStates.{names_in, places_from, state_show
 use Rattle.ash_table_states.proofs.Saved.{back}
 use Rattle.ash_engine.specs.declared.live.Live.{Live}
 use Rattle.ash_engine.specs.LiveStates.{plain_box, services_for}
+use Rattle.ash_engine.proofs.ListableChanges.{nothing_listable}
+use Rattle.ash_engine.specs.NamedChanges.{changes_seen}
 use Rattle.ash_engine.specs.RestoredBoxes.{HasServices, IsShort, IsRefused, Restores}
 use Rattle.ash_engine.specs.RestoredTables.{IsTableOf, IsShortOf, IsRefusedOf}
 use Rattle.ash_engine.specs.TableStates.{AreCompiled, BoxesFit, slots_of, durable_seen, live_seen, IsLive}
@@ -45,6 +49,21 @@ module _ {B : Type 0} where
 
   pub same_boxes : (old new : Table B) → bare new ≡ bare old → boxes_of new ≡ boxes_of old
   same_boxes old new same = sym (bare_boxes new) ∙ ap (λ (t : Table B). boxes_of t) same ∙ bare_boxes old
+
+  unmarked_as : (x : Option (Living B)) → IfSome (option_map bare_living x) (λ object. object.touched ≡ false) → IfSome x (λ object. object.touched ≡ false)
+  unmarked_as None h = tt
+  unmarked_as (Some o) h = h
+
+  unmarked_bare : (x : Option (Living B)) → IfSome x (λ object. object.touched ≡ false) → IfSome (option_map bare_living x) (λ object. object.touched ≡ false)
+  unmarked_bare None h = tt
+  unmarked_bare (Some o) h = h
+
+  -- what is held has the marks that it had
+  pub still_unmarked : (old new : Table B) → bare new ≡ bare old → (n : ℕ) → IfSome (object_at n old.objects) (λ object. object.touched ≡ false)
+      → IfSome (object_at n new.objects) (λ object. object.touched ≡ false)
+  still_unmarked old new same n h =
+      let at = sym (object_at-mapped bare_living n new.objects) ∙ ap (λ (t : Table B). object_at n t.objects) same ∙ object_at-mapped bare_living n old.objects in
+      unmarked_as (object_at n new.objects) (subst (λ (x : Option (Living B)). IfSome x (λ object. object.touched ≡ false)) (sym at) (unmarked_bare (object_at n old.objects) h))
 
   all_of : (P : B → Type 0) (boxes : List B) → All P boxes → AllByRecursion P boxes
   all_of P [] all = tt
@@ -93,8 +112,8 @@ module _ {B : Type 0} (G : Ghosts B) where
           ∙ ap (λ (st : State). let r : HostState = record { registered = registered; state = st } in r)
           (restored_state.state_is G (state_seen s) pool before l.table t more.same (back (held_with registered s) held.admitted) both.0)
 
-      pub lives : AreCompiled s.modules.items l.compiled.items → All (λ (box : B). IsState (G.state box)) pool → IsLive G registered l
-      lives compiled fit = record {
+      pub lives : changes_seen (modules_seen l.loaded.modules.items) l.changes ≡ nothing → AreCompiled s.modules.items l.compiled.items → All (λ (box : B). IsState (G.state box)) pool → IsLive G registered l
+      lives unchanged compiled fit = record {
         admitted = subst (λ (st : HostState). IsAdmitted st) (sym durable_is) held.admitted;
         consistent = subst (λ (ms : Vec LoadedModule _). AreConsistent (embedding_for registered) ms.items) (sym modules) held.consistent;
         compiled = subst (λ (ms : Vec LoadedModule _). AreCompiled ms.items l.compiled.items) (sym modules) compiled;
@@ -103,10 +122,16 @@ module _ {B : Type 0} (G : Ghosts B) where
         kinds = ap (λ (b : Table B). map G.kind_of b.services) more.same ∙ both.1 ∙ kinds;
         fit = plain_fit l.table.pool (restored_state.left_fit G (state_seen s) pool before l.table t more.same (λ (box : B). IsState (G.state box))
             (all_of (λ (box : B). IsState (G.state box)) pool fit));
+        settled = record {
+          unmarked = λ n. still_unmarked before l.table more.same n ((t.restored).unmarked n);
+          none_gone = ap (λ (b : Table B). b.gone) more.same ∙ t.gone;
+          settled = ap (λ (b : Table B). b.settled) more.same ∙ t.settled ∙ sym t.last ∙ sym (ap (λ (b : Table B). b.last) more.same);
+        };
+        listable = nothing_listable (changes_seen (modules_seen l.loaded.modules.items) l.changes) unchanged;
       }
 
-      pub restores : IsLive G registered l → (given : List B) → HasServices G registered given → services ≡ services_for registered given
+      pub restores : IsLive G registered l → changes_seen (modules_seen l.loaded.modules.items) l.changes ≡ nothing → (given : List B) → HasServices G registered given → services ≡ services_for registered given
           → Restores G (held_with registered s) pool given (live_seen G registered l)
-      restores live given has are =
-          started.restores G (held_with registered s) pool given has before (live_seen G registered l) t durable_is (boxes_are G registered l live) (same_boxes before l.table more.same)
+      restores live unchanged given has are =
+          started.restores G (held_with registered s) pool given has before (live_seen G registered l) t durable_is unchanged (boxes_are G registered l live) (same_boxes before l.table more.same)
           (subst (λ (ss : List B). RestoresServices G ss (state_seen s).services before.services) are served)

@@ -1,5 +1,5 @@
 -- The objects of a state that a host may be in are such as a table takes.
-use Rattle.std.proofs.Common.{◌≡◌, ◌≤◌, ℕ, List, map, length, sym, ap, ◌∙◌, arith}
+use Rattle.std.proofs.Common.{◌≡◌, ◌≤◌, ℕ, List, [], map, length, sym, ap, ◌∙◌, arith}
 use Rattle.std.specs.Prelude.{All, IfSome, IfOk, Result, Ok, Err}
 use Rattle.std.proofs.lemmas.List.{length-map}
 use Rattle.ash_host.specs.declared.host_object.HostObject.{Ghosts}
@@ -48,6 +48,14 @@ saved_of s ms saved same is = is ∙ ap (λ (xs : List LoadedModule). map (entry
 
 module _ {B : Type 0} (G : Ghosts B) where
   pub table_made : (s : State) (pool : List B) (last : ℕ) (saved : List SavedObject) (r : Result (Table B) TableFault) → AreSavedOf s saved → last ≡ s.last
-      → IfOk r (λ table. IsRestored G saved pool table) → IfOk r (λ table. table.last ≡ last) → IfOk r (IsTableOf G s pool)
-  table_made s pool last saved (Ok table) are same back given = record { saved = saved; are = are; restored = back; last = given ∙ same }
-  table_made s pool last saved (Err fault) are same back given = tt
+      → IfOk r (λ table. IsRestored G saved pool table) → IfOk r (λ table. table.last ≡ last) → IfOk r (λ table. table.settled ≡ last)
+      → IfOk r (λ table. table.gone ≡ []) → IfOk r (IsTableOf G s pool)
+  table_made s pool last saved (Ok table) are same back given settled gone = record {
+    saved = saved;
+    are = are;
+    restored = back;
+    last = given ∙ same;
+    settled = settled ∙ same;
+    gone = gone;
+  }
+  table_made s pool last saved (Err fault) are same back given settled gone = tt

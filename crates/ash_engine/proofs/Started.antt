@@ -17,6 +17,7 @@ use Rattle.ash_table_states.specs.SavedObjects.{AreSavedOf}
 use Rattle.ash_table_states.specs.TableStates.{names_in, places_from}
 use Rattle.ash_table_states.proofs.Shown.{kinds_drawn, bodies_named}
 use Rattle.ash_table_states.proofs.SlotNames.{names_of_places}
+use Rattle.ash_change_laws.specs.ChangedStates.{nothing}
 use Rattle.ash_engine.specs.LiveStates.{LiveState, AreOf, hosts_in, services_for, plain_box}
 use Rattle.ash_engine.specs.Drawing.{Enough, draw_all}
 use Rattle.ash_engine.specs.SavedDrawing.{by_number, drawing_of}
@@ -62,15 +63,16 @@ module _ {B : Type 0} (G : Ghosts B) where
   module _ (s : HostState) (pool given : List B) (has : HasServices G s.registered given) where
     -- a stored state lives, with the boxes of its table
     pub restores : (before : Table B) (live : LiveState B) → IsTableOf G s.state pool before
-        → live.durable ≡ s → AreOf G live → live.boxes ≡ boxes_of before
+        → live.durable ≡ s → live.changes ≡ nothing → AreOf G live → live.boxes ≡ boxes_of before
         → RestoresServices G (services_for s.registered given) (s.state).services before.services → Restores G s pool given live
-    restores before live t durable of boxes served =
+    restores before live t durable unchanged of boxes served =
         let r = t.restored in
         let drawn = by_number t.saved r.boxes in
         let kinds = kinds_drawn G t.saved pool r.boxes before.pool r.drawn in
         let same = hosts s.state t.saved t.are in
         record {
           durable = durable;
+          unchanged = unchanged;
           boxes = of;
           has = has;
           drawn = drawn;

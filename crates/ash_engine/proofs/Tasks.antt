@@ -27,7 +27,7 @@ use Rattle.ash_states.specs.HostStates.{HostState, embedding_for}
 use Rattle.ash_states.specs.StateSteps.{task_of}
 use Rattle.ash_engine.specs.declared.live.Live.{Live}
 use Rattle.ash_engine.specs.declared.steps.LiveStep.{LiveStep}
-use Rattle.ash_engine.specs.LiveSteps.{TakesStep}
+use Rattle.ash_engine.specs.LiveSteps.{IsNoAnswer, TakesStep}
 use Rattle.ash_engine.specs.TableStates.{durable_seen, live_seen, IsLive}
 use Rattle.ash_engine.specs.TableSteps.{IsStepOf}
 use Rattle.ash_engine.specs.TableTasks.{IsAsked}
@@ -87,11 +87,11 @@ module _ {B : Type 0} (G : Ghosts B) (registered : List Registration) (live : Li
       → IsLive G registered live → task_of request durable ≡ d
       → unless_refused budget d durable.state (hosts_of G live.table [])
       ≡ Some (replied (reply_seen fault_of step.reply) durable.state (hosts_of G live.table []))
-      → events_of_reply (reply_seen fault_of step.reply) ≡ [] → step.live ≡ live
-      → IsStepOf G registered budget request live (Ok step)
-  looked_on budget request d step is_live is does none same = (
+      → events_of_reply (reply_seen fault_of step.reply) ≡ [] → IsNoAnswer (reply_seen fault_of step.reply)
+      → step.live ≡ live → IsStepOf G registered budget request live (Ok step)
+  looked_on budget request d step is_live is does none silent same = (
     inl (subst (λ (l : Live B). TakesStepTo l) (sym same)
-        (looked G registered live budget request d (reply_seen fault_of step.reply) is does none)),
+        (looked G registered live budget request d (reply_seen fault_of step.reply) is does none silent)),
     subst (IsLive G registered) (sym same) is_live,
   )
     where
@@ -112,7 +112,7 @@ module _ {B : Type 0} (G : Ghosts B) (registered : List Registration) (live : Li
           → IsStepOf G registered budget request live (Ok step)
       so r is reply = looked_on budget request (Err (refusal_seen fault_of r)) step is_live is
           (ap (λ (x : Reply SourceFault). Some (replied x durable.state (hosts_of G live.table []))) (sym reply))
-          (ap events_of_reply reply) same
+          (ap events_of_reply reply) (subst (λ (x : Reply SourceFault). IsNoAnswer x) (sym reply) tt) same
 
       by : (r : refusal.Refusal code_fault.SourceFault) → RefusesAs fault_of MayTakeMemory r (task_of request durable)
           → reply_seen fault_of step.reply ≡ Refused (refusal_seen fault_of r)
@@ -161,8 +161,8 @@ pub looked_at : {B : Type 0} (G : Ghosts B) (live : Live B) (task : code_task.Ta
     (hosts_of G live.table [])
     ≡ Some (replied (reply_seen fault_of step.reply) (durable_seen G asked.registered live).state
     (hosts_of G live.table []))
-    → events_of_reply (reply_seen fault_of step.reply) ≡ [] → step.live ≡ live
-    → IsStepOf G asked.registered budget asked.request live (Ok step)
-looked_at G live task asked budget one step seen does none same =
+    → events_of_reply (reply_seen fault_of step.reply) ≡ [] → IsNoAnswer (reply_seen fault_of step.reply)
+    → step.live ≡ live → IsStepOf G asked.registered budget asked.request live (Ok step)
+looked_at G live task asked budget one step seen does none silent same =
     looked_on G asked.registered live budget asked.request (Ok one) step asked.live
-    (asked.is ∙ ap (λ (t : Task). Ok t) (same_Some asked.one one (sym asked.seen ∙ seen))) does none same
+    (asked.is ∙ ap (λ (t : Task). Ok t) (same_Some asked.one one (sym asked.seen ∙ seen))) does none silent same

@@ -1,4 +1,6 @@
 pub mod LiveStates
+pub mod NamedChanges
+pub mod RecordedChanges
 pub mod Drawing
 pub mod SavedDrawing
 pub mod LiveSteps

@@ -6,13 +6,16 @@ use Rattle.ash_host.specs.Objects.{Plain, Script, Array, Host, LiveObjects}
 use Rattle.ash_registry.specs.AcceptedRegistrations.{Registration}
 use Rattle.ash_meaning.specs.Activity.{FreeBox}
 use Rattle.ash_states.specs.HostStates.{HostState, service_kinds, empty}
+use Rattle.ash_change_laws.specs.ChangedStates.{Changes, nothing}
 pub use Rattle.ash_run_steps.specs.Answered.{Boxes}
 
--- What outlives a request; the kind and the state of each free box, in the order of the pool; and the boxes.
+-- What outlives a request; the kind and the state of each free box, in the order of the pool; the boxes; and what the
+-- last request that was answered changed.
 pub record LiveState (B : Type 0) : Type 0 where
   pub durable : HostState
   pub pool : List FreeBox
   pub boxes : Boxes B
+  pub changes : Changes
 
 -- What is registered with an engine, and its live state; none where it was lost.
 pub record EngineState (B : Type 0) : Type 0 where
@@ -57,4 +60,5 @@ module _ {B : Type 0} (G : Ghosts B) where
     durable = empty registered (map G.state (services_for registered services));
     pool = map plain_box pool;
     boxes = record { objects = []; pool = pool; services = services_for registered services };
+    changes = nothing;
   }

@@ -6,6 +6,7 @@ use Rattle.ash_meaning.specs.Activity.{FreeBox}
 use Rattle.ash_objects.specs.Restoring.{RestoresState, RestoresServices, ServiceRefused}
 use Rattle.ash_registry.specs.AcceptedRegistrations.{Registration}
 use Rattle.ash_states.specs.HostStates.{HostState, service_kinds}
+use Rattle.ash_change_laws.specs.ChangedStates.{nothing}
 use Rattle.ash_engine.specs.LiveStates.{LiveState, AreOf, hosts_in, services_for}
 use Rattle.ash_engine.specs.Drawing.{Short, Enough, draw_all}
 
@@ -64,9 +65,11 @@ module _ {B : Type 0} where
         → BoxRefused G s drawn number → IsRefused G s pool services number
 
   -- A state that was stored lives: each of its host objects took the first free box of its kind, by ascending number;
-  -- these boxes and the services took the states that are stored, and the other free boxes are as they were.
+  -- these boxes and the services took the states that are stored, and the other free boxes are as they were. No request
+  -- changed anything yet.
   pub record Restores (G : Ghosts B) (s : HostState) (pool services : List B) (live : LiveState B) : Type 0 where
     pub durable : live.durable ≡ s
+    pub unchanged : live.changes ≡ nothing
     -- each host object of the state has a box, and no other number has one
     pub boxes : AreOf G live
     pub has : HasServices G s.registered services

@@ -31,6 +31,9 @@ use Rattle.ash_plain_steps.specs.declared.state.LoadedModule.{LoadedModule}
 use Rattle.ash_plain_steps.specs.declared.task.NewModule.{NewModule}
 use Rattle.ash_plain_steps.specs.StateViews.{loaded_seen, modules_seen}
 use Rattle.ash_requests.specs.States.{globals_of, with_module}
+use Rattle.ash_objects.specs.Marking.{without_marks}
+use Rattle.ash_engine.specs.declared.changes.ModuleChange.{ModuleChange}
+use Rattle.ash_engine.specs.NamedChanges.{AreTaken}
 use Rattle.ash_engine.specs.declared.live.Compiled.{Compiled}
 use Rattle.ash_engine.specs.declared.live.Live.{Live}
 use Rattle.ash_engine.specs.declared.live.Rest.{Rest}
@@ -77,6 +80,7 @@ module _ {B : Type 0} where
     pub modules : rest.loaded.modules.items ≡ set old.loaded.modules.items place lending
     pub loaded : rest.loaded ≡ record old.loaded { modules = rest.loaded.modules }
     pub compiled : rest.compiled ≡ old.compiled
+    pub changes : rest.changes ≡ old.changes
     pub table : parts.table ≡ old.table
     pub globals : parts.globals.items ≡ m.globals.items
     pub outside : parts.outside.items ≡ others
@@ -87,12 +91,20 @@ module _ {B : Type 0} where
     pub modules : new.loaded.modules.items ≡ set rest.loaded.modules.items place (record m { globals = parts.globals })
     pub loaded : new.loaded ≡ record rest.loaded { modules = new.loaded.modules }
     pub compiled : new.compiled ≡ rest.compiled
+    pub changes : new.changes ≡ rest.changes
     pub table : new.table ≡ parts.table
 
-  -- The step answers that a run ended so, with these events, from this live state on. It counts one answer more.
-  pub record IsAnswered (before : Live B) (end : End) (events : List Event) (one : LiveStep B) : Type 0 where
+  -- The step answers that a run ended so, with these events, from this live state on. It counts one answer more, has the
+  -- names of what was changed, and its table has no marks.
+  pub record IsAnswered (before : Live B) (end : End) (events : List Event) (modules : ModuleChange) (one : LiveStep B)
+      : Type 0 where
     pub reply : reply_seen fault_of one.reply ≡ Answered end (before.loaded.seq + 1) events
-    pub live : one.live ≡ record before { loaded = record before.loaded { seq = before.loaded.seq + 1 } }
+    pub taken : AreTaken events modules before.table one.live.changes
+    pub live : one.live ≡ record before {
+      loaded = record before.loaded { seq = before.loaded.seq + 1 };
+      table = without_marks before.table;
+      changes = one.live.changes;
+    }
 
   -- The globals of a module gave up what they held, and there was a release point.
   pub record Released (words : List Word) (old new : Table B) (before after : List Event) : Type 0 where

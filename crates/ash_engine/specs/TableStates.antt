@@ -20,7 +20,10 @@ use Rattle.ash_states.specs.HostStates.{HostState, IsAdmitted, embedding_for, se
 use Rattle.ash_table_states.specs.TableStates.{names_in, state_shown}
 use Rattle.ash_engine.specs.declared.live.Compiled.{Compiled}
 use Rattle.ash_engine.specs.declared.live.Live.{Live}
+use Rattle.ash_change_laws.specs.MarkedObjects.{IsSettled}
+use Rattle.ash_change_records.specs.ListedChanges.{AreListable}
 use Rattle.ash_engine.specs.LiveStates.{LiveState, plain_box}
+use Rattle.ash_engine.specs.NamedChanges.{changes_seen}
 
 -- the slots of modules, in their order
 abbrev pub slots_of : List Compiled → List ℕ
@@ -68,6 +71,7 @@ module _ {B : Type 0} (G : Ghosts B) where
     durable = durable_seen registered l;
     pool = map (plain_box G) l.table.pool;
     boxes = boxes_of l.table;
+    changes = changes_seen (modules_seen l.loaded.modules.items) l.changes;
   }
 
   -- A host may be in it; the typed tree of each module is that of its source, and its code is that of the tree; each
@@ -81,3 +85,7 @@ module _ {B : Type 0} (G : Ghosts B) where
     pub held : HoldsRoots l.table (roots_of l)
     pub kinds : map G.kind_of l.table.services ≡ service_kinds registered
     pub fit : BoxesFit (map (plain_box G) l.table.pool)
+    -- nothing is marked between requests
+    pub settled : IsSettled l.table
+    -- the names of what the last answered request changed can be listed
+    pub listable : AreListable (changes_seen (modules_seen l.loaded.modules.items) l.changes)

@@ -10,6 +10,7 @@ ghost use Rattle.ash_engine.specs.TableRuns.{Released, IsRemoved};
 ghost use Rattle.ash_engine.specs.TableSteps.{IsStepOf};
 ghost use Rattle.ash_engine.specs.TableTasks.{IsAsked};
 
+use crate::changes::ModuleChange;
 use crate::live::Live;
 use crate::runs::answered;
 use crate::steps::LiveStep;
@@ -31,11 +32,11 @@ pub(crate) fn release<B: HostObject>(
     table.sweep(events)
 }
 
-/// The live state without the module at a place, and the events of that.
+/// The live state without the module at a place, the events of that, and the name of the module.
 fn remove_module<B: HostObject>(
     place: usize,
     live: Live<B>,
-) -> Result<(Live<B>, Vec<Event>), NoMemory>
+) -> Result<(Live<B>, Vec<Event>, String), NoMemory>
     requires within { place < length live.loaded.modules.items }
     requires compiled { place < length live.compiled.items }
     requires held { (m : LoadedData) (number : ℕ) → slice_get live.loaded.modules.items place ≡ Some m
@@ -43,6 +44,8 @@ fn remove_module<B: HostObject>(
     ensures removed { (m : LoadedData) → slice_get live.loaded.modules.items place ≡ Some m
         → IfOk result (λ left. IsRemoved live place m left.0 left.1.items) }
     ensures in_order { IfOk result (λ left. IsInOrder left.0.table.objects) }
+    ensures named { (m : LoadedData) → slice_get live.loaded.modules.items place ≡ Some m
+        → IfOk result (λ left. left.2 ≡ m.name) }
 {
     let mut live = live;
     let removed = live.loaded.modules.remove(place);
@@ -50,7 +53,7 @@ fn remove_module<B: HostObject>(
     let mut events = Vec::new(live.loaded.alloc);
     release(&mut live.table, &removed.globals, &mut events)?;
     live.table.facts();
-    Ok((live, events))
+    Ok((live, events, removed.name))
 }
 
 /// Removes the module at a place.
@@ -60,7 +63,10 @@ pub(crate) fn discard<B: HostObject>(place: usize, live: Live<B>) -> Result<Live
         → IsStepOf B.HostObject asked.registered budget asked.request live result }
 {
     match remove_module(place, live) {
-        Ok((live, events)) => Ok(answered(live, Outcome::Finished(None), events)),
+        Ok((live, events, name)) => {
+            let outcome = Outcome::Finished(None);
+            answered(live, outcome, events, ModuleChange::Discarded(name))
+        }
         Err(_) => Err(StepError::NoMemory),
     }
 }

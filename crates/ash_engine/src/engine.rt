@@ -8,11 +8,15 @@ ghost use Rattle.ash_image.specs.declared.version.Version.TheVariants.{Two};
 ghost use Rattle.ash_states.specs.Images.{IsImageIn, IsBodyIn};
 ghost use Rattle.ash_engine.specs.LiveStates.{LiveState, AreOf, begin};
 ghost use Rattle.ash_engine.specs.LiveSteps.{reached_by, IsReached, Handled};
+ghost use Rattle.ash_engine.specs.NamedChanges.{changes_seen};
+ghost use Rattle.ash_engine.specs.RecordedChanges.{IsBodyOfChanges};
 ghost use Rattle.ash_engine.specs.RestoredBoxes.{HasServices, LacksService, IsShort};
 ghost use Rattle.ash_engine.specs.RestoredBoxes.{IsRefused, Restores};
 
 use crate::boxes::take_services;
+use crate::changes::Changes;
 use crate::live::Live;
+use crate::recording::delta_body;
 use crate::starting::{first_live, restored_live};
 use crate::steps::step_of;
 use crate::writing::{body_of, image_of};
@@ -149,6 +153,19 @@ impl<B: HostObject> Engine<B> {
         live.loaded.seq
     }
 
+    /// What the last request that was answered may have changed; nothing before the first.
+    #[tactic(auto, using(crate::proofs::LiveFacts::changes_in))]
+    pub fn changes(&self) -> &Changes
+        requires live { IsSome self.now.live }
+        ensures changes { (live : LiveState B) → self.now.live ≡ Some live
+            → changes_seen live.durable.state.modules result.now ≡ live.changes }
+    {
+        let Some(live) = &self.live else {
+            unreachable!()
+        };
+        &live.changes
+    }
+
     /// The image of the state, in version 2. An `Err` means that memory was refused.
     pub fn image(&self) -> Result<Vec<u8>, AllocError>
         requires live { IsSome self.now.live }
@@ -175,6 +192,21 @@ impl<B: HostObject> Engine<B> {
             unreachable!()
         };
         body_of(&self.registry, live)
+    }
+
+    /// The body of a record of what the last request that was answered changed, in version 2: it lists what the
+    /// changes name, as it is in the state, and nothing else. An `Err` means that memory was refused.
+    pub fn delta_body(&self) -> Result<Vec<u8>, AllocError>
+        requires live { IsSome self.now.live }
+        ensures delta { (live : LiveState B) → self.now.live ≡ Some live
+            → IfOk result (λ body. IsBodyOfChanges live body.items) }
+        // It fits into a record.
+        ensures short { IfOk result (λ body. length body.items < 2 ^ 28) }
+    {
+        let Some(live) = &self.live else {
+            unreachable!()
+        };
+        delta_body(live)
     }
 
     /// One request, with so many ticks. If memory is refused before anything changes, the reply is the refusal

@@ -13,6 +13,7 @@
 #![tactic(auto)]
 
 mod boxes;
+pub mod changes;
 mod compiling;
 mod discarding;
 pub mod engine;
@@ -20,6 +21,7 @@ pub mod laws;
 mod live;
 mod loading;
 mod names;
+mod recording;
 mod runs;
 mod showing;
 mod starting;

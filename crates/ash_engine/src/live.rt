@@ -1,5 +1,6 @@
 //! A live state: the modules with their code, and the table of objects.
 
+use crate::changes::Changes;
 use ash_code::code::Code;
 use ash_context::context::Context;
 use ash_objects::Objects;
@@ -23,6 +24,8 @@ pub struct Live<B> {
     pub(crate) compiled: Vec<Compiled>,
     /// The objects by their numbers, the free boxes and the services. Each object is held as often as globals hold it.
     pub(crate) table: Objects<B>,
+    /// What the last request that was answered may have changed. The marks of the table are clear.
+    pub(crate) changes: Changes,
 }
 
 /// What no run takes of a live state.
@@ -31,4 +34,5 @@ pub struct Rest {
     /// The modules. The one that runs has lent its globals.
     pub(crate) loaded: PlainState,
     pub(crate) compiled: Vec<Compiled>,
+    pub(crate) changes: Changes,
 }

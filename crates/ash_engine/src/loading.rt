@@ -1,6 +1,7 @@
 //! Modules that are loaded: their code, and the run of their initializers.
 
-ghost use Rattle.std.specs.Prelude.{◌≡◌, ◌<◌, ◌≤◌, ◌++◌, ℕ, List, [], Contains, Option, Ok, Err, map, length};
+ghost use Rattle.std.specs.Prelude.{◌≡◌, ◌<◌, ◌≤◌, ◌++◌, ℕ, List, [], Contains, Option, Some, Ok, Err, map, length};
+ghost use Rattle.std.specs.Prelude.{slice_get};
 ghost use Rattle.std.specs.Prelude.{IfErr, IfOk, IfSome, OnOk, nat_eq};
 ghost use Rattle.std.specs.List.{insert, list_any};
 ghost use Rattle.ash_host.specs.Objects.{handles};
@@ -22,11 +23,13 @@ ghost use Rattle.ash_requests.specs.Tasks.{max_seq};
 ghost use Rattle.ash_sources.specs.SourceFaults.{fault_of};
 ghost use Rattle.ash_plain_steps.specs.StateViews.{loaded_seen, modules_seen};
 ghost use Rattle.ash_plain_steps.specs.declared.task.Task.TheVariants as tasks;
+ghost use Rattle.ash_engine.specs.declared.changes.ModuleChange.TheVariants as changes;
 ghost use Rattle.ash_engine.specs.TableRuns.{end_named, SaysOfLoad, IsAnswered, IsPrepared, IsKept, IsAbandoned};
 ghost use Rattle.ash_engine.specs.TableStates.{slots_of};
 ghost use Rattle.ash_engine.specs.TableSteps.{IsStepOf};
 ghost use Rattle.ash_engine.specs.TableTasks.{entry_name, IsAsked};
 
+use crate::changes::ModuleChange;
 use crate::compiling::compiled_for;
 use crate::discarding::release;
 use crate::live::{Compiled, Live, Rest};
@@ -137,39 +140,43 @@ fn run_initializers<B: HostObject>(compiled: &mut Compiled, parts: Parts<B>, bud
         .run(&compiled.code, parts, place, &[], budget)
 }
 
-/// Inserts a module at the place of its name, and its code at the same place.
+/// Inserts a module at the place of its name, and its code at the same place, and returns the place.
 fn insert_module(
     modules: &mut Vec<LoadedModule>,
     codes: &mut Vec<Compiled>,
     new_module: LoadedModule,
     compiled: Compiled,
-) -> Result<(), AllocError>
+) -> Result<usize, AllocError>
     requires many { length codes.old.items ≡ length modules.old.items }
     ensures by_name { OnOk result (modules_seen modules.new.items
         ≡ with_module (loaded_seen new_module) (modules_seen modules.old.items)) }
-    ensures at_a_place { OnOk result ((place : ℕ) × (modules.new.items ≡ insert modules.old.items place new_module)
+    ensures at_a_place { IfOk result (λ place. (modules.new.items ≡ insert modules.old.items place new_module)
         × (codes.new.items ≡ insert codes.old.items place compiled)) }
+    ensures within { IfOk result (λ place. place ≤ length modules.old.items) }
 {
     let place = place_after(modules, new_module.name.as_str()).unwrap_or(modules.len());
     modules.insert(place, new_module)?;
     codes.insert(place, compiled)?;
-    Ok(())
+    Ok(place)
 }
 
-/// The live state with a module whose initializers came to their end, and the events of these.
+/// The live state with a module whose initializers came to their end, the events of these, and the place of the module.
 fn keep<B: HostObject>(
     rest: Rest,
     new_module: LoadedModule,
     compiled: Compiled,
     parts: Parts<B>,
-) -> Result<(Live<B>, Vec<Event>), AllocError>
+) -> Result<(Live<B>, Vec<Event>, usize), AllocError>
     requires many { length rest.compiled.items ≡ length rest.loaded.modules.items }
     ensures kept { IfOk result (λ left. IsKept rest new_module compiled parts left.0) }
+    ensures there { IfOk result (λ left. slice_get left.0.loaded.modules.items left.2
+        ≡ Some (record new_module { globals = parts.globals })) }
     ensures events { IfOk result (λ left. left.1 ≡ parts.events) }
 {
     let Rest {
         mut loaded,
         compiled: mut codes,
+        changes,
     } = rest;
     let Parts {
         table,
@@ -179,13 +186,14 @@ fn keep<B: HostObject>(
     } = parts;
     let mut new_module = new_module;
     new_module.globals = globals;
-    insert_module(&mut loaded.modules, &mut codes, new_module, compiled)?;
+    let place = insert_module(&mut loaded.modules, &mut codes, new_module, compiled)?;
     let live = Live {
         loaded,
         compiled: codes,
         table,
+        changes,
     };
-    Ok((live, events))
+    Ok((live, events, place))
 }
 
 /// The live state without a module whose initializers did not come to their end, and the events of these.
@@ -193,7 +201,11 @@ fn abandon<B: HostObject>(rest: Rest, parts: Parts<B>) -> Result<(Live<B>, Vec<E
     requires held { (number : ℕ) → times number (handles parts.globals.items) ≤ holds_of number parts.table }
     ensures abandoned { IfOk result (λ left. IsAbandoned rest parts left.0 left.1.items) }
 {
-    let Rest { loaded, compiled } = rest;
+    let Rest {
+        loaded,
+        compiled,
+        changes,
+    } = rest;
     let Parts {
         mut table,
         globals,
@@ -206,6 +218,7 @@ fn abandon<B: HostObject>(rest: Rest, parts: Parts<B>) -> Result<(Live<B>, Vec<E
         loaded,
         compiled,
         table,
+        changes,
     };
     Ok((live, events))
 }
@@ -221,12 +234,12 @@ fn finish_abandoned<B: HostObject>(
     requires held { (number : ℕ) → times number (handles parts.globals.items) ≤ holds_of number parts.table }
     ensures abandoned { IfOk result (λ one. (live : Live B) × (events : List Event)
         × IsAbandoned rest parts live events
-        × IsAnswered live (end_named (entry_name (module_of new_module.tree)) outcome) events one) }
+        × IsAnswered live (end_named (entry_name (module_of new_module.tree)) outcome) events changes.Unchanged one) }
     ensures memory { IfErr result (λ error. error ≡ StepError.NoMemory) }
 {
     let outcome = outcome_of(rest.loaded.alloc, &new_module.tree, outcome)?;
     match abandon(rest, parts) {
-        Ok((live, events)) => Ok(answered(live, outcome, events)),
+        Ok((live, events)) => answered(live, outcome, events, ModuleChange::Unchanged),
         Err(_) => Err(StepError::NoMemory),
     }
 }
@@ -244,17 +257,19 @@ fn finish_ended<B: HostObject>(
     requires held { (number : ℕ) → times number (handles parts.globals.items) ≤ holds_of number parts.table }
     ensures kept { (value : Option Word) → outcome ≡ variants.Finished value
         → IfOk result (λ one. (live : Live B) × IsKept rest new_module compiled parts live
-        × IsAnswered live (Finished value) parts.events.items one) }
+        × (place : ℕ) × (slice_get live.loaded.modules.items place ≡ Some (record new_module { globals = parts.globals }))
+        × IsAnswered live (Finished value) parts.events.items (changes.Loaded place) one) }
     ensures abandoned { ((value : Option Word) → outcome ≡ variants.Finished value → ⊥)
         → IfOk result (λ one. (live : Live B) × (events : List Event)
         × IsAbandoned rest parts live events
-        × IsAnswered live (end_named (entry_name (module_of new_module.tree)) outcome) events one) }
+        × IsAnswered live (end_named (entry_name (module_of new_module.tree)) outcome) events changes.Unchanged one) }
     ensures memory { IfErr result (λ error. error ≡ StepError.NoMemory) }
 {
     match outcome {
         RunOutcome::Finished(value) => {
-            let (live, events) = keep(rest, new_module, compiled, parts)?;
-            Ok(answered(live, Outcome::Finished(value), events))
+            let (live, events, place) = keep(rest, new_module, compiled, parts)?;
+            let outcome = Outcome::Finished(value);
+            answered(live, outcome, events, ModuleChange::Loaded(place))
         }
         RunOutcome::Exception {
             code,
@@ -288,15 +303,21 @@ fn finish_load<B: HostObject>(
         ≤ holds_of number left.parts.table }
     ensures kept { (value : Option Word) → left.outcome ≡ Ok (variants.Finished value)
         → IfOk result (λ one. (live : Live B) × IsKept rest new_module compiled left.parts live
-        × IsAnswered live (Finished value) left.parts.events.items one) }
+        × (place : ℕ) × (slice_get live.loaded.modules.items place ≡ Some (record new_module { globals = left.parts.globals }))
+        × IsAnswered live (Finished value) left.parts.events.items (changes.Loaded place) one) }
     ensures abandoned { (outcome : outcomes.Outcome) → left.outcome ≡ Ok outcome
         → ((value : Option Word) → outcome ≡ variants.Finished value → ⊥)
         → IfOk result (λ one. (live : Live B) × (events : List Event)
         × IsAbandoned rest left.parts live events
-        × IsAnswered live (end_named (entry_name (module_of new_module.tree)) outcome) events one) }
+        × IsAnswered live (end_named (entry_name (module_of new_module.tree)) outcome) events changes.Unchanged one) }
     ensures refused { left.outcome ≡ Err faults.NotBegun
         → IfOk result (λ one. (reply_seen fault_of one.reply ≡ Refused NoMemoryRefusal)
-        × (one.live ≡ record { loaded = rest.loaded; compiled = rest.compiled; table = left.parts.table })) }
+        × (one.live ≡ record {
+          loaded = rest.loaded;
+          compiled = rest.compiled;
+          table = left.parts.table;
+          changes = rest.changes;
+        })) }
     ensures lost { left.outcome ≡ Err faults.NoMemory → IfOk result (λ one. ⊥) }
     ensures never { left.outcome ≡ Err faults.Unsound → IfOk result (λ one. ⊥) }
     ensures memory { IfErr result (λ error. error ≡ StepError.NoMemory) }
@@ -305,11 +326,16 @@ fn finish_load<B: HostObject>(
     match outcome {
         Ok(outcome) => finish_ended(rest, new_module, compiled, outcome, parts),
         Err(RunFault::NotBegun) => {
-            let Rest { loaded, compiled } = rest;
+            let Rest {
+                loaded,
+                compiled,
+                changes,
+            } = rest;
             Ok(without_memory(Live {
                 loaded,
                 compiled,
                 table: parts.table,
+                changes,
             }))
         }
         // The code of a module is never unsound.
@@ -339,6 +365,7 @@ pub(crate) fn initialize<B: HostObject>(
         loaded,
         compiled: codes,
         table,
+        changes,
     } = live;
     let alloc = loaded.alloc;
     let parts = Parts {
@@ -351,6 +378,7 @@ pub(crate) fn initialize<B: HostObject>(
     let rest = Rest {
         loaded,
         compiled: codes,
+        changes,
     };
     finish_load(rest, new_module, compiled, left)
 }

@@ -1,6 +1,6 @@
 //! Runs of functions that are called from outside.
 
-ghost use Rattle.std.specs.Prelude.{◌≡◌, ◌<◌, ◌+◌, ◌++◌, ℕ, List, [], All, IsTrue, set, length, map, slice_get};
+ghost use Rattle.std.specs.Prelude.{◌≡◌, ◌<◌, ◌≤◌, ◌+◌, ◌++◌, ℕ, List, [], All, IsTrue, set, length, map, slice_get};
 ghost use Rattle.std.specs.Prelude.{Some, Ok, Err, IfOk, IfErr, OnOk};
 ghost use Rattle.std.specs.List.{remove};
 ghost use Rattle.ash_host.specs.Objects.{handles};
@@ -18,11 +18,15 @@ ghost use Rattle.ash_plain_steps.specs.StateViews.{modules_seen};
 ghost use Rattle.ash_plain_steps.specs.declared.state.LoadedModule.{LoadedModule as LoadedData};
 ghost use Rattle.ash_plain_steps.specs.declared.task.Task.TheVariants as tasks;
 ghost use Rattle.ash_sources.specs.SourceFaults.{fault_of};
+ghost use Rattle.ash_engine.specs.declared.changes.ChangedGlobals.{ChangedGlobals as ChangedData};
+ghost use Rattle.ash_engine.specs.declared.changes.ModuleChange.TheVariants as changes;
 ghost use Rattle.ash_engine.specs.declared.live.Compiled.{Compiled as CompiledData};
 ghost use Rattle.ash_engine.specs.TableRuns.{end_named, SaysOfCall, IsLent, IsGivenBack, IsAnswered};
+ghost use Rattle.ash_engine.specs.NamedChanges.{AreChanged};
 ghost use Rattle.ash_engine.specs.TableSteps.{IsStepOf};
 ghost use Rattle.ash_engine.specs.TableTasks.{codes_of, entry_name, IsAsked};
 
+use crate::changes::{ModuleChange, changed_globals, take_changes};
 use crate::live::{Compiled, Live, Rest};
 use crate::names::outcome_of;
 use crate::steps::LiveStep;
@@ -49,21 +53,33 @@ pub(crate) fn without_memory<B>(live: Live<B>) -> LiveStep<B>
 }
 
 /// The step that answers how a run ended, with its events.
-pub(crate) fn answered<B>(live: Live<B>, outcome: Outcome, events: Vec<Event>) -> LiveStep<B>
+///
+/// The live state has what the request changed, and the marks of its table are cleared.
+pub(crate) fn answered<B: HostObject>(
+    live: Live<B>,
+    outcome: Outcome,
+    events: Vec<Event>,
+    modules: ModuleChange,
+) -> Result<LiveStep<B>, StepError>
     requires numbered { live.loaded.seq < max_seq }
-    ensures answered { IsAnswered live (end_seen outcome) events.items result }
+    ensures answered { IfOk result (λ one. IsAnswered live (end_seen outcome) events.items modules one) }
+    ensures memory { IfErr result (λ error. error ≡ StepError.NoMemory) }
 {
     let mut live = live;
+    let Ok(changes) = take_changes(live.loaded.alloc, &mut live.table, &events, modules) else {
+        return Err(StepError::NoMemory);
+    };
+    live.changes = changes;
     live.loaded.seq += 1;
     let seq = live.loaded.seq;
-    LiveStep {
+    Ok(LiveStep {
         reply: Reply::Answer(Answer {
             outcome,
             seq,
             events,
         }),
         live,
-    }
+    })
 }
 
 /// Appends the objects that the globals of modules are handles to.
@@ -103,6 +119,24 @@ fn handles_beside(
     Ok(numbers)
 }
 
+/// What is held before a run of the module at a place: the objects that the globals of all other modules are handles
+/// to, and what its own globals hold, so that those that hold other words after it are known.
+fn held_before(
+    alloc: Global,
+    modules: &[LoadedModule],
+    place: usize,
+) -> Result<(Vec<u64>, Vec<Word>), AllocError>
+    requires within { place < length modules.now }
+    ensures value { IfOk result (λ held. held.0.items
+        ≡ handles (globals_of (modules_seen (remove modules.now place)))) }
+    ensures globals { (m : LoadedData) → slice_get modules.now place ≡ Some m
+        → IfOk result (λ held. held.1.items ≡ m.globals.items) }
+{
+    let outside = handles_beside(alloc, modules, place)?;
+    let globals = Vec::from_slice(alloc, &modules[place].globals)?;
+    Ok((outside, globals))
+}
+
 /// Gives the module at a place other globals, and returns what it had.
 fn replace_globals(modules: &mut Vec<LoadedModule>, place: usize, globals: Vec<Word>) -> Vec<Word>
     requires within { place < length modules.old.items }
@@ -123,6 +157,7 @@ fn lend<B: HostObject>(live: Live<B>, place: usize, outside: Vec<u64>) -> (Rest,
         mut loaded,
         compiled,
         table,
+        changes,
     } = live;
     let alloc = loaded.alloc;
     let globals = replace_globals(&mut loaded.modules, place, Vec::new(alloc));
@@ -132,7 +167,12 @@ fn lend<B: HostObject>(live: Live<B>, place: usize, outside: Vec<u64>) -> (Rest,
         outside,
         events: Vec::new(alloc),
     };
-    (Rest { loaded, compiled }, parts)
+    let rest = Rest {
+        loaded,
+        compiled,
+        changes,
+    };
+    (rest, parts)
 }
 
 /// Runs a function of the code of the module at a place.
@@ -168,6 +208,7 @@ fn give_back<B: HostObject>(rest: Rest, place: usize, parts: Parts<B>) -> (Live<
     let Rest {
         mut loaded,
         compiled,
+        changes,
     } = rest;
     let Parts {
         table,
@@ -180,6 +221,7 @@ fn give_back<B: HostObject>(rest: Rest, place: usize, parts: Parts<B>) -> (Live<
         loaded,
         compiled,
         table,
+        changes,
     };
     (live, events)
 }
@@ -188,15 +230,20 @@ fn give_back<B: HostObject>(rest: Rest, place: usize, parts: Parts<B>) -> (Live<
 fn finish_call<B: HostObject>(
     rest: Rest,
     place: usize,
+    before: &[Word],
     left: Left<B>,
 ) -> Result<LiveStep<B>, StepError>
     requires numbered { rest.loaded.seq < max_seq }
     requires within { place < length rest.loaded.modules.items }
+    requires few { length before.now ≤ 256 }
     ensures answered { (m : LoadedData) (outcome : outcomes.Outcome)
         → slice_get rest.loaded.modules.items place ≡ Some m
         → left.outcome ≡ Ok outcome
-        → IfOk result (λ one. (live : Live B) × IsGivenBack rest place m left.parts live
-        × IsAnswered live (end_named (entry_name (module_of m.tree)) outcome) left.parts.events.items one) }
+        → IfOk result (λ one. (live : Live B) × (globals : ChangedData)
+        × IsGivenBack rest place m left.parts live
+        × AreChanged place before.now left.parts.globals.items globals
+        × IsAnswered live (end_named (entry_name (module_of m.tree)) outcome) left.parts.events.items
+        (changes.Globals globals) one) }
     ensures refused { (m : LoadedData) → slice_get rest.loaded.modules.items place ≡ Some m
         → left.outcome ≡ Err faults.NotBegun
         → IfOk result (λ one. (reply_seen fault_of one.reply ≡ Refused NoMemoryRefusal)
@@ -209,8 +256,9 @@ fn finish_call<B: HostObject>(
     match outcome {
         Ok(outcome) => {
             let outcome = outcome_of(rest.loaded.alloc, &rest.loaded.modules[place].tree, outcome)?;
+            let places = changed_globals(rest.loaded.alloc, place, before, &parts.globals)?;
             let (live, events) = give_back(rest, place, parts);
-            Ok(answered(live, outcome, events))
+            answered(live, outcome, events, ModuleChange::Globals(places))
         }
         Err(RunFault::NotBegun) => {
             let (live, _) = give_back(rest, place, parts);
@@ -231,7 +279,8 @@ pub(crate) fn invoke<B: HostObject>(
     ensures stepped { (asked : IsAsked B.HostObject live (tasks.Invoke call))
         → IsStepOf B.HostObject asked.registered budget asked.request live result }
 {
-    let Ok(outside) = handles_beside(live.loaded.alloc, &live.loaded.modules, call.module) else {
+    let Ok((outside, before)) = held_before(live.loaded.alloc, &live.loaded.modules, call.module)
+    else {
         return Ok(without_memory(live));
     };
     let (mut rest, parts) = lend(live, call.module, outside);
@@ -243,5 +292,5 @@ pub(crate) fn invoke<B: HostObject>(
         &call.args,
         budget,
     );
-    finish_call(rest, call.module, left)
+    finish_call(rest, call.module, &before, left)
 }

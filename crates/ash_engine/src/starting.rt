@@ -20,6 +20,7 @@ ghost use Rattle.ash_engine.specs.RestoredTables.{IsTableOf, IsShortOf, IsRefuse
 ghost use Rattle.ash_engine.specs.TableStates.{live_seen, IsLive};
 
 use crate::boxes::boxes_fit;
+use crate::changes::Changes;
 use crate::compiling::compile_all;
 use crate::live::Live;
 use ash_host::HostObject;
@@ -52,6 +53,7 @@ pub(crate) fn first_live<B: HostObject>(
         loaded: PlainState::new(alloc, Vec::new(alloc)),
         compiled: Vec::new(alloc),
         table: Objects::new(alloc, pool, services),
+        changes: Changes::none(alloc),
     }
 }
 
@@ -141,9 +143,11 @@ pub(crate) fn restored_live<B: HostObject>(
     boxes_fit(&pool);
     let mut table = table_of(&state, pool, services)?;
     hold_globals(&mut table, &state.modules);
+    let changes = Changes::none(state.alloc);
     Ok(Live {
         loaded: modules_alone(state),
         compiled,
         table,
+        changes,
     })
 }

@@ -13,7 +13,7 @@ use ash_table_states::writing::{self, TableState};
 use std::alloc::{AllocError, Global};
 
 /// The slots of modules, in their order.
-fn slots_of(alloc: Global, compiled: &[Compiled]) -> Result<Vec<u8>, AllocError>
+pub(crate) fn slots_of(alloc: Global, compiled: &[Compiled]) -> Result<Vec<u8>, AllocError>
     ensures slots { IfOk result (λ slots. slots.items ≡ slots_of compiled.now) }
 {
     let mut slots = Vec::with_capacity(alloc, compiled.len())?;

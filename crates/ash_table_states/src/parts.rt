@@ -22,8 +22,8 @@ use std::alloc::{AllocError, Global};
 /// An object of a table, by its number.
 #[derive(Drop)]
 pub struct ListedObject<'a, B> {
-    pub(crate) number: u64,
-    pub(crate) body: &'a Body<B>,
+    pub number: u64,
+    pub body: &'a Body<B>,
 }
 
 /// The place of a slot.
@@ -58,7 +58,7 @@ fn element_at(slots: &[u8], of: ElementTag) -> ElementTag
 }
 
 /// The state of a box.
-fn state_of<B: HostObject>(alloc: Global, object: &B) -> Result<Vec<u8>, AllocError>
+pub fn state_of<B: HostObject>(alloc: Global, object: &B) -> Result<Vec<u8>, AllocError>
     ensures state { IfOk result (λ state. state.items ≡ B.state object.now) }
 {
     let mut state = Vec::new(alloc);
@@ -117,7 +117,7 @@ pub(crate) fn listed<B: HostObject>(
 }
 
 /// The states of objects, in order. What is no host object has none.
-pub(crate) fn object_states<B: HostObject>(
+pub fn object_states<B: HostObject>(
     alloc: Global,
     objects: &[ListedObject<'_, B>],
 ) -> Result<Vec<Vec<u8>>, AllocError>
@@ -157,7 +157,7 @@ fn body_parts<'a, B: HostObject>(slots: &[u8], body: &'a Body<B>, state: &'a [u8
 }
 
 /// Objects with their numbers and their states, if the modules have these slots.
-pub(crate) fn object_parts<'a, B: HostObject>(
+pub fn object_parts<'a, B: HostObject>(
     alloc: Global,
     slots: &[u8],
     objects: &'a [ListedObject<'a, B>],

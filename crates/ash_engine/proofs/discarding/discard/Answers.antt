@@ -1,3 +1,8 @@
+use Rattle.std.proofs.Common.{None, subst}
+use Rattle.std.proofs.lemmas.Result.{IfOk-weaker}
+use Rattle.ash_meaning.specs.Ends.{Finished}
+use Rattle.ash_engine.specs.declared.changes.ModuleChange.TheVariants as changes
+use Rattle.ash_engine.specs.TableRuns.{IsAnswered}
 use Rattle.ash_engine.proofs.Discarded.{within, within_codes, holds_enough, fails, still_numbered, discarded, there}
 use Rattle.ash_engine.proofs.discarding.discard.Goals as goal
 
@@ -26,7 +31,10 @@ returns-in-Ok g c = record {
   stepped = λ budget asked.
       let found = there g.B.HostObject c.args.live c.args.place asked in
       discarded g.B.HostObject asked.registered c.args.live asked.live c.args.place found.module_there found.at asked.request found.task budget
-      c.in-Ok.live c.in-Ok.events.items (c.in-Ok.ensures.removed found.module_there found.at) c.in-Ok.ensures.in_order c.answered.result c.answered.ensures.answered;
+      c.in-Ok.live c.in-Ok.events.items (c.in-Ok.ensures.removed found.module_there found.at) c.in-Ok.ensures.in_order c.answered.result
+      (IfOk-weaker c.answered.result _ _ (λ one is. subst (λ (n : _). IsAnswered c.in-Ok.live (Finished None) c.in-Ok.events.items (changes.Discarded n) one)
+      (c.in-Ok.ensures.named found.module_there found.at) is) c.answered.ensures.answered)
+      c.answered.ensures.memory;
 }
 
 pub returns-in-Err : goal.returns-in-Err

@@ -32,3 +32,10 @@ returns-clause-removed g c = λ m at.
       released = subst (λ (ws : List Word). Released ws table left [] after) (c.deref.ensures.value ∙ ap (λ (x : LoadedModule). x.globals.items) same)
           (subst (λ (es : List Event). Released c.deref.result.now table left es after) c.new-events.ensures.items c.in_ok-release.ensures.released);
     }
+
+pub returns-clause-named : goal.returns-clause-named
+returns-clause-named g c = λ m at.
+    let ms = c.args.live.loaded.modules.items in
+    let removed = c.remove-removed.result in
+    let there : slice_get ms c.args.place ≡ Some removed = slice_get-get_or ms c.args.place removed c.requires.within ∙ ap (λ (x : LoadedModule). Some x) (sym c.remove-removed.ensures.value) in
+    ap (λ (x : LoadedModule). x.name) (same_Some removed m (sym there ∙ at))

@@ -1,14 +1,18 @@
 use Rattle.std.proofs.Common.{◌≡◌, ◌<◌, ℕ, List, get_or, Ok, sym, ap, ◌∙◌, subst}
+use Rattle.std.proofs.lemmas.Result.{IfOk-weaker}
 use Rattle.std.proofs.lemmas.Option.{get_or_from_slice_get, slice_get-get_or}
 use Rattle.ash_host.specs.declared.event.Event.{Event}
+use Rattle.ash_host.specs.declared.word.Word.{Word}
 use Rattle.ash_typed.specs.Modules.{module_of}
 use Rattle.ash_meaning.specs.Ends.{End}
 use Rattle.ash_run_steps.specs.declared.beginning.Parts.{Parts}
 use Rattle.ash_requests.specs.Tasks.{max_seq}
 use Rattle.ash_plain_steps.specs.declared.state.LoadedModule.{LoadedModule}
 use Rattle.ash_plain_steps.specs.declared.state.PlainState.{PlainState}
+use Rattle.ash_engine.specs.declared.changes.ModuleChange.TheVariants as changes
 use Rattle.ash_engine.specs.declared.live.Live.{Live}
 use Rattle.ash_engine.specs.declared.live.Rest.{Rest}
+use Rattle.ash_engine.specs.NamedChanges.{AreChanged}
 use Rattle.ash_engine.specs.TableRuns.{end_named, IsGivenBack, IsAnswered}
 use Rattle.ash_engine.specs.TableTasks.{entry_name}
 use Rattle.ash_engine.proofs.runs.finish_call.Goals as goal
@@ -29,23 +33,29 @@ answered-requires g c =
           (c.give_back-live.ensures.given m at) c.requires.numbered;
     }
 
-pub returns-in_ok-outcome-in-Ok-clause-answered : goal.returns-in_ok-outcome-in-Ok-clause-answered
-returns-in_ok-outcome-in-Ok-clause-answered g c m outcome at is =
+pub returns-in_ok-places-in-Ok-clause-answered : goal.returns-in_ok-places-in-Ok-clause-answered
+returns-in_ok-places-in-Ok-clause-answered g c m outcome at is =
     let ms : List LoadedModule = c.args.rest.loaded.modules.items in
     let found : LoadedModule = c.index.result.now in
     let back = c.give_back-live.result.0 in
     let module_is : found ≡ m = c.index.ensures ∙ get_or_from_slice_get ms c.args.place m found at in
     let outcome_is : c.in-Ok.outcome ≡ outcome = cc (c.in-Ok.is, is) in
     let end = c.in_ok-outcome-in-Ok.ensures.end
-    ∙ (λ i. end_named (entry_name (module_of (module_is i).tree)) (outcome_is i)) in (
+    ∙ (λ i. end_named (entry_name (module_of (module_is i).tree)) (outcome_is i)) in
+    let globals = c.in_ok-places-in-Ok.places in
+    IfOk-weaker c.answered.result _ _
+    (λ step answered. (
       back,
+      globals,
       c.give_back-live.ensures.given m at,
+      subst (λ (ws : List Word). AreChanged c.args.place c.args.before.now ws globals) c.deref.ensures.value
+          c.in_ok-places-in-Ok.ensures.changed,
       subst (λ (es : List Event). IsAnswered back (end_named (entry_name (module_of m.tree)) outcome) es
-          c.answered.result)
+          (changes.Globals globals) step)
           (ap (λ (v : _). v.items) c.give_back-live.ensures.events)
-          (subst (λ (e : End). IsAnswered back e c.give_back-live.result.1.items c.answered.result) end
-          c.answered.ensures.answered),
-    )
+          (subst (λ (e : End). IsAnswered back e c.give_back-live.result.1.items (changes.Globals globals) step) end
+          answered),
+    )) c.answered.ensures.answered
 
 pub returns-in-Err-NotBegun-clause-refused : goal.returns-in-Err-NotBegun-clause-refused
 returns-in-Err-NotBegun-clause-refused g c m at is = (

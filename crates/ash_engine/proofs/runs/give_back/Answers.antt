@@ -6,5 +6,6 @@ returns-clause-given g c m at = record {
   modules = (c.replace_globals.ensures.value m at).1;
   loaded = refl;
   compiled = refl;
+  changes = refl;
   table = refl;
 }

@@ -1,4 +1,4 @@
-use Rattle.std.proofs.Common.{◌∙◌, List, refl, sym, ap, subst}
+use Rattle.std.proofs.Common.{◌∙◌, ◌≤◌, List, length, slice_get, refl, sym, ap, subst}
 use Rattle.std.specs.Prelude.{All, IsTrue}
 use Rattle.std.specs.List.{remove}
 use Rattle.ash_host.specs.declared.word.Word.{Word}
@@ -8,7 +8,7 @@ use Rattle.ash_engine.specs.TableRuns.{SaysOfCall}
 use Rattle.ash_engine.proofs.Beside.{held_by}
 use Rattle.ash_engine.proofs.Invoked.{asked_module}
 use Rattle.ash_engine.proofs.ReadRanks.{read_ranked}
-use Rattle.ash_engine.proofs.Lent.{within, alive, without_run, roots_held, there, within_rest, within_rest_codes}
+use Rattle.ash_engine.proofs.Lent.{within, few_globals, alive, without_run, roots_held, there, within_rest, within_rest_codes}
 use Rattle.ash_engine.proofs.Lent.{rest_numbered, call_stepped}
 use Rattle.ash_engine.proofs.runs.invoke.Goals as goal
 
@@ -76,6 +76,16 @@ finish_call-requires-clause-within g c =
     c.deref.ensures.value)
     c.lend-rest.result.0 c.lend-rest.result.1 (c.lend-rest.ensures.lent found.0 found.1)
 
+pub finish_call-requires-clause-few : goal.finish_call-requires-clause-few
+finish_call-requires-clause-few g c =
+    let G = g.B.HostObject in
+    let asked = c.requires.asked in
+    let found = asked_module G c.args.live c.args.call asked (read_ranked asked.registered) in
+    subst (λ (ws : List Word). length ws ≤ 256)
+    (sym (c.deref-3.ensures.value ∙ c.in-Ok.ensures.globals found.0
+    (ap (λ (l : List LoadedModule). slice_get l c.args.call.module) c.deref.ensures.value ∙ found.1)))
+    (few_globals G c.args.live c.args.call asked found.0 found.1 found.2)
+
 pub returns : goal.returns
 returns g c = record {
   stepped =
@@ -91,6 +101,8 @@ returns g c = record {
       lent in
       call_stepped G c.args.live c.args.call asked found.0 found.1 found.2 c.in-Ok.outside.items beside rest parts lent
       c.args.budget left (record rest { compiled = c.run_at-left.new.compiled }) refl c.run_at-left.ensures.codes
+      refl c.deref-3.result.now (c.deref-3.ensures.value ∙ c.in-Ok.ensures.globals found.0
+      (ap (λ (l : List LoadedModule). slice_get l c.args.call.module) c.deref.ensures.value ∙ found.1))
       (λ one code_at. subst (λ (ws : List Word). SaysOfCall G one.code parts c.args.call.function ws c.args.budget left)
       c.deref-2.ensures.value (c.run_at-left.ensures.says one code_at))
       c.run_at-left.ensures.unchanged c.run_at-left.ensures.held

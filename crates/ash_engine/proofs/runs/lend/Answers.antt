@@ -11,6 +11,7 @@ returns g c = record {
         modules = replaced.1;
         loaded = refl;
         compiled = refl;
+        changes = refl;
         table = refl;
         globals = ap (λ (v : _). v.items) replaced.0;
         outside = refl {A = List ℕ};

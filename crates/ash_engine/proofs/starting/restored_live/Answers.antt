@@ -71,6 +71,7 @@ returns-clause-live g c =
     (subst (λ (ms : List LoadedModule). HoldsMore (handles (globals_of (modules_seen ms))) c.in_ok-table.table c.hold_globals.new.table) c.deref-3.ensures.value c.hold_globals.ensures.held)
     c.modules_alone.ensures.modules c.modules_alone.ensures.seq
     (subst (λ (ms : List LoadedModule). slots_of c.in-Ok.compiled.items ≡ places_from 0 (modules_seen ms)) c.deref.ensures.value c.in-Ok.ensures.slots)
+    (c.none-changes.ensures.nothing (modules_seen c.modules_alone.result.modules.items))
     (subst (λ (ms : List LoadedModule). AreCompiled ms c.in-Ok.compiled.items) c.deref.ensures.value c.in-Ok.ensures.compiled)
     (subst (λ (boxes : List B). All (λ (box : B). IsState (G.state box)) boxes) c.deref-2.ensures.value c.boxes_fit.ensures.fit)
 
@@ -80,7 +81,12 @@ returns-clause-restored g c = λ given has are.
     let B = g.row.B.Denot in
     let s = c.args.state in
     let here = registered c.args.registry.now in
-    let l : Live B = record { loaded = c.modules_alone.result; compiled = c.in-Ok.compiled; table = c.hold_globals.new.table } in
+    let l : Live B = record {
+      loaded = c.modules_alone.result;
+      compiled = c.in-Ok.compiled;
+      table = c.hold_globals.new.table;
+      changes = c.none-changes.result;
+    } in
     let more = subst (λ (ms : List LoadedModule). HoldsMore (handles (globals_of (modules_seen ms))) c.in_ok-table.table c.hold_globals.new.table) c.deref-3.ensures.value c.hold_globals.ensures.held in
     let slots = subst (λ (ms : List LoadedModule). slots_of c.in-Ok.compiled.items ≡ places_from 0 (modules_seen ms)) c.deref.ensures.value c.in-Ok.ensures.slots in
     restores G here s c.requires.held c.args.pool.items c.args.services.items c.requires.kinds c.in_ok-table.table
@@ -89,6 +95,7 @@ returns-clause-restored g c = λ given has are.
     (lives G here s c.requires.held c.args.pool.items c.args.services.items c.requires.kinds c.in_ok-table.table
     c.in_ok-table.ensures.table c.in_ok-table.ensures.services l more
     c.modules_alone.ensures.modules c.modules_alone.ensures.seq slots
+    (c.none-changes.ensures.nothing (modules_seen c.modules_alone.result.modules.items))
     (subst (λ (ms : List LoadedModule). AreCompiled ms c.in-Ok.compiled.items) c.deref.ensures.value c.in-Ok.ensures.compiled)
     (subst (λ (boxes : List B). All (λ (box : B). IsState (G.state box)) boxes) c.deref-2.ensures.value c.boxes_fit.ensures.fit))
-    given has are
+    (c.none-changes.ensures.nothing (modules_seen c.modules_alone.result.modules.items)) given has are

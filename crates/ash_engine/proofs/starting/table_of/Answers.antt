@@ -39,6 +39,7 @@ returns-clause-table g c =
     let saved = c.in-Ok.objects.items in
     table_made g.B.HostObject (state_seen s) c.args.pool.items s.last saved c.restored.result
     (saved_of s c.deref.result.now saved c.deref.ensures.value c.in-Ok.ensures.saved) refl c.restored.ensures.objects c.restored.ensures.last
+    c.restored.ensures.settled c.restored.ensures.gone
 
 pub returns-clause-services : goal.returns-clause-services
 returns-clause-services g c =

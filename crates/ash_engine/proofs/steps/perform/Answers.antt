@@ -37,7 +37,7 @@ returns-in-Read g c = record {
       subst (λ (s : LiveStep g.row.B.Denot). IsStepOf G asked.registered c.args.budget asked.request c.args.live (Ok s))
       (sym c.replied.ensures.value)
       (looked_at G c.args.live c.args.task asked c.args.budget (Read c.in-Read.word) step
-      (ap (task_seen c.args.live.loaded.modules.items) c.in-Read.is) refl refl refl);
+      (ap (task_seen c.args.live.loaded.modules.items) c.in-Read.is) refl refl tt refl);
 }
 
 pub returns-in-Show : goal.returns-in-Show
@@ -48,7 +48,7 @@ returns-in-Show g c = record {
       subst (λ (s : LiveStep g.row.B.Denot). IsStepOf G asked.registered c.args.budget asked.request c.args.live (Ok s))
       (sym c.replied-in-Show.ensures.value)
       (looked_at G c.args.live c.args.task asked c.args.budget (Show (shown_seen c.in-Show.shown)) step
-      (ap (task_seen c.args.live.loaded.modules.items) c.in-Show.is) refl refl refl);
+      (ap (task_seen c.args.live.loaded.modules.items) c.in-Show.is) refl refl tt refl);
 }
 
 pub returns-in-Count : goal.returns-in-Count
@@ -59,7 +59,7 @@ returns-in-Count g c = record {
       subst (λ (s : LiveStep g.row.B.Denot). IsStepOf G asked.registered c.args.budget asked.request c.args.live (Ok s))
       (sym c.replied-in-Count.ensures.value)
       (looked_at G c.args.live c.args.task asked c.args.budget Count step
-      (ap (task_seen c.args.live.loaded.modules.items) c.in-Count.is) refl refl refl);
+      (ap (task_seen c.args.live.loaded.modules.items) c.in-Count.is) refl refl tt refl);
 }
 
 pub returns-in-Rewrite : goal.returns-in-Rewrite
@@ -70,5 +70,5 @@ returns-in-Rewrite g c = record {
       subst (λ (s : LiveStep g.row.B.Denot). IsStepOf G asked.registered c.args.budget asked.request c.args.live (Ok s))
       (sym c.replied-in-Rewrite.ensures.value)
       (looked_at G c.args.live c.args.task asked c.args.budget Rewrite step
-      (ap (task_seen c.args.live.loaded.modules.items) c.in-Rewrite.is) refl refl refl);
+      (ap (task_seen c.args.live.loaded.modules.items) c.in-Rewrite.is) refl refl tt refl);
 }

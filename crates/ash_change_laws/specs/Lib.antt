@@ -1,0 +1,3 @@
+pub mod UncalledServices
+pub mod MarkedObjects
+pub mod ChangedStates

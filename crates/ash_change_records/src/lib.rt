@@ -1,0 +1,4 @@
+//! What a request changed, as a delta.
+#![tactic(auto)]
+
+pub mod laws;
