@@ -100,9 +100,10 @@ fn loaded(
     let image = served(alloc, 2, &[], states.0)?;
     let mut file = generation(alloc, number, &image)?;
     let services = changed_services(alloc, states.0, states.1)?;
+    let load = delta_of_modules(1, ModuleDelta::Added(MODULE));
     let delta = StoreDelta {
         services: &services,
-        ..delta_of_modules(1, ModuleDelta::Added(MODULE))
+        ..load
     };
     add_delta(alloc, &mut file, &delta)?;
     Ok(with_gate(file, gate))

@@ -96,10 +96,11 @@ pub enum File {
     /// The generation of a number: the state in its image, the states to which its records lead, each by what it
     /// changes, and what is left after them of what was longer.
     Written(u64, State, &'static [State], &'static [u8]),
-    /// The generation of a number whose records have whole states: the state in its image, those in its records, and
-    /// what is left after them of what was longer.
-    Whole(u64, State, &'static [State], &'static [u8]),
-    /// The same in version 1, with nothing left after it.
+    /// The generation of a number: the state in its image, those in its first records, which have whole states, and the
+    /// states to which the records after them lead.
+    Whole(u64, State, &'static [State], &'static [State]),
+    /// The generation of a number in version 1, whose records have whole states: the state in its image, and those in
+    /// its records.
     Older(u64, State, &'static [State]),
     /// The generation of a number with a state in its image, over the first one, which had an empty image and records
     /// of what leads to these states, and was longer.
@@ -165,6 +166,21 @@ fn add_between(
     add_delta(alloc, file, &delta_of_modules(after.0, modules))
 }
 
+/// Adds records that lead from a state to these, one after the other.
+fn add_changes(
+    alloc: Global,
+    file: &mut Vec<u8>,
+    first: State,
+    records: &[State],
+) -> Result<(), AllocError> {
+    let mut before = first;
+    for state in records {
+        add_between(alloc, file, before, *state)?;
+        before = *state;
+    }
+    Ok(())
+}
+
 /// The generation of a number, whose records lead from state to state.
 fn written(
     alloc: Global,
@@ -174,11 +190,7 @@ fn written(
 ) -> Result<Vec<u8>, AllocError> {
     let image = image_of(alloc, 2, first)?;
     let mut file = generation(alloc, number, image.as_slice())?;
-    let mut before = first;
-    for state in records {
-        add_between(alloc, &mut file, before, *state)?;
-        before = *state;
-    }
+    add_changes(alloc, &mut file, first, records)?;
     Ok(file)
 }
 
@@ -192,9 +204,10 @@ pub fn bytes_of(alloc: Global, file: File) -> Result<Vec<u8>, AllocError> {
             file.extend_from_slice(rest)?;
             Ok(file)
         }
-        File::Whole(number, first, records, rest) => {
-            let mut file = whole(alloc, 2, number, first, records)?;
-            file.extend_from_slice(rest)?;
+        File::Whole(number, first, wholes, records) => {
+            let mut file = whole(alloc, 2, number, first, wholes)?;
+            let before = wholes.last().copied().unwrap_or(first);
+            add_changes(alloc, &mut file, before, records)?;
             Ok(file)
         }
         File::Older(number, first, records) => whole(alloc, 1, number, first, records),

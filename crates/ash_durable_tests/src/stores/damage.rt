@@ -61,8 +61,8 @@ static CUT_FILES: [CutFile; 3] = [
     // which has 2 + 4 + 45 + 2 + 5.
     (
         "two records of whole states",
-        File::Whole(1, (0, None), &[(1, Some(2)), (2, Some(7))], &[1, 2, 3]),
-        237 + 3,
+        File::Whole(1, (0, None), &[(1, Some(2)), (2, Some(7))], &[]),
+        237,
         &[
             (0, Err(OpenFault::NoGeneration)),
             (2, DAMAGED),

@@ -12,7 +12,7 @@ use std::alloc::Global;
 use std::process::Abort;
 use std::test::Fail;
 
-static LIVES: [RunSeries; 6] = [
+static LIVES: [RunSeries; 9] = [
     // The first gate of each is shut and synced. Then the generation is written and synced, and its gate.
     (
         File::Bytes(&[]),
@@ -115,6 +115,56 @@ static LIVES: [RunSeries; 6] = [
                 calls: (15, 3),
             },
         ],
+    ),
+    // A call after which `n` holds what it held, and a load that comes to no end.
+    (
+        File::Bytes(&[]),
+        File::Bytes(&[]),
+        &[Run {
+            what: "a call that changes nothing",
+            start: Start::Make,
+            steps: &[HostStep::Load, HostStep::Call(0)],
+            answers: "ok seq 1\nok 2 seq 2\n",
+            is_reopened: true,
+            first: File::Written(1, (0, None), &[(1, Some(2)), (2, Some(2))], &[]),
+            second: File::Bytes(&[0]),
+            calls: (14 + 1, 2 + 1),
+        }],
+    ),
+    (
+        File::Bytes(&[]),
+        File::Bytes(&[]),
+        &[Run {
+            what: "a load that comes to no end",
+            start: Start::Make,
+            steps: &[HostStep::LoadAs("m", b"int n = 1 / 0;")],
+            answers: "exception DivideByZero (init) 1 seq 1\n",
+            is_reopened: true,
+            first: File::Written(1, (0, None), &[(1, None)], &[]),
+            second: File::Bytes(&[0]),
+            calls: (10 + 1, 2 + 1),
+        }],
+    ),
+    // A store whose records have whole states: so an older program left it, which wrote the whole state for each
+    // request. It goes on with records of what changes.
+    (
+        File::Whole(1, (0, None), &[(1, Some(2)), (2, Some(7))], &[]),
+        File::Bytes(&[0]),
+        &[Run {
+            what: "records of whole states",
+            start: Start::Open,
+            steps: &[HostStep::State, HostStep::Call(1), HostStep::Discard],
+            answers: "(2, Some(7))\nok 8 seq 3\nok seq 4\n",
+            is_reopened: true,
+            first: File::Whole(
+                1,
+                (0, None),
+                &[(1, Some(2)), (2, Some(7))],
+                &[(3, Some(8)), (4, None)],
+            ),
+            second: File::Bytes(&[0]),
+            calls: (1 + 2 * 4 + 1, 1 + 1),
+        }],
     ),
     // A store whose state is all in its first image, before what is left of a longer file: so an older program left it,
     // which wrote the whole file for each request.
