@@ -22,75 +22,82 @@ const NOTHING: StoreDelta<'static> = StoreDelta {
     put: &[],
 };
 
-/// A record that changes the modules.
-const fn of_modules(modules: ModuleDelta<'static>) -> StoreDelta<'static> {
-    StoreDelta { modules, ..NOTHING }
-}
-
-/// What a record is called, the record, and the state that is found.
-type Row = (&'static str, StoreDelta<'static>, Result<State, OpenFault>);
+/// What a record is called, what it makes of the modules, and the state that is found.
+type ModuleRow = (&'static str, ModuleDelta<'static>, Result<State, OpenFault>);
 
 /// The gate before the record is at 21 + 87, after an image with the module `m`, in which `n` is 2.
 const DAMAGED: Result<State, OpenFault> = Err(OpenFault::Damaged(108));
 
-static ROWS: [Row; 15] = [
-    ("nothing", NOTHING, Ok((2, Some(2)))),
+static MODULE_ROWS: [ModuleRow; 11] = [
+    ("nothing", ModuleDelta::Unchanged, Ok((2, Some(2)))),
     (
         "a global",
-        of_modules(ModuleDelta::Globals("m", &[(0, 9)])),
+        ModuleDelta::Globals("m", &[(0, 9)]),
         Ok((2, Some(9))),
     ),
     (
         "a global that is not there",
-        of_modules(ModuleDelta::Globals("m", &[(1, 9)])),
+        ModuleDelta::Globals("m", &[(1, 9)]),
         DAMAGED,
     ),
     (
         "a global twice",
-        of_modules(ModuleDelta::Globals("m", &[(0, 8), (0, 9)])),
+        ModuleDelta::Globals("m", &[(0, 8), (0, 9)]),
         DAMAGED,
     ),
     (
         "a global of a module that is not there",
-        of_modules(ModuleDelta::Globals("k", &[(0, 9)])),
+        ModuleDelta::Globals("k", &[(0, 9)]),
         DAMAGED,
     ),
     (
         "no globals of a module that is not there",
-        of_modules(ModuleDelta::Globals("k", &[])),
+        ModuleDelta::Globals("k", &[]),
         DAMAGED,
     ),
     (
         "a module that is removed",
-        of_modules(ModuleDelta::Removed("m")),
+        ModuleDelta::Removed("m"),
         Ok((2, None)),
     ),
     (
         "a module that is removed and was not there",
-        of_modules(ModuleDelta::Removed("k")),
+        ModuleDelta::Removed("k"),
         Ok((2, Some(2))),
     ),
     (
         "a module in the place of one of its name",
-        of_modules(ModuleDelta::Added(MODULE)),
+        ModuleDelta::Added(MODULE),
         Ok((2, Some(7))),
     ),
     (
         "a module with a global too few",
-        of_modules(ModuleDelta::Added(ImageModule {
+        ModuleDelta::Added(ImageModule {
             global: None,
             ..MODULE
-        })),
+        }),
         DAMAGED,
     ),
     (
         "a source that would not be loaded",
-        of_modules(ModuleDelta::Added(ImageModule {
+        ModuleDelta::Added(ImageModule {
             source: b"int n = ;",
             ..MODULE
-        })),
+        }),
         DAMAGED,
     ),
+];
+
+const MODULE: ImageModule<'static> = ImageModule {
+    name: "m",
+    source: SOURCE,
+    global: Some(7),
+};
+
+/// What a record is called, the record, and the state that is found.
+type Row = (&'static str, StoreDelta<'static>, Result<State, OpenFault>);
+
+static ROWS: [Row; 4] = [
     (
         "a service that is not there",
         StoreDelta {
@@ -125,12 +132,6 @@ static ROWS: [Row; 15] = [
     ),
 ];
 
-const MODULE: ImageModule<'static> = ImageModule {
-    name: "m",
-    source: SOURCE,
-    global: Some(7),
-};
-
 /// A file with one record more.
 fn with_record(
     alloc: Global,
@@ -144,15 +145,36 @@ fn with_record(
 
 /// Compares the state that is found after a record.
 fn check_row(rt: &impl Abort, alloc: Global, file: &[u8], row: &Row) -> Result<(), Fail> {
-    let (what, delta, wanted) = row;
-    let file = with_record(alloc, file, delta)?;
+    let (what, delta, wanted) = *row;
+    let file = with_record(alloc, file, &delta)?;
     let found = found_state(alloc, &file, &[0])?;
     check(rt, &found, &wanted.map_err(StoreFault::Open), what);
     Ok(())
 }
 
+/// The same of a record that changes the modules.
+fn check_module_row(
+    rt: &impl Abort,
+    alloc: Global,
+    file: &[u8],
+    row: &ModuleRow,
+) -> Result<(), Fail> {
+    let (what, modules, wanted) = *row;
+    let delta = StoreDelta { modules, ..NOTHING };
+    check_row(rt, alloc, file, &(what, delta, wanted))
+}
+
 #[test]
 fn records_of_modules(rt: HostRuntime) -> Result<(), Fail> {
+    let file = bytes_of(rt.alloc(), File::Written(1, (1, Some(2)), &[], &[]))?;
+    for row in &MODULE_ROWS {
+        check_module_row(&rt, rt.alloc(), &file, row)?;
+    }
+    Ok(())
+}
+
+#[test]
+fn records_of_services_and_numbers(rt: HostRuntime) -> Result<(), Fail> {
     let file = bytes_of(rt.alloc(), File::Written(1, (1, Some(2)), &[], &[]))?;
     for row in &ROWS {
         check_row(&rt, rt.alloc(), &file, row)?;
