@@ -161,7 +161,7 @@ fn add_between(
     before: State,
     after: State,
 ) -> Result<(), AllocError> {
-    let global = [(0, after.1.unwrap_or_default())];
+    let global: [(u16, i32); 1] = [(0, after.1.unwrap_or(0))];
     let modules = change_between(before, after, &global);
     add_delta(alloc, file, &delta_of_modules(after.0, modules))
 }
