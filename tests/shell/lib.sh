@@ -135,8 +135,8 @@ body() {
     printf "${5:-\\0\\0\\0\\0}"
 }
 
-# record FILE LENGTH NUMBER MODULES [..]: adds a record with such a body, which has this length, below 65,536, to a file whose last
-# gate it opens, and the gate after it
+# record FILE LENGTH NUMBER MODULES [..]: adds a record with such a body, which has this length, below 65,536, to a file whose
+# last gate it opens, and the gate after it
 record() {
     overwrite '\001' $(($(wc -c < "$1") - 1)) "$1"
     {

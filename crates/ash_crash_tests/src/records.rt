@@ -10,9 +10,9 @@ const WHAT: &str = "a call that changes one global beside a counter";
 
 const LOAD: &str = "load m int n = 0; Counter@ g = Counter(7); void f() { n = 1; }";
 
-/// The length of the body; its tag, the number of the answer, the last number of an object; no services; that globals of
-/// `m` changed: one, the first, which is the `int` 1; no objects that are gone, and none that are new or changed; the
-/// next gate.
+/// The length of the body; its tag, the number of the answer, the last number of an object; no services; that globals
+/// of `m` changed: one, the first, which is the `int` 1; no objects that are gone, and none that are new or changed;
+/// the next gate.
 const RECORD: &[u8] = b"\
     \x27\x00\x00\x00\
     \x02\

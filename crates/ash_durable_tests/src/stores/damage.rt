@@ -43,8 +43,8 @@ type CutFile = (&'static str, File, usize, &'static [Cut]);
 
 static CUT_FILES: [CutFile; 3] = [
     // The same with two records, of which each has 5 bytes around its body. One adds a module with a name of one byte,
-    // 45 bytes of source and one global, and has 36 + 45 + 7; the other changes one global, and has 39. What comes after
-    // the last gate is not read.
+    // 45 bytes of source and one global, and has 36 + 45 + 7; the other changes one global, and has 39. What comes
+    // after the last gate is not read.
     (
         "two records, and three bytes more",
         File::Written(1, (0, None), &[(1, Some(2)), (2, Some(7))], &[1, 2, 3]),

@@ -228,8 +228,8 @@ static ROWS_OF_AN_IMAGE: [Row; 13] = [
 const RECORD_DAMAGED: Option<StoreFault> = Some(StoreFault::Open(OpenFault::Damaged(62)));
 
 // The image is the empty one with that text, 41 bytes from 21 on, whose last `l` is at 35, and the gate before the
-// record is at 62. Its body has 56 bytes: a tag, at 67, and what adds the module. The index of its global is at 108, the
-// word begins at 110, and the next gate is at 123.
+// record is at 62. Its body has 56 bytes: a tag, at 67, and what adds the module. The index of its global is at 108,
+// the word begins at 110, and the next gate is at 123.
 static ROWS_OF_A_RECORD: [Row; 17] = [
     (Place::Record, Damage::Cut(124), "Tall", None),
     (Place::Record, Damage::Cut(124), "Tale", OTHER),
