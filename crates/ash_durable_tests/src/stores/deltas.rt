@@ -213,13 +213,7 @@ type ObjectRow = (
 const NO_STATE: &str = "Open(Damaged(115))";
 
 static OBJECT_ROWS: [ObjectRow; 12] = [
-    (
-        "nothing",
-        1,
-        &[],
-        &[],
-        "ok object 1 m.A count 1 v 0\n2\n",
-    ),
+    ("nothing", 1, &[], &[], "ok object 1 m.A count 1 v 0\n2\n"),
     (
         "an object",
         1,
@@ -234,9 +228,21 @@ static OBJECT_ROWS: [ObjectRow; 12] = [
         &[(1, SEVEN)],
         "ok object 1 m.A count 1 v 7\n2\n",
     ),
-    ("an object both gone and put", 1, &[1], &[(1, SEVEN)], NO_STATE),
+    (
+        "an object both gone and put",
+        1,
+        &[1],
+        &[(1, SEVEN)],
+        NO_STATE,
+    ),
     ("an object that is gone, and held", 1, &[1], &[], NO_STATE),
-    ("an object that nothing holds", 2, &[], &[(2, SEVEN)], NO_STATE),
+    (
+        "an object that nothing holds",
+        2,
+        &[],
+        &[(2, SEVEN)],
+        NO_STATE,
+    ),
     ("a number above the last", 0, &[], &[(1, SEVEN)], NO_STATE),
     (
         "an object twice",
