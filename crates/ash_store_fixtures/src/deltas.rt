@@ -45,7 +45,8 @@ pub fn delta_of_modules<'a>(seq: u64, modules: ModuleDelta<'a>) -> StoreDelta<'a
 fn add_globals(delta: &mut Vec<u8>, globals: &[(u16, i32)]) -> Result<(), AllocError> {
     let count = u16::try_from(globals.len()).unwrap_or(u16::MAX);
     delta.extend_from_slice(&count.to_le_bytes())?;
-    for (place, number) in globals {
+    for global in globals {
+        let (place, number) = *global;
         delta.extend_from_slice(&place.to_le_bytes())?;
         delta.push(1)?;
         delta.extend_from_slice(&number.to_le_bytes())?;
@@ -54,8 +55,8 @@ fn add_globals(delta: &mut Vec<u8>, globals: &[(u16, i32)]) -> Result<(), AllocE
 }
 
 /// Adds a module with all of its globals.
-fn add_added(delta: &mut Vec<u8>, module: &ImageModule) -> Result<(), AllocError> {
-    add_source(delta, module)?;
+fn add_added(delta: &mut Vec<u8>, module: ImageModule) -> Result<(), AllocError> {
+    add_source(delta, &module)?;
     match module.global {
         Some(number) => add_globals(delta, &[(0, number)]),
         None => add_globals(delta, &[]),
@@ -63,7 +64,7 @@ fn add_added(delta: &mut Vec<u8>, module: &ImageModule) -> Result<(), AllocError
 }
 
 /// Adds what became of the modules, after its tag.
-fn add_modules(delta: &mut Vec<u8>, modules: &ModuleDelta) -> Result<(), AllocError> {
+fn add_modules(delta: &mut Vec<u8>, modules: ModuleDelta) -> Result<(), AllocError> {
     match modules {
         ModuleDelta::Unchanged => delta.push(0),
         ModuleDelta::Added(module) => {
@@ -87,6 +88,7 @@ fn add_numbers(delta: &mut Vec<u8>, numbers: &[u64]) -> Result<(), AllocError> {
     let count = u32::try_from(numbers.len()).unwrap_or(u32::MAX);
     delta.extend_from_slice(&count.to_le_bytes())?;
     for number in numbers {
+        let number = *number;
         delta.extend_from_slice(&number.to_le_bytes())?;
     }
     Ok(())
@@ -96,7 +98,8 @@ fn add_numbers(delta: &mut Vec<u8>, numbers: &[u64]) -> Result<(), AllocError> {
 fn add_objects(delta: &mut Vec<u8>, objects: &[(u64, &[u8])]) -> Result<(), AllocError> {
     let count = u32::try_from(objects.len()).unwrap_or(u32::MAX);
     delta.extend_from_slice(&count.to_le_bytes())?;
-    for (number, bytes) in objects {
+    for object in objects {
+        let (number, bytes) = *object;
         delta.extend_from_slice(&number.to_le_bytes())?;
         delta.extend_from_slice(bytes)?;
     }
@@ -108,7 +111,7 @@ pub fn delta_bytes(alloc: Global, of: &StoreDelta) -> Result<Vec<u8>, AllocError
     let mut delta = Vec::from_slice(alloc, &of.seq.to_le_bytes())?;
     delta.extend_from_slice(&of.last.to_le_bytes())?;
     add_services(&mut delta, of.services)?;
-    add_modules(&mut delta, &of.modules)?;
+    add_modules(&mut delta, of.modules)?;
     add_numbers(&mut delta, of.gone)?;
     add_objects(&mut delta, of.put)?;
     Ok(delta)
