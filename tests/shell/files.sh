@@ -32,7 +32,7 @@ keep "$scratch/cut" "$scratch/before"
 ends "serve a store whose last record is cut" 1 "ashd: 503 Damaged" serve "$scratch/cut" --budget 1 --counters 0
 same "a damaged store stays" "$scratch/cut" "$scratch/before"
 keep "$store" "$scratch/closed"
-overwrite '\0' $((250 + 292 - 1)) "$scratch/closed/ash.a"
+overwrite '\0' $((250 + 93 - 1)) "$scratch/closed/ash.a"
 asks 'get m n\nseq\n'
 ends "serve a store whose last record doesn't count" 0 "" serve "$scratch/closed" --budget 1 --counters 0
 holds "what is found before that record" $'ok 2\nok 1'
@@ -44,13 +44,14 @@ rm "$scratch/second/ash.b"
 ends "create after that" 0 "" create "$scratch/second"
 same "the store after that" "$scratch/second" "$scratch/empty"
 
-# A disk that is full in a request: a file of 1,024 bytes at most has room for two of its records and a part of the third.
+# A disk that is full in a request: a file of 1,024 bytes at most has room for the 387 of the first example, and for a part of a
+# record of 741.
 # limited WORD..: ashd with these words, whose files have at most 1,024 bytes
 limited() {
     (ulimit -f 1 && trap '' XFSZ && exec "$ashd" "$@")
 }
 keep "$store" "$scratch/small"
-printf 'call m f 1\nget m n\nsnapshot\nseq\n' > "$scratch/input"
+printf 'load k 700\n%700s\nget m n\nsnapshot\nseq\n' '' > "$scratch/input"
 limited serve "$scratch/small" --budget 1000 --counters 2 < "$scratch/input" > "$scratch/output" 2> "$scratch/error"
 [ $? -eq 0 ]
 verdict $? "serve on a disk that gets full: $(cat "$scratch/error")"

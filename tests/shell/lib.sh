@@ -124,11 +124,26 @@ generation() {
     printf '\0'
 }
 
-# record LENGTH NUMBER MODULES [..]: a record whose body is a tag and an image of this length, and the gate after it
+# body NUMBER MODULES [SERVICES [LAST OBJECTS]]: the body of a record of what the request of this number, below 256, changed: what
+# became of the modules, which printf writes, and so are the services that were called, the last number of an object, below 256,
+# and the objects that were made or changed. None are gone.
+body() {
+    printf "\\002\\$(printf %o "$1")\\0\\0\\0\\0\\0\\0\\0\\$(printf %o "${4:-0}")\\0\\0\\0\\0\\0\\0\\0"
+    printf "${3:-\\0\\0}"
+    printf "$2"
+    printf '\0\0\0\0'
+    printf "${5:-\\0\\0\\0\\0}"
+}
+
+# record FILE LENGTH NUMBER MODULES [..]: adds a record with such a body, which has this length, below 65,536, to a file whose
+# last gate it opens, and the gate after it
 record() {
-    printf "\\$(printf %o "$((($1 + 1) % 256))")\\$(printf %o "$((($1 + 1) / 256))")\\0\\0\\001"
-    image "${@:2}"
-    printf '\0'
+    overwrite '\001' $(($(wc -c < "$1") - 1)) "$1"
+    {
+        printf "\\$(printf %o "$(($2 % 256))")\\$(printf %o "$(($2 / 256))")\\0\\0"
+        body "${@:3}"
+        printf '\0'
+    } >> "$1"
 }
 
 # empty_store FOLDER: the two files of a store without modules, with what ashd registers, written by hand

@@ -22,18 +22,17 @@ ends "damage before another text" 1 "ashd: 503 Damaged" serve "$scratch/foreign"
 overwrite '\002' 21 "$scratch/foreign/ash.a"
 ends "create over a store with another text" 1 "ashd: 502 AlreadyThere" create "$scratch/foreign"
 
-# A counter and a tally, which are stored byte for byte. With the script an image has 34 bytes more than the script and 228.
+# A counter and a tally, which are stored byte for byte. The body of the record that adds the script has 64 bytes more than the
+# script: 36 of a module without a source, 11 of a global that holds an object, and 17 of the counter. That of the call has 57: 32
+# of a call that changes no global, 8 of the service, and 17 of the counter.
 store=$scratch/counted
 source='Counter@ g = Counter(7); void f() { g.add(tally(4)); }'
-size=$((228 + 34 + ${#source}))
-module="\\001\\001m\\$(printf %o ${#source})\\0\\0\\0$source\\001\\0\\006\\001\\0\\0\\0\\0\\0\\0\\0"
+module="\\001\\001m\\$(printf %o ${#source})\\0\\0\\0$source\\001\\0\\0\\0\\006\\001\\0\\0\\0\\0\\0\\0\\0"
 object='\001\0\0\0\001\0\0\0\0\0\0\0\002\001\0\004\0'
 empty_store "$store"
 empty_store "$scratch/wanted"
-overwrite '\001' 249 "$scratch/wanted/ash.a"
-record $size 1 "$module" '\001\0\002\0\004\0\0\0\0\0' 1 "$object\\007\\0\\0\\0" >> "$scratch/wanted/ash.a"
-overwrite '\001' $((249 + 6 + size)) "$scratch/wanted/ash.a"
-record $size 2 "$module" '\001\0\002\0\004\0\004\0\0\0' 1 "$object\\013\\0\\0\\0" >> "$scratch/wanted/ash.a"
+record "$scratch/wanted/ash.a" $((64 + ${#source})) 1 "$module" '\0\0' 1 "$object\\007\\0\\0\\0"
+record "$scratch/wanted/ash.a" 57 2 '\003\001m\0\0' '\001\0\0\0\004\0\004\0\0\0' 1 "$object\\013\\0\\0\\0"
 asks "load m ${#source}\n$source\ncall m f\n"
 ends "serve a counter and a tally" 0 "" serve "$store" --budget 1000 --counters 1
 holds "a counter and a tally" $'ok seq 1\nok seq 2'
@@ -49,6 +48,19 @@ holds "a counter that is found" "$(printf '%s\n' 'ok object 1 Counter count 1 st
 asks 'object 1\nseq\n'
 ends "serve without a counter" 0 "" serve "$store" --budget 1000 --counters 0
 holds "no box is needed then" $'refused 407 NoObject\nok 4'
+
+# A call that changes one global beside a counter: the record has neither the counter nor the service, and 44 bytes.
+store=$scratch/beside
+source='int n = 0; Counter@ g = Counter(7); void f() { n = 1; }'
+asks "load m ${#source}\n$source\n"
+empty_store "$store"
+ends "serve a counter beside a number" 0 "" serve "$store" --budget 1000 --counters 1
+keep "$store" "$scratch/beside_wanted"
+record "$scratch/beside_wanted/ash.a" 39 2 '\003\001m\001\0\0\0\001\001\0\0\0' '\0\0' 1
+asks 'call m f\nget m n\nobject 1\n'
+ends "serve a call beside a counter" 0 "" serve "$store" --budget 1000 --counters 1
+holds "a call beside a counter" $'ok seq 2\nok 1\nok object 1 Counter count 1 state 07000000'
+same "the bytes of a call beside a counter" "$store" "$scratch/beside_wanted"
 
 # The last number was given: that is found before an empty pool.
 empty_store "$scratch/spent"

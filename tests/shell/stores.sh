@@ -75,28 +75,24 @@ ends "serve without ticks" 0 "" serve "$scratch/other" --budget 0 --counters 409
 holds "the budget of a store is the one that is given" "aborted f 1 seq 3"
 
 # The bytes of both files. An image has 228 bytes without a module, 236 with one that has no source, and 286 with that of the
-# first example; a file has 22 around its image, and a record 6.
+# first example. The body of a record has 36 if it adds a module without a source, 88 with that of the first example, 39 if it
+# changes a global, and 30 if it removes a module. A file has 22 around its image, and a record 5 around its body.
 # sizes NAME FOLDER BYTES BYTES: the two files have so many bytes
 sizes() {
     [ "$(wc -c < "$2/ash.a")" -eq "$3" ] && [ "$(wc -c < "$2/ash.b")" -eq "$4" ]
     verdict $? "$1: $(wc -c < "$2/ash.a") and $(wc -c < "$2/ash.b") bytes"
 }
-# opens_gate OFFSET FILE: writes 1 over a byte that is 0
-opens_gate() {
-    [ "$(od -An -tu1 -j "$1" -N 1 "$2" | tr -d ' ')" -eq 0 ] && overwrite '\001' "$1" "$2"
-}
 module='\001\001m\0\0\0\0\0\0'
-sizes "the store after the first example" "$store" $((250 + 2 * 292)) 1
+sizes "the store after the first example" "$store" $((250 + 93 + 44)) 1
 
 wanted=$scratch/wanted
 empty_store "$scratch/bytes"
 empty_store "$wanted"
-opens_gate 249 "$wanted/ash.a"
-record 236 1 "$module" >> "$wanted/ash.a"
+record "$wanted/ash.a" 36 1 '\001\001m\0\0\0\0\0\0'
 asks 'load m 0\n\n'
 ends "serve a load" 0 "" serve "$scratch/bytes" --budget 1000 --counters 0
 same "the bytes after a load" "$scratch/bytes" "$wanted"
-sizes "a load" "$scratch/bytes" $((250 + 242)) 1
+sizes "a load" "$scratch/bytes" $((250 + 41)) 1
 asks 'snapshot x\nseq\n'
 ends "serve what is no snapshot" 0 "" serve "$scratch/bytes" --budget 1000 --counters 0
 holds "what is no snapshot" $'refused 601 BadRequest\nok 1'
@@ -106,11 +102,11 @@ asks 'snapshot\nsnapshot x\nseq\n'
 ends "serve a snapshot" 0 "" serve "$scratch/bytes" --budget 1000 --counters 0
 holds "a snapshot" $'ok\nrefused 601 BadRequest\nok 1'
 same "the bytes after a snapshot" "$scratch/bytes" "$wanted"
-opens_gate 257 "$wanted/ash.b"
-record 228 2 '\0' >> "$wanted/ash.b"
+record "$wanted/ash.b" 30 2 '\002\001m'
 asks 'discard m\n'
 ends "serve a discard" 0 "" serve "$scratch/bytes" --budget 1000 --counters 0
 same "the bytes after a discard" "$scratch/bytes" "$wanted"
+sizes "a discard" "$scratch/bytes" $((250 + 41)) $((258 + 35))
 generation 3 228 2 '\0' | dd of="$wanted/ash.a" conv=notrunc status=none
 asks 'snapshot\n'
 ends "serve a second snapshot" 0 "" serve "$scratch/bytes" --budget 1000 --counters 0
@@ -122,15 +118,28 @@ same "an opening writes nothing" "$scratch/bytes" "$wanted"
 
 # What a crash may leave: gates that are neither 0 nor 1. An opening writes 0 over them, and nothing else.
 keep "$store" "$scratch/torn"
-overwrite '\002' $((250 + 2 * 292 - 1)) "$scratch/torn/ash.a"
+overwrite '\002' $((250 + 93 + 44 - 1)) "$scratch/torn/ash.a"
 overwrite '\377' 0 "$scratch/torn/ash.b"
 asks ''
 ends "serve a store with torn gates" 0 "" serve "$scratch/torn" --budget 1000 --counters 0
 same "torn gates are written over" "$scratch/torn" "$store"
 
+# A record of a whole state, as an older ashd left it, in the place of the second record. What follows is of what changes.
+used='\001\001m\055\0\0\0int n = 2; int f(int k) { n += k; return n; }\001\0\001\007\0\0\0'
+keep "$store" "$scratch/whole"
+truncate -s $((250 + 93)) "$scratch/whole/ash.a"
+printf '\037\001\0\0\001' >> "$scratch/whole/ash.a"
+image 2 "$used" >> "$scratch/whole/ash.a"
+printf '\0' >> "$scratch/whole/ash.a"
+keep "$scratch/whole" "$scratch/before"
+record "$scratch/before/ash.a" 39 3 '\003\001m\001\0\0\0\001\010\0\0\0'
+asks 'get m n\nseq\ncall m f 1\n'
+ends "serve a record of a whole state" 0 "" serve "$scratch/whole" --budget 1000 --counters 0
+holds "what is found of a record of a whole state" $'ok 7\nok 2\nok 8 seq 3'
+same "a record after one of a whole state" "$scratch/whole" "$scratch/before"
+
 # A store of version 1 with its state in one image of the first generation, before what is left of a longer one.
 mkdir "$scratch/older"
-used='\001\001m\055\0\0\0int n = 2; int f(int k) { n += k; return n; }\001\0\001\007\0\0\0'
 generation 1 286 2 "$used" > "$scratch/older/ash.a"
 overwrite '\001' 21 "$scratch/older/ash.a"
 printf 'what is left of a longer file\001' >> "$scratch/older/ash.a"

@@ -1,7 +1,8 @@
 //! The files of stores with services, written by hand after their layout.
 
 use ash_disk::MemoryDisk;
-use ash_store_fixtures::files::{ImageModule, StoreImage, add_record, generation, image_bytes};
+use ash_store_fixtures::deltas::{ModuleDelta, StoreDelta, add_delta, delta_of_modules};
+use ash_store_fixtures::files::{ImageModule, StoreImage, add_image, generation, image_bytes};
 use ash_store_fixtures::hosts::{EMPTY, disk};
 use std::alloc::{AllocError, Global};
 
@@ -25,9 +26,10 @@ pub enum File {
     Empty,
     /// The generation of a number with the two services, in an image before any request with these states.
     Made(u64, States),
-    /// The same, and a record of a load of the module `m` with no source, with these states; and the next gate.
+    /// The same, and a record of a load of the module `m` with no source, after which the services have these states;
+    /// and the next gate. The services are in the record whose state is another than before.
     Loaded(u64, States, States, u8),
-    /// The same in version 1.
+    /// The same in version 1, with the whole state in the record.
     Older(u64, States, States, u8),
     /// A generation in whose image the module `m` with no source is, with these states.
     Installed(u64, States),
@@ -72,17 +74,51 @@ fn with_gate(mut file: Vec<u8>, gate: u8) -> Vec<u8> {
     file
 }
 
-/// A generation with an image before any request, and a record after it.
+/// The services whose state is another than before: each its index and its state.
+fn changed_services(
+    alloc: Global,
+    before: States,
+    after: States,
+) -> Result<Vec<(u16, i32)>, AllocError> {
+    let mut services = Vec::new(alloc);
+    if before.0 != after.0 {
+        services.push((0, after.0))?;
+    }
+    if before.1 != after.1 {
+        services.push((1, after.1))?;
+    }
+    Ok(services)
+}
+
+/// A generation with an image before any request, and a record of a load after it.
 fn loaded(
     alloc: Global,
-    version: u8,
     number: u64,
     states: (States, States),
     gate: u8,
 ) -> Result<Vec<u8>, AllocError> {
-    let image = served(alloc, version, &[], states.0)?;
+    let image = served(alloc, 2, &[], states.0)?;
     let mut file = generation(alloc, number, &image)?;
-    add_record(&mut file, &served(alloc, version, &[MODULE], states.1)?)?;
+    let services = changed_services(alloc, states.0, states.1)?;
+    let load = delta_of_modules(1, ModuleDelta::Added(MODULE));
+    let delta = StoreDelta {
+        services: &services,
+        ..load
+    };
+    add_delta(alloc, &mut file, &delta)?;
+    Ok(with_gate(file, gate))
+}
+
+/// The same in version 1, with the whole state in the record.
+fn older(
+    alloc: Global,
+    number: u64,
+    states: (States, States),
+    gate: u8,
+) -> Result<Vec<u8>, AllocError> {
+    let image = served(alloc, 1, &[], states.0)?;
+    let mut file = generation(alloc, number, &image)?;
+    add_image(&mut file, &served(alloc, 1, &[MODULE], states.1)?)?;
     Ok(with_gate(file, gate))
 }
 
@@ -130,8 +166,8 @@ pub fn bytes_of(alloc: Global, file: File) -> Result<Vec<u8>, AllocError> {
         File::Bytes(bytes) => Vec::from_slice(alloc, bytes),
         File::Empty => Vec::from_slice(alloc, &EMPTY),
         File::Made(number, states) => generation(alloc, number, &served(alloc, 2, &[], states)?),
-        File::Loaded(number, first, then, gate) => loaded(alloc, 2, number, (first, then), gate),
-        File::Older(number, first, then, gate) => loaded(alloc, 1, number, (first, then), gate),
+        File::Loaded(number, first, then, gate) => loaded(alloc, number, (first, then), gate),
+        File::Older(number, first, then, gate) => older(alloc, number, (first, then), gate),
         File::Installed(number, states) => {
             generation(alloc, number, &served(alloc, 2, &[MODULE], states)?)
         }

@@ -5,6 +5,7 @@
 //! - `checks`: comparisons.
 //! - `plans`: what is asked of a store, and what is found after each request, as data.
 //! - `visits`: a store that is made or opened with new boxes, and is asked lines.
+//! - `records`: the bytes of a record.
 //! - `moments`: stops at each call of either disk, and crashes at each moment.
 //! - `refusals`: memory that is refused once.
 #![tactic(auto)]
@@ -15,6 +16,8 @@ mod checks;
 mod moments;
 #[cfg(test)]
 mod plans;
+#[cfg(test)]
+mod records;
 #[cfg(test)]
 mod refusals;
 #[cfg(test)]

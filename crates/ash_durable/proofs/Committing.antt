@@ -1,73 +1,33 @@
 -- A state in a journal, by what the journal's calls say of bytes.
-use Rattle.std.proofs.Common.{◌≡◌, ℕ, ◌+◌, List, [], ◌∷◌, ◌++◌, length, Ok, Err, sym}
+use Rattle.std.proofs.Common.{◌≡◌, inr, ℕ, ◌+◌, List, [], ◌∷◌, ◌++◌, length, Ok, Err, sym}
 use Rattle.ash_disk.specs.Device.{Device}
 use Rattle.ash_journal.specs.declared.journal.Journal.{Journal}
 use Rattle.ash_journal.specs.Current.{IsContents, HoldsOneOf}
 use Rattle.ash_journal.specs.JournalFailures.{CountsFailures}
 use Rattle.ash_journal.specs.Journal.{first_disk, second_disk, generation, record_bytes, HasFailed, IsReady, Holds}
 use Rattle.ash_journal.specs.SettledSince.{HoldsSince, Extends}
-use Rattle.ash_states.specs.HostStates.{HostState}
+use Rattle.ash_states.specs.HostStates.{HostState, IsAdmitted}
 use Rattle.ash_requests.specs.declared.refusal.Refusal.TheVariants as the
-use Rattle.ash_durable.specs.Contents.{record_header_size}
-use Rattle.ash_durable.specs.Saving.{Adds, Installs, last_generation}
+use Rattle.ash_replay.specs.ReplayFaults.{record_header_size}
+use Rattle.ash_durable.specs.Saving.{Adds, Installs, IsBefore, last_generation}
 use Rattle.ash_image.specs.declared.version.Version.TheVariants.{Two}
-use Rattle.ash_states.specs.Images.{IsImageIn, IsBodyIn}
+use Rattle.ash_states.specs.Images.{IsImageIn}
 use Rattle.ash_durable.specs.StoredStates.{HoldsState, ExtendsHistory, BeginsAnew}
 use Rattle.ash_durable.proofs.Settling.{record_goes_on, image_begins_anew}
-use Rattle.ash_durable.proofs.ContentsStates.{alone_in, push_in, state_of_alone, state_of_push}
+use Rattle.ash_replay.specs.ReplayedStates.{IsBodyBetween}
+use Rattle.ash_replay.proofs.Adding.{alone_in, state_of_alone, state_of_push, fits_in}
+use Rattle.ash_change_records.proofs.BodiesLead.{bodies_lead}
+use Rattle.ash_engine.specs.LiveStates.{LiveState}
+use Rattle.ash_engine.specs.RecordedChanges.{IsBodyOfChanges}
+
+-- what is said of the disks, whatever came of a call
+pub record Disks {D : Type 0} (device : Device D) (old new : Journal D) (failed : Type 0) : Type 0 where
+  pub failures : CountsFailures failed (device.failures (first_disk old)) (device.failures (second_disk old))
+      (device.failures (first_disk new)) (device.failures (second_disk new))
+  pub honesty_first : device.honest (first_disk new) ≡ device.honest (first_disk old)
+  pub honesty_second : device.honest (second_disk new) ≡ device.honest (second_disk old)
 
 module _ {D : Type 0} (device : Device D) (state : HostState) (old new : Journal D) where
-  -- what is said of the disks, whatever came of a call
-  pub record Disks (failed : Type 0) : Type 0 where
-    pub failures : CountsFailures failed (device.failures (first_disk old)) (device.failures (second_disk old))
-        (device.failures (first_disk new)) (device.failures (second_disk new))
-    pub honesty_first : device.honest (first_disk new) ≡ device.honest (first_disk old)
-    pub honesty_second : device.honest (second_disk new) ≡ device.honest (second_disk old)
-
-  added_moments : (body : List ℕ) → IsBodyIn Two body state
-      → ((image : List ℕ) (bodies : List (List ℕ)) → Holds device old image bodies
-      → Extends device (first_disk old) (second_disk old) (first_disk new) (second_disk new)
-      (IsContents (image, bodies ++ body ∷ []))) → (before : HostState) → before.registered ≡ state.registered
-      → HoldsState device before old → ExtendsHistory device before state old new
-  added_moments body is_body extends before same holds =
-      record_goes_on device before state holds.contents.0 body holds.contents.1 old new holds.is_state holds.in_two
-      (sym same) is_body (extends holds.contents.0 holds.contents.1 holds.holds)
-
-  pub adds : (body : List ℕ) → IsBodyIn Two body state
-      → ((image : List ℕ) (bodies : List (List ℕ)) → Holds device old image bodies
-      → Extends device (first_disk old) (second_disk old) (first_disk new) (second_disk new)
-      (IsContents (image, bodies ++ body ∷ [])))
-      → ((image : List ℕ) (bodies : List (List ℕ)) → Holds device old image bodies
-      → Holds device new image (bodies ++ body ∷ [])) → IsReady new → generation new ≡ generation old
-      → record_bytes new ≡ record_bytes old + record_header_size + length body → Disks ⊥ → Adds device state old (Ok tt) new
-  adds body is_body extends acknowledged ready number longer disks = record {
-    outcome = (ready, record { same = number; body = body; is_body = is_body; longer = longer });
-    holds = λ before same holds. record {
-      contents = (holds.contents.0, holds.contents.1 ++ body ∷ []);
-      holds = acknowledged holds.contents.0 holds.contents.1 holds.holds;
-      is_state = state_of_push before state holds.contents.0 holds.contents.1 body holds.is_state holds.in_two (sym same)
-          is_body;
-      in_two = push_in Two holds.contents.0 holds.contents.1 body state holds.in_two is_body;
-    };
-    moments = added_moments body is_body extends;
-    failures = disks.failures;
-    honesty_first = disks.honesty_first;
-    honesty_second = disks.honesty_second;
-  }
-
-  pub adds_not : (body : List ℕ) → IsBodyIn Two body state
-      → ((image : List ℕ) (bodies : List (List ℕ)) → Holds device old image bodies
-      → Extends device (first_disk old) (second_disk old) (first_disk new) (second_disk new)
-      (IsContents (image, bodies ++ body ∷ []))) → HasFailed new → Disks (Unit {0})
-      → Adds device state old (Err the.DeviceFailed) new
-  adds_not body is_body extends failed disks = record {
-    outcome = failed;
-    holds = tt;
-    moments = added_moments body is_body extends;
-    failures = disks.failures;
-    honesty_first = disks.honesty_first;
-    honesty_second = disks.honesty_second;
-  }
 
   installed_moments : (image : List ℕ) → IsImageIn Two image state
       → ((was : List ℕ) (bodies : List (List ℕ)) → Holds device old was bodies
@@ -85,7 +45,7 @@ module _ {D : Type 0} (device : Device D) (state : HostState) (old new : Journal
       (second_disk new)
       (HoldsOneOf (IsContents (image, [])) (IsContents (was, bodies))))
       → ((was : List ℕ) (bodies : List (List ℕ)) → Holds device old was bodies → Holds device new image [])
-      → IsReady new → generation new ≡ generation old + 1 → record_bytes new ≡ 0 → Disks ⊥
+      → IsReady new → generation new ≡ generation old + 1 → record_bytes new ≡ 0 → Disks device old new ⊥
       → Installs device state old (Ok tt) new
   installs image depicts run installed ready higher emptied disks = record {
     outcome = (ready, higher, emptied);
@@ -107,11 +67,72 @@ module _ {D : Type 0} (device : Device D) (state : HostState) (old new : Journal
       (second_disk new)
       (HoldsOneOf (IsContents (image, [])) (IsContents (was, bodies)))) → (generation old ≡ last_generation → ⊥)
       → HasFailed new
-      → Disks (Unit {0}) → Installs device state old (Err the.DeviceFailed) new
+      → Disks device old new (Unit {0}) → Installs device state old (Err the.DeviceFailed) new
   installs_not image depicts run more failed disks = record {
     outcome = (more, failed);
     holds = tt;
     moments = installed_moments image depicts run;
+    failures = disks.failures;
+    honesty_first = disks.honesty_first;
+    honesty_second = disks.honesty_second;
+  }
+
+module _ {D B : Type 0} (device : Device D) (live : LiveState B) (admitted : IsAdmitted live.durable)
+    (old new : Journal D) where
+  -- the delta of what a request changed leads from the state before it
+  by_delta : (body : List ℕ) (before : HostState) → IsBodyOfChanges live body → IsBefore live before
+      → HoldsState device before old → IsBodyBetween Two body before live.durable
+  by_delta body before is_body is holds = record {
+    registered = sym is.registered;
+    leads = inr (
+      bodies_lead live.changes is.happened before live.durable body holds.is_state.depicts.admitted admitted
+          (sym is.registered) is.names (fits_in Two before holds.contents holds.is_state holds.in_two) is_body,
+      admitted,
+    );
+  }
+
+  added_moments : (body : List ℕ) → IsBodyOfChanges live body
+      → ((image : List ℕ) (bodies : List (List ℕ)) → Holds device old image bodies
+      → Extends device (first_disk old) (second_disk old) (first_disk new) (second_disk new)
+      (IsContents (image, bodies ++ body ∷ []))) → (before : HostState) → IsBefore live before
+      → HoldsState device before old → ExtendsHistory device before live.durable old new
+  added_moments body is_body extends before is holds =
+      record_goes_on device before live.durable holds.contents.0 body holds.contents.1 old new holds.is_state
+      holds.in_two (by_delta body before is_body is holds)
+      (extends holds.contents.0 holds.contents.1 holds.holds)
+
+  pub adds : (body : List ℕ) → IsBodyOfChanges live body
+      → ((image : List ℕ) (bodies : List (List ℕ)) → Holds device old image bodies
+      → Extends device (first_disk old) (second_disk old) (first_disk new) (second_disk new)
+      (IsContents (image, bodies ++ body ∷ [])))
+      → ((image : List ℕ) (bodies : List (List ℕ)) → Holds device old image bodies
+      → Holds device new image (bodies ++ body ∷ [])) → IsReady new → generation new ≡ generation old
+      → record_bytes new ≡ record_bytes old + record_header_size + length body → Disks device old new ⊥
+      → Adds device live old (Ok tt) new
+  adds body is_body extends acknowledged ready number longer disks = record {
+    outcome = (ready, record { same = number; body = body; is_body = is_body; longer = longer });
+    holds = λ before is holds. record {
+      contents = (holds.contents.0, holds.contents.1 ++ body ∷ []);
+      holds = acknowledged holds.contents.0 holds.contents.1 holds.holds;
+      is_state = state_of_push Two before live.durable holds.contents.0 holds.contents.1 body holds.is_state
+          holds.in_two (by_delta body before is_body is holds);
+      in_two = holds.in_two;
+    };
+    moments = added_moments body is_body extends;
+    failures = disks.failures;
+    honesty_first = disks.honesty_first;
+    honesty_second = disks.honesty_second;
+  }
+
+  pub adds_not : (body : List ℕ) → IsBodyOfChanges live body
+      → ((image : List ℕ) (bodies : List (List ℕ)) → Holds device old image bodies
+      → Extends device (first_disk old) (second_disk old) (first_disk new) (second_disk new)
+      (IsContents (image, bodies ++ body ∷ []))) → HasFailed new → Disks device old new (Unit {0})
+      → Adds device live old (Err the.DeviceFailed) new
+  adds_not body is_body extends failed disks = record {
+    outcome = failed;
+    holds = tt;
+    moments = added_moments body is_body extends;
     failures = disks.failures;
     honesty_first = disks.honesty_first;
     honesty_second = disks.honesty_second;

@@ -8,16 +8,17 @@ use Rattle.ash_journal.specs.Journal.{first_disk, second_disk}
 use Rattle.ash_journal.specs.JournalFailures.{CountsFailures}
 use Rattle.ash_host.specs.declared.host_object.HostObject.{Ghosts}
 use Rattle.ash_registry.specs.AcceptedRegistrations.{Registration}
-use Rattle.ash_requests.specs.Requests.{Request, Seq, Reply, Refused, NoMemory}
+use Rattle.ash_requests.specs.Requests.{Request, Seq, Reply, Answered, Refused, NoMemory}
+use Rattle.ash_requests.specs.StepLaws.{events_of_reply}
 use Rattle.ash_requests.specs.declared.refusal.Refusal.TheVariants as the
 use Rattle.ash_requests.specs.TaskResults.{TaskChangesState}
 use Rattle.ash_sources.specs.SourceFaults.{SourceFault}
 use Rattle.ash_states.specs.HostStates.{HostState}
 use Rattle.ash_states.specs.StateSteps.{task_of}
 use Rattle.ash_engine.specs.LiveStates.{LiveState, EngineState}
-use Rattle.ash_engine.specs.LiveSteps.{LiveSteps, TakesStep}
+use Rattle.ash_engine.specs.LiveSteps.{LiveSteps, TakesStep, IsNoAnswer}
 use Rattle.ash_durable.specs.StoredStates.{HoldsState}
-use Rattle.ash_durable.specs.Saving.{HostRefusal, IsDeviceRefusal}
+use Rattle.ash_durable.specs.Saving.{HostRefusal, IsBefore, IsDeviceRefusal}
 use Rattle.ash_durable.specs.Hosting.{Hosted, first, second, live_unless, seq_in, IsRunning, IsSaved, IsHonest, Settles}
 use Rattle.ash_durable.specs.Hosting.{IsSound, RunsSound, IsAnswer, IsDeviceFailed, HostReplies, Handles, reply_stopped}
 use Rattle.ash_durable.specs.HostReplies.{refused_by}
@@ -185,6 +186,11 @@ handles_untouched {D} {B} device G budget request live after journal old reply r
 
 -- ---- a request that is answered, if the answer is stored
 
+-- an answer raises the sequence number
+is_no_answer : (reply : Reply SourceFault) → IsAnswer reply → IsNoAnswer reply → ⊥
+is_no_answer (Answered end seq happened) answers none = none
+is_no_answer _ answers none = answers
+
 module _ {D B : Type 0} (device : Device D) (G : Ghosts B) (budget : ℕ) (request : Request) (live after : LiveState B)
     (journal : Journal D) (old : Hosted D B) (reply : Reply SourceFault) (answers : IsAnswer reply)
     (room : HadRoom device request live.durable old (host_in live journal))
@@ -192,6 +198,17 @@ module _ {D B : Type 0} (device : Device D) (G : Ghosts B) (budget : ℕ) (reque
   -- what every outcome of storing it leaves
   registered_same : (live.durable).registered ≡ (after.durable).registered
   registered_same = sym (steps_registered G budget request live after reply steps)
+
+  -- the state before it differs from the state after it in no more than the live state names
+  is_before : IsBefore after live.durable
+  is_before = elim steps [
+    | inl taken ↦ record {
+      registered = registered_same;
+      happened = events_of_reply reply;
+      names = taken.named (λ none. is_no_answer reply answers none);
+    }
+    | inr out ↦ absurd (subst IsAnswer out.reply_is answers)
+  ]
 
   old_live : old.live ≡ Some live
   old_live = sym room.live_same
@@ -205,12 +222,12 @@ module _ {D B : Type 0} (device : Device D) (G : Ghosts B) (budget : ℕ) (reque
       → Settles device live.durable after.durable old new
   settles_stored result new committed =
       settles_added device request live.durable old (host_in live journal) room after.durable new
-      (λ held. committed.moments live.durable after.durable (running_seen after journal) registered_same held)
+      (λ held. committed.moments live.durable after refl is_before held)
 
   replies_stored : (new : Hosted D B) → Commits device live.durable.state.seq (host_in after journal) (Ok tt) new
       → LiveSteps G budget request live reply after → HostReplies device G budget request (Some live) old reply new
   replies_stored new committed (inl stepped) =
-      let outcome = committed.outcome after.durable (running_seen after journal) in
+      let outcome = committed.outcome after refl in
       inl (record {
         between = host_in live journal;
         room = room.room;
@@ -229,7 +246,7 @@ module _ {D B : Type 0} (device : Device D) (G : Ghosts B) (budget : ℕ) (reque
       → LiveSteps G budget request live reply after
       → HostReplies device G budget request (Some live) old (refused_by refusal) new
   replies_lost refusal new committed (inl stepped) =
-      let outcome = committed.outcome after.durable (running_seen after journal) in
+      let outcome = committed.outcome after refl in
       inr (inr (inl (record {
         between = host_in live journal;
         room = room.room;
@@ -247,20 +264,20 @@ module _ {D B : Type 0} (device : Device D) (G : Ghosts B) (budget : ℕ) (reque
   saved_stored : (new : Hosted D B) → Commits device live.durable.state.seq (host_in after journal) (Ok tt) new
       → IsSaved device old → IsSaved device new
   saved_stored new committed = λ was honest other runs.
-      let outcome = committed.outcome after.durable (running_seen after journal) in
+      let outcome = committed.outcome after refl in
       let honest_then : IsHonest device (host_in live journal) =
       honest_before device (host_in after journal)
       new committed.disks.honesty_first committed.disks.honesty_second honest in
       let held : HoldsState device live.durable journal =
       held_between device request live.durable old (host_in live journal) room honest_then was in
       subst (λ (s : HostState). HoldsState device s new.journal) (runs_in new after.durable other outcome.0 runs)
-      (committed.holds live.durable after.durable (running_seen after journal) registered_same held)
+      (committed.holds live.durable after refl is_before held)
 
   -- the host runs in the live state after the request
   sound_stored : (new : Hosted D B) → Commits device live.durable.state.seq (host_in after journal) (Ok tt) new
       → RunsSound G new
   sound_stored new committed = λ other is.
-      let outcome = committed.outcome after.durable (running_seen after journal) in
+      let outcome = committed.outcome after refl in
       let h : Some after ≡ Some other = sym outcome.1 ∙ is in
       let same : after ≡ other = cc in
       subst (IsSound G) same sound
@@ -288,7 +305,7 @@ module _ {D B : Type 0} (device : Device D) (G : Ghosts B) (budget : ℕ) (reque
       → Commits device live.durable.state.seq (host_in after journal) (Err refusal) new
       → Handles device G budget request old (refused_by refusal) new
   handles_lost refusal new committed =
-      let outcome = committed.outcome after.durable (running_seen after journal) in
+      let outcome = committed.outcome after refl in
       record {
         replies = subst (λ (known : Option (LiveState B)). HostReplies device G budget request known old
             (refused_by refusal) new) (sym old_live) (replies_lost refusal new committed steps);

@@ -3,7 +3,6 @@ pub mod Answering
 pub mod Changing
 pub mod Committing
 pub mod Composing
-pub mod ContentsStates
 pub mod CrashedDisks
 pub mod Faultless
 pub mod Finding
@@ -23,7 +22,6 @@ pub mod OpenedJournals
 pub mod Outcomes
 pub mod Prefixes
 pub mod QuietSteps
-pub mod Reading
 pub mod Refusing
 pub mod RequestOutcomes
 pub mod Requesting

@@ -21,7 +21,7 @@ use Rattle.ash_durable.specs.StoreFaults.{MayRefuse}
 use Rattle.ash_durable.specs.Hosting.{Hosted, first, second, IsRunning, IsSound}
 use Rattle.ash_durable.specs.OpenedStore.{WasOpened, WasFound, WasLeft, WasRefused, Opens, Keeps, InstallsOrNot}
 use Rattle.ash_durable.specs.OpenedStore.{first_found, second_found, NotFound, LeftThere}
-use Rattle.ash_durable.specs.StoredStates.{AreHonest, SettleSince, SettleNow, IsOne, IsEither, IsStateOf, HaveState}
+use Rattle.ash_durable.specs.StoredStates.{AreHonest, SettleSince, SettleNow, IsOne, IsEither, HaveState}
 use Rattle.ash_durable.specs.Store.{WereOnlyRead, AreClosed, NotMadeFor, WasNotCreated, Creates}
 use Rattle.ash_durable.specs.Lives as lives
 use Rattle.ash_durable.specs.Lives.{StoreEvent, Found, LeadTo, LeadBy}
@@ -35,7 +35,10 @@ use Rattle.ash_durable.proofs.Faultless.{represent_open}
 use Rattle.ash_durable.proofs.HandedOver.{live_saved}
 use Rattle.ash_durable.proofs.Mishaps.{only_mishaps}
 use Rattle.ash_durable.proofs.Settling.{run_more, settle_on_more, settle_now, settle_still}
-use Rattle.ash_durable.proofs.ContentsStates.{state_of_one, state_of_alone, same_image}
+use Rattle.ash_replay.specs.ReplayedStates.{IsStateOf}
+use Rattle.ash_replay.proofs.Adding.{state_of_alone}
+use Rattle.ash_replay.proofs.Faultless.{same_image}
+use Rattle.ash_replay.proofs.HostStatesRead.{host_state_once}
 use Rattle.ash_durable.proofs.Opened.{kept_back}
 use Rattle.ash_durable.proofs.RequestOutcomes.{lead_by}
 use Rattle.ash_durable.proofs.CrashedDisks.{same_honesty, settle_crashed, settle_read}
@@ -202,7 +205,7 @@ module _ {D B : Type 0} (device : Device D) (G : Ghosts B) (stays : (disk : D) �
       let one = represent_now (HaveState (IsOne none)) x y settle.1 in
       let other : IsStateOf one.1.0 contents =
       subst (IsStateOf one.1.0) (represent_once one.0 contents x y one.2 is) one.1.2 in
-      state_of_one state none contents with_it is_state (subst (λ (s : HostState). IsStateOf s contents) one.1.1 other)
+      host_state_once state none contents with_it is_state (subst (λ (s : HostState). IsStateOf s contents) one.1.1 other)
 
   opened_creating : (registered : List Registration) (pool services : List B) (a b : D)
       (result : Result (Hosted D B) (OpenRefused D)) (a' b' : D) (pool' services' : List B) (host : Hosted D B)

@@ -21,12 +21,13 @@ use Rattle.ash_image.specs.declared.version.Version.TheVariants.{Two}
 use Rattle.ash_states.specs.HostStates.{HostState}
 use Rattle.ash_states.specs.Images.{IsImageIn}
 use Rattle.ash_durable.specs.StoreFaults.{IsFailed}
-use Rattle.ash_durable.specs.StoredStates.{AreHonest, IsOne, IsStateOf, HaveState}
+use Rattle.ash_durable.specs.StoredStates.{AreHonest, IsOne, HaveState}
 use Rattle.ash_durable.specs.Store.{HandsBack, WereOnlyRead, AreClosed, MakesOrNot, WasMade, NotMadeFor, WasNotMade}
 use Rattle.ash_durable.specs.declared.fault.StoreFault.{StoreFault}
 use Rattle.ash_durable.specs.declared.fault.StoreFault.TheVariants as faults
 use Rattle.ash_durable.proofs.OpenedJournals.{handed_on}
-use Rattle.ash_durable.proofs.ContentsStates.{alone_in, state_of_alone}
+use Rattle.ash_replay.specs.ReplayedStates.{IsStateOf}
+use Rattle.ash_replay.proofs.Adding.{alone_in, state_of_alone}
 
 -- ---- files that are closed
 

@@ -1,34 +1,36 @@
 -- Files that represent contents of a state are refused because memory ran out, a device failed or their version 1 has
 -- no further generation, and for nothing else, where the boxes are such as the state can be opened with.
-use Rattle.std.proofs.Common.{◌≡◌, inl, inr, ℕ, ◌∙◌, List, Err, sym, subst}
+use Rattle.std.proofs.Common.{◌≡◌, inl, inr, ℕ, ◌∙◌, List, sym, subst}
 use Rattle.ash_journal.specs.declared.error.OpenFault.TheVariants as opening
 use Rattle.ash_journal.specs.Current.{Contents, Represent}
 use Rattle.ash_journal.proofs.SettleLaws.{represent_once}
 use Rattle.ash_image.specs.declared.version.Version.TheVariants.{One, Two}
 use Rattle.ash_states.specs.HostStates.{HostState}
 use Rattle.ash_registry.specs.AcceptedRegistrations.{Registration}
-use Rattle.ash_durable.specs.Contents.{ReadsAs}
+use Rattle.ash_replay.specs.declared.fault.ReplayFault.{ReplayFault}
+use Rattle.ash_replay.specs.declared.fault.ReplayFault.TheVariants as replaying
+use Rattle.ash_replay.specs.ReplayedStates.{AreIn, IsStateOf, IsReadFault}
+use Rattle.ash_replay.proofs.Faultless.{only_memory}
+use Rattle.ash_replay.proofs.HostStatesRead.{host_state_once}
+use Rattle.ash_replay.proofs.Once.{image_once}
 use Rattle.ash_durable.specs.StoreFaults.{IsMishap, MayRefuse}
 use Rattle.ash_host.specs.declared.host_object.HostObject.{Ghosts}
 use Rattle.ash_engine.specs.RestoredBoxes.{IsShort, IsRefused}
 use Rattle.ash_durable.specs.HandedBoxes.{CanOpen}
 use Rattle.ash_durable.specs.OpenedStore.{AreOfState, StoreFaultIs, IsSpent}
 use Rattle.ash_durable.proofs.HandedOver.{not_short, not_refused}
-use Rattle.ash_durable.specs.StoredStates.{AreIn, IsStateOf}
-use Rattle.ash_durable.proofs.ContentsStates.{state_of_one, version_once}
 use Rattle.ash_durable.specs.declared.fault.StoreFault.{StoreFault}
 use Rattle.ash_durable.specs.declared.fault.StoreFault.TheVariants as faults
 use Rattle.ash_durable.proofs.Faultless.{represent_open, represent_sound, represent_whole}
-use Rattle.ash_durable.proofs.Reading.{only_memory}
 
 -- contents of a state that were read as a fault, where the files represent others
-misread : (registered : List Registration) (state : HostState) (contents other : Contents) (fault : StoreFault)
+misread : (registered : List Registration) (state : HostState) (contents other : Contents) (fault : ReplayFault)
     (x y : List ℕ)
     → state.registered ≡ registered → Represent contents x y → IsStateOf state contents → Represent other x y
-    → ReadsAs registered other (Err fault) → fault ≡ faults.Open opening.NoMemory
+    → IsReadFault registered other fault → fault ≡ replaying.NoMemory
 misread registered state contents other fault x y with_it is is_state other_is reads =
     only_memory registered contents state fault with_it is_state
-    (subst (λ (c : Contents). ReadsAs registered c (Err fault)) (represent_once other contents x y other_is is) reads)
+    (subst (λ (c : Contents). IsReadFault registered c fault) (represent_once other contents x y other_is is) reads)
 
 module _ {B : Type 0} (G : Ghosts B) (registered : List Registration) (pool services : List B) where
   -- boxes with which the state can be opened are not short, nor is a state refused
@@ -37,7 +39,7 @@ module _ {B : Type 0} (G : Ghosts B) (registered : List Registration) (pool serv
       → AreOfState registered P x y → (P state → ⊥) → ⊥
   boxes_there P state contents x y with_it is is_state (other, other_is, s, s_with, s_of, has) never =
       let same : IsStateOf s contents = subst (IsStateOf s) (represent_once other contents x y other_is is) s_of in
-      never (subst P (state_of_one s state contents (s_with ∙ sym with_it) same is_state) has)
+      never (subst P (host_state_once s state contents (s_with ∙ sym with_it) same is_state) has)
 
   pub only_mishaps : (state : HostState) (contents : Contents) (fault : StoreFault) (x y : List ℕ)
       → state.registered ≡ registered → Represent contents x y → IsStateOf state contents
@@ -59,12 +61,12 @@ module _ {B : Type 0} (G : Ghosts B) (registered : List Registration) (pool serv
       absurd (represent_whole contents x y at is cut)
   only_mishaps state contents (faults.Open (opening.Damaged at)) x y with_it is is_state can
       (inr (other, other_is, wrong)) =
-      let same : faults.Open (opening.Damaged at) ≡ faults.Open opening.NoMemory =
-      misread registered state contents other (faults.Open (opening.Damaged at)) x y with_it is is_state other_is
+      let same : replaying.Damaged at ≡ replaying.NoMemory =
+      misread registered state contents other (replaying.Damaged at) x y with_it is is_state other_is
       wrong in absurd (cc)
   only_mishaps state contents faults.OtherInterface x y with_it is is_state can (other, other_is, others) =
-      let same : faults.OtherInterface ≡ faults.Open opening.NoMemory =
-      misread registered state contents other faults.OtherInterface x y with_it is is_state other_is others in
+      let same : replaying.OtherInterface ≡ replaying.NoMemory =
+      misread registered state contents other replaying.OtherInterface x y with_it is is_state other_is others in
       absurd (cc)
   only_mishaps state contents (faults.Create fault) x y with_it is is_state can cause = absurd cause
 
@@ -72,7 +74,7 @@ module _ {B : Type 0} (G : Ghosts B) (registered : List Registration) (pool serv
 two_one : (contents other : Contents) → other ≡ contents → AreIn Two contents → AreIn One other → ⊥
 two_one contents other same two one =
     let here = subst (AreIn One) same one in
-    let is : Two ≡ One = version_once contents.0 Two One two.image.0 here.image.0 two.image.1 here.image.1 in
+    let is : Two ≡ One = (image_once contents.0 Two One two.0 here.0 two.1 here.1).0 in
     absurd (cc)
 
 module _ {B : Type 0} (G : Ghosts B) (registered : List Registration) (pool services : List B) where

@@ -21,7 +21,7 @@ use Rattle.ash_durable.specs.Store.{HandsBack, HasMade, WasMade, WasCreated}
 use Rattle.ash_durable.specs.declared.fault.OpenRefused.{OpenRefused}
 use Rattle.ash_durable.specs.declared.store.Found.{Found}
 use Rattle.ash_durable.proofs.HandledRequests.{seen_host, host_in, running_seen}
-use Rattle.ash_durable.proofs.ContentsStates.{alone_in, state_of_alone}
+use Rattle.ash_replay.proofs.Adding.{alone_in, state_of_alone}
 use Rattle.ash_durable.proofs.OpenedJournals.{handed_on}
 use Rattle.ash_durable.proofs.Composing.{live_there}
 use Rattle.ash_durable.proofs.HandedOver.{live_saved}

@@ -17,13 +17,15 @@ use Rattle.ash_host.specs.declared.host_object.HostObject.{Ghosts}
 use Rattle.ash_registry.specs.AcceptedRegistrations.{Registration}
 use Rattle.ash_engine.specs.LiveStates.{LiveState, EngineState}
 use Rattle.ash_engine.specs.RestoredBoxes.{Restores}
-use Rattle.ash_durable.specs.Contents.{after_image, ReadsAs}
-use Rattle.ash_durable.specs.StoreFaults.{IsFailed}
+use Rattle.ash_replay.specs.ReplayFaults.{after_image}
+use Rattle.ash_replay.specs.ReplayedStates.{AreIn, IsStateOf, IsRead, IsReadFault}
+use Rattle.ash_replay.specs.declared.fault.ReplayFault.{ReplayFault}
+use Rattle.ash_replay.specs.declared.fault.ReplayFault.TheVariants as replaying
+use Rattle.ash_replay.specs.declared.state.StateRead.{StateRead}
+use Rattle.ash_durable.specs.StoreFaults.{IsFailed, fault_of_reading}
 use Rattle.ash_durable.specs.OpenedStore.{contents_of, AreInPlace, OnlySettled, WasNotSettled, Settled, HasSettled}
 use Rattle.ash_durable.specs.OpenedStore.{FailedToSettle, LivesAgain, Revives, Repairs, Moves, MayNotMove, UnsettledFor}
-use Rattle.ash_durable.specs.StoredStates.{AreIn, IsStateOf}
 use Rattle.ash_durable.specs.Store.{HandsBack}
-use Rattle.ash_durable.specs.declared.contents.StateRead.{StateRead}
 use Rattle.ash_durable.specs.declared.fault.OpenRefused.{OpenRefused}
 use Rattle.ash_durable.specs.declared.fault.StoreFault.{StoreFault}
 use Rattle.ash_durable.specs.declared.fault.StoreFault.TheVariants as faults
@@ -58,23 +60,35 @@ uncounted failed f s not = record {
 
 -- contents that are read as no state are of no use
 read_unsettled : {D B : Type 0} (G : Ghosts B) (registered : List Registration) (pool services : List B)
-    (opened : OpenedJournal D) (fault : StoreFault) → ReadsAs registered (contents_of opened) (Err fault)
-    → UnsettledFor G registered pool services opened fault
-read_unsettled G registered pool services opened (faults.Open (opening.Damaged at)) reads = reads
-read_unsettled G registered pool services opened faults.OtherInterface reads = reads
-read_unsettled G registered pool services opened (faults.Open opening.NoMemory) reads = tt
-read_unsettled G registered pool services opened _ reads = absurd reads
+    (opened : OpenedJournal D) (fault : ReplayFault) → IsReadFault registered (contents_of opened) fault
+    → UnsettledFor G registered pool services opened (fault_of_reading fault)
+read_unsettled G registered pool services opened (replaying.Damaged at) reads = reads
+read_unsettled G registered pool services opened replaying.OtherInterface reads = reads
+read_unsettled G registered pool services opened replaying.NoMemory reads = tt
+
+-- no device failed
+no_failure : (fault : ReplayFault) → IsFailed (fault_of_reading fault) → ⊥
+no_failure (replaying.Damaged at) failed = failed
+no_failure replaying.OtherInterface failed = failed
+no_failure replaying.NoMemory failed = failed
 
 -- what an image and records are read as, what the journal holds is read as
-pub read_as : {D : Type 0} (opened : OpenedJournal D) (registered : List Registration)
-    (result : Result StateRead StoreFault)
+pub read_as : {D : Type 0} (opened : OpenedJournal D) (registered : List Registration) (read : StateRead)
     (image : List ℕ) (records : List Record) → image ≡ opened.image.items → records ≡ opened.records.items
-    → (AreAt (after_image image) records → ReadsAs registered (image, bodies_of records) result) → AreInPlace opened
-    → ReadsAs registered (contents_of opened) result
-read_as opened registered result image records image_is records_is reads =
+    → IsRead registered (image, bodies_of records) read → IsRead registered (contents_of opened) read
+read_as opened registered read image records image_is records_is reads =
+    subst (λ (i : List ℕ). IsRead registered (i, bodies_of opened.records.items) read) image_is
+    (subst (λ (rs : List Record). IsRead registered (image, bodies_of rs) read) records_is reads)
+
+-- and so it is with a fault
+pub fault_as : {D : Type 0} (opened : OpenedJournal D) (registered : List Registration) (fault : ReplayFault)
+    (image : List ℕ) (records : List Record) → image ≡ opened.image.items → records ≡ opened.records.items
+    → (AreAt (after_image image) records → IsReadFault registered (image, bodies_of records) fault)
+    → AreInPlace opened → IsReadFault registered (contents_of opened) fault
+fault_as opened registered fault image records image_is records_is reads =
     subst (λ (i : List ℕ). AreAt (after_image i) opened.records.items
-    → ReadsAs registered (i, bodies_of opened.records.items) result) image_is
-    (subst (λ (rs : List Record). AreAt (after_image image) rs → ReadsAs registered (image, bodies_of rs) result)
+    → IsReadFault registered (i, bodies_of opened.records.items) fault) image_is
+    (subst (λ (rs : List Record). AreAt (after_image image) rs → IsReadFault registered (image, bodies_of rs) fault)
     records_is reads)
 
 module _ {D : Type 0} (device : Device D) where
@@ -196,13 +210,14 @@ module _ {D B : Type 0} (device : Device D) (G : Ghosts B) (registered : List Re
       }
 
   -- it is read as no state
-  pub not_read : (fault : StoreFault) (refused : OpenRefused D)
-      → refused.fault ≡ fault → refused.a ≡ first_disk opened.journal → refused.b ≡ second_disk opened.journal
-      → (IsFailed fault → ⊥) → (AreInPlace opened → ReadsAs registered (contents_of opened) (Err fault))
+  pub not_read : (fault : ReplayFault) (refused : OpenRefused D)
+      → refused.fault ≡ fault_of_reading fault → refused.a ≡ first_disk opened.journal
+      → refused.b ≡ second_disk opened.journal
+      → (AreInPlace opened → IsReadFault registered (contents_of opened) fault)
       → WasNotSettled device G registered pool services opened refused
-  not_read fault refused fault_is a_is b_is not reads =
+  not_read fault refused fault_is a_is b_is reads =
       unwritten refused a_is b_is
-      (λ failed. not (subst IsFailed fault_is failed))
+      (λ failed. no_failure fault (subst IsFailed fault_is failed))
       (λ placed. subst (UnsettledFor G registered pool services opened) (sym fault_is)
       (read_unsettled G registered pool services opened fault (reads placed)))
 

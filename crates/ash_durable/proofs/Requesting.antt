@@ -12,7 +12,7 @@ use Rattle.ash_registry.specs.AcceptedRegistrations.{Registration}
 use Rattle.ash_states.specs.HostStates.{HostState}
 use Rattle.ash_engine.specs.LiveStates.{LiveState, EngineState}
 use Rattle.ash_durable.specs.StoredStates.{HoldsState, ExtendsHistory}
-use Rattle.ash_durable.specs.Saving.{HostRefusal, AddsWith, Adds, InstallsWith, Installs}
+use Rattle.ash_durable.specs.Saving.{IsBefore, HostRefusal, AddsWith, Adds, InstallsWith, Installs}
 use Rattle.ash_durable.specs.Hosting.{Hosted, IsReadyUnless, IsSound, RunsSound, IsRunning, IsHonest, IsFull, full_record_bytes, MayAdd}
 use Rattle.ash_durable.specs.Hosting.{WantsInstall, Settles, WasInstalled, InstallRefused, WasLost}
 use Rattle.ash_durable.specs.HostReplies.{refused_by}
@@ -25,6 +25,11 @@ at_each : {D B : Type 0} (live : LiveState B) (journal : Journal D) (P : HostSta
     → (other : HostState) → IsRunning other (host_in live journal) → P other
 at_each live journal P here other runs = subst P
     (runs_in (host_in live journal) live.durable other (running_seen live journal) runs) here
+
+-- what is said of a live state is said of each that a host has
+at_live : {B : Type 0} (live : LiveState B) (P : LiveState B → Type 0) → P live
+    → (other : LiveState B) → Some live ≡ Some other → P other
+at_live {B} live P here other is = let same : live ≡ other = cc in subst P same here
 
 -- ---- a new generation
 
@@ -112,24 +117,24 @@ module _ {D B : Type 0} (device : Device D) (live : LiveState B) (old new : Jour
 -- ---- a record more
 
 module _ {D B : Type 0} (device : Device D) (live : LiveState B) (old new : Journal D) where
-  commits_moments : (done : Result (Unit {0}) HostRefusal) → Adds device live.durable old done new
-      → (before other : HostState) → IsRunning other (host_in live old) → before.registered ≡ other.registered
-      → HoldsState device before old → ExtendsHistory device before other old new
-  commits_moments done adds before other runs =
-      at_each live old (λ (s : HostState). before.registered ≡ s.registered → HoldsState device before old
-      → ExtendsHistory device before s old new) (adds.moments before) other runs
+  commits_moments : (done : Result (Unit {0}) HostRefusal) → Adds device live old done new
+      → (before : HostState) (other : LiveState B) → Some live ≡ Some other → IsBefore other before
+      → HoldsState device before old → ExtendsHistory device before other.durable old new
+  commits_moments done adds before other is =
+      at_live live (λ (l : LiveState B). IsBefore l before → HoldsState device before old
+      → ExtendsHistory device before l.durable old new) (adds.moments before) other is
 
   -- the record is there
-  pub commit_ok : (seq : ℕ) → Adds device live.durable old (Ok tt) new
+  pub commit_ok : (seq : ℕ) → Adds device live old (Ok tt) new
       → Commits device seq (host_in live old) (Ok tt) (host_in live new)
   commit_ok seq adds = record {
-    outcome = λ other runs_too.
-        at_each live old (λ (s : HostState). CommitsWith seq s (host_in live old) (Ok tt) (host_in live new))
-        (running_seen live new, refl, adds.outcome.1) other runs_too;
-    holds = λ before other runs_too.
-        at_each live old (λ (s : HostState). before.registered ≡ s.registered → HoldsState device before old
-        → HoldsState device s new) (adds.holds before) other runs_too;
-    moments = λ before other runs_too. commits_moments (Ok tt) adds before other runs_too;
+    outcome = λ other is.
+        at_live live (λ (l : LiveState B). CommitsWith seq l (host_in live old) (Ok tt) (host_in live new))
+        (running_seen live new, refl, adds.outcome.1) other is;
+    holds = λ before other is.
+        at_live live (λ (l : LiveState B). IsBefore l before → HoldsState device before old
+        → HoldsState device l.durable new) (adds.holds before) other is;
+    moments = λ before other is. commits_moments (Ok tt) adds before other is;
     disks = record {
       failures = adds.failures;
       honesty_first = adds.honesty_first;
@@ -138,23 +143,23 @@ module _ {D B : Type 0} (device : Device D) (live : LiveState B) (old new : Jour
     };
   }
 
-lost_for : {D : Type 0} (state : HostState) (refusal : HostRefusal) (old new : Journal D)
-    → AddsWith state old (Err refusal) new → WasLost old (refused_by refusal) new
-lost_for state the.NoMemory old new outcome = outcome
-lost_for state the.DeviceFailed old new outcome = tt
-lost_for state _ old new outcome = absurd outcome
+lost_for : {D B : Type 0} (live : LiveState B) (refusal : HostRefusal) (old new : Journal D)
+    → AddsWith live old (Err refusal) new → WasLost old (refused_by refusal) new
+lost_for live the.NoMemory old new outcome = outcome
+lost_for live the.DeviceFailed old new outcome = tt
+lost_for live _ old new outcome = absurd outcome
 
 -- it is not, or it is in doubt
 pub commit_err : {D B : Type 0} (device : Device D) (live : LiveState B) (old new : Journal D) (seq : ℕ)
-    (refusal : HostRefusal) → Adds device live.durable old (Err refusal) new
+    (refusal : HostRefusal) → Adds device live old (Err refusal) new
     → Commits device seq (host_in live old) (Err refusal) (host_stopped B live.durable.registered seq new)
 commit_err {D} {B} device live old new seq refusal adds = record {
-  outcome = λ other runs_too.
-      at_each live old (λ (s : HostState). CommitsWith seq s (host_in live old) (Err refusal)
+  outcome = λ other is.
+      at_live live (λ (l : LiveState B). CommitsWith seq l (host_in live old) (Err refusal)
       (host_stopped B live.durable.registered seq new))
-      (refl, refl, lost_for live.durable refusal old new adds.outcome) other runs_too;
+      (refl, refl, lost_for live refusal old new adds.outcome) other is;
   holds = tt;
-  moments = λ before other runs_too. commits_moments device live old new (Err refusal) adds before other runs_too;
+  moments = λ before other is. commits_moments device live old new (Err refusal) adds before other is;
   disks = record {
     failures = adds.failures;
     honesty_first = adds.honesty_first;
@@ -288,7 +293,7 @@ module _ {D B : Type 0} (stopped : Option ℕ) (engine : EngineState B) (old new
 
   module _ (device : Device D) where
     pub commit_seen : (seq : ℕ)
-        → ((live : LiveState B) → engine.live ≡ Some live → Adds device live.durable old (Ok tt) new)
+        → ((live : LiveState B) → engine.live ≡ Some live → Adds device live old (Ok tt) new)
         → Commits device seq host (Ok tt) (seen_host stopped engine new)
     commit_seen seq adds =
         subst (λ (h : Hosted D B). Commits device seq h (Ok tt) (seen_host stopped engine new)) seen.seen
@@ -296,7 +301,7 @@ module _ {D B : Type 0} (stopped : Option ℕ) (engine : EngineState B) (old new
         (commit_ok device seen.live old new seq (adds seen.live seen.live_is)))
 
     pub commit_lost : (seq : ℕ) (refusal : HostRefusal)
-        → ((live : LiveState B) → engine.live ≡ Some live → Adds device live.durable old (Err refusal) new)
+        → ((live : LiveState B) → engine.live ≡ Some live → Adds device live old (Err refusal) new)
         → Commits device seq host (Err refusal) (seen_host (Some seq) engine new)
     commit_lost seq refusal adds =
         subst (λ (h : Hosted D B). Commits device seq h (Err refusal) (seen_host (Some seq) engine new)) seen.seen

@@ -10,10 +10,12 @@ use Rattle.ash_journal.proofs.RunLaws.{run_extends, represented}
 use Rattle.ash_journal.proofs.SettleLaws.{Property, Implies, settle_more, further}
 use Rattle.ash_states.specs.HostStates.{HostState}
 use Rattle.ash_image.specs.declared.version.Version.TheVariants.{Two}
-use Rattle.ash_states.specs.Images.{IsImageIn, IsBodyIn}
-use Rattle.ash_durable.specs.StoredStates.{AreIn, IsStateOf, HaveState, IsOne, IsEither, SettleSince, SettleNow}
+use Rattle.ash_states.specs.Images.{IsImageIn}
+use Rattle.ash_durable.specs.StoredStates.{HaveState, IsOne, IsEither, SettleSince, SettleNow}
 use Rattle.ash_durable.specs.StoredStates.{HoldsState, ExtendsHistory, BeginsAnew}
-use Rattle.ash_durable.proofs.ContentsStates.{state_of_one, state_of_alone, state_of_push}
+use Rattle.ash_replay.specs.ReplayedStates.{AreIn, IsStateOf, IsBodyBetween}
+use Rattle.ash_replay.proofs.Adding.{state_of_alone, state_of_push}
+use Rattle.ash_replay.proofs.HostStatesRead.{host_state_once}
 
 -- files that come to nothing new, after files that come to nothing new
 further_on : (u v x y p q : List ℕ) → SettleFurther NoContents u v x y → SettleFurther NoContents x y p q
@@ -98,7 +100,7 @@ module _ {D : Type 0} (device : Device D) where
       → ((s : HostState) → P s → s.registered ≡ state.registered) → P state
   settled_state a b first second P contents state x y left_x left_y run is is_state alike =
       let one = represented device a b first second (HaveState P) contents x y left_x left_y run is in
-      subst P (state_of_one one.0 state contents (alike one.0 one.1) one.2 is_state) one.1
+      subst P (host_state_once one.0 state contents (alike one.0 one.1) one.2 is_state) one.1
 
   -- a journal that holds a state settles on it alone
   pub holds_now : (state : HostState) (journal : Journal D) → HoldsState device state journal
@@ -116,10 +118,10 @@ module _ {D : Type 0} (device : Device D) where
 
   -- a record more, that leads from one state to the next, takes a journal from the one to the other
   pub record_goes_on : (before after : HostState) (image body : List ℕ) (bodies : List (List ℕ)) (old new : Journal D)
-      → IsStateOf before (image, bodies) → AreIn Two (image, bodies) → after.registered ≡ before.registered
-      → IsBodyIn Two body after → Extends device (first_disk old) (second_disk old) (first_disk new) (second_disk new)
+      → IsStateOf before (image, bodies) → AreIn Two (image, bodies)
+      → IsBodyBetween Two body before after → Extends device (first_disk old) (second_disk old) (first_disk new) (second_disk new)
       (IsContents (image, bodies ++ body ∷ [])) → ExtendsHistory device before after old new
-  record_goes_on before after image body bodies old new is_state in_two same is_body call a b run =
+  record_goes_on before after image body bodies old new is_state in_two leads call a b run =
       run_more a b (first_disk new) (second_disk new)
       (HoldsOneOf (IsContents (image, bodies ++ body ∷ [])) (HaveState (IsOne before)))
       (HaveState (IsEither before after))
@@ -130,7 +132,7 @@ module _ {D : Type 0} (device : Device D) where
           after,
           inr refl,
           subst (IsStateOf after) (sym is)
-              (state_of_push before after image bodies body is_state in_two same is_body),
+              (state_of_push Two before after image bodies body is_state in_two leads),
         )
         | inr was ↦ (was.0, inl was.1, was.2)
       ])

@@ -6,7 +6,7 @@ use Rattle.ash_requests.specs.Requests.{Request}
 use Rattle.ash_states.specs.HostStates.{HostState}
 use Rattle.ash_engine.specs.LiveStates.{LiveState}
 use Rattle.ash_durable.specs.StoredStates.{HoldsState, ExtendsHistory}
-use Rattle.ash_durable.specs.Saving.{HostRefusal, FailsBy, HasOneMore}
+use Rattle.ash_durable.specs.Saving.{HostRefusal, FailsBy, HasOneMore, IsBefore}
 use Rattle.ash_durable.specs.Hosting.{Hosted, first, second, IsRunning, IsFull, MayAdd, WantsInstall, Settles}
 use Rattle.ash_durable.specs.Hosting.{WasInstalled, InstallRefused, WasLost}
 use Rattle.ash_durable.specs.HostReplies.{refused_by}
@@ -43,20 +43,20 @@ pub record MakesRoom {D B : Type 0} (device : Device D) (request : Request) (old
   pub room : OnOk result (MayAdd request → IsFull new → ⊥)
   pub disks : PreservesDisks device old result new
 
--- what came of one record more that was to hold the state of a host
-abbrev pub CommitsWith : {D B : Type 0} → ℕ → HostState → Hosted D B → Result (Unit {0}) HostRefusal → Hosted D B → Type 0
-CommitsWith seq state old (Ok done) new =
-    IsRunning state new × (new.live ≡ old.live) × HasOneMore state old.journal new.journal
-CommitsWith seq state old (Err refusal) new =
+-- what came of one record more that was to hold what a request changed
+abbrev pub CommitsWith : {D B : Type 0} → ℕ → LiveState B → Hosted D B → Result (Unit {0}) HostRefusal → Hosted D B → Type 0
+CommitsWith seq live old (Ok done) new =
+    IsRunning live.durable new × (new.live ≡ old.live) × HasOneMore live old.journal new.journal
+CommitsWith seq live old (Err refusal) new =
     (new.live ≡ None) × (new.seq ≡ seq) × WasLost old.journal (refused_by refusal) new.journal
 
 -- The state of a host, which a request has changed, was to be stored before the answer is returned, beside the one
 -- before it that the files held.
 pub record Commits {D B : Type 0} (device : Device D) (seq : ℕ) (old : Hosted D B) (result : Result (Unit {0}) HostRefusal)
     (new : Hosted D B) : Type 0 where
-  pub outcome : (state : HostState) → IsRunning state old → CommitsWith seq state old result new
-  pub holds : OnOk result ((before state : HostState) → IsRunning state old → before.registered ≡ state.registered
-      → HoldsState device before old.journal → HoldsState device state new.journal)
-  pub moments : (before state : HostState) → IsRunning state old → before.registered ≡ state.registered
-      → HoldsState device before old.journal → ExtendsHistory device before state old.journal new.journal
+  pub outcome : (live : LiveState B) → old.live ≡ Some live → CommitsWith seq live old result new
+  pub holds : OnOk result ((before : HostState) (live : LiveState B) → old.live ≡ Some live → IsBefore live before
+      → HoldsState device before old.journal → HoldsState device live.durable new.journal)
+  pub moments : (before : HostState) (live : LiveState B) → old.live ≡ Some live → IsBefore live before
+      → HoldsState device before old.journal → ExtendsHistory device before live.durable old.journal new.journal
   pub disks : PreservesDisks device old result new

@@ -1,5 +1,4 @@
 pub mod StoredStates
-pub mod Contents
 pub mod Saving
 pub mod HandedBoxes
 pub mod StoreFaults

@@ -23,12 +23,13 @@ use Rattle.ash_host.specs.declared.host_object.HostObject.{Ghosts}
 use Rattle.ash_registry.specs.AcceptedRegistrations.{Registration}
 use Rattle.ash_engine.specs.LiveStates.{LiveState, EngineState}
 use Rattle.ash_engine.specs.RestoredBoxes.{IsShort, IsRefused, Restores}
-use Rattle.ash_durable.specs.Contents.{after_image, ReadsAs, IsMisshapen, IsNotAdmitted, AreOfOthers}
+use Rattle.ash_replay.specs.ReplayFaults.{after_image, IsMisshapen}
+use Rattle.ash_replay.specs.ReplayedStates.{AreIn, IsStateOf, IsNotAdmitted, AreOfOthers}
 use Rattle.ash_durable.specs.StoreFaults.{IsFailed, IsMishap}
 use Rattle.ash_durable.specs.HandedBoxes.{AreSaved, CanOpen}
 use Rattle.ash_durable.specs.Hosting.{Hosted, first, second, IsRunning, IsSaved, IsHonest, IsSound}
 use Rattle.ash_durable.specs.Saving.{last_generation}
-use Rattle.ash_durable.specs.StoredStates.{AreHonest, AreIn, SettleNow, IsEither, IsStateOf}
+use Rattle.ash_durable.specs.StoredStates.{AreHonest, SettleNow, IsEither}
 use Rattle.ash_durable.specs.Store.{HandsBack, WereOnlyRead}
 use Rattle.ash_durable.specs.declared.fault.OpenRefused.{OpenRefused}
 use Rattle.ash_durable.specs.declared.fault.StoreFault.{StoreFault}
@@ -330,7 +331,11 @@ UnsettledFor G registered pool services opened (faults.PoolShort kind) =
     ReadsState registered (λ state. IsShort G state pool services kind) opened
 UnsettledFor G registered pool services opened (faults.RestoreRefused number) =
     ReadsState registered (λ state. IsRefused G state pool services number) opened
-UnsettledFor G registered pool services opened fault = ReadsAs registered (contents_of opened) (Err fault)
+UnsettledFor G registered pool services opened (faults.Open (opening.Damaged at)) =
+    IsMisshapen (contents_of opened) at ⊎ IsNotAdmitted registered (contents_of opened) at
+UnsettledFor G registered pool services opened faults.OtherInterface = AreOfOthers registered (contents_of opened)
+UnsettledFor G registered pool services opened (faults.Open opening.NoMemory) = Unit {0}
+UnsettledFor G registered pool services opened _ = ⊥
 
 -- No state was read, the boxes did not take it, or none is moved, and nothing is written; or a device failed once it
 -- was read.

@@ -7,10 +7,12 @@ use Rattle.ash_journal.specs.Journal.{first_disk, second_disk, generation, recor
 use Rattle.ash_sources.specs.declared.fault.SourceFault.{SourceFault as CodeFault}
 use Rattle.ash_requests.specs.declared.refusal.Refusal.{Refusal}
 use Rattle.ash_requests.specs.declared.refusal.Refusal.TheVariants as the
-use Rattle.ash_image.specs.declared.version.Version.TheVariants.{Two}
+use Rattle.ash_host.specs.declared.event.Event.{Event}
+use Rattle.ash_change_laws.specs.ChangedStates.{Names}
+use Rattle.ash_engine.specs.LiveStates.{LiveState}
+use Rattle.ash_engine.specs.RecordedChanges.{IsBodyOfChanges}
 use Rattle.ash_states.specs.HostStates.{HostState}
-use Rattle.ash_states.specs.Images.{IsBodyIn}
-use Rattle.ash_durable.specs.Contents.{record_header_size}
+use Rattle.ash_replay.specs.ReplayFaults.{record_header_size}
 use Rattle.ash_durable.specs.StoredStates.{HoldsState, ExtendsHistory, BeginsAnew}
 
 -- Why the code refuses a request.
@@ -27,30 +29,37 @@ abbrev pub FailsBy : {T : Type 0} → Result T HostRefusal → Type 0
 FailsBy (Ok done) = ⊥
 FailsBy (Err refusal) = IsDeviceRefusal refusal
 
--- one record more, with the body of this state in version 2, in the same generation
-pub record HasOneMore {D : Type 0} (state : HostState) (old new : Journal D) : Type 0 where
+-- The names of the changes of a live state name all that differs between this state and what outlives the request.
+pub record IsBefore {B : Type 0} (live : LiveState B) (before : HostState) : Type 0 where
+  pub registered : before.registered ≡ (live.durable).registered
+  pub happened : List Event
+  pub names : Names live.changes happened before.state (live.durable).state
+
+-- one record more, whose body is the delta of the changes that a live state names, in the same generation
+pub record HasOneMore {D B : Type 0} (live : LiveState B) (old new : Journal D) : Type 0 where
   pub same : generation new ≡ generation old
   pub body : List ℕ
-  pub is_body : IsBodyIn Two body state
+  pub is_body : IsBodyOfChanges live body
   pub longer : record_bytes new ≡ record_bytes old + record_header_size + length body
 
--- What becomes of a journal that a state was to be added to as one record: that it has it, and one record more; that
--- memory was refused and nothing changed; or that a device failed, and the journal is to be opened again.
-abbrev pub AddsWith : {D : Type 0} → HostState → Journal D → Result (Unit {0}) HostRefusal → Journal D → Type 0
-AddsWith state old (Ok done) new = IsReady new × HasOneMore state old new
-AddsWith state old (Err the.NoMemory) new = new ≡ old
-AddsWith state old (Err the.DeviceFailed) new = HasFailed new
-AddsWith state old (Err _) new = ⊥
+-- What becomes of a journal that what a request changed was to be added to as one record: that it has it, and one record
+-- more; that memory was refused and nothing changed; or that a device failed, and the journal is to be opened again.
+abbrev pub AddsWith : {D B : Type 0} → LiveState B → Journal D → Result (Unit {0}) HostRefusal → Journal D → Type 0
+AddsWith live old (Ok done) new = IsReady new × HasOneMore live old new
+AddsWith live old (Err the.NoMemory) new = new ≡ old
+AddsWith live old (Err the.DeviceFailed) new = HasFailed new
+AddsWith live old (Err _) new = ⊥
 
--- A state is added to a journal as one record more.
-pub record Adds {D : Type 0} (device : Device D) (state : HostState) (old : Journal D)
+-- What the last request changed is added to a journal as one record more: it then holds what outlives the request, if it
+-- held the state before it.
+pub record Adds {D B : Type 0} (device : Device D) (live : LiveState B) (old : Journal D)
     (result : Result (Unit {0}) HostRefusal)
     (new : Journal D) : Type 0 where
-  pub outcome : AddsWith state old result new
-  pub holds : OnOk result ((before : HostState) → before.registered ≡ state.registered → HoldsState device before old
-      → HoldsState device state new)
-  pub moments : (before : HostState) → before.registered ≡ state.registered → HoldsState device before old
-      → ExtendsHistory device before state old new
+  pub outcome : AddsWith live old result new
+  pub holds : OnOk result ((before : HostState) → IsBefore live before → HoldsState device before old
+      → HoldsState device live.durable new)
+  pub moments : (before : HostState) → IsBefore live before → HoldsState device before old
+      → ExtendsHistory device before live.durable old new
   pub failures : CountsFailures (FailsBy result) (device.failures (first_disk old))
       (device.failures (second_disk old)) (device.failures (first_disk new)) (device.failures (second_disk new))
   pub honesty_first : device.honest (first_disk new) ≡ device.honest (first_disk old)

@@ -5,6 +5,8 @@ use Rattle.ash_journal.specs.declared.error.CreateFault.TheVariants as creating
 use Rattle.ash_journal.specs.declared.error.OpenFault.TheVariants as opening
 use Rattle.ash_objects.specs.declared.restoring.TableFault.{TableFault}
 use Rattle.ash_objects.specs.declared.restoring.TableFault.TheVariants as boxes
+use Rattle.ash_replay.specs.declared.fault.ReplayFault.{ReplayFault}
+use Rattle.ash_replay.specs.declared.fault.ReplayFault.TheVariants as replaying
 use Rattle.ash_durable.specs.declared.fault.StoreFault.{StoreFault}
 use Rattle.ash_durable.specs.declared.fault.StoreFault.TheVariants as faults
 
@@ -22,6 +24,12 @@ abbrev pub fault_of_boxes : StoreFault → TableFault → StoreFault
 fault_of_boxes out_of_memory (boxes.PoolShort kind) = faults.PoolShort kind
 fault_of_boxes out_of_memory (boxes.RestoreRefused number) = faults.RestoreRefused number
 fault_of_boxes out_of_memory boxes.NoMemory = out_of_memory
+
+-- the fault of what an image and records are read as, as one of the store
+abbrev pub fault_of_reading : ReplayFault → StoreFault
+fault_of_reading (replaying.Damaged at) = faults.Open (opening.Damaged at)
+fault_of_reading replaying.OtherInterface = faults.OtherInterface
+fault_of_reading replaying.NoMemory = faults.Open opening.NoMemory
 
 -- a device failed
 abbrev pub IsFailed : StoreFault → Type 0

@@ -1,54 +1,14 @@
 -- What a store's files hold, said of states.
-use Rattle.std.specs.Prelude.{◌≡◌, ◌⊎◌, ℕ, List, [], ◌∷◌}
+use Rattle.std.specs.Prelude.{◌≡◌, ◌⊎◌, ℕ}
 use Rattle.std.specs.Bool.{IsTrue}
-use Rattle.std.specs.List.{AllByRecursion}
 use Rattle.ash_disk.specs.Device.{Device}
 use Rattle.ash_journal.specs.declared.journal.Journal.{Journal}
 use Rattle.ash_journal.specs.Current.{Contents}
 use Rattle.ash_journal.specs.Journal.{first_disk, second_disk, Holds}
 use Rattle.ash_journal.specs.SettledSince.{HoldsSince}
 use Rattle.ash_states.specs.HostStates.{HostState}
-use Rattle.ash_image.specs.declared.version.Version.{Version}
 use Rattle.ash_image.specs.declared.version.Version.TheVariants.{Two}
-use Rattle.ash_image.specs.Snapshots.{Snapshot}
-use Rattle.ash_image.specs.Rules.{IsImage, IsImageBody}
-use Rattle.ash_states.specs.Images.{IsImageOf, IsBodyIn}
-
--- the body of a record that has an image of a state, in either version
-abbrev pub IsBodyOf : List ℕ → HostState → Type 0
-IsBodyOf body state = (version : Version) × IsBodyIn version body state
-
--- an image in a version
-abbrev pub IsImageAs : Version → List ℕ → Type 0
-IsImageAs version image = (s : Snapshot) × IsImage image version s
-
--- the body of a record with an image in a version
-abbrev pub IsBodyAs : Version → List ℕ → Type 0
-IsBodyAs version body = (s : Snapshot) × IsImageBody body version s
-
--- An image and the records after it are all in one version.
-pub record AreIn (version : Version) (contents : Contents) : Type 0 where
-  pub image : IsImageAs version contents.0
-  pub records : AllByRecursion (IsBodyAs version) contents.1
-
--- A record leads from a state to the next, which has the same registered: its body is that of the next.
-pub record Leads (body : List ℕ) (before after : HostState) : Type 0 where
-  pub registered : after.registered ≡ before.registered
-  pub is_body : IsBodyOf body after
-
--- records lead from a state to another, one after the other
-abbrev pub LeadAll : List (List ℕ) → HostState → HostState → Type 0
-LeadAll [] before after = after ≡ before
-LeadAll (body ∷ bodies) before after = (next : HostState) × Leads body before next × LeadAll bodies next after
-
--- A generation's image is that of a state, and its records lead from there to this one. They have the image's version.
-pub record IsStateOf (state : HostState) (contents : Contents) : Type 0 where
-  pub version : Version
-  pub in_version : AreIn version contents
-  pub first : HostState
-  pub registered : first.registered ≡ state.registered
-  pub image : IsImageOf contents.0 first
-  pub records : LeadAll contents.1 first state
+use Rattle.ash_replay.specs.ReplayedStates.{AreIn, IsStateOf}
 
 -- contents of a state with P
 abbrev pub HaveState : (HostState → Type 0) → Contents → Type 0

@@ -1,6 +1,7 @@
 //! Why a store is not made or not opened.
 
 use ash_journal::{CreateFault, OpenFault};
+use ash_replay::ReplayFault;
 use thiserror::Error;
 
 /// Why a store is not made or not opened: the fault of its journal, whole, or one of its own.
@@ -69,6 +70,21 @@ impl From<OpenFault> for StoreFault {
 
     fn from(fault: OpenFault) -> Self {
         StoreFault::Open(fault)
+    }
+}
+
+impl From<ReplayFault> for StoreFault {
+    ghost use Rattle.std.specs.Prelude.{◌≡◌};
+    ghost use Rattle.ash_durable.specs.StoreFaults.{fault_of_reading};
+
+    ghost from_gives = { λ fault result. result ≡ fault_of_reading fault };
+
+    fn from(fault: ReplayFault) -> Self {
+        match fault {
+            ReplayFault::Damaged(offset) => StoreFault::Open(OpenFault::Damaged(offset)),
+            ReplayFault::OtherInterface => StoreFault::OtherInterface,
+            ReplayFault::NoMemory => StoreFault::Open(OpenFault::NoMemory),
+        }
     }
 }
 

@@ -1,4 +1,4 @@
-//! Keeping a state in a journal: as one record more, or as a new generation.
+//! Keeping a state in a journal: what a request changed as one record more, or the whole as a new generation.
 
 ghost use Rattle.std.specs.Prelude.{◌≡◌, ◌<◌, Some, IsSome};
 ghost use Rattle.ash_journal.specs.Journal.{IsReady, record_bytes, record_bytes_limit};
@@ -12,7 +12,8 @@ use ash_journal::{AppendError, InstallError, Journal};
 use ash_requests::Refusal;
 use ash_states::state::HostRefusal;
 
-/// Adds the state of an engine to a journal that is ready, as one record more. At `Ok` every crash leaves it.
+/// Adds what the last request of an engine changed to a journal that is ready, as one record more. At `Ok` every crash
+/// leaves it.
 ///
 /// `NoMemory` comes before any call of a device, and changes nothing. After `DeviceFailed` the record is there or not,
 /// and the journal is to be opened again.
@@ -24,9 +25,10 @@ pub fn add_state<D: Disk, B: HostObject>(
     requires ready { IsReady journal.old }
     requires room { record_bytes journal.old < record_bytes_limit }
     ensures adds { (live : LiveState B) → engine.now.live ≡ Some live
-        → Adds D.Disk live.durable journal.old result journal.new }
+        → Adds D.Disk live journal.old result journal.new }
 {
-    let body = engine.body()?;
+    engine.facts();
+    let body = engine.delta_body()?;
     match journal.append(&body) {
         Ok(()) => Ok(()),
         Err(AppendError::NoMemory) => Err(Refusal::NoMemory),

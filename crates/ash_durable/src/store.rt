@@ -8,7 +8,6 @@ ghost use Rattle.ash_durable.specs.OpenedStore.{OpensState, Moves, Prepares, Rep
 ghost use Rattle.ash_durable.specs.Store.{FindsClosed, PreparesFirst, Makes};
 ghost use Rattle.ash_durable.specs.StoreFaults.{fault_of_boxes};
 
-use crate::contents::state_in;
 use crate::fault::{OpenRefused, StoreFault};
 use crate::header::read_header;
 use ash_disk::Disk;
@@ -18,6 +17,7 @@ use ash_image::version::Version;
 use ash_journal::{CreateFault, Journal, NextGeneration, OpenFault, OpenedJournal};
 use ash_objects::TableFault;
 use ash_registry::Registry;
+use ash_replay::state::state_in;
 use ash_states::state::HostState;
 use std::alloc::Global;
 
@@ -224,7 +224,7 @@ fn settle<D: Disk, B: HostObject>(
     } = opened;
     let read = match state_in(alloc, registry, &image, &records) {
         Ok(read) => read,
-        Err(fault) => return Err(refusal_of(journal, fault)),
+        Err(fault) => return Err(refusal_of(journal, fault.into())),
     };
     let engine = match revive(read.state, pool, services) {
         Ok(engine) => engine,

@@ -164,7 +164,7 @@ pub fn durable_in(alloc: Global, registry: Registry, image: &[u8]) -> Result<Hos
 }
 
 /// The state of an engine, by its image, as a text.
-fn engine_text<B: HostObject>(alloc: Global, engine: &Engine<B>) -> Result<String, Fail>
+pub fn engine_text<B: HostObject>(alloc: Global, engine: &Engine<B>) -> Result<String, Fail>
     requires live { IsSome engine.now.live }
 {
     match read_image(alloc, &engine.image()?)? {

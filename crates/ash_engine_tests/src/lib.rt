@@ -1,9 +1,10 @@
 //! Tests of the engine: sessions of requests that it and the plain evaluator handle side by side, over boxes of host
 //! objects that note what they are asked. The plain evaluator is handed what the boxes answered. After each request the
-//! replies, the events, the boxes that went, and the states are the same.
+//! replies, the events, the boxes that went, and the states are the same. So is the state to which the records lead of
+//! what each request changed.
 //!
 //! `texts` has replies and states as texts, `boxes` the boxes of a session. `both` is an engine beside the plain
-//! evaluator, `sessions` what is asked of both. `rows` has the worked rows of `ash_script_rows`;
+//! evaluator, `kept` what a store keeps of the engine, `sessions` what is asked of both. `rows` has the worked rows of `ash_script_rows`;
 //! `seeds`, `phrases`, `scripts` and `generated` make scripts and sessions by seeds, and run them.
 #![tactic(auto)]
 
@@ -13,6 +14,8 @@ mod both;
 mod boxes;
 #[cfg(test)]
 mod generated;
+#[cfg(test)]
+mod kept;
 #[cfg(test)]
 mod phrases;
 #[cfg(test)]

@@ -3,8 +3,9 @@
 
 ghost use Rattle.std.specs.Prelude.{◌≡◌, [], IsSome, IfOk};
 
-use crate::both::{Both, Compared, durable_in};
+use crate::both::{Both, Compared, durable_in, engine_text};
 use crate::boxes::{taken_by, zero};
+use crate::kept::Kept;
 use ash_engine::engine::Engine;
 use ash_machine_fixtures::boxes::{Pool, boxes_of, services_of};
 use ash_machine_fixtures::lines::{arguments_of, request_of};
@@ -29,11 +30,12 @@ pub struct Host {
     pub last: u64,
 }
 
-/// Both, and the log of their boxes.
+/// Both, the log of their boxes, and what a store would have of the engine.
 #[derive(Drop)]
 pub struct Session {
     pub both: Both<Noted>,
     log: Log,
+    kept: Kept,
 }
 
 fn new_engine(alloc: Global, log: &Log, pool: Pool) -> Result<Engine<Noted>, Fail>
@@ -99,6 +101,7 @@ pub fn begun(alloc: Global, host: Host) -> Result<Session, Fail> {
     let state = first_state(alloc, host.last)?;
     let taken = taken_by(alloc, host.pool, &state)?;
     let engine = first_engine(alloc, &log, host)?;
+    let kept = Kept::begun(alloc, &engine)?;
     Ok(Session {
         both: Both {
             engine,
@@ -107,12 +110,17 @@ pub fn begun(alloc: Global, host: Host) -> Result<Session, Fail> {
             numbers: taken.numbers,
         },
         log,
+        kept,
     })
 }
 
 /// The session after an opening with new boxes.
 fn opened(alloc: Global, pool: Pool, session: Session) -> Result<Session, Fail> {
-    let Session { both, log: _old } = session;
+    let Session {
+        both,
+        log: _old,
+        kept,
+    } = session;
     let Both { engine, state, .. } = both;
     let log = new_log(alloc)?;
     let taken = taken_by(alloc, pool, &state)?;
@@ -126,7 +134,60 @@ fn opened(alloc: Global, pool: Pool, session: Session) -> Result<Session, Fail> 
             numbers: taken.numbers,
         },
         log,
+        kept,
     })
+}
+
+/// What is compared, with the state to which records lead beside that of the engine.
+fn with_kept(
+    alloc: Global,
+    engine: &Engine<Noted>,
+    kept: &Kept,
+    compared: Compared,
+) -> Result<Compared, Fail>
+    requires live { IsSome engine.now.live }
+{
+    let Compared {
+        mut found,
+        mut wanted,
+        line,
+        events,
+    } = compared;
+    found.push_str("\nby records: ")?;
+    found.push_str(&kept.text(alloc)?)?;
+    wanted.push_str("\nby records: ")?;
+    wanted.push_str(&engine_text(alloc, engine)?)?;
+    Ok(Compared {
+        found,
+        wanted,
+        line,
+        events,
+    })
+}
+
+/// The session after a request, of which a record is kept.
+fn kept_on(
+    alloc: Global,
+    both: Both<Noted>,
+    log: Log,
+    kept: Kept,
+    compared: Compared,
+) -> Result<(Option<Session>, Compared), Fail> {
+    let Both {
+        engine,
+        state,
+        pool,
+        numbers,
+    } = both;
+    let kept = kept.with_last(&engine)?;
+    let compared = with_kept(alloc, &engine, &kept, compared)?;
+    let both = Both {
+        engine,
+        state,
+        pool,
+        numbers,
+    };
+    Ok((Some(Session { both, log, kept }), compared))
 }
 
 /// What a line does on both.
@@ -136,12 +197,12 @@ pub fn asked(
     line: &str,
     budget: u64,
 ) -> Result<(Option<Session>, Compared), Fail> {
-    let Session { both, log } = session;
+    let Session { both, log, kept } = session;
     let arguments = arguments_of(alloc, line)?;
     let request = request_of(line, &arguments);
     let (both, compared) = both.handle(alloc, &log, &request, budget)?;
     match both {
-        Some(both) => Ok((Some(Session { both, log }), compared)),
+        Some(both) => kept_on(alloc, both, log, kept, compared),
         None => Ok((None, compared)),
     }
 }

@@ -11,18 +11,28 @@ pub struct ImageModule<'a> {
 }
 
 /// The length of some bytes, in four.
-fn length_of(bytes: &[u8]) -> [u8; 4] {
+pub fn length_of(bytes: &[u8]) -> [u8; 4] {
     let length = u32::try_from(bytes.len()).unwrap_or(u32::MAX);
     length.to_le_bytes()
 }
 
+/// Adds the name of a module, after its length.
+pub fn add_name(bytes: &mut Vec<u8>, name: &str) -> Result<(), AllocError> {
+    let [length, _, _, _] = length_of(name.as_bytes());
+    bytes.push(length)?;
+    bytes.extend_from_slice(name.as_bytes())
+}
+
+/// Adds the name and the source of a module.
+pub fn add_source(bytes: &mut Vec<u8>, module: &ImageModule) -> Result<(), AllocError> {
+    add_name(bytes, module.name)?;
+    bytes.extend_from_slice(&length_of(module.source))?;
+    bytes.extend_from_slice(module.source)
+}
+
 /// Adds a module to an image.
 fn add_module(image: &mut Vec<u8>, module: &ImageModule) -> Result<(), AllocError> {
-    let [length, _, _, _] = length_of(module.name.as_bytes());
-    image.push(length)?;
-    image.extend_from_slice(module.name.as_bytes())?;
-    image.extend_from_slice(&length_of(module.source))?;
-    image.extend_from_slice(module.source)?;
+    add_source(image, module)?;
     match module.global {
         Some(number) => {
             image.extend_from_slice(&[1, 0, 1])?;
@@ -43,16 +53,16 @@ pub struct StoreImage<'a> {
     pub modules: &'a [ImageModule<'a>],
 }
 
-/// Adds a service to an image.
+/// Adds a service: its kind in an image, or its index in a delta, and an `int` as its state.
 fn add_service(image: &mut Vec<u8>, service: (u16, i32)) -> Result<(), AllocError> {
-    let (kind, number) = service;
-    image.extend_from_slice(&kind.to_le_bytes())?;
+    let (name, number) = service;
+    image.extend_from_slice(&name.to_le_bytes())?;
     image.extend_from_slice(&[4, 0])?;
     image.extend_from_slice(&number.to_le_bytes())
 }
 
-/// Adds how many services there are to an image, and each of them.
-fn add_services(image: &mut Vec<u8>, services: &[(u16, i32)]) -> Result<(), AllocError> {
+/// Adds how many services there are, and each of them.
+pub fn add_services(image: &mut Vec<u8>, services: &[(u16, i32)]) -> Result<(), AllocError> {
     let count = u16::try_from(services.len()).unwrap_or(u16::MAX);
     image.extend_from_slice(&count.to_le_bytes())?;
     for service in services {
@@ -117,15 +127,20 @@ pub fn generation(alloc: Global, number: u64, image: &[u8]) -> Result<Vec<u8>, A
     Ok(file)
 }
 
-/// Adds a record to a file, whose body is a tag and an image, and opens the gate before it.
-pub fn add_record(file: &mut Vec<u8>, image: &[u8]) -> Result<(), AllocError> {
+/// Adds a record to a file, whose body is a tag and these bytes, and opens the gate before it.
+pub fn add_record(file: &mut Vec<u8>, tag: u8, bytes: &[u8]) -> Result<(), AllocError> {
     if let Some(gate) = file.as_mut_slice().last_mut() {
         *gate = 1;
     }
-    let length = u32::try_from(image.len()).unwrap_or(u32::MAX);
+    let length = u32::try_from(bytes.len()).unwrap_or(u32::MAX);
     file.extend_from_slice(&length.saturating_add(1).to_le_bytes())?;
-    file.push(1)?;
-    file.extend_from_slice(image)?;
+    file.push(tag)?;
+    file.extend_from_slice(bytes)?;
     file.push(0)?;
     Ok(())
+}
+
+/// Adds a record of a whole state to a file.
+pub fn add_image(file: &mut Vec<u8>, image: &[u8]) -> Result<(), AllocError> {
+    add_record(file, 1, image)
 }

@@ -1,6 +1,6 @@
 //! Stores with about as many bytes of records as make a host install a new generation, written by hand.
 
-use crate::files::{ImageModule, add_record, generation, image};
+use crate::files::{ImageModule, add_image, generation, image};
 use crate::hosts::SOURCE;
 use ash_lex::MAX_SOURCE_BYTES;
 use std::alloc::{AllocError, Global};
@@ -52,15 +52,15 @@ fn small_image(alloc: Global, seq: u64) -> Result<Vec<u8>, AllocError> {
     image(alloc, seq, &[module])
 }
 
-/// The file of a generation of this number with an empty image and 17 records, with the numbers from 1 on. Sixteen are
-/// of large states, the last of them with a source of so many bytes, and the seventeenth is of a host with the module
-/// `m`.
+/// The file of a generation of this number with an empty image and 17 records of whole states, with the numbers from 1
+/// on. Sixteen are of large states, the last of them with a source of so many bytes, and the seventeenth is of a host
+/// with the module `m`.
 pub fn full_file(alloc: Global, number: u64, last: usize) -> Result<Vec<u8>, AllocError> {
     let mut file = generation(alloc, number, &image(alloc, 0, &[])?)?;
     for seq in 1..16 {
-        add_record(&mut file, &large_image(alloc, seq, MAX_SOURCE_BYTES)?)?;
+        add_image(&mut file, &large_image(alloc, seq, MAX_SOURCE_BYTES)?)?;
     }
-    add_record(&mut file, &large_image(alloc, 16, last)?)?;
-    add_record(&mut file, &small_image(alloc, 17)?)?;
+    add_image(&mut file, &large_image(alloc, 16, last)?)?;
+    add_image(&mut file, &small_image(alloc, 17)?)?;
     Ok(file)
 }

@@ -1,7 +1,8 @@
 //! Lives of a store as data: what is asked of a host from the making or the opening of its store until it is closed,
 //! and the files by hand that it then leaves. What is answered is written out, so that a test compares a text.
 
-use crate::files::{ImageModule, add_record, generation, image_in};
+use crate::deltas::{ModuleDelta, add_delta, delta_of_modules};
+use crate::files::{ImageModule, add_image, generation, image_in};
 use crate::hosts::{
     EMPTY, SOURCE, State, add, call_in, closed, created, discard, discard_of, disk, fuse, get,
     global, inner, line_of, load, load_as, no_boxes, object, opened, reopened, seq, shown,
@@ -92,13 +93,17 @@ pub enum File {
     Bytes(&'static [u8]),
     /// That of a host that has no module, nothing registered, and has answered no request.
     Empty,
-    /// The generation of a number: the state in its image, the states in its records, and what is left after them of
-    /// what was longer.
+    /// The generation of a number: the state in its image, the states to which its records lead, each by what it
+    /// changes, and what is left after them of what was longer.
     Written(u64, State, &'static [State], &'static [u8]),
-    /// The generation of a number in version 1: the state in its image, and the states in its records.
+    /// The generation of a number: the state in its image, those in its first records, which have whole states, and the
+    /// states to which the records after them lead.
+    Whole(u64, State, &'static [State], &'static [State]),
+    /// The generation of a number in version 1, whose records have whole states: the state in its image, and those in
+    /// its records.
     Older(u64, State, &'static [State]),
-    /// The generation of a number with a state in its image, over the first one, which had an empty image and these
-    /// states in its records, and was longer.
+    /// The generation of a number with a state in its image, over the first one, which had an empty image and records
+    /// of what leads to these states, and was longer.
     Over(u64, State, &'static [State]),
 }
 
@@ -116,8 +121,8 @@ pub fn image_of(alloc: Global, version: u8, state: State) -> Result<Vec<u8>, All
     }
 }
 
-/// The generation of a number, in a version.
-fn written(
+/// The generation of a number, in a version, whose records have whole states.
+fn whole(
     alloc: Global,
     version: u8,
     number: u64,
@@ -128,8 +133,64 @@ fn written(
     let mut file = generation(alloc, number, image.as_slice())?;
     for state in records {
         let image = image_of(alloc, version, *state)?;
-        add_record(&mut file, image.as_slice())?;
+        add_image(&mut file, image.as_slice())?;
     }
+    Ok(file)
+}
+
+/// What became of the modules between two states. What `n` holds after them is handed over, as a global.
+fn change_between<'a>(before: State, after: State, global: &'a [(u16, i32)]) -> ModuleDelta<'a> {
+    let module = ImageModule {
+        name: "m",
+        source: SOURCE,
+        global: after.1,
+    };
+    match (before.1, after.1) {
+        (None, None) => ModuleDelta::Unchanged,
+        (None, Some(_)) => ModuleDelta::Added(module),
+        (Some(_), None) => ModuleDelta::Removed("m"),
+        (Some(old), Some(new)) if old == new => ModuleDelta::Globals("m", &[]),
+        (Some(_), Some(_)) => ModuleDelta::Globals("m", global),
+    }
+}
+
+/// Adds a record of what leads from one state to the next.
+fn add_between(
+    alloc: Global,
+    file: &mut Vec<u8>,
+    before: State,
+    after: State,
+) -> Result<(), AllocError> {
+    let global: [(u16, i32); 1] = [(0, after.1.unwrap_or(0))];
+    let modules = change_between(before, after, &global);
+    add_delta(alloc, file, &delta_of_modules(after.0, modules))
+}
+
+/// Adds records that lead from a state to these, one after the other.
+fn add_changes(
+    alloc: Global,
+    file: &mut Vec<u8>,
+    first: State,
+    records: &[State],
+) -> Result<(), AllocError> {
+    let mut before = first;
+    for state in records {
+        add_between(alloc, file, before, *state)?;
+        before = *state;
+    }
+    Ok(())
+}
+
+/// The generation of a number, whose records lead from state to state.
+fn written(
+    alloc: Global,
+    number: u64,
+    first: State,
+    records: &[State],
+) -> Result<Vec<u8>, AllocError> {
+    let image = image_of(alloc, 2, first)?;
+    let mut file = generation(alloc, number, image.as_slice())?;
+    add_changes(alloc, &mut file, first, records)?;
     Ok(file)
 }
 
@@ -139,14 +200,20 @@ pub fn bytes_of(alloc: Global, file: File) -> Result<Vec<u8>, AllocError> {
         File::Bytes(bytes) => Vec::from_slice(alloc, bytes),
         File::Empty => Vec::from_slice(alloc, &EMPTY),
         File::Written(number, first, records, rest) => {
-            let mut file = written(alloc, 2, number, first, records)?;
+            let mut file = written(alloc, number, first, records)?;
             file.extend_from_slice(rest)?;
             Ok(file)
         }
-        File::Older(number, first, records) => written(alloc, 1, number, first, records),
+        File::Whole(number, first, wholes, records) => {
+            let mut file = whole(alloc, 2, number, first, wholes)?;
+            let before = wholes.last().copied().unwrap_or(first);
+            add_changes(alloc, &mut file, before, records)?;
+            Ok(file)
+        }
+        File::Older(number, first, records) => whole(alloc, 1, number, first, records),
         File::Over(number, state, records) => {
-            let old = written(alloc, 2, 1, (0, None), records)?;
-            let mut file = written(alloc, 2, number, state, &[])?;
+            let old = written(alloc, 1, (0, None), records)?;
+            let mut file = written(alloc, number, state, &[])?;
             let rest = old.as_slice().get(file.len()..).unwrap_or_default();
             file.extend_from_slice(rest)?;
             Ok(file)

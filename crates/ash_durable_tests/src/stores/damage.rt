@@ -30,25 +30,39 @@ fn wanted_of(cuts: &[Cut], length: usize) -> Found {
 }
 
 // Of a store with one record. Its first gate counts where something follows, and the first image ends at 50, where the
-// gate before the record is. The record and the next gate end at 94.
+// gate before the record is. The record and the next gate end at 92.
 static CUTS_OF_LOADED: [Cut; 4] = [
     (0, Err(OpenFault::NoGeneration)),
     (2, DAMAGED),
     (51, Err(OpenFault::Damaged(50))),
-    (94, Ok(1)),
+    (92, Ok(1)),
 ];
 
 /// A file: what it is called, its bytes, how many there are, and what opening gives where it is cut.
 type CutFile = (&'static str, File, usize, &'static [Cut]);
 
-static CUT_FILES: [CutFile; 2] = [
-    // The same with two records, of which each has 5 bytes around its body, and this a tag and an image of 87 bytes: an
-    // empty one of 29, and a module with a name of one byte, 45 bytes of source and one global, which are 2 + 4 + 45 +
-    // 2 + 5. What comes after the last gate is not read.
+static CUT_FILES: [CutFile; 3] = [
+    // The same with two records, of which each has 5 bytes around its body. One adds a module with a name of one byte,
+    // 45 bytes of source and one global, and has 36 + 45 + 7; the other changes one global, and has 39. What comes
+    // after the last gate is not read.
     (
         "two records, and three bytes more",
         File::Written(1, (0, None), &[(1, Some(2)), (2, Some(7))], &[1, 2, 3]),
-        237 + 3,
+        188 + 3,
+        &[
+            (0, Err(OpenFault::NoGeneration)),
+            (2, DAMAGED),
+            (51, Err(OpenFault::Damaged(50))),
+            (144, Err(OpenFault::Damaged(143))),
+            (188, Ok(2)),
+        ],
+    ),
+    // The same with whole states, of which each has a tag and an image of 87 bytes: an empty one of 29, and the module,
+    // which has 2 + 4 + 45 + 2 + 5.
+    (
+        "two records of whole states",
+        File::Whole(1, (0, None), &[(1, Some(2)), (2, Some(7))], &[]),
+        237,
         &[
             (0, Err(OpenFault::NoGeneration)),
             (2, DAMAGED),
@@ -147,27 +161,27 @@ fn wanted_of_loaded(place: usize, byte: u8) -> Found {
         // The generation, which no other file is open beside, and what is in the image before the state in the record:
         // the number, and the last number of an object.
         9..=16 | 27..=42 => Ok(1),
-        // An image of version 1, beside a record of version 2.
-        21 if byte == 1 => Err(OpenFault::Damaged(50)),
-        // The length of the image. Two lengths lead to a byte 1 of the record, at 80 and 81, as the gate of a record
+        // An image of version 1, in which a change of the modules is spelled the same.
+        21 if byte == 1 => Ok(1),
+        // The length of the image. Two lengths lead to a byte 1 of the record, at 74 and 75, as the gate of a record
         // that is cut; from the others none is found, or a whole one after an image of another length.
-        17 if byte == 59 => Err(OpenFault::Damaged(80)),
-        17 if byte == 60 => Err(OpenFault::Damaged(81)),
+        17 if byte == 53 => Err(OpenFault::Damaged(74)),
+        17 if byte == 54 => Err(OpenFault::Damaged(75)),
         // What the file is known by, and the rest of the image.
         1..=8 | 17..=26 | 43..=49 => DAMAGED,
         // The gate before the record, which then counts no more.
         50 => Ok(0),
         // The length of the body, of which the same is to be said.
-        51 if byte == 25 => Err(OpenFault::Damaged(80)),
-        51 if byte == 26 => Err(OpenFault::Damaged(81)),
+        51 if byte == 19 => Err(OpenFault::Damaged(74)),
+        51 if byte == 20 => Err(OpenFault::Damaged(75)),
         // In the record the number, and the last number of an object.
-        62..=69 => Ok(number_with(place.wrapping_sub(62), byte)),
-        70..=77 => Ok(1),
+        56..=63 => Ok(number_with(place.wrapping_sub(56), byte)),
+        64..=71 => Ok(1),
         // The module's name, of one byte.
-        82 if byte == b'_' || byte.is_ascii_alphabetic() => Ok(1),
+        76 if byte == b'_' || byte.is_ascii_alphabetic() => Ok(1),
         // The next gate, after which a record would be cut.
-        93 if byte == 1 => Err(OpenFault::Damaged(93)),
-        93 => Ok(1),
+        91 if byte == 1 => Err(OpenFault::Damaged(91)),
+        91 => Ok(1),
         // The rest of the record.
         _ => Err(OpenFault::Damaged(50)),
     }
@@ -281,7 +295,7 @@ fn modules_out_of_order(rt: HostRuntime) -> Result<(), Fail> {
 
 /// Opens a store with one record, whose next gate is this byte, beside another file, and gives its disks.
 fn repaired(alloc: Global, gate: u8, other: &[u8]) -> Result<Disks, Fail> {
-    let file = changed(alloc, loaded(), 93, gate)?;
+    let file = changed(alloc, loaded(), 91, gate)?;
     disks_after_opening(alloc, &file, other)
 }
 

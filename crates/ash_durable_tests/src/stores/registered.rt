@@ -8,7 +8,8 @@ use crate::hosts::{
 use ash_disk::MemoryDisk;
 use ash_durable::{OpenFault, StoreFault};
 use ash_registry::{Registry, RegistryFault};
-use ash_store_fixtures::hosts::{discard, second_generation, snapshot};
+use ash_store_fixtures::files::{ImageModule, StoreImage, add_image, generation, image_bytes};
+use ash_store_fixtures::hosts::{discard, disk, second_generation, snapshot};
 use std::alloc::{AllocError, Global};
 use std::process::Abort;
 use std::test::Fail;
@@ -58,12 +59,13 @@ fn loaded(alloc: Global) -> Result<BoxedHost, Fail> {
     with_module(alloc, tall_host(alloc)?, SOURCE)
 }
 
-/// The files of such a store: with the module in the image, with it in a record after an empty image, and with it in an
-/// image, and a record that takes it away.
+/// The files of such a store: with the module in the image, with it in a record after an empty image, which adds it or
+/// has the whole state, and with it in an image, and a record that takes it away.
 #[derive(Clone, Copy, Debug, PartialEq)]
 enum Place {
     Image,
     Record,
+    WholeRecord,
     ImageBeforeRecord,
 }
 
@@ -89,11 +91,38 @@ fn after_a_snapshot(alloc: Global, host: BoxedHost) -> Result<Box<MemoryDisk>, F
     Ok(boxed_disk(alloc, second)?)
 }
 
+const EMPTY_IMAGE: StoreImage<'static> = StoreImage {
+    version: 2,
+    text: "type Tall 1\n",
+    seq: 0,
+    services: &[],
+    modules: &[],
+};
+
+const MODULE: ImageModule<'static> = ImageModule {
+    name: "m",
+    source: SOURCE,
+    global: Some(2),
+};
+
+/// The file with the module in a record that has the whole state.
+fn whole_record(alloc: Global) -> Result<Vec<u8>, AllocError> {
+    let mut file = generation(alloc, 1, &image_bytes(alloc, &EMPTY_IMAGE)?)?;
+    let image = StoreImage {
+        seq: 1,
+        modules: &[MODULE],
+        ..EMPTY_IMAGE
+    };
+    add_image(&mut file, &image_bytes(alloc, &image)?)?;
+    Ok(file)
+}
+
 fn stored(alloc: Global, place: Place) -> Result<Box<MemoryDisk>, Fail> {
     let host = loaded(alloc)?;
     match place {
         Place::Image => after_a_snapshot(alloc, host),
         Place::Record => Ok(first_disk(alloc, host)?),
+        Place::WholeRecord => Ok(boxed_disk(alloc, disk(alloc, &whole_record(alloc)?)?)?),
         Place::ImageBeforeRecord => snapshot_and_discard(alloc, host),
     }
 }
@@ -198,97 +227,126 @@ static ROWS_OF_AN_IMAGE: [Row; 13] = [
 
 const RECORD_DAMAGED: Option<StoreFault> = Some(StoreFault::Open(OpenFault::Damaged(62)));
 
-// The image is the empty one with that text, 41 bytes from 21 on, and the gate before the record is at 62. Its body has
-// 68 bytes: a tag and then the image with the module, from 68 on. The last `l` of its text is at 82, and the global's
-// word begins at 126 and the next gate is at 135.
-static ROWS_OF_A_RECORD: [Row; 19] = [
-    (Place::Record, Damage::Cut(136), "Tall", None),
-    (Place::Record, Damage::Cut(136), "Tale", OTHER),
+// The image is the empty one with that text, 41 bytes from 21 on, whose last `l` is at 35, and the gate before the
+// record is at 62. Its body has 56 bytes: a tag, at 67, and what adds the module. The index of its global is at 108,
+// the word begins at 110, and the next gate is at 123.
+static ROWS_OF_A_RECORD: [Row; 17] = [
+    (Place::Record, Damage::Cut(124), "Tall", None),
+    (Place::Record, Damage::Cut(124), "Tale", OTHER),
     (Place::Record, Damage::Cut(80), "Tall", RECORD_DAMAGED),
     (Place::Record, Damage::Cut(80), "Tale", RECORD_DAMAGED),
     (Place::Record, Damage::Cut(62), "Tale", DAMAGED),
-    // A record has the text of its generation's image, whatever is registered.
+    // With the other text its source declares what is registered.
     (
         Place::Record,
-        Damage::Byte(82, b'e'),
+        Damage::Byte(35, b'e'),
+        "Tale",
+        RECORD_DAMAGED,
+    ),
+    (Place::Record, Damage::Byte(35, b'e'), "Tall", OTHER),
+    // Object 9 is none of the state's, whatever is registered.
+    (
+        Place::Record,
+        Damage::Word(110, OBJECT_9, 63, 60),
         "Tall",
         RECORD_DAMAGED,
     ),
     (
         Place::Record,
-        Damage::Byte(82, b'e'),
+        Damage::Word(110, OBJECT_9, 63, 60),
         "Tale",
         RECORD_DAMAGED,
     ),
     (
         Place::Record,
-        Damage::Byte(35, b'e'),
+        Damage::Word(110, NULL, 63, 52),
         "Tall",
         RECORD_DAMAGED,
     ),
     (
         Place::Record,
+        Damage::Word(110, NULL, 63, 52),
+        "Tale",
+        OTHER,
+    ),
+    // Other tags: of nothing, and of a whole state.
+    (Place::Record, Damage::Byte(67, 9), "Tale", RECORD_DAMAGED),
+    (Place::Record, Damage::Byte(67, 1), "Tale", RECORD_DAMAGED),
+    // A module that is added has all of its globals, from the first on.
+    (Place::Record, Damage::Byte(108, 1), "Tall", RECORD_DAMAGED),
+    (Place::Record, Damage::Byte(108, 1), "Tale", RECORD_DAMAGED),
+    // The next gate.
+    (Place::Record, Damage::Byte(123, 2), "Tall", None),
+    (Place::Record, Damage::Byte(123, 2), "Tale", OTHER),
+];
+
+// The same with the whole state in the record. Its body has 68 bytes: a tag and then the image with the module, from 68
+// on. The last `l` of its text is at 82, and the next gate is at 135.
+static ROWS_OF_A_WHOLE_RECORD: [Row; 11] = [
+    (Place::WholeRecord, Damage::Cut(136), "Tall", None),
+    (Place::WholeRecord, Damage::Cut(136), "Tale", OTHER),
+    // A record has the text of its generation's image, whatever is registered.
+    (
+        Place::WholeRecord,
+        Damage::Byte(82, b'e'),
+        "Tall",
+        RECORD_DAMAGED,
+    ),
+    (
+        Place::WholeRecord,
+        Damage::Byte(82, b'e'),
+        "Tale",
+        RECORD_DAMAGED,
+    ),
+    (
+        Place::WholeRecord,
+        Damage::Byte(35, b'e'),
+        "Tall",
+        RECORD_DAMAGED,
+    ),
+    (
+        Place::WholeRecord,
         Damage::Byte(35, b'e'),
         "Tale",
         RECORD_DAMAGED,
     ),
     // With the other text in both its source declares what is registered.
     (
-        Place::Record,
+        Place::WholeRecord,
         Damage::Two(35, 82, b'e'),
         "Tale",
         RECORD_DAMAGED,
     ),
-    (Place::Record, Damage::Two(35, 82, b'e'), "Tall", OTHER),
+    (Place::WholeRecord, Damage::Two(35, 82, b'e'), "Tall", OTHER),
+    // The tag of what a request changed, and a text that isn't UTF-8.
     (
-        Place::Record,
-        Damage::Word(126, OBJECT_9, 63, 72),
-        "Tall",
-        RECORD_DAMAGED,
-    ),
-    (
-        Place::Record,
-        Damage::Word(126, OBJECT_9, 63, 72),
+        Place::WholeRecord,
+        Damage::Byte(67, 2),
         "Tale",
         RECORD_DAMAGED,
     ),
     (
-        Place::Record,
-        Damage::Word(126, NULL, 63, 64),
-        "Tall",
-        RECORD_DAMAGED,
-    ),
-    (
-        Place::Record,
-        Damage::Word(126, NULL, 63, 64),
-        "Tale",
-        OTHER,
-    ),
-    // Another tag, and a text that isn't UTF-8.
-    (Place::Record, Damage::Byte(67, 2), "Tale", RECORD_DAMAGED),
-    (
-        Place::Record,
+        Place::WholeRecord,
         Damage::Byte(82, 0xff),
         "Tall",
         RECORD_DAMAGED,
     ),
     // The next gate.
-    (Place::Record, Damage::Byte(135, 2), "Tall", None),
-    (Place::Record, Damage::Byte(135, 2), "Tale", OTHER),
+    (Place::WholeRecord, Damage::Byte(135, 2), "Tall", None),
 ];
 
 const LATER_DAMAGED: Option<StoreFault> = Some(StoreFault::Open(OpenFault::Damaged(88)));
 
-// The image with the module, whose word is at 79. The gate before the record is at 88, its length follows, and its tag
-// is at 93; the image in it is the empty one with the text, whose last `l` is at 108.
-static ROWS_OF_BOTH: [Row; 8] = [
+// The image with the module, whose word is at 79. The gate before the record is at 88, its length follows, its tag is
+// at 93, and what says that a module is removed is at 112.
+static ROWS_OF_BOTH: [Row; 10] = [
     (Place::ImageBeforeRecord, Damage::Cut(500), "Tall", None),
-    // What the image holds must be admitted, though the record leads away from it.
+    // What the image holds need not be admitted, since the record leads away from it.
     (
         Place::ImageBeforeRecord,
         Damage::Word(79, NULL, 17, 63),
         "Tall",
-        DAMAGED,
+        None,
     ),
     (
         Place::ImageBeforeRecord,
@@ -298,17 +356,24 @@ static ROWS_OF_BOTH: [Row; 8] = [
     ),
     (
         Place::ImageBeforeRecord,
-        Damage::Two(35, 108, b'e'),
+        Damage::Byte(35, b'e'),
         "Tale",
-        DAMAGED,
+        None,
     ),
     (
         Place::ImageBeforeRecord,
-        Damage::Two(35, 108, b'e'),
+        Damage::Byte(35, b'e'),
         "Tall",
         OTHER,
     ),
-    // The shape of the record comes before that, and so does the shape of the image.
+    // But it is to keep the rules of an image.
+    (
+        Place::ImageBeforeRecord,
+        Damage::Word(79, OBJECT_9, 17, 71),
+        "Tall",
+        DAMAGED,
+    ),
+    // The shapes of the record and of the image come before the text.
     (
         Place::ImageBeforeRecord,
         Damage::Byte(93, 9),
@@ -317,8 +382,14 @@ static ROWS_OF_BOTH: [Row; 8] = [
     ),
     (
         Place::ImageBeforeRecord,
-        Damage::Byte(108, b'e'),
+        Damage::Byte(112, 3),
         "Tale",
+        LATER_DAMAGED,
+    ),
+    (
+        Place::ImageBeforeRecord,
+        Damage::Byte(112, 0),
+        "Tall",
         LATER_DAMAGED,
     ),
     (
@@ -364,6 +435,11 @@ fn damage_before_the_interface_and_after_it(rt: HostRuntime) -> Result<(), Fail>
 #[test]
 fn a_record_damaged_before_the_interface_and_after_it(rt: HostRuntime) -> Result<(), Fail> {
     check_rows(&rt, rt.alloc(), &ROWS_OF_A_RECORD)
+}
+
+#[test]
+fn a_whole_record_damaged_before_the_interface_and_after_it(rt: HostRuntime) -> Result<(), Fail> {
+    check_rows(&rt, rt.alloc(), &ROWS_OF_A_WHOLE_RECORD)
 }
 
 #[test]
@@ -413,14 +489,18 @@ fn check_text_at(rt: &impl Abort, disk: &MemoryDisk, at: usize, what: &str) {
     check_bytes(rt, found, b"type Tall 1\n", what);
 }
 
+/// Compares the length of a file whose image has the text.
+fn check_length(rt: &impl Abort, disk: &MemoryDisk, wanted: usize, what: &str) {
+    check_text_at(rt, disk, 27, what);
+    check(rt, &disk.bytes().len(), &wanted, what);
+}
+
 #[test]
-fn the_text_in_each_record(rt: HostRuntime) -> Result<(), Fail> {
+fn the_text_in_the_image_alone(rt: HostRuntime) -> Result<(), Fail> {
     let first = stored(rt.alloc(), Place::Record)?;
-    check_text_at(&rt, &first, 27, "in the image");
-    check_text_at(&rt, &first, 74, "in the record");
-    // What is opened goes on with that text. The next gate of the first record is at 135, and the second's text 12
-    // bytes after it.
+    check_length(&rt, &first, 124, "after a load");
+    // What is opened goes on without it.
     let first = after_a_discard(rt.alloc(), first.bytes())?;
-    check_text_at(&rt, &first, 147, "in the second record");
+    check_length(&rt, &first, 124 + 35, "after a discard");
     Ok(())
 }

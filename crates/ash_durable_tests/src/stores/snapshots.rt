@@ -7,7 +7,8 @@ use crate::stores::fuses::answers_on_fuses;
 use crate::stores::runs::{RunSeries, answers_in, check_calls, check_lives};
 use ash_disk::{MemoryDisk, Survives};
 use ash_durable::FULL_RECORD_BYTES;
-use ash_store_fixtures::files::{ImageModule, add_record, generation, image};
+use ash_store_fixtures::deltas::{ModuleDelta, add_delta, delta_of_modules};
+use ash_store_fixtures::files::{ImageModule, generation, image};
 use ash_store_fixtures::full::{AT_THE_LIMIT, full_file, spaces};
 use ash_store_fixtures::hosts::{EMPTY, discard, found_state, image_after, load};
 use ash_store_fixtures::lives::{File, HostStep, Run, Start, bytes_of};
@@ -219,8 +220,8 @@ fn disks_after(alloc: Global, requests: u64) -> Result<Disks, Fail> {
     Ok(closed_disks(alloc, host)?)
 }
 
-// A load has a record of 5 + 1 + 29 + 8 + 65,536 bytes, with the name of one byte, and a discard one of 5 + 1 + 29.
-const LOAD: usize = 65_579;
+// A load has a record of 5 + 36 + 65,536 bytes, with the name of one byte, and a discard one of 5 + 30.
+const LOAD: usize = 65_577;
 
 const DISCARD: usize = 35;
 
@@ -233,17 +234,18 @@ fn second_file(alloc: Global) -> Result<Vec<u8>, AllocError> {
         global: None,
     };
     let mut file = generation(alloc, 2, &image(alloc, 511, &[module])?)?;
-    add_record(&mut file, &image(alloc, 512, &[])?)?;
+    let removed = delta_of_modules(512, ModuleDelta::Removed("m"));
+    add_delta(alloc, &mut file, &removed)?;
     Ok(file)
 }
 
 /// Looks at the first disk after a load and a discard have filled a generation.
 fn check_filled(rt: &impl Abort, first: &[u8]) {
-    // After 510 requests there are 255 * (65,579 + 35) = 16,731,570 bytes of records, and so the load after them is
-    // added to these. With it there are 16,797,149, which is past 16,777,216, and so the discard after it installs
+    // After 510 requests there are 255 * (65,577 + 35) = 16,731,060 bytes of records, and so the load after them is
+    // added to these. With it there are 16,796,637, which is past 16,777,216, and so the discard after it installs
     // first.
     let length = 51 + 255 * (LOAD + DISCARD) + LOAD;
-    check(rt, &length, &16_797_200, "by hand");
+    check(rt, &length, &(51 + 16_796_637), "by hand");
     check(rt, &first.len(), &length, "the first disk");
 }
 
@@ -316,7 +318,7 @@ fn check_full(rt: &impl Abort, alloc: Global, row: &Full) -> Result<(), Fail> {
     Ok(())
 }
 
-// A record that is added has 6 + 87 bytes.
+// A record that is added has 5 + 39 bytes.
 static AT_THE_SIZE: [Full; 2] = [
     Full {
         what: "at the limit",
@@ -333,7 +335,7 @@ static AT_THE_SIZE: [Full; 2] = [
         last: AT_THE_LIMIT - 1,
         steps: &[HostStep::State, HostStep::Call(5)],
         answers: "(17, Some(2))\nok 7 seq 18\n",
-        added: 93,
+        added: 44,
         second: File::Bytes(&[0]),
     },
 ];

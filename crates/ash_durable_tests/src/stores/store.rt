@@ -12,7 +12,7 @@ use std::alloc::Global;
 use std::process::Abort;
 use std::test::Fail;
 
-static LIVES: [RunSeries; 6] = [
+static LIVES: [RunSeries; 9] = [
     // The first gate of each is shut and synced. Then the generation is written and synced, and its gate.
     (
         File::Bytes(&[]),
@@ -116,6 +116,56 @@ static LIVES: [RunSeries; 6] = [
             },
         ],
     ),
+    // A call after which `n` holds what it held, and a load that comes to no end.
+    (
+        File::Bytes(&[]),
+        File::Bytes(&[]),
+        &[Run {
+            what: "a call that changes nothing",
+            start: Start::Make,
+            steps: &[HostStep::Load, HostStep::Call(0)],
+            answers: "ok seq 1\nok 2 seq 2\n",
+            is_reopened: true,
+            first: File::Written(1, (0, None), &[(1, Some(2)), (2, Some(2))], &[]),
+            second: File::Bytes(&[0]),
+            calls: (14 + 1, 2 + 1),
+        }],
+    ),
+    (
+        File::Bytes(&[]),
+        File::Bytes(&[]),
+        &[Run {
+            what: "a load that comes to no end",
+            start: Start::Make,
+            steps: &[HostStep::LoadAs("m", b"int n = 1 / 0;")],
+            answers: "exception DivideByZero (init) 1 seq 1\n",
+            is_reopened: true,
+            first: File::Written(1, (0, None), &[(1, None)], &[]),
+            second: File::Bytes(&[0]),
+            calls: (10 + 1, 2 + 1),
+        }],
+    ),
+    // A store whose records have whole states: so an older program left it, which wrote the whole state for each
+    // request. It goes on with records of what changes.
+    (
+        File::Whole(1, (0, None), &[(1, Some(2)), (2, Some(7))], &[]),
+        File::Bytes(&[0]),
+        &[Run {
+            what: "records of whole states",
+            start: Start::Open,
+            steps: &[HostStep::State, HostStep::Call(1), HostStep::Discard],
+            answers: "(2, Some(7))\nok 8 seq 3\nok seq 4\n",
+            is_reopened: true,
+            first: File::Whole(
+                1,
+                (0, None),
+                &[(1, Some(2)), (2, Some(7))],
+                &[(3, Some(8)), (4, None)],
+            ),
+            second: File::Bytes(&[0]),
+            calls: (1 + 2 * 4 + 1, 1 + 1),
+        }],
+    ),
     // A store whose state is all in its first image, before what is left of a longer file: so an older program left it,
     // which wrote the whole file for each request.
     (
@@ -152,16 +202,16 @@ fn stores_with_their_bytes_and_device_calls(rt: HostRuntime) -> Result<(), Fail>
 }
 
 /// The store of a host with nothing registered, after a load of the module `m` from no source: the gate before the
-/// record is open, and its 43 bytes follow, which are the length of the body, its tag, the image's version, no text,
-/// the number 1, no object's number, no services, one module of that name with no source and no globals, no objects,
-/// and the next gate.
-static LOADED: [u8; 94] = [
+/// record is open, and its 41 bytes follow, which are the length of the body, its tag, the number 1, no object's
+/// number, no services, that a module of that name is added with no source and no globals, no objects that are gone or
+/// put, and the next gate.
+static LOADED: [u8; 92] = [
     0x01, 0x41, 0x53, 0x48, 0x4f, 0x53, 0x54, 0x30, 0x31, 0x01, 0x00, 0x00, 0x00, 0x00, 0x00, 0x00,
     0x00, 0x1d, 0x00, 0x00, 0x00, 0x02, 0x00, 0x00, 0x00, 0x00, 0x00, 0x00, 0x00, 0x00, 0x00, 0x00,
     0x00, 0x00, 0x00, 0x00, 0x00, 0x00, 0x00, 0x00, 0x00, 0x00, 0x00, 0x00, 0x00, 0x00, 0x00, 0x00,
-    0x00, 0x00, 0x01, 0x26, 0x00, 0x00, 0x00, 0x01, 0x02, 0x00, 0x00, 0x00, 0x00, 0x00, 0x01, 0x00,
-    0x00, 0x00, 0x00, 0x00, 0x00, 0x00, 0x00, 0x00, 0x00, 0x00, 0x00, 0x00, 0x00, 0x00, 0x00, 0x00,
-    0x01, 0x01, 0x6d, 0x00, 0x00, 0x00, 0x00, 0x00, 0x00, 0x00, 0x00, 0x00, 0x00, 0x00,
+    0x00, 0x00, 0x01, 0x24, 0x00, 0x00, 0x00, 0x02, 0x01, 0x00, 0x00, 0x00, 0x00, 0x00, 0x00, 0x00,
+    0x00, 0x00, 0x00, 0x00, 0x00, 0x00, 0x00, 0x00, 0x00, 0x00, 0x01, 0x01, 0x6d, 0x00, 0x00, 0x00,
+    0x00, 0x00, 0x00, 0x00, 0x00, 0x00, 0x00, 0x00, 0x00, 0x00, 0x00, 0x00,
 ];
 
 /// The bytes of `LOADED`.

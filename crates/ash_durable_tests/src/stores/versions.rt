@@ -109,6 +109,14 @@ fn records_of_another_version(rt: HostRuntime) -> Result<(), Fail> {
         &Err(StoreFault::Open(OpenFault::Damaged(50))),
         "a record of version 2",
     );
+    let file = File::Whole(1, (0, None), &[(1, Some(2))], &[]);
+    let other = found_with(rt.alloc(), file, 56, 1)?;
+    check(
+        &rt,
+        &other,
+        &Err(StoreFault::Open(OpenFault::Damaged(50))),
+        "a record of version 1 after an image of version 2",
+    );
     Ok(())
 }
 

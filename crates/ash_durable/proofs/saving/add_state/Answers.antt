@@ -1,7 +1,6 @@
 use Rattle.std.proofs.Common.{List, ℕ, Err, ap, sym, subst}
 use Rattle.ash_journal.specs.declared.error.AppendError.{AppendError}
-use Rattle.ash_image.specs.declared.version.Version.TheVariants.{Two}
-use Rattle.ash_states.specs.Images.{IsBodyIn}
+use Rattle.ash_engine.specs.RecordedChanges.{IsBodyOfChanges}
 use Rattle.ash_durable.proofs.Committing.{adds, adds_not}
 use Rattle.ash_durable.proofs.Outcomes.{counts_as}
 use Rattle.ash_durable.proofs.saving.add_state.Goals as goal
@@ -9,13 +8,13 @@ use Rattle.ash_durable.proofs.saving.add_state.Goals as goal
 pub returns-in-Ok : goal.returns-in-Ok
 returns-in-Ok g c = record {
   adds = λ live is.
-      let state = live.durable in
       let body = c.deref.result.now in
-      let is_body : IsBodyIn Two body state = subst (λ (bytes : List ℕ). IsBodyIn Two bytes state) (sym c.deref.ensures.value)
-      (c.in_ok-body.ensures.body live is) in
+      let is_body : IsBodyOfChanges live body =
+          subst (λ (bytes : List ℕ). IsBodyOfChanges live bytes) (sym c.deref.ensures.value)
+          (c.in_ok-body.ensures.delta live is) in
       let said = c.in-Ok.ensures in
-      adds g.D.Disk state c.args.journal.now c.append.new.self body is_body said.extends
-      said.acknowledged (said.ready (λ is. cc)) said.number said.longer
+      adds g.D.Disk live (c.facts.ensures.reached live is).admitted c.args.journal.now c.append.new.self body is_body
+      said.extends said.acknowledged (said.ready (λ is. cc)) said.number said.longer
       (record {
         failures = counts_as _ _ _ _ _ _ (λ is. cc) (λ no. absurd no) said.cause;
         honesty_first = said.honesty_first;
@@ -26,14 +25,14 @@ returns-in-Ok g c = record {
 pub returns : goal.returns
 returns g c = record {
   adds = λ live is.
-      let state = live.durable in
       let body = c.deref.result.now in
-      let is_body : IsBodyIn Two body state = subst (λ (bytes : List ℕ). IsBodyIn Two bytes state) (sym c.deref.ensures.value)
-      (c.in_ok-body.ensures.body live is) in
+      let is_body : IsBodyOfChanges live body =
+          subst (λ (bytes : List ℕ). IsBodyOfChanges live bytes) (sym c.deref.ensures.value)
+          (c.in_ok-body.ensures.delta live is) in
       let said = c.in-Err-DeviceFailed.ensures in
       let is_failed = ap (λ (e : AppendError). Err e) c.in-Err-DeviceFailed.field-0-is in
-      adds_not g.D.Disk state c.args.journal.now c.append.new.self body is_body said.extends
-      (said.failed is_failed)
+      adds_not g.D.Disk live (c.facts.ensures.reached live is).admitted c.args.journal.now c.append.new.self body
+      is_body said.extends (said.failed is_failed)
       (record {
         failures = counts_as _ _ _ _ _ _ (λ is. tt) (λ is. is_failed) said.cause;
         honesty_first = said.honesty_first;

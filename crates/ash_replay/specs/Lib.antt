@@ -1,0 +1,4 @@
+pub mod Replay
+pub mod ReplayFaults
+pub mod ReplaySteps
+pub mod ReplayedStates
