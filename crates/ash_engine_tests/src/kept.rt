@@ -1,12 +1,16 @@
 //! What a store keeps of an engine: an image, and a record of what each request changed that was answered since.
 
-ghost use Rattle.std.specs.Prelude.{IsSome};
+ghost use Rattle.std.specs.Prelude.{◌≡◌, IsSome, IfOk};
+ghost use Rattle.ash_registry.specs.RegistryViews.{registered};
 
 use crate::texts::stored_text;
 use ash_engine::engine::Engine;
 use ash_host::HostObject;
 use ash_journal::Record;
+use ash_registry::Registry;
 use ash_replay::replay::replay;
+use ash_replay::state::state_in;
+use ash_states::state::HostState;
 use std::alloc::Global;
 use std::test::Fail;
 
@@ -49,6 +53,16 @@ impl Kept {
             records,
             seq: after,
         })
+    }
+
+    /// The state to which the records lead, with this registry.
+    pub fn state(&self, alloc: Global, registry: Registry) -> Result<HostState, Fail>
+        ensures registered { IfOk result (λ s. s.registered ≡ registered registry) }
+    {
+        match state_in(alloc, registry, &self.image, &self.records) {
+            Ok(read) => Ok(read.state),
+            Err(_) => Err(Fail::new("no state")),
+        }
     }
 
     /// The state to which the records lead, as a text.

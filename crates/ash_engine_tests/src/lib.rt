@@ -4,8 +4,9 @@
 //! what each request changed.
 //!
 //! `texts` has replies and states as texts, `boxes` the boxes of a session. `both` is an engine beside the plain
-//! evaluator, `kept` what a store keeps of the engine, `sessions` what is asked of both. `rows` has the worked rows of `ash_script_rows`;
-//! `seeds`, `phrases`, `scripts` and `generated` make scripts and sessions by seeds, and run them.
+//! evaluator, `kept` what a store keeps of the engine, `sessions` what is asked of both, and openings by what is kept.
+//! `rows` has the worked rows of `ash_script_rows`; `seeds`, `phrases`, `scripts` and `generated` make scripts and
+//! sessions by seeds, and run them.
 #![tactic(auto)]
 
 #[cfg(test)]

@@ -12,6 +12,7 @@ use ash_machine_fixtures::lines::{arguments_of, request_of};
 use ash_machine_fixtures::noted::{Log, Noted, new_log};
 use ash_machine_fixtures::registered::registry;
 use ash_plain_steps::state::PlainState;
+use ash_states::state::HostState;
 use std::alloc::{AllocError, Global};
 use std::test::Fail;
 
@@ -46,18 +47,16 @@ fn new_engine(alloc: Global, log: &Log, pool: Pool) -> Result<Engine<Noted>, Fai
     Ok(Engine::new(alloc, registry(alloc)?, boxes, services)?)
 }
 
-/// The engine in the state that an image has.
+/// An engine in a state that was stored.
 fn restored(
     alloc: Global,
     log: &Log,
     pool: Pool,
-    engine: Engine<Noted>,
-    image: &[u8],
+    durable: HostState,
 ) -> Result<Engine<Noted>, Fail>
     ensures live { IfOk result (λ after. IsSome after.live) }
-    ensures registered { IfOk result (λ after. after.registered ≡ engine.registered) }
+    ensures registered { IfOk result (λ after. after.registered ≡ durable.registered) }
 {
-    let durable = durable_in(alloc, engine.into_registry(), image)?;
     let boxes = boxes_of(alloc, log, pool)?;
     let services = services_of(alloc, log)?;
     Ok(Engine::restored(durable, boxes, services)?)
@@ -83,7 +82,8 @@ fn first_engine(alloc: Global, log: &Log, host: Host) -> Result<Engine<Noted>, F
     let engine = new_engine(alloc, &new_log(alloc)?, host.pool)?;
     let text = engine.registry().text().len();
     let image = with_last(alloc, &engine.image()?, text, host.last)?;
-    restored(alloc, log, host.pool, engine, &image)
+    let durable = durable_in(alloc, engine.into_registry(), &image)?;
+    restored(alloc, log, host.pool, durable)
 }
 
 /// The state before any request, but for the last number that was given to an object.
@@ -114,7 +114,7 @@ pub fn begun(alloc: Global, host: Host) -> Result<Session, Fail> {
     })
 }
 
-/// The session after an opening with new boxes.
+/// The session after an opening with new boxes, in the state to which the records lead.
 fn opened(alloc: Global, pool: Pool, session: Session) -> Result<Session, Fail> {
     let Session {
         both,
@@ -124,8 +124,8 @@ fn opened(alloc: Global, pool: Pool, session: Session) -> Result<Session, Fail> 
     let Both { engine, state, .. } = both;
     let log = new_log(alloc)?;
     let taken = taken_by(alloc, pool, &state)?;
-    let image = engine.image()?;
-    let engine = restored(alloc, &log, pool, engine, &image)?;
+    let durable = kept.state(alloc, engine.into_registry())?;
+    let engine = restored(alloc, &log, pool, durable)?;
     Ok(Session {
         both: Both {
             engine,

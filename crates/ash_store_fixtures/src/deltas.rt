@@ -66,7 +66,7 @@ fn add_added(delta: &mut Vec<u8>, module: ImageModule) -> Result<(), AllocError>
 /// Adds what became of the modules, after its tag.
 fn add_modules(delta: &mut Vec<u8>, modules: ModuleDelta) -> Result<(), AllocError> {
     match modules {
-        ModuleDelta::Unchanged => delta.push(0),
+        ModuleDelta::Unchanged => Ok(delta.push(0)?),
         ModuleDelta::Added(module) => {
             delta.push(1)?;
             add_added(delta, module)
