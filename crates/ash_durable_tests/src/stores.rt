@@ -2,8 +2,8 @@
 //! whose disks fail, or which crashes, at each moment.
 //!
 //! Of disks that do not fail: `host` has the host's calls, `store` the bytes of stores and crashes between requests,
-//! `objects` what is found of objects after these, `versions` stores of version 1, `damage`, `deltas` and `registered`
-//! what is wrong with stores that are opened.
+//! `objects` what is found of objects after these, `versions` stores of version 1, `damage` and `registered` what is
+//! wrong with stores that are opened, `deltas` and `object_deltas` what records lead to.
 //!
 //! Of disks that do: `snapshots` has new generations, `faults` disks that fail; `crashes`, `moves` and `full_crashes`
 //! disks that fail, with crashes at each moment, of small stores, of an empty one of version 1, and of one that is
@@ -17,6 +17,7 @@ mod full_crashes;
 pub(crate) mod fuses;
 mod host;
 mod moves;
+mod object_deltas;
 mod objects;
 mod plans;
 mod registered;

@@ -48,12 +48,7 @@ fn new_engine(alloc: Global, log: &Log, pool: Pool) -> Result<Engine<Noted>, Fai
 }
 
 /// An engine in a state that was stored.
-fn restored(
-    alloc: Global,
-    log: &Log,
-    pool: Pool,
-    durable: HostState,
-) -> Result<Engine<Noted>, Fail>
+fn restored(alloc: Global, log: &Log, pool: Pool, durable: HostState) -> Result<Engine<Noted>, Fail>
     ensures live { IfOk result (λ after. IsSome after.live) }
     ensures registered { IfOk result (λ after. after.registered ≡ durable.registered) }
 {

@@ -1,19 +1,17 @@
-//! Records of what a request changed, written by hand, of which most lead nowhere.
+//! Records of what a request changed in modules and services, written by hand, of which most lead nowhere.
 
-use crate::checks::{check, check_text};
+use crate::checks::check;
 use ash_durable::{OpenFault, StoreFault};
-use ash_store_fixtures::deltas::{ModuleDelta, StoreDelta, add_delta};
-use ash_store_fixtures::files::ImageModule;
-use ash_store_fixtures::hosts::{
-    SOURCE, State, disk, found_state, load_as, new_host, second_generation,
-};
-use ash_store_fixtures::lives::{File, HostStep, bytes_of, found_answers};
+use ash_store_fixtures::deltas::{ModuleDelta, StoreDelta, add_delta, delta_of_modules};
+use ash_store_fixtures::files::{ImageModule, add_image, generation, image};
+use ash_store_fixtures::hosts::{SOURCE, State, found_state};
+use ash_store_fixtures::lives::{File, bytes_of, image_of};
 use std::alloc::{AllocError, Global};
 use std::process::Abort;
 use std::test::Fail;
 
 /// A record that changes nothing.
-const NOTHING: StoreDelta<'static> = StoreDelta {
+pub const NOTHING: StoreDelta<'static> = StoreDelta {
     seq: 2,
     last: 0,
     services: &[],
@@ -133,7 +131,7 @@ static ROWS: [Row; 4] = [
 ];
 
 /// A file with one record more.
-fn with_record(
+pub fn with_record(
     alloc: Global,
     file: &[u8],
     delta: &StoreDelta<'static>,
@@ -182,139 +180,62 @@ fn records_of_services_and_numbers(rt: HostRuntime) -> Result<(), Fail> {
     Ok(())
 }
 
-/// A module whose global holds the object 1. Its field is 0.
-const OBJECT_SOURCE: &[u8] = b"class A { int v; } A@ a = A();";
-
-/// An object of the first class of the first module, whose one field is the `int` 7.
-const SEVEN: &[u8] = b"\x01\x00\x00\x00\x01\x01\x07\x00\x00\x00";
-
-/// The same of the second module.
-const OF_THE_SECOND_MODULE: &[u8] = b"\x01\x01\x00\x00\x01\x01\x07\x00\x00\x00";
-
-/// The same of the second class.
-const OF_THE_SECOND_CLASS: &[u8] = b"\x01\x00\x01\x00\x01\x01\x07\x00\x00\x00";
-
-/// An object of the first class without fields.
-const WITHOUT_FIELDS: &[u8] = b"\x01\x00\x00\x00\x00";
-
-/// An object of the first class whose one field is `true`.
-const WITH_A_TRUTH: &[u8] = b"\x01\x00\x00\x00\x01\x00\x01";
-
-/// What a record is called, the number that it has as the last, the objects that are gone and put, and what is found.
-type ObjectRow = (
-    &'static str,
-    u64,
-    &'static [u64],
-    &'static [(u64, &'static [u8])],
-    &'static str,
-);
-
-/// The gate before the record is at 21 + 94.
-const NO_STATE: &str = "Open(Damaged(115))";
-
-static OBJECT_ROWS: [ObjectRow; 12] = [
-    ("nothing", 1, &[], &[], "ok object 1 m.A count 1 v 0\n2\n"),
-    (
-        "an object",
-        1,
-        &[],
-        &[(1, SEVEN)],
-        "ok object 1 m.A count 1 v 7\n2\n",
-    ),
-    (
-        "an object, and one that is gone and was not there",
-        9,
-        &[2],
-        &[(1, SEVEN)],
-        "ok object 1 m.A count 1 v 7\n2\n",
-    ),
-    (
-        "an object both gone and put",
-        1,
-        &[1],
-        &[(1, SEVEN)],
-        NO_STATE,
-    ),
-    ("an object that is gone, and held", 1, &[1], &[], NO_STATE),
-    (
-        "an object that nothing holds",
-        2,
-        &[],
-        &[(2, SEVEN)],
-        NO_STATE,
-    ),
-    ("a number above the last", 0, &[], &[(1, SEVEN)], NO_STATE),
-    (
-        "an object twice",
-        1,
-        &[],
-        &[(1, SEVEN), (1, SEVEN)],
-        NO_STATE,
-    ),
-    (
-        "an object of a module that is not there",
-        1,
-        &[],
-        &[(1, OF_THE_SECOND_MODULE)],
-        NO_STATE,
-    ),
-    (
-        "an object of a class that is not there",
-        1,
-        &[],
-        &[(1, OF_THE_SECOND_CLASS)],
-        NO_STATE,
-    ),
-    (
-        "an object without its fields",
-        1,
-        &[],
-        &[(1, WITHOUT_FIELDS)],
-        NO_STATE,
-    ),
-    (
-        "an object with a field of another type",
-        1,
-        &[],
-        &[(1, WITH_A_TRUTH)],
-        NO_STATE,
-    ),
-];
-
-/// The file of a store with an object, which is in its image.
-fn file_with_object(alloc: Global) -> Result<Vec<u8>, Fail> {
-    let mut host = new_host(alloc, &[], &[])?;
-    load_as(&mut host, "m", OBJECT_SOURCE);
-    let second = second_generation(alloc, host)?;
-    Ok(Vec::from_slice(alloc, second.bytes())?)
-}
-
-/// Compares what is found after a record of objects.
-fn check_object_row(
-    rt: &impl Abort,
-    alloc: Global,
-    file: &[u8],
-    row: &ObjectRow,
-) -> Result<(), Fail> {
-    let (what, last, gone, put, wanted) = *row;
-    let delta = StoreDelta {
-        last,
-        gone,
-        put,
-        ..NOTHING
-    };
-    let file = with_record(alloc, file, &delta)?;
-    let (a, b) = (disk(alloc, &file)?, disk(alloc, &[0])?);
-    let found = found_answers(alloc, a, b, &[HostStep::Object(1), HostStep::Seq])?;
-    check_text(rt, found.as_str(), wanted, what);
-    Ok(())
+/// The records of a load, of a whole state in which `n` is 5, and of a call after that.
+fn whole_state_between(alloc: Global) -> Result<Vec<u8>, AllocError> {
+    let mut file = bytes_of(alloc, File::Written(1, (0, None), &[(1, Some(2))], &[]))?;
+    add_image(&mut file, &image_of(alloc, 2, (2, Some(5)))?)?;
+    let call = delta_of_modules(3, ModuleDelta::Globals("m", &[(0, 6)]));
+    add_delta(alloc, &mut file, &call)?;
+    Ok(file)
 }
 
 #[test]
-fn records_of_objects(rt: HostRuntime) -> Result<(), Fail> {
-    let file = file_with_object(rt.alloc())?;
-    for row in &OBJECT_ROWS {
-        check_object_row(&rt, rt.alloc(), &file, row)?;
+fn a_whole_state_between_two_changes(rt: HostRuntime) -> Result<(), Fail> {
+    let file = whole_state_between(rt.alloc())?;
+    let found = found_state(rt.alloc(), &file, &[0])?;
+    check(&rt, &found, &Ok((3, Some(6))), "records of both sorts");
+    Ok(())
+}
+
+static SIXTEEN: [&str; 16] = [
+    "A", "B", "C", "D", "E", "F", "G", "H", "I", "J", "K", "L", "M", "N", "O", "P",
+];
+
+/// The file of a store with as many modules as there may be, none of which has a source.
+fn sixteen_modules(alloc: Global) -> Result<Vec<u8>, AllocError> {
+    let mut modules = Vec::new(alloc);
+    for name in &SIXTEEN {
+        modules.push(ImageModule {
+            name: *name,
+            source: b"",
+            global: None,
+        })?;
+    }
+    generation(alloc, 1, &image(alloc, 16, &modules)?)
+}
+
+// The image has 29 + 16 * 8 bytes.
+static SEVENTEENTH: [ModuleRow; 2] = [
+    (
+        "one of their names",
+        ModuleDelta::Added(ImageModule {
+            name: "P",
+            ..MODULE
+        }),
+        Ok((2, None)),
+    ),
+    (
+        "one more",
+        ModuleDelta::Added(MODULE),
+        Err(OpenFault::Damaged(178)),
+    ),
+];
+
+#[test]
+fn a_seventeenth_module(rt: HostRuntime) -> Result<(), Fail> {
+    let file = sixteen_modules(rt.alloc())?;
+    for row in &SEVENTEENTH {
+        check_module_row(&rt, rt.alloc(), &file, row)?;
     }
     Ok(())
 }
