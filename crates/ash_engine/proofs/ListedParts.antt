@@ -37,7 +37,7 @@ use Rattle.ash_table_states.specs.TableStates.{names_in}
 use Rattle.ash_table_states.specs.WrittenObjects.{index_at, body_written, objects_written}
 use Rattle.ash_table_states.proofs.Shown.{written_same}
 use Rattle.ash_table_states.proofs.SlotNames.{index_same}
-use Rattle.ash_change_records.specs.Leading.{module_named}
+use Rattle.ash_image.specs.Leading.{module_named}
 use Rattle.ash_change_records.specs.ListedChanges.{listed, change_listed, changes_listed}
 use Rattle.ash_change_records.proofs.ListedFit.{delta_fits}
 use Rattle.ash_change_records.proofs.ModulesLead.{named_is}
