@@ -44,9 +44,9 @@ pub const FULL_RECORD_BYTES: u64 = 16_777_216;
 /// A `load`, a `call` or a `discard` that finds 16,777,216 bytes of records or more in the current generation first
 /// installs the state as a new one, without records, in the file that isn't current.
 ///
-/// It owns the boxes of host objects that it is handed: those that are free, in the pool, those of the host objects that
-/// live, and one for each service that is registered. Write `B: HostObject` on what holds a host; only who makes the
-/// boxes names their type.
+/// It owns the boxes of host objects that it is handed: those that are free, in the pool, those of the host objects
+/// that live, and one for each service that is registered. Write `B: HostObject` on what holds a host; only who makes
+/// the boxes names their type.
 #[derive(Drop)]
 pub struct Host<D, B: HostObject = Box<dyn HostObject>> {
     alloc: Global,
@@ -141,8 +141,8 @@ impl<D: Disk, B: HostObject> Host<D, B> {
         })
     }
 
-    /// What is known of a host that runs: its boxes are those of its state, and the state has what is registered with the
-    /// host. The function does nothing.
+    /// What is known of a host that runs: its boxes are those of its state, and the state has what is registered with
+    /// the host. The function does nothing.
     pub fn facts(&self)
         ensures sound { RunsSound B.HostObject self.now }
         ensures runs { (live : LiveState B) → self.now.live ≡ Some live
