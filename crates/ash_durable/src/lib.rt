@@ -10,10 +10,10 @@
 //! it is at every moment; that a store is opened with the registry's text that it was made with and no other; and that
 //! a generation of version 1 is moved to version 2 when it is opened.
 //!
-//! In reading order: `fault` (why there is no store), `saving` (a state as a record more, or as a new generation),
-//! `header` (how a file begins), `store` (making a store and finding its state), `host`, `lives` (the theorem). The
-//! words of the clauses are in `specs/StoreFaults`, `specs/StoredStates` (what files hold, said of states),
-//! `specs/Saving`, `specs/HandedBoxes` (the boxes that are handed over), `specs/Store` (making a store),
+//! In reading order: `fault` (why there is no store), `saving` (what a request changed as a record more, or a state as
+//! a new generation), `header` (how a file begins), `store` (making a store and finding its state), `host`, `lives`
+//! (the theorem). The words of the clauses are in `specs/StoreFaults`, `specs/StoredStates` (what files hold, said of
+//! states), `specs/Saving`, `specs/HandedBoxes` (the boxes that are handed over), `specs/Store` (making a store),
 //! `specs/OpenedStore`, `specs/Hosting` (a host and its requests), `specs/HostReplies` (what the code replies),
 //! `specs/HostRequests` (the parts of a request), `specs/RequestRuns` (a list of requests as a run of the written
 //! steps) and `specs/Lives` (everything that can happen to a store).
