@@ -21,7 +21,8 @@ use Rattle.ash_requests.specs.Tasks.{Task, Initialize, Invoke, Remove, Read, Sho
 use Rattle.ash_requests.specs.Tasks.{require_some, initialize, call_in, tree_of, word_named, described, is_module_name}
 use Rattle.ash_requests.specs.Tasks.{is_callable, arguments_of, max_modules, max_seq}
 use Rattle.ash_requests.specs.Tasks as tasks
-use Rattle.ash_requests.specs.Steps.{Step, perform, unless_refused, after_load, after_load_with, after_call, after_discard}
+use Rattle.ash_requests.specs.Steps.{Step, perform, unless_refused, after_load, after_load_with, after_call}
+use Rattle.ash_requests.specs.Steps.{after_discard}
 use Rattle.ash_requests.specs.Steps as steps
 use Rattle.ash_requests.specs.TaskResults.{TaskChangesState}
 use Rattle.ash_sources.specs.SourceFaults.{SourceFault}
@@ -157,7 +158,8 @@ perform_fine budget (Show shown) old hosts one is =
     made_fine (steps.replied (ShownAs shown) old hosts) one (some_once (steps.replied (ShownAs shown) old hosts) one is)
     (λ failed. failed)
 perform_fine budget Count old hosts one is =
-    made_fine (steps.replied (Number old.seq) old hosts) one (some_once (steps.replied (Number old.seq) old hosts) one is)
+    made_fine (steps.replied (Number old.seq) old hosts) one
+    (some_once (steps.replied (Number old.seq) old hosts) one is)
     (λ failed. failed)
 perform_fine budget Rewrite old hosts one is =
     made_fine (steps.replied Done old hosts) one (some_once (steps.replied Done old hosts) one is) (λ failed. failed)

@@ -28,7 +28,6 @@ pub record Disks {D : Type 0} (device : Device D) (old new : Journal D) (failed 
   pub honesty_second : device.honest (second_disk new) ≡ device.honest (second_disk old)
 
 module _ {D : Type 0} (device : Device D) (state : HostState) (old new : Journal D) where
-
   installed_moments : (image : List ℕ) → IsImageIn Two image state
       → ((was : List ℕ) (bodies : List (List ℕ)) → Holds device old was bodies
       → HoldsSince device (device.clock (first_disk old)) (device.clock (second_disk old)) (first_disk new)

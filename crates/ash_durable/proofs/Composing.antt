@@ -1,6 +1,7 @@
 -- How what a host's files settle on goes on over the parts of a request: a new generation first, where one is wanted,
 -- and then a record more.
-use Rattle.std.proofs.Common.{◌≡◌, inl, inr, ℕ, IsSome, Option, Some, None, Ok, refl, sym, ◌∙◌, ap, subst, arith, IsTrue}
+use Rattle.std.proofs.Common.{◌≡◌, inl, inr, ℕ, IsSome, Option, Some, None, Ok, refl, sym, ◌∙◌, ap, subst, arith}
+use Rattle.std.proofs.Common.{IsTrue}
 use Rattle.ash_disk.specs.Device.{Device}
 use Rattle.ash_journal.specs.JournalFailures.{CountsFailures}
 use Rattle.ash_requests.specs.Requests.{Request}

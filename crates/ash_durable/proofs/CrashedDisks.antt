@@ -13,7 +13,8 @@ use Rattle.ash_durable.proofs.Settling.{holds_now}
 
 -- ---- files
 
-pub runs_once : {D B : Type 0} (host : Hosted D B) (state other : HostState) → IsRunning state host → IsRunning other host
+pub runs_once : {D B : Type 0} (host : Hosted D B) (state other : HostState) → IsRunning state host
+    → IsRunning other host
     → state ≡ other
 runs_once host state other one two = let same : Some state ≡ Some other = sym one.state_is ∙ two.state_is in cc
 
@@ -80,6 +81,7 @@ module _ {D : Type 0} (device : Device D) where
   }
 
   -- the files of a host that runs settle on its state alone
-  pub held : {B : Type 0} (host : Hosted D B) (state : HostState) → IsHonest device host → IsSaved device host → IsRunning state host
+  pub held : {B : Type 0} (host : Hosted D B) (state : HostState) → IsHonest device host → IsSaved device host
+      → IsRunning state host
       → SettleNow device (first host) (second host) (IsOne state)
   held host state honest saved running = holds_now device state host.journal (saved honest state running)

@@ -27,7 +27,8 @@ records_split body bodies rest =
     ∙ ap (λ (l : List ℕ). 1 ∷ l) (append_assoc (block body) (records bodies) rest)
 
 solid_split : (generation : ℕ) (image : List ℕ) (bodies : List (List ℕ)) (rest : List ℕ)
-    → committed_bytes generation image bodies ++ rest ≡ 1 ∷ (mark generation ++ (block image ++ (records bodies ++ rest)))
+    → committed_bytes generation image bodies ++ rest
+    ≡ 1 ∷ (mark generation ++ (block image ++ (records bodies ++ rest)))
 unfolding committed_bytes
 solid_split generation image bodies rest =
     ap (λ (l : List ℕ). 1 ∷ l) (append_assoc (mark generation) (block image ++ records bodies) rest
@@ -37,7 +38,8 @@ gate_left : (before following : List ℕ) (gate : ℕ) → 0 < length (before ++
 gate_left before following gate = omega (arith, length-append before (gate ∷ following))
 
 -- a length, what it is of, and something after that are not cut short
-not_cut : (body more rest : List ℕ) → length body < 2 ^ 32 → 0 < length more → rest ≡ block body ++ more → IsCutShort rest
+not_cut : (body more rest : List ℕ) → length body < 2 ^ 32 → 0 < length more → rest ≡ block body ++ more
+    → IsCutShort rest
     → ⊥
 unfolding block
 not_cut body more rest short some is (inl tiny) =

@@ -237,9 +237,11 @@ module _ {D B : Type 0} (device : Device D) (G : Ghosts B) (registered : List Re
       → reported ≡ faults.Open fault → (AreHonest device a b → FaultIs fault (device.seen a) (device.seen b))
       → (AreHonest device a b → Extends device a b a' b' NoContents) → IsOnlyRead device a a' → IsOnlyRead device b b'
       → CountsFailures (fault ≡ opening.DeviceFailed) (device.failures a) (device.failures b) (device.failures a')
-      (device.failures b') → WasNotFound device G registered pool services a b (record { fault = reported; a = a'; b = b' })
+      (device.failures b') → WasNotFound device G registered pool services a b
+      (record { fault = reported; a = a'; b = b' })
   not_opened a' b' fault reported is cause extends read_first read_second counts =
-      subst (λ (f : StoreFault). WasNotFound device G registered pool services a b (record { fault = f; a = a'; b = b' })) (sym is)
+      subst (λ (f : StoreFault). WasNotFound device G registered pool services a b
+      (record { fault = f; a = a'; b = b' })) (sym is)
       (record {
         cause = λ honest. opening_cause G registered pool services fault (device.seen a) (device.seen b) (cause honest);
         read = λ not. record { read_first = read_first; read_second = read_second };

@@ -15,7 +15,8 @@ replied_last : {A : Type 0} (replied : A → Reply SourceFault) (replies : List 
 replied_last replied [] reply more = refl
 replied_last replied (x ∷ xs) reply more = ap (λ rest. replied x ∷ rest) (replied_last replied xs reply more)
 
-pub one_more : {D B Q A : Type 0} (device : Device D) (G : Ghosts B) (view : Q → Request) (replied : A → Reply SourceFault) (budget : ℕ)
+pub one_more : {D B Q A : Type 0} (device : Device D) (G : Ghosts B) (view : Q → Request)
+    (replied : A → Reply SourceFault) (budget : ℕ)
     (first before after new : Hosted D B) (requests : List Q) (i : ℕ) (d : Q) (replies grown : List A) (reply : A)
     (more : List (Reply SourceFault))
     → i < length requests
@@ -26,15 +27,17 @@ pub one_more : {D B Q A : Type 0} (device : Device D) (G : Ghosts B) (view : Q �
     → HandlesAll device G budget first (map view requests) (map replied replies ++ rest) end)
     → HandlesAll device G budget after (map view (drop (i + 1) requests)) more new
     → HandlesAll device G budget first (map view requests) (map replied grown ++ more) new
-one_more device G view replied budget first before after new requests i d replies grown reply more lt is_grown step go_on
-    rest =
+one_more device G view replied budget first before after new requests i d replies grown reply more lt is_grown step
+    go_on rest =
     let whole : HandlesAll device G budget before (map view (drop i requests)) (replied reply ∷ more) new =
     rw (drop-cons requests i d) (after, step, rw add-one at rest) in
-    subst (λ (replied_all : List (Reply SourceFault)). HandlesAll device G budget first (map view requests) replied_all new)
+    subst (λ (replied_all : List (Reply SourceFault)). HandlesAll device G budget first
+    (map view requests) replied_all new)
     (replied_last replied replies reply more ∙ ap (λ (all : List _). map replied all ++ more) (sym is_grown))
     (go_on (replied reply ∷ more) new whole)
 
-pub nothing_left : {D B Q A : Type 0} (device : Device D) (G : Ghosts B) (view : Q → Request) (replied : A → Reply SourceFault)
+pub nothing_left : {D B Q A : Type 0} (device : Device D) (G : Ghosts B) (view : Q → Request)
+    (replied : A → Reply SourceFault)
     (budget : ℕ)
     (first last : Hosted D B) (requests : List Q) (i : ℕ) (replies : List A)
     → length requests ≤ i

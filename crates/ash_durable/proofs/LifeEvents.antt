@@ -122,7 +122,8 @@ module _ {D B : Type 0} (device : Device D) (G : Ghosts B) (start : Reached) whe
       }
 
   -- a request is in doubt that was not handled
-  not_done : (events : List StoreEvent) (budget : ℕ) (request : Request) (a b : D) → IsWholeHistory device G start events a b
+  not_done : (events : List StoreEvent) (budget : ℕ) (request : Request) (a b : D)
+      → IsWholeHistory device G start events a b
       → IsWholeHistory device G start (InDoubt budget request ∷ events) a b
   not_done events budget request a b was = record {
     s = was.s;
@@ -254,7 +255,8 @@ module _ {D B : Type 0} (device : Device D) (G : Ghosts B) (start : Reached) whe
 
   -- ---- disks that no host has
 
-  pub crashed_between : (events : List StoreEvent) (place : StoreLocation D B) (a b : D) → Outlives device G start events place
+  pub crashed_between : (events : List StoreEvent) (place : StoreLocation D B) (a b : D)
+      → Outlives device G start events place
       → Crashed device (device.clock (first_at place)) (device.clock (second_at place)) (first_at place)
       (second_at place) a b → Outlives device G start events (OnDisks a b)
   crashed_between events place a b before crash =
@@ -299,17 +301,21 @@ module _ {D B : Type 0} (device : Device D) (G : Ghosts B) (start : Reached) whe
       (was.saved before.honest) was.live_is
       (subst (λ (s : HostState). IsRunning s host) (sym was.restored.durable) was.running) was.sound led
 
-  pub not_found : (events : List StoreEvent) (others : List Registration) (pool services : List B) (a b : D) (r : OpenRefused D) → Rested events a b
+  pub not_found : (events : List StoreEvent) (others : List Registration) (pool services : List B) (a b : D)
+      (r : OpenRefused D) → Rested events a b
       → WasNotFound device G others pool services a b r → Rested events r.a r.b
   not_found events others pool services a b r before was =
       rests_on events r.a r.b (same_honesty device a b r.a r.b before.honest was.disks.honesty_first
       was.disks.honesty_second)
       (still_whole events a b r.a r.b before.whole
-      (settle_now device (device.clock a) (device.clock b) r.a r.b (IsEither before.whole.s.durable before.whole.t.durable)
-      (settle_still device (device.clock a) (device.clock b) a b r.a r.b (IsEither before.whole.s.durable before.whole.t.durable)
+      (settle_now device (device.clock a) (device.clock b) r.a r.b
+      (IsEither before.whole.s.durable before.whole.t.durable)
+      (settle_still device (device.clock a) (device.clock b) a b r.a r.b
+      (IsEither before.whole.s.durable before.whole.t.durable)
       (was.moments before.honest) before.whole.settled)))
 
-  opening_adds_nothing : (others : List Registration) (pool services : List B) (a b : D) (result : Result (Hosted D B) (OpenRefused D))
+  opening_adds_nothing : (others : List Registration) (pool services : List B) (a b : D)
+      (result : Result (Hosted D B) (OpenRefused D))
       (opens : Opens device G others pool services a b result)
       → AddNothing device a b (first_found device G others pool services a b result opens)
       (second_found device G others pool services a b result opens)
@@ -326,8 +332,10 @@ module _ {D B : Type 0} (device : Device D) (G : Ghosts B) (start : Reached) whe
       let x = first_found device G others pool services a b result opens in
       let y = second_found device G others pool services a b result opens in
       rests_on events a' b' crash.honest (still_whole events a b a' b' before.whole
-      (settle_crashed device (device.clock a) (device.clock b) x y a' b' (IsEither before.whole.s.durable before.whole.t.durable)
-      (settle_still device (device.clock a) (device.clock b) a b x y (IsEither before.whole.s.durable before.whole.t.durable)
+      (settle_crashed device (device.clock a) (device.clock b) x y a' b'
+      (IsEither before.whole.s.durable before.whole.t.durable)
+      (settle_still device (device.clock a) (device.clock b) a b x y
+      (IsEither before.whole.s.durable before.whole.t.durable)
       (opening_adds_nothing others pool services a b result opens before.honest) before.whole.settled) crash))
 
   pub looked : (events : List StoreEvent) (a b a' b' : D) → Rested events a b → WereOnlyRead device a b a' b'
@@ -336,8 +344,10 @@ module _ {D B : Type 0} (device : Device D) (G : Ghosts B) (start : Reached) whe
       rests_on events a' b' (same_honesty device a b a' b' before.honest read.read_first.honesty
       read.read_second.honesty)
       (still_whole events a b a' b' before.whole
-      (settle_now device (device.clock a) (device.clock b) a' b' (IsEither before.whole.s.durable before.whole.t.durable)
-      (settle_read device a b a' b' (IsEither before.whole.s.durable before.whole.t.durable) before.honest read before.whole.settled)))
+      (settle_now device (device.clock a) (device.clock b) a' b'
+      (IsEither before.whole.s.durable before.whole.t.durable)
+      (settle_read device a b a' b' (IsEither before.whole.s.durable before.whole.t.durable) before.honest read
+      before.whole.settled)))
 
   pub turned : (events : List StoreEvent) (a b : D) → Rested events a b → Rested events b a
   turned events a b before =

@@ -43,7 +43,8 @@ use Rattle.ash_durable.proofs.Opened.{kept_back}
 use Rattle.ash_durable.proofs.RequestOutcomes.{lead_by}
 use Rattle.ash_durable.proofs.CrashedDisks.{same_honesty, settle_crashed, settle_read}
 use Rattle.ash_durable.proofs.LifeEvents.{runs_in, rests_on, still_whole, replied, stored, failed, crashed_handling}
-use Rattle.ash_durable.proofs.LifeEvents.{crashed_between, Rested, s_registered, t_registered, found_led, opened, not_found}
+use Rattle.ash_durable.proofs.LifeEvents.{crashed_between, Rested, s_registered, t_registered, found_led, opened}
+use Rattle.ash_durable.proofs.LifeEvents.{not_found}
 use Rattle.ash_durable.proofs.LifeEvents.{crashed_opening, looked, turned, created, IsClosedOrBegun, begun, open_begun}
 
 -- ---- what the disks read
@@ -205,7 +206,8 @@ module _ {D B : Type 0} (device : Device D) (G : Ghosts B) (stays : (disk : D) �
       let one = represent_now (HaveState (IsOne none)) x y settle.1 in
       let other : IsStateOf one.1.0 contents =
       subst (IsStateOf one.1.0) (represent_once one.0 contents x y one.2 is) one.1.2 in
-      host_state_once state none contents with_it is_state (subst (λ (s : HostState). IsStateOf s contents) one.1.1 other)
+      host_state_once state none contents with_it is_state
+      (subst (λ (s : HostState). IsStateOf s contents) one.1.1 other)
 
   opened_creating : (registered : List Registration) (pool services : List B) (a b : D)
       (result : Result (Hosted D B) (OpenRefused D)) (a' b' : D) (pool' services' : List B) (host : Hosted D B)

@@ -11,7 +11,8 @@ use Rattle.ash_engine.specs.LiveStates.{LiveState}
 use Rattle.ash_engine.specs.LiveSteps.{Reached}
 use Rattle.ash_durable.specs.Hosting.{Hosted, IsAnswer, TookStep, HostReplies, Handles, HandlesAll}
 use Rattle.ash_durable.specs.RequestRuns.{LosesAnswer}
-use Rattle.ash_durable.specs.Lives.{StoreEvent, Acknowledged, InDoubt, UnderHost, Life, Replied, Unanswered, Failed, Records}
+use Rattle.ash_durable.specs.Lives.{StoreEvent, Acknowledged, InDoubt, UnderHost, Life, Replied, Unanswered, Failed}
+use Rattle.ash_durable.specs.Lives.{Records}
 use Rattle.ash_durable.specs.Lives.{LivesOn}
 use Rattle.ash_durable.proofs.RequestOutcomes.{handled_or_stopped, stopped_answer}
 

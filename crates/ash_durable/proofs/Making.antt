@@ -123,7 +123,12 @@ module _ {D : Type 0} (device : Device D) where
         elim made [
           | inl none ↦ inl none
           | inr settle ↦ inr (settle_more (IsContents (image, [])) (HaveState (IsOne state))
-              (λ contents same. (state, refl, subst (IsStateOf state) (sym same) (state_of_alone Two state image depicts)))
+              (λ contents same. (
+                state,
+                refl,
+                subst (IsStateOf state) (sym same)
+                    (state_of_alone Two state image depicts),
+              ))
               x y settle)
         ]
 

@@ -1,5 +1,6 @@
 -- What a host has that was made or opened.
-use Rattle.std.proofs.Common.{◌≡◌, inl, inr, zero, List, [], None, Some, Result, Ok, Err, refl, sym, ◌∙◌, ap, subst, arith}
+use Rattle.std.proofs.Common.{◌≡◌, inl, inr, zero, List, [], None, Some, Result, Ok, Err, refl, sym, ◌∙◌, ap, subst}
+use Rattle.std.proofs.Common.{arith}
 use Rattle.std.specs.Bool.{IsTrue}
 use Rattle.ash_disk.specs.Device.{Device}
 use Rattle.ash_journal.specs.declared.journal.Journal.{Journal}
@@ -15,7 +16,8 @@ use Rattle.ash_engine.specs.RestoredBoxes.{HasServices, Restores}
 use Rattle.ash_durable.specs.HandedBoxes.{first_state, AreSaved}
 use Rattle.ash_durable.specs.StoreFaults.{IsMishap}
 use Rattle.ash_durable.specs.Hosting.{Hosted, first, second, IsRunning, IsSound, RunsSound}
-use Rattle.ash_durable.specs.OpenedStore.{HasFound, WasFound, Keeps, WasKept, WasOpened, Opens, OpensAgain, NotFound, LeftThere}
+use Rattle.ash_durable.specs.OpenedStore.{HasFound, WasFound, Keeps, WasKept, WasOpened, Opens, OpensAgain, NotFound}
+use Rattle.ash_durable.specs.OpenedStore.{LeftThere}
 use Rattle.ash_durable.specs.StoredStates.{AreHonest, HoldsState, SettleNow, IsOne, IsEither}
 use Rattle.ash_durable.specs.Store.{HandsBack, HasMade, WasMade, WasCreated}
 use Rattle.ash_durable.specs.declared.fault.OpenRefused.{OpenRefused}
@@ -101,7 +103,8 @@ kept_holds {D} device registered a b state journal old Two found same honest =
 module _ {D : Type 0} (device : Device D) (stays : (disk : D) → IsTrue (device.honest disk)
     → device.leaves disk (device.clock disk) (device.seen disk)) where
   -- what is found is one of two states that the files settled on
-  found_either : (registered : List Registration) (a b : D) (version : Version) (state : HostState) (journal : Journal D)
+  found_either : (registered : List Registration) (a b : D) (version : Version) (state : HostState)
+      (journal : Journal D)
       → WasFound device registered a b version state journal → (s t : HostState) → AreHonest device a b
       → s.registered ≡ registered → t.registered ≡ registered → SettleNow device a b (IsEither s t)
       → IsEither s t state

@@ -34,7 +34,8 @@ module _ {D B : Type 0} (device : Device D) (G : Ghosts B) (start : Reached) whe
   ran_in : (live : LiveState B) (host : Hosted D B) → host.live ≡ Some live → host.live ≡ None → ⊥
   ran_in live host some none = let h : None ≡ Some live = sym none ∙ some in absurd (cc)
 
-  unanswered : (events : List StoreEvent) (budget : ℕ) (request : Request) (old : Hosted D B) (reply : Reply SourceFault)
+  unanswered : (events : List StoreEvent) (budget : ℕ) (request : Request) (old : Hosted D B)
+      (reply : Reply SourceFault)
       (new : Hosted D B) → IsPrefixAt events (UnderHost old) → Handles device G budget request old reply new
       → IsPrefixAt events (UnderHost new)
   unanswered events budget request old reply new before handled =
@@ -43,7 +44,8 @@ module _ {D B : Type 0} (device : Device D) (G : Ghosts B) (start : Reached) whe
         | inr some ↦ inr (runs events old (ran_in some.0 old some.1) before)
       ]
 
-  pub prefix : (events : List StoreEvent) (place : StoreLocation D B) → Life device G start events place → IsPrefixAt events place
+  pub prefix : (events : List StoreEvent) (place : StoreLocation D B) → Life device G start events place
+      → IsPrefixAt events place
   prefix _ _ (lives.Created registered pool services a b host begins honest was) = inr tt
   prefix _ _ (lives.CrashedCreating registered pool services a b result a' b' begins fresh creates crash is_open) = tt
   prefix _ _ (lives.OpenedCreating registered pool services a b result a' b' pool' services' host begins fresh creates

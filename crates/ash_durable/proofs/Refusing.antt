@@ -14,7 +14,8 @@ use Rattle.ash_sources.specs.SourceFaults as sources
 use Rattle.ash_states.specs.HostStates.{HostState}
 use Rattle.ash_states.specs.StateSteps.{task_of, first_refusal}
 use Rattle.ash_engine.specs.LiveStates.{LiveState}
-use Rattle.ash_durable.specs.Hosting.{Hosted, WantsInstall, TookStep, HostReplies, Handles, IsAnswer, Refuses, RefusesFirst}
+use Rattle.ash_durable.specs.Hosting.{Hosted, WantsInstall, TookStep, HostReplies, Handles, IsAnswer, Refuses}
+use Rattle.ash_durable.specs.Hosting.{RefusesFirst}
 use Rattle.ash_durable.proofs.Answering.{some_once}
 use Rattle.ash_durable.proofs.Changing.{as_it_is}
 use Rattle.ash_durable.proofs.Composing.{live_there}
@@ -55,7 +56,8 @@ stepped_refused device G budget request live old reply new cause not is took =
           ∙ as_it_is device request live.durable old took.between not took.room;
     }
 
-pub refuses_first : {D B : Type 0} (device : Device D) (G : Ghosts B) (budget : ℕ) (request : Request) (old : Hosted D B)
+pub refuses_first : {D B : Type 0} (device : Device D) (G : Ghosts B) (budget : ℕ) (request : Request)
+    (old : Hosted D B)
     (reply : Reply SourceFault) (new : Hosted D B) → Handles device G budget request old reply new
     → RefusesFirst request old reply new
 refuses_first {D} {B} device G budget request old reply new handled state cause runs not first =

@@ -82,8 +82,8 @@ module _ {B : Type 0} (G : Ghosts B) where
 
 -- ---- what a request comes to
 
--- What becomes of a host that ran in a live state, by what came of a request: it runs in the live state that the request
--- led to; it is as it was; or it has stopped.
+-- What becomes of a host that ran in a live state, by what came of a request: it runs in the live state that the
+-- request led to; it is as it was; or it has stopped.
 abbrev pub Ending : {D B : Type 0} → Ghosts B → ℕ → Request → LiveState B → LiveState B → Hosted D B
     → Reply SourceFault → Hosted D B → Type 0
 Ending G budget request live after old reply new =

@@ -13,7 +13,8 @@ use Rattle.ash_states.specs.HostStates.{HostState}
 use Rattle.ash_engine.specs.LiveStates.{LiveState, EngineState}
 use Rattle.ash_durable.specs.StoredStates.{HoldsState, ExtendsHistory}
 use Rattle.ash_durable.specs.Saving.{IsBefore, HostRefusal, AddsWith, Adds, InstallsWith, Installs}
-use Rattle.ash_durable.specs.Hosting.{Hosted, IsReadyUnless, IsSound, RunsSound, IsRunning, IsHonest, IsFull, full_record_bytes, MayAdd}
+use Rattle.ash_durable.specs.Hosting.{Hosted, IsReadyUnless, IsSound, RunsSound, IsRunning, IsHonest, IsFull}
+use Rattle.ash_durable.specs.Hosting.{full_record_bytes, MayAdd}
 use Rattle.ash_durable.specs.Hosting.{WantsInstall, Settles, WasInstalled, InstallRefused, WasLost}
 use Rattle.ash_durable.specs.HostReplies.{refused_by}
 use Rattle.ash_durable.specs.HostRequests.{InstallsInto, TriesInstall, MakesRoom, CommitsWith, Commits}

@@ -111,7 +111,8 @@ module _ {D : Type 0} (device : Device D) where
       (λ contents is. (state, refl, subst (IsStateOf state) (sym is) holds.is_state))
 
   -- a journal that was not touched goes on
-  pub still_goes_on : (before after : HostState) (journal : Journal D) → ExtendsHistory device before after journal journal
+  pub still_goes_on : (before after : HostState) (journal : Journal D)
+      → ExtendsHistory device before after journal journal
   still_goes_on before after journal a b run =
       settle_on_more a b (first_disk journal) (second_disk journal) (IsOne before) (IsEither before after) run
       (λ s is. inl is)
@@ -119,7 +120,8 @@ module _ {D : Type 0} (device : Device D) where
   -- a record more, that leads from one state to the next, takes a journal from the one to the other
   pub record_goes_on : (before after : HostState) (image body : List ℕ) (bodies : List (List ℕ)) (old new : Journal D)
       → IsStateOf before (image, bodies) → AreIn Two (image, bodies)
-      → IsBodyBetween Two body before after → Extends device (first_disk old) (second_disk old) (first_disk new) (second_disk new)
+      → IsBodyBetween Two body before after → Extends device (first_disk old) (second_disk old) (first_disk new)
+      (second_disk new)
       (IsContents (image, bodies ++ body ∷ [])) → ExtendsHistory device before after old new
   record_goes_on before after image body bodies old new is_state in_two leads call a b run =
       run_more a b (first_disk new) (second_disk new)

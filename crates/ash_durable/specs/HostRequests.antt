@@ -21,7 +21,8 @@ pub record PreservesDisks {D B T : Type 0} (device : Device D) (old : Hosted D B
   pub registered : new.registered ≡ old.registered
 
 -- what came of a new generation that was to hold the state of a host that runs
-abbrev pub InstallsInto : {D B : Type 0} → Device D → HostState → Hosted D B → Result (Unit {0}) HostRefusal → Hosted D B
+abbrev pub InstallsInto : {D B : Type 0} → Device D → HostState → Hosted D B → Result (Unit {0}) HostRefusal
+    → Hosted D B
     → Type 0
 InstallsInto device state old (Ok done) new = WasInstalled device state old new
 InstallsInto device state old (Err refusal) new = InstallRefused old (refused_by refusal) new
@@ -44,7 +45,8 @@ pub record MakesRoom {D B : Type 0} (device : Device D) (request : Request) (old
   pub disks : PreservesDisks device old result new
 
 -- what came of one record more that was to hold what a request changed
-abbrev pub CommitsWith : {D B : Type 0} → ℕ → LiveState B → Hosted D B → Result (Unit {0}) HostRefusal → Hosted D B → Type 0
+abbrev pub CommitsWith : {D B : Type 0} → ℕ → LiveState B → Hosted D B → Result (Unit {0}) HostRefusal → Hosted D B
+    → Type 0
 CommitsWith seq live old (Ok done) new =
     IsRunning live.durable new × (new.live ≡ old.live) × HasOneMore live old.journal new.journal
 CommitsWith seq live old (Err refusal) new =
@@ -52,7 +54,8 @@ CommitsWith seq live old (Err refusal) new =
 
 -- The state of a host, which a request has changed, was to be stored before the answer is returned, beside the one
 -- before it that the files held.
-pub record Commits {D B : Type 0} (device : Device D) (seq : ℕ) (old : Hosted D B) (result : Result (Unit {0}) HostRefusal)
+pub record Commits {D B : Type 0} (device : Device D) (seq : ℕ) (old : Hosted D B)
+    (result : Result (Unit {0}) HostRefusal)
     (new : Hosted D B) : Type 0 where
   pub outcome : (live : LiveState B) → old.live ≡ Some live → CommitsWith seq live old result new
   pub holds : OnOk result ((before : HostState) (live : LiveState B) → old.live ≡ Some live → IsBefore live before

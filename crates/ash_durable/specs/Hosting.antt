@@ -7,7 +7,8 @@ use Rattle.ash_journal.specs.JournalFailures.{CountsFailures}
 use Rattle.ash_journal.specs.Journal.{first_disk, second_disk, generation, record_bytes, IsReady}
 use Rattle.ash_host.specs.declared.host_object.HostObject.{Ghosts}
 use Rattle.ash_registry.specs.AcceptedRegistrations.{Registration}
-use Rattle.ash_requests.specs.Requests.{Request, Load, Call, Discard, Get, Object, Seq, Snapshot, Refusal, Reply, Answered}
+use Rattle.ash_requests.specs.Requests.{Request, Load, Call, Discard, Get, Object, Seq, Snapshot, Refusal, Reply}
+use Rattle.ash_requests.specs.Requests.{Answered}
 use Rattle.ash_requests.specs.Requests.{Number, Refused, Reopen, DeviceFailed, NoMemory, GenerationSpent}
 use Rattle.ash_requests.specs.TaskResults.{TakesMemoryToFind, TaskChangesState}
 use Rattle.ash_sources.specs.SourceFaults.{SourceFault}

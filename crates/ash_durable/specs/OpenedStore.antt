@@ -221,7 +221,8 @@ pub record HasFound {D B : Type 0} (device : Device D) (G : Ghosts B) (registere
 abbrev pub OpensState : {D B : Type 0} → Device D → Ghosts B → List Registration → List B → List B → D → D
     → Result (Found D B) (OpenRefused D) → Type 0
 OpensState device G registered pool services a b (Ok found) = HasFound device G registered pool services a b found
-OpensState device G registered pool services a b (Err refused) = WasRefused device G registered pool services a b refused
+OpensState device G registered pool services a b (Err refused) = WasRefused device G registered pool services a b
+    refused
 
 -- what a journal that was opened holds
 abbrev pub contents_of : {D : Type 0} → OpenedJournal D → Contents
@@ -310,7 +311,8 @@ abbrev pub ReadsState : {D : Type 0} → List Registration → (HostState → Ty
 ReadsState registered P opened =
     (state : HostState) × (state.registered ≡ registered) × IsStateOf state (contents_of opened) × P state
 
--- A journal that was opened has a state in version 1, these boxes take it, and the number of its generation is the last.
+-- A journal that was opened has a state in version 1, these boxes take it, and the number of its generation is the
+-- last.
 pub record IsLast {D B : Type 0} (G : Ghosts B) (registered : List Registration) (pool services : List B)
     (opened : OpenedJournal D) : Type 0 where
   pub state : HostState

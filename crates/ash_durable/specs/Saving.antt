@@ -42,16 +42,17 @@ pub record HasOneMore {D B : Type 0} (live : LiveState B) (old new : Journal D) 
   pub is_body : IsBodyOfChanges live body
   pub longer : record_bytes new ≡ record_bytes old + record_header_size + length body
 
--- What becomes of a journal that what a request changed was to be added to as one record: that it has it, and one record
--- more; that memory was refused and nothing changed; or that a device failed, and the journal is to be opened again.
+-- What becomes of a journal that what a request changed was to be added to as one record: that it has it, and one
+-- record more; that memory was refused and nothing changed; or that a device failed, and the journal is to be opened
+-- again.
 abbrev pub AddsWith : {D B : Type 0} → LiveState B → Journal D → Result (Unit {0}) HostRefusal → Journal D → Type 0
 AddsWith live old (Ok done) new = IsReady new × HasOneMore live old new
 AddsWith live old (Err the.NoMemory) new = new ≡ old
 AddsWith live old (Err the.DeviceFailed) new = HasFailed new
 AddsWith live old (Err _) new = ⊥
 
--- What the last request changed is added to a journal as one record more: it then holds what outlives the request, if it
--- held the state before it.
+-- What the last request changed is added to a journal as one record more: it then holds what outlives the request, if
+-- it held the state before it.
 pub record Adds {D B : Type 0} (device : Device D) (live : LiveState B) (old : Journal D)
     (result : Result (Unit {0}) HostRefusal)
     (new : Journal D) : Type 0 where

@@ -34,19 +34,20 @@ pub const FULL_RECORD_BYTES: u64 = 16_777_216;
 
 /// A host for script modules whose state outlives the process. It has a registry of its own, whose text is in each
 /// image that it writes. Each call is one request. Every answer to a `load`, a `call` or a `discard` but a refusal
-/// raises the sequence number by one, and before it is given the new state is one more record on the current disk of
-/// the journal, by two writes and two syncs, so that every crash afterwards leaves it there. Where that fails, or finds
-/// no memory for the record, the answer is lost: a crash leaves the state before the request or the one after it, and
-/// the host must be reopened. So it must where memory is refused while a request changes the state: the state is lost,
-/// and the disks have the one before the request. Every call but `seq`, `close` and `reopen` is from then on refused
-/// with `Refusal::Reopen`. Any other refusal changes nothing, but for a new generation that was installed before it.
+/// raises the sequence number by one, and before it is given what the request changed is one more record on the current
+/// disk of the journal, by two writes and two syncs, so that every crash afterwards leaves the new state there. Where
+/// that fails, or finds no memory for the record, the answer is lost: a crash leaves the state before the request or the
+/// one after it, and the host must be reopened. So it must where memory is refused while a request changes the state:
+/// the state is lost, and the disks have the one before the request. Every call but `seq`, `close` and `reopen` is from
+/// then on refused with `Refusal::Reopen`. Any other refusal changes nothing, but for a new generation that was
+/// installed before it.
 ///
 /// A `load`, a `call` or a `discard` that finds 16,777,216 bytes of records or more in the current generation first
 /// installs the state as a new one, without records, in the file that isn't current.
 ///
-/// It owns the boxes of host objects that it is handed: those that are free, in the pool, those of the host objects that
-/// live, and one for each service that is registered. Write `B: HostObject` on what holds a host; only who makes the
-/// boxes names their type.
+/// It owns the boxes of host objects that it is handed: those that are free, in the pool, those of the host objects
+/// that live, and one for each service that is registered. Write `B: HostObject` on what holds a host; only who makes
+/// the boxes names their type.
 #[derive(Drop)]
 pub struct Host<D, B: HostObject = Box<dyn HostObject>> {
     alloc: Global,
@@ -114,13 +115,14 @@ impl<D: Disk, B: HostObject> Host<D, B> {
     ///
     /// Faults, each a `StoreFault::Open` except `OtherInterface`, `PoolShort`, `RestoreRefused` and `GenerationSpent`,
     /// the first that holds: `DeviceFailed`; `NoGeneration` where no file is open; `Damaged` where bytes have not the
-    /// shape of a generation, an image or a record, or a record has not its image's version; `OtherInterface` where the
-    /// store was made with a registry of another text; `Damaged` where no host with the registry may be in a state;
-    /// `PoolShort` with the kind of a service that is not in its place, and then with the kind of a host object for
-    /// which no free box is left; `RestoreRefused` with 0 for a service, and then with the number of a host object,
-    /// that does not take its state; `GenerationSpent` where the generation is of version 1, and its number is
-    /// 2^64 - 1. `NoMemory` where there is none to read into, none for the boxes, or none for the generation of version
-    /// 2. Except for `DeviceFailed` in the last steps, both disks read as before.
+    /// shape of a generation, an image or a record, a record does not lead on from the state before it, or the state
+    /// that the records lead to breaks the rules of a state; `OtherInterface` where the store was made with a registry
+    /// of another text; `Damaged` where no host with the registry may be in that state; `PoolShort` with the kind of a
+    /// service that is not in its place, and then with the kind of a host object for which no free box is left;
+    /// `RestoreRefused` with 0 for a service, and then with the number of a host object, that does not take its state;
+    /// `GenerationSpent` where the generation is of version 1, and its number is 2^64 - 1. `NoMemory` where there is
+    /// none to read into, none for the boxes, or none for the generation of version 2. Except for `DeviceFailed` in the
+    /// last steps, both disks read as before.
     pub fn open(
         alloc: Global,
         a: D,
@@ -141,8 +143,8 @@ impl<D: Disk, B: HostObject> Host<D, B> {
         })
     }
 
-    /// What is known of a host that runs: its boxes are those of its state, and the state has what is registered with the
-    /// host. The function does nothing.
+    /// What is known of a host that runs: its boxes are those of its state, and the state has what is registered with
+    /// the host. The function does nothing.
     pub fn facts(&self)
         ensures sound { RunsSound B.HostObject self.now }
         ensures runs { (live : LiveState B) → self.now.live ≡ Some live

@@ -89,9 +89,9 @@ pub state_of_push : RecordsLeadOn
 state_of_push version before after image bodies body is_state in_version body_is =
     let v = is_state.version in
     let same : v ≡ version =
-        (image_once image v version is_state.led.led.first in_version.0 is_state.led.led.image in_version.1).0 in
+    (image_once image v version is_state.led.led.first in_version.0 is_state.led.led.image in_version.1).0 in
     let led : LeadTo version (image, bodies) (named is_state.snapshot) =
-        subst (λ (w : Version). LeadTo w (image, bodies) (named is_state.snapshot)) same is_state.led.led in
+    subst (λ (w : Version). LeadTo w (image, bodies) (named is_state.snapshot)) same is_state.led.led in
     let next = led_by version body is_state.snapshot before after is_state.depicts body_is in
     record {
       version = version;
@@ -115,14 +115,14 @@ fits_in version state contents is_state in_version =
     let s = is_state.snapshot in
     let led = is_state.led in
     let same : is_state.version ≡ version =
-        (image_once contents.0 is_state.version version led.led.first in_version.0 led.led.image in_version.1).0 in
+    (image_once contents.0 is_state.version version led.led.first in_version.0 led.led.image in_version.1).0 in
     let admitted = is_state.depicts.admitted in
     let keeps : KeepsRules (snapshot_for state) =
-        rules (embedding_for state.registered) (offered_to state.registered) (read_sound state.registered) state.state
-        admitted.formed state.registered in
+    rules (embedding_for state.registered) (offered_to state.registered) (read_sound state.registered) state.state
+    admitted.formed state.registered in
     let names = names_of_one s (snapshot_for state) state is_state.depicts (depicted state admitted) in
     let is : s ≡ snapshot_for state =
-        known_by_names s (snapshot_for state) led.fits.modules.order led.rules keeps names in
+    known_by_names s (snapshot_for state) led.fits.modules.order led.rules keeps names in
     subst (λ (x : Snapshot). FitsVersion version x) is
     (subst (λ (v : Version). FitsVersion v s) same led.fits)
 

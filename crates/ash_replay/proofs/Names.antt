@@ -1,7 +1,8 @@
 -- Snapshots of one state are one by names.
 use Rattle.std.proofs.Common.{◌≡◌, ◌∙◌, ℕ, zero, suc, List, [], ◌∷◌, map, refl, sym, ap}
 use Rattle.ash_host.specs.Objects.{LiveObjects}
-use Rattle.ash_host.specs.Objects.{Elements, Bools, Ints, Uints, Int64s, Uint64s, Handles, Hosts, Plain, Script, Array, Host}
+use Rattle.ash_host.specs.Objects.{Elements, Bools, Ints, Uints, Int64s, Uint64s, Handles, Hosts, Plain, Script, Array}
+use Rattle.ash_host.specs.Objects.{Host}
 use Rattle.ash_requests.specs.States.{State}
 use Rattle.ash_image.specs.declared.version.Version.{Version}
 use Rattle.ash_image.specs.Snapshots.{Loaded, Snapshot}

@@ -45,7 +45,8 @@ by_delta_once version bytes before s t one other =
     (subst (λ (d : Delta). Leads d before t) same other.leads) one.ordered other.ordered
 
 -- a record leads from a state to one
-pub record_once : (version : Version) (body : List ℕ) (before s t : NamedSnapshot) → IsRecordBetween version body before s
+pub record_once : (version : Version) (body : List ℕ) (before s t : NamedSnapshot)
+    → IsRecordBetween version body before s
     → IsRecordBetween version body before t → s ≡ t
 record_once version body before s t (inl one) (inl other) = by_image_once version body before s t one other
 record_once version body before s t (inl one) (inr (bytes, is, other)) =

@@ -46,7 +46,8 @@ reads_nothing image None is only = λ version s image_is.
 -- a body of which no image is read leads nowhere by one
 pub no_body : (version : Version) (body : List ℕ) (before after : NamedSnapshot) (found : Option StoredImage)
     → found ≡ None
-    → ((version : Version) (s : Snapshot) → IsImageBody body version s → option_map image_read found ≡ Some (version, s))
+    → ((version : Version) (s : Snapshot) → IsImageBody body version s
+    → option_map image_read found ≡ Some (version, s))
     → LeadsByImage version body before after → ⊥
 no_body version body before after (Some stored) is only leads = absurd (cc)
 no_body version body before after None is only leads =

@@ -40,7 +40,8 @@ StopsAtGate version (r ∷ records) before at =
     ⊎ ((next : NamedSnapshot) × IsRecordBetween version r.body.items before next
     × StopsAtGate version records next at)
 
--- records lead from a state to the given one, or one of them leads nowhere, and damage is reported at the gate before it
+-- records lead from a state to the given one, or one of them leads nowhere, and damage is reported at the gate before
+-- it
 abbrev pub LeadsThrough : Version → NamedSnapshot → List Record → Result NamedState ReplayFault → Type 0
 LeadsThrough version before records result =
     MatchResult result (λ last. LeadThrough version (bodies_of records) before (state_seen last))

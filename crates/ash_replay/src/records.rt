@@ -12,12 +12,12 @@ ghost use Rattle.ash_replay.specs.ReplaySteps.{LeadsOn, LeadsThrough};
 use crate::fault::ReplayFault;
 use ash_image::delta::read_delta;
 use ash_image::image::read_body;
-use ash_image::stored::StoredImage;
-use ash_image::version::Version;
-use ash_journal::Record;
 use ash_image::leading::lead;
 use ash_image::named_state::NamedState;
 use ash_image::naming::named_state;
+use ash_image::stored::StoredImage;
+use ash_image::version::Version;
+use ash_journal::Record;
 use std::alloc::{AllocError, Global};
 
 /// The tag of a record's body that is a delta.

@@ -10,9 +10,9 @@ ghost use Rattle.ash_replay.specs.ReplaySteps.{newest_gate, ReadsImage, ReportsD
 use crate::fault::ReplayFault;
 use crate::records::last_state;
 use ash_image::image::read_image;
+use ash_image::naming::{named_state, stored_state};
 use ash_image::stored::StoredImage;
 use ash_journal::Record;
-use ash_image::naming::{named_state, stored_state};
 use std::alloc::Global;
 
 /// The state of a generation's image.

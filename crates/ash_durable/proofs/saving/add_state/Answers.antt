@@ -10,8 +10,8 @@ returns-in-Ok g c = record {
   adds = λ live is.
       let body = c.deref.result.now in
       let is_body : IsBodyOfChanges live body =
-          subst (λ (bytes : List ℕ). IsBodyOfChanges live bytes) (sym c.deref.ensures.value)
-          (c.in_ok-body.ensures.delta live is) in
+      subst (λ (bytes : List ℕ). IsBodyOfChanges live bytes) (sym c.deref.ensures.value)
+      (c.in_ok-body.ensures.delta live is) in
       let said = c.in-Ok.ensures in
       adds g.D.Disk live (c.facts.ensures.reached live is).admitted c.args.journal.now c.append.new.self body is_body
       said.extends said.acknowledged (said.ready (λ is. cc)) said.number said.longer
@@ -27,8 +27,8 @@ returns g c = record {
   adds = λ live is.
       let body = c.deref.result.now in
       let is_body : IsBodyOfChanges live body =
-          subst (λ (bytes : List ℕ). IsBodyOfChanges live bytes) (sym c.deref.ensures.value)
-          (c.in_ok-body.ensures.delta live is) in
+      subst (λ (bytes : List ℕ). IsBodyOfChanges live bytes) (sym c.deref.ensures.value)
+      (c.in_ok-body.ensures.delta live is) in
       let said = c.in-Err-DeviceFailed.ensures in
       let is_failed = ap (λ (e : AppendError). Err e) c.in-Err-DeviceFailed.field-0-is in
       adds_not g.D.Disk live (c.facts.ensures.reached live is).admitted c.args.journal.now c.append.new.self body

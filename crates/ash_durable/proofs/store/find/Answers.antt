@@ -7,7 +7,8 @@ pub returns-in-Ok : goal.returns-in-Ok
 returns-in-Ok g c = record {
   opens_state =
       let e = c.in-Ok.ensures in
-      finds g.D.Disk g.B.HostObject (registered c.args.registry) c.args.pool.items c.args.services.items c.args.a c.args.b c.in-Ok.opened c.settle.result
+      finds g.D.Disk g.B.HostObject (registered c.args.registry) c.args.pool.items c.args.services.items c.args.a
+      c.args.b c.in-Ok.opened c.settle.result
       (record {
         holds = λ honest. e.found honest.honest_first honest.honest_second;
         placed = λ honest. e.offsets honest.honest_first honest.honest_second;

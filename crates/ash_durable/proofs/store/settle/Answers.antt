@@ -25,7 +25,7 @@ returns-in-Err-revive g c = record {
       let opened = c.args.opened in
       let read = c.in-Ok.read in
       let reads = read_as opened with_it read c.deref.result.now c.deref-2.result.now c.deref.ensures.value
-          c.deref-2.ensures.value c.in-Ok.ensures.read in
+      c.deref-2.ensures.value c.in-Ok.ensures.read in
       let refused = c.refusal_of-in-Err-revive in
       inl (not_revived g.D.Disk g.B.HostObject with_it c.args.pool.items c.args.services.items opened read.state
       c.in-Err-revive.fault refused.result reads.registered_is (λ placed. reads.is_state)
@@ -39,7 +39,7 @@ returns-in-One g c = record {
       let opened = c.args.opened in
       let read = c.in-Ok.read in
       let reads = read_as opened with_it read c.deref.result.now c.deref-2.result.now c.deref.ensures.value
-          c.deref-2.ensures.value c.in-Ok.ensures.read in
+      c.deref-2.ensures.value c.in-Ok.ensures.read in
       let lives = c.in-Ok-revive.ensures.revives in
       settles_one g.D.Disk g.B.HostObject with_it c.args.pool.items c.args.services.items opened read.state
       c.in-Ok-revive.engine c.upgrade.result reads.registered_is lives
@@ -56,7 +56,7 @@ returns g c = record {
       let opened = c.args.opened in
       let read = c.in-Ok.read in
       let reads = read_as opened with_it read c.deref.result.now c.deref-2.result.now c.deref.ensures.value
-          c.deref-2.ensures.value c.in-Ok.ensures.read in
+      c.deref-2.ensures.value c.in-Ok.ensures.read in
       settles_two g.D.Disk g.B.HostObject with_it c.args.pool.items c.args.services.items opened read.state
       c.in-Ok-revive.engine c.repair.result reads.registered_is c.in-Ok-revive.ensures.revives
       (λ placed.

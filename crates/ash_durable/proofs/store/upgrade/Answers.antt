@@ -53,8 +53,10 @@ returns-in-Err-install_next g c = record {
       inr (inr (
         old,
         settled,
-        was_not_moved g.D.Disk live.durable old c.install_next.new.self prepared.0 prepared.1 c.refusal_of-in-Err-install_next.result
-            (true ≡ true) refl c.refusal_of-in-Err-install_next.ensures.fault c.refusal_of-in-Err-install_next.ensures.a c.refusal_of-in-Err-install_next.ensures.b e.untouched
+        was_not_moved g.D.Disk live.durable old c.install_next.new.self prepared.0 prepared.1
+            c.refusal_of-in-Err-install_next.result (true ≡ true) refl
+            c.refusal_of-in-Err-install_next.ensures.fault c.refusal_of-in-Err-install_next.ensures.a
+            c.refusal_of-in-Err-install_next.ensures.b e.untouched
             (λ was bodies holds. e.run prepared.0 was bodies next holds) e.cause e.honesty_first e.honesty_second,
       ));
 }

@@ -8,7 +8,8 @@ use Rattle.ash_durable.proofs.host.Host.handle.Goals as goal
 pub returns-in-Some-clause-handled : goal.returns-in-Some-clause-handled
 returns-in-Some-clause-handled g c =
     handles_seen_stopped g.D.Disk g.B.HostObject c.args.budget (request_seen c.args.request.now) c.self.inside.stopped
-    c.self.inside.engine c.self.inside.journal c.args.self.now c.in-Some.seq (reply_seen fault_of c.reply_of_stopped.result)
+    c.self.inside.engine c.self.inside.journal c.args.self.now c.in-Some.seq
+    (reply_seen fault_of c.reply_of_stopped.result)
     c.in-Some.is c.self.view_is c.reply_of_stopped.ensures.value
 
 pub returns-in-Some-clause-refused : goal.returns-in-Some-clause-refused

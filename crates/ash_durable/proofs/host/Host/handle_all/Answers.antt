@@ -17,7 +17,8 @@ loop-request-preserved g c = record {
 }
 
 pub returns-clause-run : goal.returns-clause-run
-returns-clause-run g c = nothing_left _ _ request_seen (reply_seen fault_of) _ _ _ _ _ _ (omega arith) c.loop-request.invariant.run
+returns-clause-run g c = nothing_left _ _ request_seen (reply_seen fault_of) _ _ _ _ _ _ (omega arith)
+    c.loop-request.invariant.run
 
 pub returns-clause-defined : goal.returns-clause-defined
 returns-clause-defined g c = runs_to_failure _ _ _ _ _ _ _ (returns-clause-run g c)

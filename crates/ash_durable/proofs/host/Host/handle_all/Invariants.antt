@@ -12,7 +12,8 @@ invariant-loop-request g l =
     let device = g.D.Disk in
     record {
       run : (replies : List (Reply SourceFault)) (new : Hosted g.row.D.Denot g.row.B.Denot)
-          → HandlesAll device g.B.HostObject l.budget l.self (map request_seen (drop l.request-index l.requests)) replies new
+          → HandlesAll device g.B.HostObject l.budget l.self (map request_seen (drop l.request-index l.requests))
+          replies new
           → HandlesAll device g.B.HostObject l.budget l.fn.self (map request_seen l.requests)
           (map (reply_seen fault_of) l.replies.items ++ replies)
           new;

@@ -2,7 +2,8 @@ use Rattle.std.proofs.Common.{Ok, Err}
 use Rattle.std.proofs.lemmas.Bool.{iff_false}
 use Rattle.std.proofs.lemmas.Result.{err_from_is_err_and}
 use Rattle.ash_requests.specs.RequestViews.{request_seen}
-use Rattle.ash_durable.proofs.Handling.{found_room, found_live, handled_live, handled_room, handled_other, handled_answer}
+use Rattle.ash_durable.proofs.Handling.{found_room, found_live, handled_live, handled_room, handled_other}
+use Rattle.ash_durable.proofs.Handling.{handled_answer}
 use Rattle.ash_durable.proofs.Handling.{handled_lost, handles_no_room}
 use Rattle.ash_durable.proofs.host.Host.handle_running.Goals as goal
 
@@ -87,7 +88,8 @@ commit-requires-clause-room g c =
     handled_room g.D.Disk g.B.HostObject c.args.budget request stopped engine c.handle.new.self journal
     c.args.self.now found c.in-Ok.ensures.registered c.in-Ok.reply
     (c.in-Ok.ensures.handled found.live found.live_is) c.facts.ensures.registered
-    c.make_room.new.self c.in_ok-make_room.ensures.makes_room c.self.view_is (c.is_answer.ensures.exact.0 c.if-not-is_answer.false)
+    c.make_room.new.self c.in_ok-make_room.ensures.makes_room c.self.view_is
+    (c.is_answer.ensures.exact.0 c.if-not-is_answer.false)
 
 pub returns-in_err-commit : goal.returns-in_err-commit
 returns-in_err-commit g c = record {
@@ -99,10 +101,11 @@ returns-in_err-commit g c = record {
       let found = found_room g.D.Disk request stopped engine journal c.args.self.now c.make_room.new.self
       c.requires.live c.in_ok-make_room.ensures.makes_room c.self.view_is in
       let p = err_from_is_err_and c.from_residual-in_err-commit.result c.from_residual-in_err-commit.ensures.1 in
-      rw (p.1, p.2) (handled_answer g.D.Disk g.B.HostObject c.args.budget request stopped engine c.handle.new.self journal
-      c.args.self.now found c.in-Ok.ensures.registered c.in-Ok.reply
+      rw (p.1, p.2) (handled_answer g.D.Disk g.B.HostObject c.args.budget request stopped engine c.handle.new.self
+      journal c.args.self.now found c.in-Ok.ensures.registered c.in-Ok.reply
       (c.in-Ok.ensures.handled found.live found.live_is) c.facts.ensures.registered
-      c.seq-seq.result (Err c.in_err-commit.field-0.0) c.commit.new.self (λ live is. record { boxes = c.facts.ensures.boxes live is; reached = c.facts.ensures.reached live is })
+      c.seq-seq.result (Err c.in_err-commit.field-0.0) c.commit.new.self
+      (λ live is. record { boxes = c.facts.ensures.boxes live is; reached = c.facts.ensures.reached live is })
       (c.is_answer.ensures.exact.0 c.if-not-is_answer.false) (c.seq-seq.ensures.number found.live found.live_is)
       c.in_err-commit.ensures.commits);
 }
@@ -119,7 +122,8 @@ returns g c = record {
       handled_answer g.D.Disk g.B.HostObject c.args.budget request stopped engine c.handle.new.self journal
       c.args.self.now found c.in-Ok.ensures.registered c.in-Ok.reply
       (c.in-Ok.ensures.handled found.live found.live_is) c.facts.ensures.registered
-      c.seq-seq.result (Ok tt) c.commit.new.self (λ live is. record { boxes = c.facts.ensures.boxes live is; reached = c.facts.ensures.reached live is })
+      c.seq-seq.result (Ok tt) c.commit.new.self
+      (λ live is. record { boxes = c.facts.ensures.boxes live is; reached = c.facts.ensures.reached live is })
       (c.is_answer.ensures.exact.0 c.if-not-is_answer.false) (c.seq-seq.ensures.number found.live found.live_is)
       c.in_ok-commit.ensures.commits;
 }
