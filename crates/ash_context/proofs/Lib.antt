@@ -9,7 +9,9 @@ pub mod Jumps
 pub mod Lengths
 pub mod Loops
 pub mod Meant
+pub mod PlainFits
 pub mod PlainSteps
+pub mod PlainStores
 pub mod PlainTurns
 pub mod PlainWords
 pub mod Puts
