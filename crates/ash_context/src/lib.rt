@@ -20,6 +20,7 @@
 #![tactic(auto)]
 
 mod arrays;
+mod at_once;
 mod calculating;
 mod calling;
 mod casting;
