@@ -15,11 +15,12 @@
 //! In reading order: `turning` (what is left after an instruction), `storing` (slots), `operators`, `operands` (operators
 //! on slots), `calculating`, `members` (globals and fields), `elements`, `arrays`, `hosts` (host objects and services),
 //! `stepping` (statements), `jumping`, `calling`, `returning`, `classes` (of objects), `casting` (casts, and calls by an
-//! interface), `constructing`, `running` (each instruction), `plain` (instructions without objects, in a loop of their own), `looping`,
-//! `outcome`, `ending`, `context`.
+//! interface), `constructing`, `running` (each instruction), `at_once` (those of most loops and calls, where the loop
+//! is), `plain` (instructions without objects, in a loop of their own), `looping`, `outcome`, `ending`, `context`.
 #![tactic(auto)]
 
 mod arrays;
+mod at_once;
 mod calculating;
 mod calling;
 mod casting;
