@@ -16,7 +16,7 @@ use Rattle.ash_sources.specs.SourceFaults.{SourceFault}
 use Rattle.ash_states.specs.HostStates.{HostState}
 use Rattle.ash_states.specs.StateSteps.{task_of}
 use Rattle.ash_engine.specs.LiveStates.{LiveState, EngineState}
-use Rattle.ash_engine.specs.LiveSteps.{LiveSteps, TakesStep, IsNoAnswer}
+use Rattle.ash_engine.specs.LiveSteps.{LiveSteps, IsNoAnswer}
 use Rattle.ash_durable.specs.StoredStates.{HoldsState}
 use Rattle.ash_durable.specs.Saving.{HostRefusal, IsBefore, IsDeviceRefusal}
 use Rattle.ash_durable.specs.Hosting.{Hosted, first, second, live_unless, seq_in, IsRunning, IsSaved, IsHonest, Settles}
