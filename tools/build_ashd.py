@@ -10,7 +10,7 @@ import sys
 import tempfile
 import time
 
-from kit import TOP, need_rt, time_to_prove, uses_of_crates
+from kit import TOP, need_rt, rt_environment, time_to_prove, uses_of_crates
 
 OUT = f"{TOP}/crates/ashd/out"
 PROGRAM = f"{OUT}/ashd"
@@ -89,12 +89,11 @@ def copy_crates(to, crates):
 
 
 def prove(folder, crates):
-    """Proves the crates of a repository and builds its programs, and returns whether that went well. rt takes what it has
-    proved on this machine before from its store, as what the gate proved."""
+    """Proves the crates of a repository and builds its programs, and returns whether that went well."""
     start = time.monotonic()
     with open(LOG, "wb") as log:
         how = {"cwd": folder, "stdin": subprocess.DEVNULL, "stdout": log, "stderr": subprocess.STDOUT}
-        with subprocess.Popen(["rt", "ci"], **how) as work:
+        with subprocess.Popen(["rt", "ci"], env=rt_environment(), **how) as work:
             while work.returncode is None:
                 proved, minutes = len(re.findall(PROVED, "\n".join(lines_of_log()), re.M)), int(time.monotonic() - start) // 60
                 write(f"proved {proved} of {len(crates)} crates, {minutes} min so far")
@@ -136,7 +135,7 @@ if __name__ == "__main__":
     try:
         sys.exit(build())
     except KeyboardInterrupt:
-        write("stopped. Each crate that is proved is stored: the next call goes on from there")
+        write("stopped. The next call goes on from there only if the toolchain stores what it has proved")
         sys.exit(130)
     except OSError as error:
         write(str(error))

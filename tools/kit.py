@@ -6,10 +6,9 @@ import sys
 
 TOP = os.path.dirname(os.path.dirname(os.path.abspath(__file__)))
 
-# In how many minutes a run of the gate proved all crates below ashd from nothing, and ashd after these, by the number of
-# processors: on a fast machine and on a slow one. The gate proves the tests beside them; a build by ashd.sh alone was not
-# timed.
-MINUTES = {4: (31, 43)}
+# In about how many minutes all crates below ashd, and ashd after these, are proved from nothing, by the number of
+# processors: on a fast machine and on a slow one. These are estimates from proofs that ran beside other work.
+MINUTES = {4: (60, 120)}
 
 
 def processors():
@@ -17,10 +16,16 @@ def processors():
 
 
 def time_to_prove():
-    """About how long it takes to prove and build ashd, as the gate did on the machine nearest to this one."""
+    """About how long it takes to prove and build ashd, on the machine nearest to this one."""
     measured = max((it for it in MINUTES if it <= processors()), default=min(MINUTES))
     fast, slow = MINUTES[measured]
     return f"{fast} to {slow} minutes on {measured} processors, by how fast they are (this machine has {processors()})"
+
+
+def rt_environment(**more):
+    """The environment of `rt ci`. Without RT_JOBS, rt counts some three times the memory that a check takes, and leaves
+    processors idle."""
+    return {"RT_JOBS": str(processors()), **os.environ, **more}
 
 
 def uses_of_crates():
