@@ -109,7 +109,10 @@ module _ {D B : Type 0} (device : Device D) (live : LiveState B) (admitted : IsA
       → record_bytes new ≡ record_bytes old + record_header_size + length body → Disks device old new ⊥
       → Adds device live old (Ok tt) new
   adds body is_body extends acknowledged ready number longer disks = record {
-    outcome = (ready, record { same = number; body = body; is_body = is_body; longer = longer });
+    outcome = (
+      ready,
+      record { same = number; body = body; is_body = is_body; added = acknowledged; longer = longer },
+    );
     holds = λ before is holds. record {
       contents = (holds.contents.0, holds.contents.1 ++ body ∷ []);
       holds = acknowledged holds.contents.0 holds.contents.1 holds.holds;

@@ -130,7 +130,7 @@ module _ {D B : Type 0} (device : Device D) (live : LiveState B) (old new : Jour
       → Commits device seq (host_in live old) (Ok tt) (host_in live new)
   commit_ok seq adds = record {
     outcome = λ other is.
-        at_live live (λ (l : LiveState B). CommitsWith seq l (host_in live old) (Ok tt) (host_in live new))
+        at_live live (λ (l : LiveState B). CommitsWith device seq l (host_in live old) (Ok tt) (host_in live new))
         (running_seen live new, refl, adds.outcome.1) other is;
     holds = λ before other is.
         at_live live (λ (l : LiveState B). IsBefore l before → HoldsState device before old
@@ -144,11 +144,11 @@ module _ {D B : Type 0} (device : Device D) (live : LiveState B) (old new : Jour
     };
   }
 
-lost_for : {D B : Type 0} (live : LiveState B) (refusal : HostRefusal) (old new : Journal D)
-    → AddsWith live old (Err refusal) new → WasLost old (refused_by refusal) new
-lost_for live the.NoMemory old new outcome = outcome
-lost_for live the.DeviceFailed old new outcome = tt
-lost_for live _ old new outcome = absurd outcome
+lost_for : {D B : Type 0} (device : Device D) (live : LiveState B) (refusal : HostRefusal) (old new : Journal D)
+    → AddsWith device live old (Err refusal) new → WasLost old (refused_by refusal) new
+lost_for device live the.NoMemory old new outcome = outcome
+lost_for device live the.DeviceFailed old new outcome = tt
+lost_for device live _ old new outcome = absurd outcome
 
 -- it is not, or it is in doubt
 pub commit_err : {D B : Type 0} (device : Device D) (live : LiveState B) (old new : Journal D) (seq : ℕ)
@@ -156,9 +156,9 @@ pub commit_err : {D B : Type 0} (device : Device D) (live : LiveState B) (old ne
     → Commits device seq (host_in live old) (Err refusal) (host_stopped B live.durable.registered seq new)
 commit_err {D} {B} device live old new seq refusal adds = record {
   outcome = λ other is.
-      at_live live (λ (l : LiveState B). CommitsWith seq l (host_in live old) (Err refusal)
+      at_live live (λ (l : LiveState B). CommitsWith device seq l (host_in live old) (Err refusal)
       (host_stopped B live.durable.registered seq new))
-      (refl, refl, lost_for live refusal old new adds.outcome) other is;
+      (refl, refl, lost_for device live refusal old new adds.outcome) other is;
   holds = tt;
   moments = λ before other is. commits_moments device live old new (Err refusal) adds before other is;
   disks = record {

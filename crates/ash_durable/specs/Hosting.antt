@@ -163,7 +163,7 @@ pub record TookStep {D B : Type 0} (device : Device D) (G : Ghosts B) (budget : 
   pub stepped : TakesStep G budget request live reply after
   pub live_is : new.live ≡ Some after
   pub running : IsRunning after.durable new
-  pub added : IsAnswer reply → HasOneMore after between.journal new.journal
+  pub added : IsAnswer reply → HasOneMore device after between.journal new.journal
   pub untouched : (IsAnswer reply → ⊥) → new ≡ between
   pub settles : Settles device live.durable after.durable old new
 
