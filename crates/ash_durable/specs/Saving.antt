@@ -4,6 +4,7 @@ use Rattle.ash_disk.specs.Device.{Device}
 use Rattle.ash_journal.specs.declared.journal.Journal.{Journal}
 use Rattle.ash_journal.specs.JournalFailures.{CountsFailures}
 use Rattle.ash_journal.specs.Journal.{first_disk, second_disk, generation, record_bytes, HasFailed, IsReady, Holds}
+use Rattle.ash_journal.specs.Journal.{LeavesCurrent, LeavesOther}
 use Rattle.ash_sources.specs.declared.fault.SourceFault.{SourceFault as CodeFault}
 use Rattle.ash_requests.specs.declared.refusal.Refusal.{Refusal}
 use Rattle.ash_requests.specs.declared.refusal.Refusal.TheVariants as the
@@ -35,7 +36,7 @@ pub record IsBefore {B : Type 0} (live : LiveState B) (before : HostState) : Typ
   pub happened : List Event
   pub names : Names live.changes happened before.state (live.durable).state
 
--- A journal holds the records that it held and one more, in the same generation, whose body is the delta of the changes
+-- In the same generation, a journal holds the records that it held and one more, whose body is the delta of the changes
 -- that a live state names.
 pub record HasOneMore {D B : Type 0} (device : Device D) (live : LiveState B) (old new : Journal D) : Type 0 where
   pub same : generation new ≡ generation old
@@ -55,12 +56,13 @@ AddsWith device live old (Err the.NoMemory) new = new ≡ old
 AddsWith device live old (Err the.DeviceFailed) new = HasFailed new
 AddsWith device live old (Err _) new = ⊥
 
--- What the last request changed is added to a journal as one record more: it then holds what outlives the request, if
--- it held the state before it.
+-- What the last request changed is added to a journal as one record more, in the current file: it then holds what
+-- outlives the request, if it held the state before it.
 pub record Adds {D B : Type 0} (device : Device D) (live : LiveState B) (old : Journal D)
     (result : Result (Unit {0}) HostRefusal)
     (new : Journal D) : Type 0 where
   pub outcome : AddsWith device live old result new
+  pub untouched : LeavesOther old new
   pub holds : OnOk result ((before : HostState) → IsBefore live before → HoldsState device before old
       → HoldsState device live.durable new)
   pub moments : (before : HostState) → IsBefore live before → HoldsState device before old
@@ -83,10 +85,11 @@ InstallsWith old (Err the.NoMemory) new = (generation old ≡ last_generation �
 InstallsWith old (Err the.DeviceFailed) new = (generation old ≡ last_generation → ⊥) × HasFailed new
 InstallsWith old (Err _) new = ⊥
 
--- A state that a journal holds is written into it as a new generation.
+-- A state that a journal holds is written into it as a new generation, in the file that is not current.
 pub record Installs {D : Type 0} (device : Device D) (state : HostState) (old : Journal D)
     (result : Result (Unit {0}) HostRefusal) (new : Journal D) : Type 0 where
   pub outcome : InstallsWith old result new
+  pub untouched : LeavesCurrent old new
   pub holds : OnOk result (HoldsState device state old → HoldsState device state new)
   pub moments : HoldsState device state old → BeginsAnew device state state old new
   pub failures : CountsFailures (FailsBy result) (device.failures (first_disk old))
