@@ -2,6 +2,7 @@
 use Rattle.std.specs.Prelude.{◌≡◌, ℕ, Some, None, Result, Ok, Err, OnOk}
 use Rattle.ash_disk.specs.Device.{Device}
 use Rattle.ash_journal.specs.JournalFailures.{CountsFailures}
+use Rattle.ash_journal.specs.Journal.{LeavesOther}
 use Rattle.ash_requests.specs.Requests.{Request}
 use Rattle.ash_states.specs.HostStates.{HostState}
 use Rattle.ash_engine.specs.LiveStates.{LiveState}
@@ -50,6 +51,7 @@ abbrev pub CommitsWith : {D B : Type 0} → Device D → ℕ → LiveState B →
     → Type 0
 CommitsWith device seq live old (Ok done) new =
     IsRunning live.durable new × (new.live ≡ old.live) × HasOneMore device live old.journal new.journal
+    × LeavesOther old.journal new.journal
 CommitsWith device seq live old (Err refusal) new =
     (new.live ≡ None) × (new.seq ≡ seq) × WasLost old.journal (refused_by refusal) new.journal
 
