@@ -10,7 +10,7 @@ use Rattle.ash_meaning.specs.Activity.{FreeBox}
 use Rattle.ash_requests.specs.Requests.{Request, Reply}
 use Rattle.ash_sources.specs.SourceFaults.{SourceFault}
 use Rattle.ash_states.specs.HostStates.{service_kinds}
-use Rattle.ash_engine.specs.LiveStates.{LiveState, AreOf, hosts_in, plain_box, plain_entry}
+use Rattle.ash_engine.specs.LiveStates.{LiveState, AreOf, hosts_in, plain_box}
 use Rattle.ash_engine.specs.LiveSteps.{reached_by, box_at, IsStill, TakesStep}
 use Rattle.ash_durable.specs.Lives.{MayAnswer}
 

@@ -2,7 +2,7 @@
 -- changes it, and no step is refused for a device.
 use Rattle.std.proofs.Common.{◌≡◌, inl, inr, ℕ, Bool, true, false, nat_lt, not, List, length, [], Option, Some, None}
 use Rattle.std.proofs.Common.{is_some}
-use Rattle.std.proofs.Common.{option_map, position, slice_get, Result, Ok, Err, refl, sym, ◌∙◌, ap, subst}
+use Rattle.std.proofs.Common.{option_map, position, slice_get, Result, Ok, Err, refl, sym, ap, subst}
 use Rattle.std.specs.Option.{option_and_then}
 use Rattle.std.specs.Str.{bytes_eq}
 use Rattle.ash_host.specs.declared.host_object.HostObject.{Ghosts}
@@ -26,7 +26,7 @@ use Rattle.ash_requests.specs.Steps.{after_discard}
 use Rattle.ash_requests.specs.Steps as steps
 use Rattle.ash_requests.specs.TaskResults.{TaskChangesState}
 use Rattle.ash_sources.specs.SourceFaults.{SourceFault}
-use Rattle.ash_states.specs.HostStates.{HostState, embedding_for}
+use Rattle.ash_states.specs.HostStates.{embedding_for}
 use Rattle.ash_states.specs.StateSteps.{task_of}
 use Rattle.ash_engine.specs.LiveStates.{LiveState}
 use Rattle.ash_engine.specs.LiveSteps.{IsNoAnswer, LiveSteps}

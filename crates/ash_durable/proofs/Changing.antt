@@ -1,5 +1,5 @@
 -- Which requests change the state, and which take no ticks.
-use Rattle.std.proofs.Common.{◌≡◌, inl, inr, ℕ, nat_lt, List, Option, Some, None, Ok, Err, refl, ◌∙◌, ap, subst}
+use Rattle.std.proofs.Common.{◌≡◌, inl, inr, ℕ, nat_lt, List, Option, Some, None, Ok, Err, refl, ◌∙◌, subst}
 use Rattle.std.specs.Option.{option_and_then}
 use Rattle.ash_disk.specs.Device.{Device}
 use Rattle.ash_host.specs.declared.host_object.HostObject.{Ghosts}
@@ -11,7 +11,7 @@ use Rattle.ash_requests.specs.Tasks.{Initialize, Invoke, Remove, Read, Show, Cou
 use Rattle.ash_requests.specs.Tasks.{word_named}
 use Rattle.ash_requests.specs.Tasks.{described, max_seq}
 use Rattle.ash_requests.specs.Tasks as tasks
-use Rattle.ash_requests.specs.Steps.{Step, unless_refused}
+use Rattle.ash_requests.specs.Steps.{unless_refused}
 use Rattle.ash_requests.specs.TaskResults.{TaskChangesState}
 use Rattle.ash_sources.specs.SourceFaults.{SourceFault}
 use Rattle.ash_states.specs.HostStates.{HostState, embedding_for}

@@ -5,6 +5,7 @@ use Rattle.ash_journal.specs.declared.journal.Journal.{Journal}
 use Rattle.ash_journal.specs.Current.{IsContents, HoldsOneOf}
 use Rattle.ash_journal.specs.JournalFailures.{CountsFailures}
 use Rattle.ash_journal.specs.Journal.{first_disk, second_disk, generation, record_bytes, HasFailed, IsReady, Holds}
+use Rattle.ash_journal.specs.Journal.{LeavesCurrent, LeavesOther}
 use Rattle.ash_journal.specs.SettledSince.{HoldsSince, Extends}
 use Rattle.ash_states.specs.HostStates.{HostState, IsAdmitted}
 use Rattle.ash_requests.specs.declared.refusal.Refusal.TheVariants as the
@@ -44,10 +45,12 @@ module _ {D : Type 0} (device : Device D) (state : HostState) (old new : Journal
       (second_disk new)
       (HoldsOneOf (IsContents (image, [])) (IsContents (was, bodies))))
       → ((was : List ℕ) (bodies : List (List ℕ)) → Holds device old was bodies → Holds device new image [])
-      → IsReady new → generation new ≡ generation old + 1 → record_bytes new ≡ 0 → Disks device old new ⊥
+      → IsReady new → generation new ≡ generation old + 1 → record_bytes new ≡ 0 → LeavesCurrent old new
+      → Disks device old new ⊥
       → Installs device state old (Ok tt) new
-  installs image depicts run installed ready higher emptied disks = record {
+  installs image depicts run installed ready higher emptied untouched disks = record {
     outcome = (ready, higher, emptied);
+    untouched = untouched;
     holds = λ holds. record {
       contents = (image, []);
       holds = installed holds.contents.0 holds.contents.1 holds.holds;
@@ -65,10 +68,11 @@ module _ {D : Type 0} (device : Device D) (state : HostState) (old new : Journal
       → HoldsSince device (device.clock (first_disk old)) (device.clock (second_disk old)) (first_disk new)
       (second_disk new)
       (HoldsOneOf (IsContents (image, [])) (IsContents (was, bodies)))) → (generation old ≡ last_generation → ⊥)
-      → HasFailed new
+      → HasFailed new → LeavesCurrent old new
       → Disks device old new (Unit {0}) → Installs device state old (Err the.DeviceFailed) new
-  installs_not image depicts run more failed disks = record {
+  installs_not image depicts run more failed untouched disks = record {
     outcome = (more, failed);
+    untouched = untouched;
     holds = tt;
     moments = installed_moments image depicts run;
     failures = disks.failures;
@@ -106,10 +110,14 @@ module _ {D B : Type 0} (device : Device D) (live : LiveState B) (admitted : IsA
       (IsContents (image, bodies ++ body ∷ [])))
       → ((image : List ℕ) (bodies : List (List ℕ)) → Holds device old image bodies
       → Holds device new image (bodies ++ body ∷ [])) → IsReady new → generation new ≡ generation old
-      → record_bytes new ≡ record_bytes old + record_header_size + length body → Disks device old new ⊥
-      → Adds device live old (Ok tt) new
-  adds body is_body extends acknowledged ready number longer disks = record {
-    outcome = (ready, record { same = number; body = body; is_body = is_body; longer = longer });
+      → record_bytes new ≡ record_bytes old + record_header_size + length body → LeavesOther old new
+      → Disks device old new ⊥ → Adds device live old (Ok tt) new
+  adds body is_body extends acknowledged ready number longer untouched disks = record {
+    outcome = (
+      ready,
+      record { same = number; body = body; is_body = is_body; added = acknowledged; longer = longer },
+    );
+    untouched = untouched;
     holds = λ before is holds. record {
       contents = (holds.contents.0, holds.contents.1 ++ body ∷ []);
       holds = acknowledged holds.contents.0 holds.contents.1 holds.holds;
@@ -126,10 +134,11 @@ module _ {D B : Type 0} (device : Device D) (live : LiveState B) (admitted : IsA
   pub adds_not : (body : List ℕ) → IsBodyOfChanges live body
       → ((image : List ℕ) (bodies : List (List ℕ)) → Holds device old image bodies
       → Extends device (first_disk old) (second_disk old) (first_disk new) (second_disk new)
-      (IsContents (image, bodies ++ body ∷ []))) → HasFailed new → Disks device old new (Unit {0})
-      → Adds device live old (Err the.DeviceFailed) new
-  adds_not body is_body extends failed disks = record {
+      (IsContents (image, bodies ++ body ∷ []))) → HasFailed new → LeavesOther old new
+      → Disks device old new (Unit {0}) → Adds device live old (Err the.DeviceFailed) new
+  adds_not body is_body extends failed untouched disks = record {
     outcome = failed;
+    untouched = untouched;
     holds = tt;
     moments = added_moments body is_body extends;
     failures = disks.failures;

@@ -235,7 +235,7 @@ module _ {D B : Type 0} (device : Device D) (G : Ghosts B) (budget : ℕ) (reque
         stepped = stepped;
         live_is = outcome.1;
         running = outcome.0;
-        added = λ _. outcome.2;
+        added = λ _. (outcome.2, outcome.3);
         untouched = λ not. absurd (not answers);
         settles = settles_stored (Ok tt) new committed;
       })

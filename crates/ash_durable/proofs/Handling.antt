@@ -1,10 +1,10 @@
 -- What one request of a host does, by what its parts did.
-use Rattle.std.proofs.Common.{◌≡◌, inl, inr, ℕ, List, Option, Some, None, IsSome, unwrap_or, Result, Ok, Err, OnOk}
+use Rattle.std.proofs.Common.{◌≡◌, inl, inr, ℕ, List, Option, Some, None, IsSome, Result, Ok, Err, OnOk}
 use Rattle.std.proofs.Common.{refl, sym, ◌∙◌, ap, subst}
 use Rattle.ash_disk.specs.Device.{Device}
 use Rattle.ash_journal.specs.declared.journal.Journal.{Journal}
 use Rattle.ash_host.specs.declared.host_object.HostObject.{Ghosts}
-use Rattle.ash_requests.specs.Requests.{Request, Seq, Snapshot, Refusal, Reply, Number, Done, Refused}
+use Rattle.ash_requests.specs.Requests.{Request, Seq, Snapshot, Refusal, Number, Done, Refused}
 use Rattle.ash_requests.specs.Requests.{DeviceFailed, NoMemory, GenerationSpent}
 use Rattle.ash_requests.specs.declared.reply.Reply as code_reply
 use Rattle.ash_requests.specs.declared.step_error.StepError.{StepError}
@@ -25,9 +25,9 @@ use Rattle.ash_durable.specs.Hosting.{InstallRefused, IsAnswer, IsInstalled, Hos
 use Rattle.ash_durable.specs.HostReplies.{refused_by, done_of}
 use Rattle.ash_durable.specs.HostRequests.{TriesInstall, MakesRoom, Commits}
 use Rattle.ash_durable.proofs.Changing.{change_may_add}
-use Rattle.ash_durable.proofs.Composing.{live_runs, stopped_runs, HadRoom, room_as_it_is, room_installed}
-use Rattle.ash_durable.proofs.HandledRequests.{seen_host, host_in, host_stopped, HasRegistered, seen_in, running_seen}
-use Rattle.ash_durable.proofs.HandledRequests.{counts_replied, handles_stopped, reply_unless, sound_same, sound_stopped}
+use Rattle.ash_durable.proofs.Composing.{stopped_runs, HadRoom, room_as_it_is, room_installed}
+use Rattle.ash_durable.proofs.HandledRequests.{seen_host, host_in, host_stopped, HasRegistered, seen_in}
+use Rattle.ash_durable.proofs.HandledRequests.{counts_replied, reply_unless, sound_same, sound_stopped}
 use Rattle.ash_durable.proofs.HandledRequests.{handles_as_it_is, handles_untouched, handles_answer, handles_lost_state}
 use Rattle.ash_durable.proofs.QuietSteps.{seq_step, snapshot_step}
 use Rattle.ash_durable.proofs.Requesting.{some_live, wants_or_not}

@@ -1,6 +1,6 @@
 -- What holds after each event in the life of a store, where it held before.
 use Rattle.std.proofs.Common.{◌≡◌, ◌⊎◌, inl, inr, ℕ, List, [], ◌∷◌, Some, None, Result, Ok, Err, refl}
-use Rattle.std.proofs.Common.{sym, ◌∙◌, ap, subst, arith}
+use Rattle.std.proofs.Common.{sym, ◌∙◌, ap, subst}
 use Rattle.ash_disk.specs.Device.{Device}
 use Rattle.ash_journal.specs.Current.{SettleOn}
 use Rattle.ash_journal.specs.Layout.{IsClosed, IsOpen}
@@ -14,7 +14,7 @@ use Rattle.ash_registry.specs.AcceptedRegistrations.{Registration}
 use Rattle.ash_states.specs.HostStates.{HostState}
 use Rattle.ash_engine.specs.LiveStates.{LiveState, begin}
 use Rattle.ash_engine.specs.LiveSteps.{Reached, reached_by}
-use Rattle.ash_durable.specs.HandedBoxes.{first_state, first_reached, AreSaved}
+use Rattle.ash_durable.specs.HandedBoxes.{first_state, first_reached}
 use Rattle.ash_durable.specs.Hosting.{Hosted, first, second, IsRunning, IsSaved, IsHonest, IsAnswer, Handles, TookStep}
 use Rattle.ash_durable.specs.Hosting.{IsSound, RunsSound}
 use Rattle.ash_durable.specs.OpenedStore.{AddNothing, WasOpened, WasNotFound, Opens, first_found, second_found}
@@ -22,7 +22,7 @@ use Rattle.ash_durable.specs.OpenedStore.{NotFound, LeftThere}
 use Rattle.ash_durable.specs.StoredStates.{AreHonest, SettleNow, IsOne, IsEither, HaveState}
 use Rattle.ash_durable.specs.Store.{WereOnlyRead, IsClosedOrHasState, WasCreated, Creates}
 use Rattle.ash_durable.specs.Lives.{StoreEvent, Acknowledged, InDoubt, Found, LeadsTo, LeadTo}
-use Rattle.ash_durable.specs.Lives.{Crashed, AreFresh, IsOneOpen, first_of, second_of, StoreLocation, UnderHost}
+use Rattle.ash_durable.specs.Lives.{Crashed, AreFresh, first_of, second_of, StoreLocation, UnderHost}
 use Rattle.ash_durable.specs.Lives.{OnDisks, first_at, second_at, IsWholeHistory, Outlives}
 use Rattle.ash_durable.specs.declared.fault.OpenRefused.{OpenRefused}
 use Rattle.ash_durable.proofs.Settling.{settle_on_more, settle_now, settle_still}

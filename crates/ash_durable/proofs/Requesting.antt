@@ -4,7 +4,7 @@ use Rattle.std.proofs.Common.{List, sym, ◌∙◌, ap, arith}
 use Rattle.std.proofs.lemmas.Bool.{cases_lt}
 use Rattle.ash_disk.specs.Device.{Device}
 use Rattle.ash_journal.specs.declared.journal.Journal.{Journal}
-use Rattle.ash_journal.specs.Journal.{record_bytes, IsReady}
+use Rattle.ash_journal.specs.Journal.{record_bytes, IsReady, LeavesOther}
 use Rattle.ash_host.specs.declared.host_object.HostObject.{Ghosts}
 use Rattle.ash_requests.specs.Requests.{Request, Load, Call, Discard, Get, Object, Seq, Snapshot}
 use Rattle.ash_requests.specs.declared.refusal.Refusal.TheVariants as the
@@ -42,6 +42,7 @@ module _ {D B : Type 0} (device : Device D) (live : LiveState B) (old new : Jour
     live_same = refl;
     higher = installs.outcome.1;
     emptied = installs.outcome.2;
+    untouched = installs.untouched;
     saved = λ was honest other runs.
         let honest_then : IsHonest device (host_in live old) =
         honest_before device (host_in live old) (host_in live new)
@@ -104,7 +105,7 @@ module _ {D B : Type 0} (device : Device D) (live : LiveState B) (old new : Jour
         InstallRefused (host_in live old) (refused_by the.DeviceFailed)
         (host_stopped B live.durable.registered live.durable.state.seq new)
         × Settles device s s (host_in live old) (host_stopped B live.durable.registered live.durable.state.seq new)) (
-          (installs.outcome.0, record { stopped = refl; seq_same = refl }),
+          (installs.outcome.0, record { stopped = refl; seq_same = refl }, installs.untouched),
           λ honest was. installs.moments (was honest live.durable (running_seen live old)),
         ) other runs_too;
     disks = record {
@@ -130,8 +131,8 @@ module _ {D B : Type 0} (device : Device D) (live : LiveState B) (old new : Jour
       → Commits device seq (host_in live old) (Ok tt) (host_in live new)
   commit_ok seq adds = record {
     outcome = λ other is.
-        at_live live (λ (l : LiveState B). CommitsWith seq l (host_in live old) (Ok tt) (host_in live new))
-        (running_seen live new, refl, adds.outcome.1) other is;
+        at_live live (λ (l : LiveState B). CommitsWith device seq l (host_in live old) (Ok tt) (host_in live new))
+        (running_seen live new, refl, adds.outcome.1, adds.untouched) other is;
     holds = λ before other is.
         at_live live (λ (l : LiveState B). IsBefore l before → HoldsState device before old
         → HoldsState device l.durable new) (adds.holds before) other is;
@@ -144,11 +145,11 @@ module _ {D B : Type 0} (device : Device D) (live : LiveState B) (old new : Jour
     };
   }
 
-lost_for : {D B : Type 0} (live : LiveState B) (refusal : HostRefusal) (old new : Journal D)
-    → AddsWith live old (Err refusal) new → WasLost old (refused_by refusal) new
-lost_for live the.NoMemory old new outcome = outcome
-lost_for live the.DeviceFailed old new outcome = tt
-lost_for live _ old new outcome = absurd outcome
+lost_for : {D B : Type 0} (device : Device D) (live : LiveState B) (refusal : HostRefusal) (old new : Journal D)
+    → AddsWith device live old (Err refusal) new → LeavesOther old new → WasLost old (refused_by refusal) new
+lost_for device live the.NoMemory old new outcome untouched = outcome
+lost_for device live the.DeviceFailed old new outcome untouched = untouched
+lost_for device live _ old new outcome untouched = absurd outcome
 
 -- it is not, or it is in doubt
 pub commit_err : {D B : Type 0} (device : Device D) (live : LiveState B) (old new : Journal D) (seq : ℕ)
@@ -156,9 +157,9 @@ pub commit_err : {D B : Type 0} (device : Device D) (live : LiveState B) (old ne
     → Commits device seq (host_in live old) (Err refusal) (host_stopped B live.durable.registered seq new)
 commit_err {D} {B} device live old new seq refusal adds = record {
   outcome = λ other is.
-      at_live live (λ (l : LiveState B). CommitsWith seq l (host_in live old) (Err refusal)
+      at_live live (λ (l : LiveState B). CommitsWith device seq l (host_in live old) (Err refusal)
       (host_stopped B live.durable.registered seq new))
-      (refl, refl, lost_for live refusal old new adds.outcome) other is;
+      (refl, refl, lost_for device live refusal old new adds.outcome adds.untouched) other is;
   holds = tt;
   moments = λ before other is. commits_moments device live old new (Err refusal) adds before other is;
   disks = record {

@@ -2,6 +2,7 @@
 use Rattle.std.specs.Prelude.{◌≡◌, ℕ, Some, None, Result, Ok, Err, OnOk}
 use Rattle.ash_disk.specs.Device.{Device}
 use Rattle.ash_journal.specs.JournalFailures.{CountsFailures}
+use Rattle.ash_journal.specs.Journal.{LeavesOther}
 use Rattle.ash_requests.specs.Requests.{Request}
 use Rattle.ash_states.specs.HostStates.{HostState}
 use Rattle.ash_engine.specs.LiveStates.{LiveState}
@@ -45,11 +46,13 @@ pub record MakesRoom {D B : Type 0} (device : Device D) (request : Request) (old
   pub disks : PreservesDisks device old result new
 
 -- what came of one record more that was to hold what a request changed
-abbrev pub CommitsWith : {D B : Type 0} → ℕ → LiveState B → Hosted D B → Result (Unit {0}) HostRefusal → Hosted D B
+abbrev pub CommitsWith : {D B : Type 0} → Device D → ℕ → LiveState B → Hosted D B → Result (Unit {0}) HostRefusal
+    → Hosted D B
     → Type 0
-CommitsWith seq live old (Ok done) new =
-    IsRunning live.durable new × (new.live ≡ old.live) × HasOneMore live old.journal new.journal
-CommitsWith seq live old (Err refusal) new =
+CommitsWith device seq live old (Ok done) new =
+    IsRunning live.durable new × (new.live ≡ old.live) × HasOneMore device live old.journal new.journal
+    × LeavesOther old.journal new.journal
+CommitsWith device seq live old (Err refusal) new =
     (new.live ≡ None) × (new.seq ≡ seq) × WasLost old.journal (refused_by refusal) new.journal
 
 -- The state of a host, which a request has changed, was to be stored before the answer is returned, beside the one
@@ -57,7 +60,7 @@ CommitsWith seq live old (Err refusal) new =
 pub record Commits {D B : Type 0} (device : Device D) (seq : ℕ) (old : Hosted D B)
     (result : Result (Unit {0}) HostRefusal)
     (new : Hosted D B) : Type 0 where
-  pub outcome : (live : LiveState B) → old.live ≡ Some live → CommitsWith seq live old result new
+  pub outcome : (live : LiveState B) → old.live ≡ Some live → CommitsWith device seq live old result new
   pub holds : OnOk result ((before : HostState) (live : LiveState B) → old.live ≡ Some live → IsBefore live before
       → HoldsState device before old.journal → HoldsState device live.durable new.journal)
   pub moments : (before : HostState) (live : LiveState B) → old.live ≡ Some live → IsBefore live before

@@ -5,6 +5,7 @@ use Rattle.ash_disk.specs.Device.{Device}
 use Rattle.ash_journal.specs.declared.journal.Journal.{Journal}
 use Rattle.ash_journal.specs.JournalFailures.{CountsFailures}
 use Rattle.ash_journal.specs.Journal.{first_disk, second_disk, generation, record_bytes, IsReady}
+use Rattle.ash_journal.specs.Journal.{LeavesCurrent, LeavesOther}
 use Rattle.ash_host.specs.declared.host_object.HostObject.{Ghosts}
 use Rattle.ash_registry.specs.AcceptedRegistrations.{Registration}
 use Rattle.ash_requests.specs.Requests.{Request, Load, Call, Discard, Get, Object, Seq, Snapshot, Refusal, Reply}
@@ -107,12 +108,14 @@ abbrev pub WantsInstall : {D B : Type 0} → Request → Hosted D B → Type 0
 WantsInstall Snapshot host = Unit {0}
 WantsInstall request host = MayAdd request × IsFull host
 
--- The state of a host became a new generation without records, and nothing else of the host has changed.
+-- The state of a host became a new generation without records, in the file that was not current, and nothing else of
+-- the host has changed.
 pub record WasInstalled {D B : Type 0} (device : Device D) (state : HostState) (old new : Hosted D B) : Type 0 where
   pub running : IsRunning state new
   pub live_same : new.live ≡ old.live
   pub higher : generation new.journal ≡ generation old.journal + 1
   pub emptied : record_bytes new.journal ≡ 0
+  pub untouched : LeavesCurrent old.journal new.journal
   pub saved : IsSaved device old → IsSaved device new
 
 -- the host that handles a request: where one is wanted, a new generation is installed first
@@ -127,12 +130,12 @@ pub record HasStopped {D B : Type 0} (old new : Hosted D B) : Type 0 where
   pub seq_same : new.seq ≡ old.seq
 
 -- Why no new generation was installed, by the reply: the number of the generation is the last, or memory was refused,
--- and nothing changed; or a device failed.
+-- and nothing changed; or a device failed, and the current file is as it was.
 abbrev pub InstallRefused : {D B : Type 0} → Hosted D B → Reply SourceFault → Hosted D B → Type 0
 InstallRefused old (Refused GenerationSpent) new = (generation old.journal ≡ last_generation) × (new ≡ old)
 InstallRefused old (Refused NoMemory) new = (generation old.journal ≡ last_generation → ⊥) × (new ≡ old)
 InstallRefused old (Refused DeviceFailed) new = (generation old.journal ≡ last_generation → ⊥)
-    × HasStopped old new
+    × HasStopped old new × LeavesCurrent old.journal new.journal
 InstallRefused old _ new = ⊥
 
 -- ---- what came of a request
@@ -147,14 +150,15 @@ abbrev pub IsDeviceFailed : Reply SourceFault → Type 0
 IsDeviceFailed (Refused DeviceFailed) = Unit {0}
 IsDeviceFailed _ = ⊥
 
--- why an answer was not kept: a device failed, or memory was refused before anything was written
+-- why an answer was not kept: a device failed, and the file that is not current is as it was; or memory was refused
+-- before anything was written
 abbrev pub WasLost : {D : Type 0} → Journal D → Reply SourceFault → Journal D → Type 0
-WasLost old (Refused DeviceFailed) new = Unit {0}
+WasLost old (Refused DeviceFailed) new = LeavesOther old new
 WasLost old (Refused NoMemory) new = new ≡ old
 WasLost old _ new = ⊥
 
--- The step of a request was taken from a live state, and an answer is in one record more. What is not an answer touches
--- no disk.
+-- The step of a request was taken from a live state, and an answer is in one record more of the current file. What is
+-- not an answer touches no disk.
 pub record TookStep {D B : Type 0} (device : Device D) (G : Ghosts B) (budget : ℕ) (request : Request)
     (live : LiveState B) (old : Hosted D B) (reply : Reply SourceFault) (new : Hosted D B) : Type 0 where
   pub between : Hosted D B
@@ -163,7 +167,8 @@ pub record TookStep {D B : Type 0} (device : Device D) (G : Ghosts B) (budget : 
   pub stepped : TakesStep G budget request live reply after
   pub live_is : new.live ≡ Some after
   pub running : IsRunning after.durable new
-  pub added : IsAnswer reply → HasOneMore after between.journal new.journal
+  pub added : IsAnswer reply → HasOneMore device after between.journal new.journal
+      × LeavesOther between.journal new.journal
   pub untouched : (IsAnswer reply → ⊥) → new ≡ between
   pub settles : Settles device live.durable after.durable old new
 

@@ -1,9 +1,10 @@
 -- Keeping a state in a journal: as one record more, or as a new generation.
-use Rattle.std.specs.Prelude.{◌≡◌, ℕ, ◌+◌, ◌-◌, ◌^◌, List, length, Result, Ok, Err, OnOk}
+use Rattle.std.specs.Prelude.{◌≡◌, ℕ, ◌+◌, ◌-◌, ◌^◌, List, [], ◌∷◌, ◌++◌, length, Result, Ok, Err, OnOk}
 use Rattle.ash_disk.specs.Device.{Device}
 use Rattle.ash_journal.specs.declared.journal.Journal.{Journal}
 use Rattle.ash_journal.specs.JournalFailures.{CountsFailures}
-use Rattle.ash_journal.specs.Journal.{first_disk, second_disk, generation, record_bytes, HasFailed, IsReady}
+use Rattle.ash_journal.specs.Journal.{first_disk, second_disk, generation, record_bytes, HasFailed, IsReady, Holds}
+use Rattle.ash_journal.specs.Journal.{LeavesCurrent, LeavesOther}
 use Rattle.ash_sources.specs.declared.fault.SourceFault.{SourceFault as CodeFault}
 use Rattle.ash_requests.specs.declared.refusal.Refusal.{Refusal}
 use Rattle.ash_requests.specs.declared.refusal.Refusal.TheVariants as the
@@ -35,28 +36,33 @@ pub record IsBefore {B : Type 0} (live : LiveState B) (before : HostState) : Typ
   pub happened : List Event
   pub names : Names live.changes happened before.state (live.durable).state
 
--- one record more, whose body is the delta of the changes that a live state names, in the same generation
-pub record HasOneMore {D B : Type 0} (live : LiveState B) (old new : Journal D) : Type 0 where
+-- In the same generation, a journal holds the records that it held and one more, whose body is the delta of the changes
+-- that a live state names.
+pub record HasOneMore {D B : Type 0} (device : Device D) (live : LiveState B) (old new : Journal D) : Type 0 where
   pub same : generation new ≡ generation old
   pub body : List ℕ
   pub is_body : IsBodyOfChanges live body
+  pub added : (image : List ℕ) (bodies : List (List ℕ)) → Holds device old image bodies
+      → Holds device new image (bodies ++ body ∷ [])
   pub longer : record_bytes new ≡ record_bytes old + record_header_size + length body
 
 -- What becomes of a journal that what a request changed was to be added to as one record: that it has it, and one
 -- record more; that memory was refused and nothing changed; or that a device failed, and the journal is to be opened
 -- again.
-abbrev pub AddsWith : {D B : Type 0} → LiveState B → Journal D → Result (Unit {0}) HostRefusal → Journal D → Type 0
-AddsWith live old (Ok done) new = IsReady new × HasOneMore live old new
-AddsWith live old (Err the.NoMemory) new = new ≡ old
-AddsWith live old (Err the.DeviceFailed) new = HasFailed new
-AddsWith live old (Err _) new = ⊥
+abbrev pub AddsWith : {D B : Type 0} → Device D → LiveState B → Journal D → Result (Unit {0}) HostRefusal → Journal D
+    → Type 0
+AddsWith device live old (Ok done) new = IsReady new × HasOneMore device live old new
+AddsWith device live old (Err the.NoMemory) new = new ≡ old
+AddsWith device live old (Err the.DeviceFailed) new = HasFailed new
+AddsWith device live old (Err _) new = ⊥
 
--- What the last request changed is added to a journal as one record more: it then holds what outlives the request, if
--- it held the state before it.
+-- What the last request changed is added to a journal as one record more, in the current file: it then holds what
+-- outlives the request, if it held the state before it.
 pub record Adds {D B : Type 0} (device : Device D) (live : LiveState B) (old : Journal D)
     (result : Result (Unit {0}) HostRefusal)
     (new : Journal D) : Type 0 where
-  pub outcome : AddsWith live old result new
+  pub outcome : AddsWith device live old result new
+  pub untouched : LeavesOther old new
   pub holds : OnOk result ((before : HostState) → IsBefore live before → HoldsState device before old
       → HoldsState device live.durable new)
   pub moments : (before : HostState) → IsBefore live before → HoldsState device before old
@@ -79,10 +85,11 @@ InstallsWith old (Err the.NoMemory) new = (generation old ≡ last_generation �
 InstallsWith old (Err the.DeviceFailed) new = (generation old ≡ last_generation → ⊥) × HasFailed new
 InstallsWith old (Err _) new = ⊥
 
--- A state that a journal holds is written into it as a new generation.
+-- A state that a journal holds is written into it as a new generation, in the file that is not current.
 pub record Installs {D : Type 0} (device : Device D) (state : HostState) (old : Journal D)
     (result : Result (Unit {0}) HostRefusal) (new : Journal D) : Type 0 where
   pub outcome : InstallsWith old result new
+  pub untouched : LeavesCurrent old new
   pub holds : OnOk result (HoldsState device state old → HoldsState device state new)
   pub moments : HoldsState device state old → BeginsAnew device state state old new
   pub failures : CountsFailures (FailsBy result) (device.failures (first_disk old))

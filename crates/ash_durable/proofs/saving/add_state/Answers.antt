@@ -15,6 +15,7 @@ returns-in-Ok g c = record {
       let said = c.in-Ok.ensures in
       adds g.D.Disk live (c.facts.ensures.reached live is).admitted c.args.journal.now c.append.new.self body is_body
       said.extends said.acknowledged (said.ready (λ is. cc)) said.number said.longer
+      said.untouched
       (record {
         failures = counts_as _ _ _ _ _ _ (λ is. cc) (λ no. absurd no) said.cause;
         honesty_first = said.honesty_first;
@@ -32,7 +33,7 @@ returns g c = record {
       let said = c.in-Err-DeviceFailed.ensures in
       let is_failed = ap (λ (e : AppendError). Err e) c.in-Err-DeviceFailed.field-0-is in
       adds_not g.D.Disk live (c.facts.ensures.reached live is).admitted c.args.journal.now c.append.new.self body
-      is_body said.extends (said.failed is_failed)
+      is_body said.extends (said.failed is_failed) said.untouched
       (record {
         failures = counts_as _ _ _ _ _ _ (λ is. tt) (λ is. is_failed) said.cause;
         honesty_first = said.honesty_first;

@@ -15,7 +15,7 @@ returns-in-Ok g c = record {
       (sym c.deref.ensures.value) (c.in_ok-image.ensures.image live is) in
       let said = c.in-Ok.ensures in
       installs g.D.Disk state c.args.journal.now c.install.new.self image depicts said.run said.installed
-      (said.ready (λ is. cc)) said.higher said.emptied
+      (said.ready (λ is. cc)) said.higher said.emptied said.untouched
       (record {
         failures = counts_as _ _ _ _ _ _ (λ is. cc) (λ no. absurd no) said.cause;
         honesty_first = said.honesty_first;
@@ -34,7 +34,7 @@ returns g c = record {
       let failed_by = c.in-Err-DeviceFailed.field-0-is in
       let is_failed = ap (λ (e : InstallError). Err e) failed_by in
       installs_not g.D.Disk state c.args.journal.now c.install.new.self image depicts said.run
-      (λ last. let spent = said.spent.1 last in cc) (said.failed is_failed)
+      (λ last. let spent = said.spent.1 last in cc) (said.failed is_failed) said.untouched
       (record {
         failures = counts_as _ _ _ _ _ _ (λ is. tt) (λ is. is_failed) said.cause;
         honesty_first = said.honesty_first;

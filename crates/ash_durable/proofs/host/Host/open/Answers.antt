@@ -1,4 +1,3 @@
-use Rattle.std.proofs.Common.{refl, Some}
 use Rattle.ash_registry.specs.RegistryViews.{registered}
 use Rattle.ash_durable.proofs.Opened.{opened_found}
 use Rattle.ash_durable.proofs.host.Host.open.Goals as goal
