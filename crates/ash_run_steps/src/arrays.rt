@@ -83,7 +83,7 @@ fn words_from<B>(table: &Objects<B>, number: u64, place: usize) -> &[Word]
 }
 
 /// The numbers from a place on.
-fn numbers_from(numbers: &[u64], place: usize) -> &[u64]
+pub(crate) fn numbers_from(numbers: &[u64], place: usize) -> &[u64]
     ensures numbers { result.now ≡ drop place numbers.now }
 {
     match numbers.get(place..) {
@@ -93,7 +93,8 @@ fn numbers_from(numbers: &[u64], place: usize) -> &[u64]
 }
 
 /// Holds these objects once more for each time that they are among them.
-fn hold_numbers<B: HostObject>(table: &mut Objects<B>, numbers: &[u64])
+#[inline(always)]
+pub(crate) fn hold_numbers<B: HostObject>(table: &mut Objects<B>, numbers: &[u64])
     requires alive { All (Lives table.old.objects) numbers.now }
     requires few { (number : ℕ) → holds_of number table.old + length numbers.now < 2 ^ 127 }
     ensures held { HoldsMore numbers.now table.old table.new }

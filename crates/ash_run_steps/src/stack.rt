@@ -4,12 +4,13 @@ ghost use Rattle.std.specs.Prelude.{ℕ, List, OnOk, OnErr, IfOk, slice_set, sli
 ghost use Rattle.ash_host.specs.Objects.{handles};
 ghost use Rattle.ash_host.specs.declared.word.Word.TheVariants as words;
 ghost use Rattle.ash_run_steps.specs.FrameChanges.{beginning, beginning_over};
-ghost use Rattle.ash_run_steps.specs.PlainStrips.{strip_in, Keeps};
+ghost use Rattle.ash_run_steps.specs.PlainStrips.{scope_in, KeepsScope};
 ghost use Rattle.ash_run_steps.specs.Stacks.{StackFrame, with_slots, locals_of, roots_of_frames};
 
 use crate::counting::handle;
 use crate::plain::{PlainRun, PlainRunner, Spot};
-use ash_host::{NoMemory, Word};
+use ash_host::{HostObject, NoMemory, Word};
+use ash_objects::Objects;
 use std::alloc::Global;
 use std::marker::Model;
 
@@ -458,24 +459,28 @@ impl Stack {
 
     /// Does plain steps on the slots of the frame that runs.
     #[inline(always)]
-    pub(crate) fn run_plain<R: PlainRunner>(
+    pub(crate) fn run_plain<B: HostObject, R: PlainRunner<B>>(
         &mut self,
         runner: &R,
         globals: &mut [Word],
+        table: &mut Objects<B>,
+        ends: bool,
         at: usize,
         ticks: u64,
         most: u64,
     ) -> PlainRun
-        ensures ran { R.runs runner.now (strip_in at ticks globals.old self.old) result.done
-            (strip_in result.spot.at result.spot.ticks globals.new self.new) }
-        ensures keeps { Keeps (strip_in at ticks globals.old self.old)
-            (strip_in result.spot.at result.spot.ticks globals.new self.new) }
+        requires ends { IsTrue ends → self.old.frame.held ≡ [] }
+        ensures ran { R.runs runner.now ends (scope_in at ticks globals.old table.old self.old) result.done
+            (scope_in result.spot.at result.spot.ticks globals.new table.new self.new) }
+        ensures keeps { KeepsScope (scope_in at ticks globals.old table.old self.old)
+            (scope_in result.spot.at result.spot.ticks globals.new table.new self.new) }
         ensures within { self.old.frame.count ≤ length self.old.frame.slots }
         ensures frames { self.new ≡ record self.old {
           frame = record self.old.frame {
             slots = self.new.frame.slots;
             count = self.new.frame.count;
             line = self.new.frame.line;
+            held = self.new.frame.held;
           };
         } }
         ensures bounded { result.done ≤ most }
@@ -488,7 +493,17 @@ impl Stack {
             ticks,
         };
         let slots = &mut self.slots[self.frame.base..];
-        let run = runner.run(slots, globals, spot, most);
+        let run = runner.run(
+            slots,
+            globals,
+            table,
+            &mut self.held,
+            &self.frame.this,
+            self.frame.mark,
+            ends,
+            spot,
+            most,
+        );
         self.frame.count = run.spot.count;
         self.frame.line = run.spot.line;
         run
