@@ -16,7 +16,8 @@
 //! on slots), `calculating`, `members` (globals and fields), `elements`, `arrays`, `hosts` (host objects and services),
 //! `stepping` (statements), `jumping`, `calling`, `returning`, `classes` (of objects), `casting` (casts, and calls by an
 //! interface), `constructing`, `running` (each instruction), `at_once` (those of most loops and calls, where the loop
-//! is), `plain` (instructions without objects, in a loop of their own), `looping`, `outcome`, `ending`, `context`.
+//! is), `plain` and `lending` (instructions that change no handle
+//! that is counted, in a loop of their own), `looping`, `outcome`, `ending`, `context`.
 #![tactic(auto)]
 
 mod arrays;
@@ -31,6 +32,7 @@ mod elements;
 mod ending;
 mod hosts;
 mod jumping;
+mod lending;
 mod looping;
 mod members;
 mod operands;
