@@ -1,11 +1,10 @@
-use Rattle.std.proofs.Common.{◌≡◌, ◌≤◌, ◌<◌, ◌∙◌, ◌+◌, List, refl, sym, ap, length, take, drop, reverse, arith, ℕ, ◌++◌}
-use Rattle.std.proofs.lemmas.List.{length-reverse, length-drop, with_items_is}
+use Rattle.std.proofs.Common.{◌≡◌, ◌∙◌, List, refl, ap, length, drop, reverse, arith}
+use Rattle.std.proofs.lemmas.List.{with_items_is}
 use Rattle.ash_host.specs.declared.word.Word.{Word}
-use Rattle.ash_run_steps.specs.PlainStrips.{scope_in, with_scope}
+use Rattle.ash_run_steps.specs.PlainStrips.{scope_in}
 use Rattle.ash_run_steps.specs.RunStates.{state_with}
 use Rattle.ash_run_steps.specs.Stacks.{Frames}
-use Rattle.ash_run_steps.proofs.ArraySteps.{all_reversed, more_reversed, pushed}
-use Rattle.ash_run_steps.proofs.HoldSteps.{at_table}
+use Rattle.ash_run_steps.proofs.ArraySteps.{more_reversed, pushed}
 use Rattle.ash_run_steps.proofs.Roots.{few_holds}
 use Rattle.ash_run_steps.proofs.Scopes.{holds_same, lent_counted, frames_of_scope}
 use Rattle.ash_run_steps.proofs.state.RunState.run_plain.Goals as goal
