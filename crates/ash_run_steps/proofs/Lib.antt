@@ -28,5 +28,6 @@ pub mod PartSteps
 pub mod PlainStrips
 pub mod RankTests
 pub mod Roots
+pub mod Scopes
 pub mod Stacking
 pub mod Swept
