@@ -78,6 +78,26 @@ impl<B> Objects<B> {
         self.store.slot(number)
     }
 
+    /// The slot of an object, if it lives. It is found sooner if it was found or made a short time ago. It takes no
+    /// memory.
+    #[inline(always)]
+    pub fn find(&mut self, number: u64) -> Option<usize>
+        ensures slot { result ≡ slot_of number self.old }
+        ensures same { self.new ≡ self.old }
+    {
+        self.slot(number)
+    }
+
+    /// The word at a place of the object in a slot, if it has such a place. It takes no memory.
+    #[inline(always)]
+    pub fn word_at(&self, slot: usize, place: usize) -> Option<Word>
+        requires lives { IsInUse slot self.now }
+        ensures word { (number : ℕ) → slot_of number self.now ≡ Some slot
+            → result ≡ field_of number place self.now }
+    {
+        self.store.item(slot).body.words().get(place).copied()
+    }
+
     /// The number of the object in a slot. It takes no memory.
     pub fn number(&self, slot: usize) -> u64
         requires lives { IsInUse slot self.now }
