@@ -85,7 +85,17 @@ impl<B> Objects<B> {
         ensures slot { result ≡ slot_of number self.old }
         ensures same { self.new ≡ self.old }
     {
-        self.slot(number)
+        self.store.find(number)
+    }
+
+    /// The word at a place of the object in a slot, if it has such a place. It takes no memory.
+    #[inline(always)]
+    pub fn word_at(&self, slot: usize, place: usize) -> Option<Word>
+        requires lives { IsInUse slot self.now }
+        ensures word { (number : ℕ) → slot_of number self.now ≡ Some slot
+            → result ≡ field_of number place self.now }
+    {
+        self.store.item(slot).body.words().get(place).copied()
     }
 
     /// The number of the object in a slot. It takes no memory.
@@ -134,7 +144,7 @@ impl<B> Objects<B> {
         requires few { holds_of number self.old < 2 ^ 127 }
         ensures held { self.new ≡ with_object number held self.old }
     {
-        let Some(slot) = self.slot(number) else {
+        let Some(slot) = self.find(number) else {
             unreachable!()
         };
         self.hold_at(slot);
@@ -157,7 +167,7 @@ impl<B> Objects<B> {
         requires held { 0 < holds_of number self.old }
         ensures unheld { self.new ≡ with_object number unheld self.old }
     {
-        let Some(slot) = self.slot(number) else {
+        let Some(slot) = self.find(number) else {
             unreachable!()
         };
         self.unhold_at(slot);
@@ -202,7 +212,7 @@ impl<B> Objects<B> {
         requires alive { IsAlive word self.old }
         ensures written { self.new ≡ with_object number (with_field place word) self.old }
     {
-        let Some(slot) = self.slot(number) else {
+        let Some(slot) = self.find(number) else {
             unreachable!()
         };
         self.set_field_at(slot, place, word);

@@ -6,8 +6,8 @@
 //! - `kinds`: what each kind of host objects answers to rows of calls, what it saves, and what it comes back from.
 //! - `table`, `reporter` and `steps`: a table whose boxes report that they are given up, and its calls as data, with
 //!   memory that is ample or refused once.
-//! - `sequences`, `marks`, `arrays` and `limits`: sequences of calls with the events that they leave, what is named as
-//!   changed, arrays, and a table at its limits, with memory that is ample.
+//! - `sequences`, `marks`, `arrays`, `limits` and `guesses`: sequences of calls with the events that they leave, what is
+//!   named as changed, arrays, a table at its limits, and numbers with the same last bits, with memory that is ample.
 //! - `states`, `restoring`, `reading`, `pools` and `refused_states`: tables from what a state holds, what is read of one,
 //!   the boxes that they take, and those that are given up where a state is refused.
 //! - `refusals`: memory that is refused once.
@@ -20,6 +20,8 @@ mod arrays;
 mod checks;
 #[cfg(test)]
 mod conversions;
+#[cfg(test)]
+mod guesses;
 #[cfg(test)]
 mod kinds;
 #[cfg(test)]

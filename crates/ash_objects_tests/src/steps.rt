@@ -54,6 +54,8 @@ pub enum TableStep {
     HasNothing(u64, usize),
     /// An object is in this slot.
     IsIn(u64, usize),
+    /// An object is found in this slot, and remembered there.
+    Finds(u64, usize),
     /// No object has this number.
     IsGone(u64),
 }
@@ -223,6 +225,7 @@ fn take(
         TableStep::Insert(number, word, wanted) => inserts(objects, number, word, wanted),
         TableStep::Remove(number, wanted) => Ok(removes(objects, number, wanted)),
         TableStep::Hold(number) => Ok(hold(objects, number)),
+        TableStep::Finds(number, slot) => Ok(objects.find(number) == Some(slot)),
         TableStep::Sweep => sweeps(objects, events),
         TableStep::SweepBut(number) => sweep_but(objects, number, events),
         TableStep::Touched(living, gone) => touches(objects, living, gone),

@@ -43,7 +43,7 @@ pub fn add_ref<B>(store: &mut Store<B>, word: Word)
         ≡ change_handle incremented (handle word) store.old.objects }
 {
     if let Word::Object(number) = word {
-        let Some(slot) = store.slot(number) else {
+        let Some(slot) = store.find(number) else {
             unreachable!()
         };
         increment_count(store, slot);
@@ -58,7 +58,7 @@ pub fn remove_ref<B>(store: &mut Store<B>, word: Word)
     ensures room { store.new.room ≡ store.old.room }
 {
     if let Word::Object(number) = word {
-        let Some(slot) = store.slot(number) else {
+        let Some(slot) = store.find(number) else {
             unreachable!()
         };
         decrement_count(store, slot);

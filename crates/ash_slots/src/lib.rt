@@ -3,8 +3,8 @@
 //! ascending number, each in a slot of its own, that each call changes of that list exactly what its contract names,
 //! and that each object which lost its last count, or is new, is on the list of slots that the next sweep looks at.
 //!
-//! In reading order: `words` and `body` (what an object is), `entry` (what a store has of it), `store` (objects in
-//! slots), `counting` (the count of an object), `fields` and `elements` (its words), `calling` (its box).
+//! In reading order: `words` and `body` (what an object is), `entry` (what a store has of it), `guesses` (where to
+//! look first), `store` (objects in slots), `counting` (the count of an object), `fields` and `elements` (its words), `calling` (its box).
 #![tactic(auto)]
 
 mod body;
@@ -13,6 +13,7 @@ mod counting;
 mod elements;
 mod entry;
 mod fields;
+mod guesses;
 mod store;
 mod words;
 

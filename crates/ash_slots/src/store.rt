@@ -10,6 +10,7 @@ ghost use Rattle.ash_slots.specs.Store.{IsIn, IsOccupied, AreStored, IsIdle};
 ghost use Rattle.ash_slots.specs.Store.{NoneWaits, change_in, with_waiting};
 
 use crate::entry::{Entry, Occupant};
+use crate::guesses::Guesses;
 use slab::Slab;
 use std::alloc::{AllocFailed, Global};
 use std::collections::BTreeMap;
@@ -22,6 +23,8 @@ pub struct Store<B> {
     entries: Slab<Entry<B>>,
     /// The slot of each number.
     index: BTreeMap<u64, usize>,
+    /// The slots that numbers are looked for in before the index is asked.
+    guesses: Guesses,
     /// The slots that the next sweep looks at. Each entry has room in it.
     idle: Vec<usize>,
 }
@@ -53,16 +56,68 @@ impl<B> Store<B> {
         Store {
             entries: Slab::new(alloc),
             index: BTreeMap::new(alloc),
+            guesses: Guesses::new(alloc),
             idle: Vec::new(alloc),
         }
     }
 
     /// The slot of the object of a number.
+    #[inline(always)]
     pub fn slot(&self, number: u64) -> Option<usize>
         ensures slot { result
             ≡ option_map (λ object. object.slot) (object_at number self.now.objects) }
     {
+        let guess = self.guesses.guess(number);
+        if self.is_in(number, guess) {
+            return Some(guess);
+        }
+        self.slot_by_index(number)
+    }
+
+    /// The slot of the object of a number, which is remembered. It takes no memory.
+    #[inline(always)]
+    pub fn find(&mut self, number: u64) -> Option<usize>
+        ensures slot { result
+            ≡ option_map (λ object. object.slot) (object_at number self.old.objects) }
+        ensures same { self.new ≡ self.old }
+    {
+        let guess = self.guesses.guess(number);
+        if self.is_in(number, guess) {
+            return Some(guess);
+        }
+        self.find_by_index(number)
+    }
+
+    /// Whether the object of a number is in a slot.
+    #[inline(always)]
+    fn is_in(&self, number: u64, slot: usize) -> bool
+        ensures is_in { IsTrue result ↔ IsIn number slot self.now.objects }
+    {
+        match self.entries.get(slot) {
+            Some(entry) => entry.number == number,
+            None => false,
+        }
+    }
+
+    /// The slot of the object of a number, with no guess.
+    #[inline(never)]
+    fn slot_by_index(&self, number: u64) -> Option<usize>
+        ensures slot { result
+            ≡ option_map (λ object. object.slot) (object_at number self.now.objects) }
+    {
         self.index.get(&number).copied()
+    }
+
+    /// The slot of the object of a number, with no guess. It is remembered.
+    #[inline(never)]
+    fn find_by_index(&mut self, number: u64) -> Option<usize>
+        ensures slot { result
+            ≡ option_map (λ object. object.slot) (object_at number self.old.objects) }
+        ensures same { self.new ≡ self.old }
+    {
+        let slot = self.slot_by_index(number)?;
+        self.guesses.remember(number, slot);
+        Some(slot)
     }
 
     /// The object in a slot.
@@ -202,6 +257,9 @@ impl<B> Store<B> {
         ensures unchanged { OnErr result (self.new.objects ≡ self.old.objects) }
         ensures given_back { IfErr result (λ failed. failed.value ≡ item) }
     {
+        if self.guesses.reserve_all().is_err() {
+            return Err(AllocFailed { value: item });
+        }
         if self.entries.reserve(1).is_err() {
             return Err(AllocFailed { value: item });
         }
@@ -219,6 +277,7 @@ impl<B> Store<B> {
             item,
         });
         self.idle.push_reserved(slot);
+        self.guesses.remember(number, slot);
         Ok(slot)
     }
 

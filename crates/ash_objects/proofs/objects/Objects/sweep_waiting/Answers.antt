@@ -1,4 +1,4 @@
-use Rattle.std.proofs.Common.{◌≡◌, ◌++◌, ◌+◌, ◌≤◌, ℕ, Bool, List, length, map, sym, ap, ◌∙◌, arith}
+use Rattle.std.proofs.Common.{◌≡◌, ◌++◌, ◌+◌, ◌≤◌, ℕ, Bool, List, length, map, ap, ◌∙◌, arith}
 use Rattle.ash_host.specs.declared.event.Event.{Event}
 use Rattle.ash_slots.specs.declared.entry.Entry.{Entry}
 use Rattle.ash_objects.specs.Counting.{living_in}

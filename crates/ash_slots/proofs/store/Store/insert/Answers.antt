@@ -7,17 +7,17 @@ use Rattle.ash_slots.proofs.Placing.{slots_of}
 use Rattle.ash_slots.proofs.Moving.{SameBut, stored_regrown, placed_regrown, inserted_stored, inserted_in}
 use Rattle.ash_slots.proofs.store.Store.insert.Goals as goal
 
-pub invariant_of-self : goal.invariant_of-self
-invariant_of-self g c =
+pub invariant_of-self-then-is_err-2 : goal.invariant_of-self-then-is_err-2
+invariant_of-self-then-is_err-2 g c =
     stored_regrown c.self.inside.entries c.reserve.new.self c.reserve.new.self.capacity c.self.inside.index.entries
     c.self.inside.idle.items _ _ c.reserve.ensures.rest_kept (omega arith) c.self.invariant
 
-pub invariant_of-self-then-is_err-2 : goal.invariant_of-self-then-is_err-2
-invariant_of-self-then-is_err-2 g c =
-    rw c.reserve-2.ensures.items (stored_regrown c.self.inside.entries c.reserve.new.self c.reserve.new.self.capacity c.self.inside.index.entries c.self.inside.idle.items _ _ c.reserve.ensures.rest_kept c.reserve-2.ensures.capacity c.self.invariant)
-
 pub invariant_of-self-then-is_err-3 : goal.invariant_of-self-then-is_err-3
 invariant_of-self-then-is_err-3 g c =
+    rw c.reserve-2.ensures.items (stored_regrown c.self.inside.entries c.reserve.new.self c.reserve.new.self.capacity c.self.inside.index.entries c.self.inside.idle.items _ _ c.reserve.ensures.rest_kept c.reserve-2.ensures.capacity c.self.invariant)
+
+pub invariant_of-self-then-is_err-4 : goal.invariant_of-self-then-is_err-4
+invariant_of-self-then-is_err-4 g c =
     let same : c.insert.new.self.entries ≡ c.self.inside.index.entries = search rules in
     rw (c.reserve-2.ensures.items, same) (stored_regrown c.self.inside.entries c.reserve.new.self c.reserve.new.self.capacity c.self.inside.index.entries c.self.inside.idle.items _ _ c.reserve.ensures.rest_kept c.reserve-2.ensures.capacity c.self.invariant)
 

@@ -3,7 +3,7 @@ use Rattle.std.specs.Option.{option_map}
 use Rattle.ash_host.specs.Objects.{object_at}
 use Rattle.ash_slots.specs.Store.{Store}
 use Rattle.ash_slots.proofs.Placing.{slots_of, found_by_number}
-use Rattle.ash_slots.proofs.store.Store.slot.Goals as goal
+use Rattle.ash_slots.proofs.store.Store.slot_by_index.Goals as goal
 
 pub returns : goal.returns
 returns g c = record {
