@@ -112,6 +112,31 @@ fn write_first(slots: &mut [Word], words: &[Word])
     slots[..words.len()].copy_from_slice(words);
 }
 
+// Puts a frame behind the callers, for which there may be no room.
+#[inline(never)]
+fn grow_by_caller(callers: &mut Vec<Frame>, frame: &Frame) -> Result<(), NoMemory>
+    ensures pushed { OnOk result (callers.new.items ≡ callers.old.items ++ frame.now ∷ []) }
+    ensures unchanged { OnErr result (callers.new.items ≡ callers.old.items) }
+{
+    callers.push(*frame)?;
+    Ok(())
+}
+
+// Puts a frame behind the callers. A run has room for them from its start: what may grow is apart, since it copies the
+// frame more than once.
+#[inline(always)]
+fn push_caller(callers: &mut Vec<Frame>, frame: &Frame) -> Result<(), NoMemory>
+    ensures pushed { OnOk result (callers.new.items ≡ callers.old.items ++ frame.now ∷ []) }
+    ensures unchanged { OnErr result (callers.new.items ≡ callers.old.items) }
+{
+    if callers.len() < callers.capacity() {
+        callers.push_reserved(*frame);
+        Ok(())
+    } else {
+        grow_by_caller(callers, frame)
+    }
+}
+
 impl Stack {
     /// A stack without slots. It takes no memory.
     pub fn new(alloc: Global) -> Stack {
@@ -423,7 +448,7 @@ impl Stack {
         }) }
         ensures unchanged { OnErr result (self.new ≡ self.old) }
     {
-        self.callers.push(self.frame)?;
+        push_caller(&mut self.callers, &self.frame)?;
         self.frame = Frame {
             function,
             line,
