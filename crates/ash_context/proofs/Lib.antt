@@ -17,4 +17,5 @@ pub mod PlainWords
 pub mod Puts
 pub mod Regrouping
 pub mod Returns
+pub mod ScopeSteps
 pub mod Walked
