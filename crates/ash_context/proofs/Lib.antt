@@ -18,4 +18,5 @@ pub mod Puts
 pub mod Regrouping
 pub mod Returns
 pub mod ScopeSteps
+pub mod ScopeStores
 pub mod Walked
