@@ -5,6 +5,11 @@ local Account = {}
 Account.__index = Account
 function Account:add(more) self.gold = self.gold + more; return self.gold end
 function method(n) local a = setmetatable({ gold = 0 }, Account); local s = 0; for i = 0, n - 1 do s = s + a:add(i & 3) end return s end
+function many(n)
+  local all = {}; for i = 1, 4000 do all[i] = setmetatable({ gold = 0 }, Account) end
+  local a = all[2000]; local s = 0; for i = 0, n - 1 do s = s + a:add(i & 3) end
+  return s
+end
 function global(n) total = 0; for i = 0, n - 1 do total = total + (i & 7) end return total end
 function sieve(n)
   local composite = {}; for i = 0, n - 1 do composite[i] = false end
