@@ -320,7 +320,7 @@ module _ {D B : Type 0} (device : Device D) (G : Ghosts B) (stays : (disk : D) â
       crashed_between device G start events place a b (outlives events place life) crash
   outlives _ _ (lives.Opened events pool services a b host life was) =
       opened device G start events pool services a b host (outlives events (OnDisks a b) life) was
-  outlives _ _ (lives.Refused events others pool services a b r life was) =
+  outlives _ _ (lives.RefusedOpening events others pool services a b r life was) =
       refused events others pool services a b r (outlives events (OnDisks a b) life) was
   outlives _ _ (lives.CrashedOpening events others pool services a b result a' b' life opens crash) =
       crashed_opening device G start events others pool services a b result a' b'

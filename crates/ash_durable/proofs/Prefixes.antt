@@ -61,7 +61,7 @@ module _ {D B : Type 0} (device : Device D) (G : Ghosts B) (start : Reached) whe
   prefix _ _ (lives.Closed events host life) = left events (UnderHost host) (prefix events (UnderHost host) life)
   prefix _ _ (lives.CrashedBetween events place a b life crash) = left events place (prefix events place life)
   prefix _ _ (lives.Opened events pool services a b host life was) = inr tt
-  prefix _ _ (lives.Refused events others pool services a b r life was) = prefix events (OnDisks a b) life
+  prefix _ _ (lives.RefusedOpening events others pool services a b r life was) = prefix events (OnDisks a b) life
   prefix _ _ (lives.CrashedOpening events others pool services a b result a' b' life opens crash) =
       prefix events (OnDisks a b) life
   prefix _ _ (lives.CrashedMoving events others pool services a b result a' b' life opens crash) =

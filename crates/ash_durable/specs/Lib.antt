@@ -5,6 +5,8 @@ pub mod StoreFaults
 pub mod Hosting
 pub mod HostReplies
 pub mod HostRequests
+pub mod Batches
+pub mod BatchViews
 pub mod RequestRuns
 pub mod Store
 pub mod OpenedStore

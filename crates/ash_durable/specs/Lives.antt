@@ -14,14 +14,17 @@ use Rattle.ash_host.specs.Objects.{object_at}
 use Rattle.ash_host.specs.Records.{HostRecord}
 use Rattle.ash_meaning.specs.Activity.{FreeBox}
 use Rattle.ash_meaning.specs.Ends.{End}
-use Rattle.ash_requests.specs.Requests.{Request, Reply, Answered}
+use Rattle.ash_requests.specs.Requests.{Request, Reply, Answered, Refused, Refusal}
 use Rattle.ash_registry.specs.AcceptedRegistrations.{Registration}
 use Rattle.ash_sources.specs.SourceFaults.{SourceFault}
 use Rattle.ash_states.specs.HostStates.{HostState, service_kinds}
 use Rattle.ash_engine.specs.LiveStates.{LiveState, hosts_in}
-use Rattle.ash_engine.specs.LiveSteps.{Reached, reached_by, StepsFor, IsValidOf}
+use Rattle.ash_engine.specs.LiveSteps.{Reached, reached_by, StepsFor, TakesStep, IsValidOf}
 use Rattle.ash_durable.specs.HandedBoxes.{first_reached, AreSaved, CanOpen}
 use Rattle.ash_durable.specs.Hosting.{Hosted, first, second, IsRunning, IsSaved, IsAnswer, Handles, TookStep, RunsSound}
+use Rattle.ash_durable.specs.Batches.{BatchRequest, Asked, BadRequest, BatchReply, Replied, BatchResult, BatchSteps}
+use Rattle.ash_durable.specs.Batches.{NoneLeft, Bad, Step, TookBatch, HandlesBatch, HostCall, SingleCall, BatchCall}
+use Rattle.ash_durable.specs.Batches.{HostResult, SingleResult, BatchGiven}
 use Rattle.ash_durable.specs.OpenedStore.{AreOfState, WasOpened, WasRefused, Opens, first_found, second_found}
 use Rattle.ash_durable.specs.RequestRuns.{LosesAnswer}
 use Rattle.ash_durable.specs.StoredStates.{AreHonest, SettleNow, IsOne, IsEither}
@@ -31,12 +34,13 @@ use Rattle.ash_durable.specs.declared.fault.OpenRefused.{OpenRefused}
 -- ---- events
 
 -- What is known of a store by those who use it: a request was answered, by how its run ended, how many requests had
--- been answered, what happened to host objects, and what these answered; a request is in doubt, handled or not; a host
--- was opened, in this state and with these free boxes.
+-- been answered, what happened to host objects, and what these answered; a request is in doubt, handled or not; a batch
+-- is in doubt, all of it handled or nothing; a host was opened, in this state and with these free boxes.
 pub data StoreEvent : Type 0 where
   Acknowledged : (budget : ℕ) → (request : Request) → (end : End) → (seq : ℕ) → (happened : List HostEvent)
       → (answers : List HostRecord) → StoreEvent
   InDoubt : (budget : ℕ) → (request : Request) → StoreEvent
+  InDoubtBatch : (budget : ℕ) → (requests : List BatchRequest) → StoreEvent
   Found : (reached : Reached) → StoreEvent
 
 -- There are boxes that may give these answers in one request. That of an object that lives before it or after it is of
@@ -52,15 +56,32 @@ pub record MayAnswer {B : Type 0} (G : Ghosts B) (before after : Reached) (answe
       → answerers (targets.Service place) ≡ Some box → G.kind_of box ≡ kind
   pub valid : AllByRecursion (λ (r : HostRecord). IsValidOf G (answerers r.target) r) answers
 
+-- A request takes what was reached to the next by its step, for answers that host objects may give.
+pub record MaySteps {B : Type 0} (G : Ghosts B) (budget : ℕ) (request : Request) (before after : Reached) : Type 0 where
+  pub reply : Reply SourceFault
+  pub answers : List HostRecord
+  pub may : MayAnswer G before after answers
+  pub stepped : StepsFor answers budget request before reply after
+
+-- The requests of a batch take what was reached to the next by their steps, one after the other.
+abbrev pub MayStepThrough : {B : Type 0} → Ghosts B → ℕ → List BatchRequest → Reached → Reached → Type 0
+MayStepThrough G budget [] before after = after ≡ before
+MayStepThrough G budget (BadRequest number ∷ requests) before after = MayStepThrough G budget requests before after
+MayStepThrough G budget (Asked request ∷ requests) before after =
+    (next : Reached) × MaySteps G budget request before next × MayStepThrough G budget requests next after
+
 -- An event takes what was reached to the next. A request that was answered has taken its step, with that answer, for
--- answers that host objects may give; one that is in doubt has taken it, or nothing has changed; where a host was
--- opened the state is the one that it had, and the free boxes are those that it was handed.
+-- answers that host objects may give; one that is in doubt has taken it, or nothing has changed; a batch in doubt has
+-- taken all of its steps, or nothing has changed; if a host was opened the state is the one that it had, and the free
+-- boxes are those that it was handed.
 abbrev pub LeadsTo : {B : Type 0} → Ghosts B → StoreEvent → Reached → Reached → Type 0
 LeadsTo G (Acknowledged budget request end seq happened answers) before after =
     MayAnswer G before after answers × StepsFor answers budget request before (Answered end seq happened) after
 LeadsTo G (InDoubt budget request) before after = (after ≡ before)
     ⊎ ((reply : Reply SourceFault) × (answers : List HostRecord) × MayAnswer G before after answers
     × StepsFor answers budget request before reply after)
+LeadsTo G (InDoubtBatch budget requests) before after =
+    (after ≡ before) ⊎ MayStepThrough G budget requests before after
 LeadsTo G (Found reached) before after = (before.durable ≡ reached.durable) × (after ≡ reached)
 
 -- events, the newest first, lead from what was reached to what is
@@ -84,19 +105,40 @@ pub record LeadBy {B : Type 0} (G : Ghosts B) (later : List StoreEvent) (event :
 -- the newest event is not in doubt, or there is none
 abbrev pub IsCertain : List StoreEvent → Type 0
 IsCertain (InDoubt budget request ∷ earlier) = ⊥
+IsCertain (InDoubtBatch budget requests ∷ earlier) = ⊥
 IsCertain _ = Unit {0}
 
 -- since the store was made or last opened, each event is a request that was answered
 abbrev pub AreAcknowledged : List StoreEvent → Type 0
 AreAcknowledged (Acknowledged budget request end seq happened answers ∷ earlier) = AreAcknowledged earlier
 AreAcknowledged (InDoubt budget request ∷ earlier) = ⊥
+AreAcknowledged (InDoubtBatch budget requests ∷ earlier) = ⊥
 AreAcknowledged _ = Unit {0}
 
 -- Since then the events are a prefix of the requests that were handled: each is one that was answered, but for the
--- newest, which may be in doubt.
+-- newest, which may be a request or a batch in doubt.
 abbrev pub IsOfPrefix : List StoreEvent → Type 0
 IsOfPrefix (InDoubt budget request ∷ earlier) = AreAcknowledged earlier
+IsOfPrefix (InDoubtBatch budget requests ∷ earlier) = AreAcknowledged earlier
 IsOfPrefix events = AreAcknowledged events
+
+-- ---- batches
+
+-- the event of a request that took its step, before those of later requests, if it was answered
+abbrev pub event_of : {B : Type 0} {G : Ghosts B} {budget : ℕ} {request : Request} {live next : LiveState B}
+    → (reply : Reply SourceFault) → TakesStep G budget request live reply next → List StoreEvent
+event_of {B} {G} {budget} {request} (Answered end seq happened) stepped =
+    Acknowledged budget request end seq happened stepped.answers ∷ []
+event_of _ stepped = []
+
+-- the events of a batch that was carried out, the newest first: each of its requests that was answered
+unfoldable pub acknowledged_in : {B : Type 0} {G : Ghosts B} {budget : ℕ} {requests : List BatchRequest}
+    {live : LiveState B} {replies : List BatchReply} {after : LiveState B}
+    → BatchSteps G budget requests live replies after → List StoreEvent
+acknowledged_in (NoneLeft live) = []
+acknowledged_in (Bad number requests live replies after more) = acknowledged_in more
+acknowledged_in (Step request requests live reply next replies after stepped more) =
+    acknowledged_in more ++ event_of reply stepped
 
 -- ---- crashes
 
@@ -207,6 +249,28 @@ pub data Life {D B : Type 0} (device : Device D) (G : Ghosts B) (start : Reached
       → Handles device G budget request old reply new → (old.live ≡ None → ⊥)
       → Crashed device (device.clock (first old)) (device.clock (second old)) (first new) (second new) a b
       → Life device G start (InDoubt budget request ∷ events) (OnDisks a b)
+  -- a batch is carried out
+  RepliedBatch : (events : List StoreEvent) (budget : ℕ) (requests : List BatchRequest) (old : Hosted D B)
+      (live : LiveState B) (replies : List BatchReply) (new : Hosted D B) → Life device G start events (UnderHost old)
+      → old.live ≡ Some live → HandlesBatch device G budget requests old (Ok replies) new
+      → (took : TookBatch device G budget requests live old replies new)
+      → Life device G start (acknowledged_in took.steps ++ events) (UnderHost new)
+  -- a batch is refused, and the host runs on, or has to be reopened as before
+  UnansweredBatch : (events : List StoreEvent) (budget : ℕ) (requests : List BatchRequest) (old : Hosted D B)
+      (refusal : Refusal SourceFault) (new : Hosted D B) → Life device G start events (UnderHost old)
+      → HandlesBatch device G budget requests old (Err refusal) new → (new.live ≡ None → old.live ≡ None)
+      → Life device G start events (UnderHost new)
+  -- a batch is refused, and the host has to be reopened from now on
+  FailedBatch : (events : List StoreEvent) (budget : ℕ) (requests : List BatchRequest) (old : Hosted D B)
+      (refusal : Refusal SourceFault) (new : Hosted D B) → Life device G start events (UnderHost old)
+      → HandlesBatch device G budget requests old (Err refusal) new → (old.live ≡ None → ⊥) → new.live ≡ None
+      → Life device G start (InDoubtBatch budget requests ∷ events) (UnderHost new)
+  -- a crash while a host that runs carries out a batch, at any moment from its beginning to its replies
+  CrashedBatching : (events : List StoreEvent) (budget : ℕ) (requests : List BatchRequest) (old : Hosted D B)
+      (result : BatchResult) (new : Hosted D B) (a b : D) → Life device G start events (UnderHost old)
+      → HandlesBatch device G budget requests old result new → (old.live ≡ None → ⊥)
+      → Crashed device (device.clock (first old)) (device.clock (second old)) (first new) (second new) a b
+      → Life device G start (InDoubtBatch budget requests ∷ events) (OnDisks a b)
   -- a host is closed
   Closed : (events : List StoreEvent) (host : Hosted D B) → Life device G start events (UnderHost host)
       → Life device G start events (OnDisks (first host) (second host))
@@ -220,7 +284,7 @@ pub data Life {D B : Type 0} (device : Device D) (G : Ghosts B) (start : Reached
       → (opened : WasOpened device G (start.durable).registered pool services a b host)
       → Life device G start (Found (reached_by opened.live) ∷ events) (UnderHost host)
   -- that is refused, whatever is registered with the host
-  Refused : (events : List StoreEvent) (others : List Registration) (pool services : List B) (a b : D)
+  RefusedOpening : (events : List StoreEvent) (others : List Registration) (pool services : List B) (a b : D)
       (refused : OpenRefused D) → Life device G start events (OnDisks a b)
       → WasRefused device G others pool services a b refused
       → Life device G start events (OnDisks refused.a refused.b)
@@ -320,20 +384,37 @@ Records budget request (Answered end seq happened) events =
     (answers : List HostRecord) × (events ≡ Acknowledged budget request end seq happened answers ∷ [])
 Records budget request reply events = (events ≡ []) ⊎ (LosesAnswer reply × (events ≡ InDoubt budget request ∷ []))
 
--- the events of requests by their replies, the newest first
-abbrev pub RecordAll : ℕ → List Request → List (Reply SourceFault) → List StoreEvent → Type 0
+-- the events of a batch that was carried out, by its replies, the newest first: each of its requests that was answered
+abbrev pub RecordsBatch : ℕ → List BatchRequest → List BatchReply → List StoreEvent → Type 0
+RecordsBatch budget [] [] events = events ≡ []
+RecordsBatch budget (Asked request ∷ requests) (Replied (Answered end seq happened) ∷ replies) events =
+    (later : List StoreEvent) × (answers : List HostRecord) × RecordsBatch budget requests replies later
+    × (events ≡ later ++ Acknowledged budget request end seq happened answers ∷ [])
+RecordsBatch budget (_ ∷ requests) (_ ∷ replies) events = RecordsBatch budget requests replies events
+RecordsBatch budget _ _ events = ⊥
+
+-- the events of one call: a batch is in doubt as a whole
+abbrev pub RecordsCall : ℕ → HostCall → HostResult → List StoreEvent → Type 0
+RecordsCall budget (SingleCall request) (SingleResult reply) events = Records budget request reply events
+RecordsCall budget (BatchCall requests) (BatchGiven (Ok replies)) events = RecordsBatch budget requests replies events
+RecordsCall budget (BatchCall requests) (BatchGiven (Err refusal)) events =
+    (events ≡ []) ⊎ (LosesAnswer (Refused refusal) × (events ≡ InDoubtBatch budget requests ∷ []))
+RecordsCall budget _ _ events = ⊥
+
+-- the events of calls by their results, the newest first
+abbrev pub RecordAll : ℕ → List HostCall → List HostResult → List StoreEvent → Type 0
 RecordAll budget [] [] events = events ≡ []
-RecordAll budget (request ∷ requests) (reply ∷ replies) events =
-    (later : List StoreEvent) × (one : List StoreEvent) × Records budget request reply one
-    × RecordAll budget requests replies later
+RecordAll budget (call ∷ calls) (result ∷ results) events =
+    (later : List StoreEvent) × (one : List StoreEvent) × RecordsCall budget call result one
+    × RecordAll budget calls results later
     × (events ≡ later ++ one)
 RecordAll budget _ _ events = ⊥
 
--- Every life goes on with these requests: its new events are theirs, so that the acknowledged ones are the answers that
+-- Every life goes on with these calls: its new events are theirs, so that the acknowledged ones are the answers that
 -- were given, in order.
-abbrev pub LivesOn : {D B : Type 0} → Device D → Ghosts B → ℕ → Hosted D B → List Request → List (Reply SourceFault)
+abbrev pub LivesOn : {D B : Type 0} → Device D → Ghosts B → ℕ → Hosted D B → List HostCall → List HostResult
     → Hosted D B → Type 0
-LivesOn device G budget old requests replies new =
+LivesOn device G budget old calls results new =
     (start : Reached) (events : List StoreEvent) → Life device G start events (UnderHost old)
     → (later : List StoreEvent) × Life device G start (later ++ events) (UnderHost new)
-    × RecordAll budget requests replies later
+    × RecordAll budget calls results later

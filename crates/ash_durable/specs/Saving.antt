@@ -13,7 +13,9 @@ use Rattle.ash_change_laws.specs.ChangedStates.{Names}
 use Rattle.ash_engine.specs.LiveStates.{LiveState}
 use Rattle.ash_engine.specs.RecordedChanges.{IsBodyOfChanges}
 use Rattle.ash_states.specs.HostStates.{HostState}
+use Rattle.ash_image.specs.declared.version.Version.TheVariants.{Two}
 use Rattle.ash_replay.specs.ReplayFaults.{record_header_size}
+use Rattle.ash_replay.specs.ReplayedStates.{IsBodyBetween}
 use Rattle.ash_durable.specs.StoredStates.{HoldsState, ExtendsHistory, BeginsAnew}
 
 -- Why the code refuses a request.
@@ -36,15 +38,42 @@ pub record IsBefore {B : Type 0} (live : LiveState B) (before : HostState) : Typ
   pub happened : List Event
   pub names : Names live.changes happened before.state (live.durable).state
 
--- In the same generation, a journal holds the records that it held and one more, whose body is the delta of the changes
--- that a live state names.
-pub record HasOneMore {D B : Type 0} (device : Device D) (live : LiveState B) (old new : Journal D) : Type 0 where
+-- In the same generation, a journal holds the records that it held and one more, whose body is such a one.
+pub record HasRecord {D : Type 0} (device : Device D) (IsBody : List ℕ → Type 0) (old new : Journal D) : Type 0 where
   pub same : generation new ≡ generation old
   pub body : List ℕ
-  pub is_body : IsBodyOfChanges live body
+  pub is_body : IsBody body
   pub added : (image : List ℕ) (bodies : List (List ℕ)) → Holds device old image bodies
       → Holds device new image (bodies ++ body ∷ [])
   pub longer : record_bytes new ≡ record_bytes old + record_header_size + length body
+
+-- one record more, whose body is the delta of the changes that a live state names
+abbrev pub HasOneMore : {D B : Type 0} → Device D → LiveState B → Journal D → Journal D → Type 0
+HasOneMore device live old new = HasRecord device (IsBodyOfChanges live) old new
+
+-- What becomes of a journal to which a record with this body was to be added: that it has it; that memory was refused
+-- and nothing changed; or that a device failed, and the journal is to be opened again.
+abbrev pub AddsRecordWith : {D : Type 0} → Device D → List ℕ → Journal D → Result (Unit {0}) HostRefusal → Journal D
+    → Type 0
+AddsRecordWith device body old (Ok done) new = IsReady new × HasRecord device (λ other. other ≡ body) old new
+AddsRecordWith device body old (Err the.NoMemory) new = new ≡ old
+AddsRecordWith device body old (Err the.DeviceFailed) new = HasFailed new
+AddsRecordWith device body old (Err _) new = ⊥
+
+-- A record with this body is added to a journal, in the current file. If the body leads from the state that the journal
+-- held to another, it then holds that one.
+pub record AddsRecord {D : Type 0} (device : Device D) (body : List ℕ) (old : Journal D)
+    (result : Result (Unit {0}) HostRefusal) (new : Journal D) : Type 0 where
+  pub outcome : AddsRecordWith device body old result new
+  pub untouched : LeavesOther old new
+  pub holds : OnOk result ((before after : HostState) → IsBodyBetween Two body before after
+      → HoldsState device before old → HoldsState device after new)
+  pub moments : (before after : HostState) → IsBodyBetween Two body before after → HoldsState device before old
+      → ExtendsHistory device before after old new
+  pub failures : CountsFailures (FailsBy result) (device.failures (first_disk old))
+      (device.failures (second_disk old)) (device.failures (first_disk new)) (device.failures (second_disk new))
+  pub honesty_first : device.honest (first_disk new) ≡ device.honest (first_disk old)
+  pub honesty_second : device.honest (second_disk new) ≡ device.honest (second_disk old)
 
 -- What becomes of a journal that what a request changed was to be added to as one record: that it has it, and one
 -- record more; that memory was refused and nothing changed; or that a device failed, and the journal is to be opened

@@ -9,6 +9,7 @@ ghost use Rattle.ash_engine.specs.LiveStates.{LiveState};
 ghost use Rattle.ash_durable.specs.Hosting.{first, second, Handles, HandlesAll, IsAnswer, IsFull};
 ghost use Rattle.ash_durable.specs.Hosting.{IsInstalled, IsRunning, RefusesFirst, RunsSound};
 ghost use Rattle.ash_durable.specs.Hosting.{WantsInstall, reply_stopped};
+ghost use Rattle.ash_durable.specs.Batches.{single_calls, single_results};
 ghost use Rattle.ash_durable.specs.Lives.{LivesOn};
 ghost use Rattle.ash_durable.specs.OpenedStore.{Opens, OpensAgain};
 ghost use Rattle.ash_durable.specs.HostReplies.{done_of, reply_of};
@@ -417,9 +418,11 @@ impl<D: Disk, B: HostObject> Host<D, B> {
         ensures run { IfOk result (λ replies. HandlesAll D.Disk B.HostObject budget self.old
             (map request_seen requests.now) (map (reply_seen fault_of) replies.items) self.new) }
         ensures defined { IfOk result (λ replies. RunsToFailure D.Disk B.HostObject budget self.old
-            (map request_seen requests.now) (map (reply_seen fault_of) replies.items) self.new) }
+            (single_calls (map request_seen requests.now))
+            (single_results (map (reply_seen fault_of) replies.items)) self.new) }
         ensures lives { IfOk result (λ replies. LivesOn D.Disk B.HostObject budget self.old
-            (map request_seen requests.now) (map (reply_seen fault_of) replies.items) self.new) }
+            (single_calls (map request_seen requests.now))
+            (single_results (map (reply_seen fault_of) replies.items)) self.new) }
         ensures err { OnErr result (self.new ≡ self.old) }
     {
         let mut replies = Vec::with_capacity(alloc, requests.len())?;

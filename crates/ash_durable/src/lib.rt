@@ -19,6 +19,7 @@
 //! steps) and `specs/Lives` (everything that can happen to a store).
 #![tactic(auto)]
 
+pub mod batch;
 pub mod fault;
 mod header;
 pub mod host;

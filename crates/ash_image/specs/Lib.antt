@@ -9,6 +9,7 @@ pub mod SnapshotViews
 pub mod Rules
 pub mod Fitting
 pub mod Delta
+pub mod Deltas
 pub mod DeltaReading
 pub mod DeltaViews
 pub mod Leading
