@@ -1,5 +1,7 @@
 pub mod Answerers
 pub mod Answering
+pub mod BatchEvents
+pub mod BatchOutcomes
 pub mod Changing
 pub mod Committing
 pub mod Composing

@@ -40,6 +40,7 @@ use Rattle.ash_replay.proofs.Adding.{state_of_alone}
 use Rattle.ash_replay.proofs.Faultless.{same_image}
 use Rattle.ash_replay.proofs.HostStatesRead.{host_state_once}
 use Rattle.ash_durable.proofs.Opened.{kept_back}
+use Rattle.ash_durable.proofs.BatchEvents.{replied_batch, refused_batch, failed_batch, crashed_batching}
 use Rattle.ash_durable.proofs.RequestOutcomes.{lead_by}
 use Rattle.ash_durable.proofs.CrashedDisks.{same_honesty, settle_crashed, settle_read}
 use Rattle.ash_durable.proofs.LifeEvents.{runs_in, rests_on, still_whole, replied, stored, failed, crashed_handling}
@@ -313,6 +314,18 @@ module _ {D B : Type 0} (device : Device D) (G : Ghosts B) (stays : (disk : D) â
   outlives _ _ (lives.CrashedHandling events budget request old reply new a b life handled ran crash) =
       crashed_handling device G start events budget request old reply new a b (outlives events (UnderHost old) life)
       handled crash
+  outlives _ _ (lives.RepliedBatch events budget requests old live replies new life is handled took) =
+      replied_batch device G start events budget requests old live replies new (outlives events (UnderHost old) life)
+      is handled took
+  outlives _ _ (lives.UnansweredBatch events budget requests old refusal new life handled only) =
+      refused_batch device G start events budget requests old refusal new (outlives events (UnderHost old) life)
+      handled only
+  outlives _ _ (lives.FailedBatch events budget requests old refusal new life handled ran none) =
+      failed_batch device G start events budget requests old refusal new (outlives events (UnderHost old) life)
+      handled ran none
+  outlives _ _ (lives.CrashedBatching events budget requests old result new a b life handled ran crash) =
+      crashed_batching device G start events budget requests old result new a b
+      (outlives events (UnderHost old) life) handled crash
   outlives _ _ (lives.Closed events host life) =
       let before = outlives events (UnderHost host) life in
       rests_on device G start events (first host) (second host) before.honest before.whole

@@ -22,8 +22,9 @@ use Rattle.ash_engine.specs.LiveStates.{LiveState, hosts_in}
 use Rattle.ash_engine.specs.LiveSteps.{Reached, reached_by, StepsFor, TakesStep, IsValidOf}
 use Rattle.ash_durable.specs.HandedBoxes.{first_reached, AreSaved, CanOpen}
 use Rattle.ash_durable.specs.Hosting.{Hosted, first, second, IsRunning, IsSaved, IsAnswer, Handles, TookStep, RunsSound}
-use Rattle.ash_durable.specs.Batches.{BatchRequest, Asked, BadRequest, BatchReply, Replied, BatchResult, BatchSteps}
-use Rattle.ash_durable.specs.Batches.{NoneLeft, Bad, Step, TookBatch, HandlesBatch, HostCall, SingleCall, BatchCall}
+use Rattle.ash_durable.specs.Batches as batches
+use Rattle.ash_durable.specs.Batches.{BatchRequest, Asked, BadRequest, BatchReply, BatchResult, BatchSteps, NoneLeft}
+use Rattle.ash_durable.specs.Batches.{Bad, Step, TookBatch, HandlesBatch, HostCall, SingleCall, BatchCall}
 use Rattle.ash_durable.specs.Batches.{HostResult, SingleResult, BatchGiven}
 use Rattle.ash_durable.specs.OpenedStore.{AreOfState, WasOpened, WasRefused, Opens, first_found, second_found}
 use Rattle.ash_durable.specs.RequestRuns.{LosesAnswer}
@@ -137,7 +138,7 @@ unfoldable pub acknowledged_in : {B : Type 0} {G : Ghosts B} {budget : ℕ} {req
     → BatchSteps G budget requests live replies after → List StoreEvent
 acknowledged_in (NoneLeft live) = []
 acknowledged_in (Bad number requests live replies after more) = acknowledged_in more
-acknowledged_in (Step request requests live reply next replies after stepped more) =
+acknowledged_in (Step request requests live reply next replies after stepped boxes more) =
     acknowledged_in more ++ event_of reply stepped
 
 -- ---- crashes
@@ -387,7 +388,7 @@ Records budget request reply events = (events ≡ []) ⊎ (LosesAnswer reply × 
 -- the events of a batch that was carried out, by its replies, the newest first: each of its requests that was answered
 abbrev pub RecordsBatch : ℕ → List BatchRequest → List BatchReply → List StoreEvent → Type 0
 RecordsBatch budget [] [] events = events ≡ []
-RecordsBatch budget (Asked request ∷ requests) (Replied (Answered end seq happened) ∷ replies) events =
+RecordsBatch budget (Asked request ∷ requests) (batches.Replied (Answered end seq happened) ∷ replies) events =
     (later : List StoreEvent) × (answers : List HostRecord) × RecordsBatch budget requests replies later
     × (events ≡ later ++ Acknowledged budget request end seq happened answers ∷ [])
 RecordsBatch budget (_ ∷ requests) (_ ∷ replies) events = RecordsBatch budget requests replies events
