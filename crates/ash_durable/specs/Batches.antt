@@ -1,5 +1,6 @@
 -- A batch of requests: its steps, what it stores, what a host replies to it and what it leaves.
-use Rattle.std.specs.Prelude.{◌≡◌, ◌⊎◌, ℕ, List, [], ◌∷◌, ◌++◌, map, Option, Some, None, Result, Ok, Err}
+use Rattle.std.specs.Prelude.{◌≡◌, ◌⊎◌, ℕ, List, [], ◌∷◌, ◌++◌, map, take, Option, Some, None, Result}
+use Rattle.std.specs.Prelude.{Ok, Err}
 use Rattle.ash_disk.specs.Device.{Device}
 use Rattle.ash_journal.specs.declared.journal.Journal.{Journal}
 use Rattle.ash_journal.specs.JournalFailures.{CountsFailures}
@@ -233,3 +234,11 @@ single_calls requests = map (λ request. SingleCall request) requests
 
 abbrev pub single_results : List (Reply SourceFault) → List HostResult
 single_results replies = map (λ reply. SingleResult reply) replies
+
+-- ---- sources
+
+-- The same request, with no more of a source than its first 65,537 bytes: a source that has more bytes is refused
+-- whatever they are.
+abbrev pub prefixed : BatchRequest → BatchRequest
+prefixed (Asked (Load module_name source)) = Asked (Load module_name (take 65537 source))
+prefixed request = request
