@@ -10,7 +10,8 @@ use Rattle.ash_lex.specs.declared.faults.LexFault.TheVariants.{SourceTooLong}
 use Rattle.ash_registry.specs.AcceptedRegistrations.{Registration}
 use Rattle.ash_typed.specs.Modules.{Module}
 use Rattle.ash_requests.specs.States.{State, find_module}
-use Rattle.ash_requests.specs.Requests.{Load, Call, Discard, Reply, BadName, ModuleTaken, TooManyModules}
+use Rattle.ash_requests.specs.Requests.{Request, Load, Call, Discard, Get, Object, Seq, Snapshot, Reply, BadName}
+use Rattle.ash_requests.specs.Requests.{ModuleTaken, TooManyModules}
 use Rattle.ash_requests.specs.Tasks.{TaskResult, numbered, require, initialize, is_module_name, max_modules}
 use Rattle.ash_requests.specs.Steps.{unless_refused}
 use Rattle.ash_requests.specs.TaskResults.{TakesMemoryToFind, TaskChangesState}
@@ -20,13 +21,13 @@ use Rattle.ash_sources.specs.TypedSource.{typed_if_checked, typed_source}
 use Rattle.ash_sources.proofs.CheckedSourceLaws.{of_no_tokens}
 use Rattle.ash_states.specs.HostStates.{HostState, embedding_for}
 use Rattle.ash_states.specs.StateSteps.{task_of}
-use Rattle.ash_engine.specs.LiveStates.{LiveState}
+use Rattle.ash_engine.specs.LiveStates.{LiveState, AreOf}
 use Rattle.ash_engine.specs.LiveSteps.{TakesStep}
 use Rattle.ash_journal.specs.Journal.{LeavesOther}
 use Rattle.ash_durable.specs.Saving.{HasRecord}
 use Rattle.ash_durable.specs.Hosting.{Hosted, HostReplies, Handles, WantsInstall, MakesRoomFor}
-use Rattle.ash_durable.specs.Batches.{BatchRequest, Asked, BadRequest, BatchReply, BatchResult, BatchSteps, NoneLeft}
-use Rattle.ash_durable.specs.Batches.{Bad, Step, after_answer, answered_in, IsBodyOfBatch, adding_request, NextChanges}
+use Rattle.ash_durable.specs.Batches.{BatchRequest, Asked, BadRequest, BatchReply, Replied, BatchResult, BatchSteps}
+use Rattle.ash_durable.specs.Batches.{NoneLeft, Bad, Step, after_answer, answered_in, IsBodyOfBatch, adding_request, NextChanges}
 use Rattle.ash_durable.specs.Batches.{HasBegunToChange, BatchOutcome, HandlesBatch, prefixed}
 
 take-all : (n : ℕ) (xs : List ℕ) → length xs ≤ n → take n xs ≡ xs
@@ -220,6 +221,18 @@ record StepsOf {B : Type 0} (G : Ghosts B) (budget : ℕ) (requests : List Batch
   steps : BatchSteps G budget requests live replies after
   same : answered_in steps ≡ answered
 
+-- a step before such steps
+step_before : {B : Type 0} (G : Ghosts B) (budget : ℕ) (request : Request) (requests : List BatchRequest)
+    (live : LiveState B) (reply : Reply SourceFault) (next : LiveState B) (replies : List BatchReply)
+    (after : LiveState B) (later : List (LiveState B)) → TakesStep G budget request live reply next → AreOf G next
+    → StepsOf G budget requests next replies after later
+    → StepsOf G budget (Asked request ∷ requests) live (Replied reply ∷ replies) after (after_answer reply next later)
+unfolding answered_in
+step_before {B} G budget request requests live reply next replies after later stepped boxes rest = record {
+  steps = Step request requests live reply next replies after stepped boxes rest.steps;
+  same = ap (λ (all : List (LiveState B)). after_answer reply next all) rest.same;
+}
+
 steps_of_prefixes : {B : Type 0} (G : Ghosts B) (budget : ℕ) (requests : List BatchRequest) (live : LiveState B)
     (replies : List BatchReply) (after : LiveState B)
     → (steps : BatchSteps G budget (map prefixed requests) live replies after)
@@ -231,19 +244,33 @@ steps_of_prefixes G budget (BadRequest _ ∷ requests) _ _ _ (Bad number _ live 
     record { steps = Bad number requests live replies after rest.steps; same = rest.same }
 steps_of_prefixes G budget (Asked (Load name source) ∷ requests) _ _ _
     (Step _ _ live reply next replies after stepped boxes more) =
-    let rest = steps_of_prefixes G budget requests next replies after more in
-    let whole = takes_of_prefix G budget name (take 65537 source) source live reply next refl stepped in
-    record {
-      steps = Step (Load name source) requests live reply next replies after whole boxes rest.steps;
-      same = ap (λ (later : List (LiveState _)). after_answer reply next later) rest.same;
-    }
-steps_of_prefixes G budget (Asked request ∷ requests) _ _ _
+    step_before G budget (Load name source) requests live reply next replies after (answered_in more)
+    (takes_of_prefix G budget name (take 65537 source) source live reply next refl stepped) boxes
+    (steps_of_prefixes G budget requests next replies after more)
+steps_of_prefixes G budget (Asked (Call name function arguments) ∷ requests) _ _ _
     (Step _ _ live reply next replies after stepped boxes more) =
-    let rest = steps_of_prefixes G budget requests next replies after more in
-    record {
-      steps = Step request requests live reply next replies after stepped boxes rest.steps;
-      same = ap (λ (later : List (LiveState _)). after_answer reply next later) rest.same;
-    }
+    step_before G budget (Call name function arguments) requests live reply next replies after (answered_in more) stepped boxes
+    (steps_of_prefixes G budget requests next replies after more)
+steps_of_prefixes G budget (Asked (Discard name) ∷ requests) _ _ _
+    (Step _ _ live reply next replies after stepped boxes more) =
+    step_before G budget (Discard name) requests live reply next replies after (answered_in more) stepped boxes
+    (steps_of_prefixes G budget requests next replies after more)
+steps_of_prefixes G budget (Asked (Get module_name name) ∷ requests) _ _ _
+    (Step _ _ live reply next replies after stepped boxes more) =
+    step_before G budget (Get module_name name) requests live reply next replies after (answered_in more) stepped boxes
+    (steps_of_prefixes G budget requests next replies after more)
+steps_of_prefixes G budget (Asked (Object number) ∷ requests) _ _ _
+    (Step _ _ live reply next replies after stepped boxes more) =
+    step_before G budget (Object number) requests live reply next replies after (answered_in more) stepped boxes
+    (steps_of_prefixes G budget requests next replies after more)
+steps_of_prefixes G budget (Asked Seq ∷ requests) _ _ _
+    (Step _ _ live reply next replies after stepped boxes more) =
+    step_before G budget Seq requests live reply next replies after (answered_in more) stepped boxes
+    (steps_of_prefixes G budget requests next replies after more)
+steps_of_prefixes G budget (Asked Snapshot ∷ requests) _ _ _
+    (Step _ _ live reply next replies after stepped boxes more) =
+    step_before G budget Snapshot requests live reply next replies after (answered_in more) stepped boxes
+    (steps_of_prefixes G budget requests next replies after more)
 
 next_of_prefixes : (requests : List BatchRequest) (state : HostState) → NextChanges (map prefixed requests) state
     → NextChanges requests state

@@ -134,11 +134,11 @@ module _ {D B : Type 0} (device : Device D) (G : Ghosts B) (budget : ℕ) where
   })
   single request live old reply next is runs (inr (inr (inr (inr none)))) =
       elim (not_installed request old reply next none.wanted none.refused) [
-        | inl no ↦ inl (record {
+        | inl spent ↦ inl (record {
             after = live;
-            is = ap (λ (host : Hosted D B). host.live) no.unchanged ∙ is;
-            runs = still_running live old next no.unchanged runs;
-            steps = inr no;
+            is = ap (λ (host : Hosted D B). host.live) spent.unchanged ∙ is;
+            runs = still_running live old next spent.unchanged runs;
+            steps = inr spent;
           })
         | inr failed ↦ inr (record {
             stops = failed.0;
@@ -190,11 +190,11 @@ module _ {D B : Type 0} (device : Device D) (G : Ghosts B) (budget : ℕ) where
   })
   batch requests live old (Err refusal) next is runs (inr (inr (inr none))) =
       elim (not_installed (adding_request requests) old (Refused refusal) next none.wanted none.refused) [
-        | inl no ↦ inl (record {
+        | inl spent ↦ inl (record {
             after = live;
-            is = ap (λ (host : Hosted D B). host.live) no.unchanged ∙ is;
-            runs = still_running live old next no.unchanged runs;
-            steps = (refl, inr no);
+            is = ap (λ (host : Hosted D B). host.live) spent.unchanged ∙ is;
+            runs = still_running live old next spent.unchanged runs;
+            steps = (refl, inr spent);
           })
         | inr failed ↦
             let one : Refusal SourceFault → BatchResult = λ r. Err r in
