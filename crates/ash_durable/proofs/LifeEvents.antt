@@ -302,6 +302,21 @@ module _ {D B : Type 0} (device : Device D) (G : Ghosts B) (start : Reached) whe
       (was.saved before.honest) was.live_is
       (subst (λ (s : HostState). IsRunning s host) (sym was.restored.durable) was.running) was.sound led
 
+  -- a store whose life begins with what was found
+  pub opened_first : (registered : List Registration) (pool services : List B) (a b : D) (host : Hosted D B)
+      → AreHonest device a b → (was : WasOpened device G registered pool services a b host)
+      → start ≡ reached_by was.live → Outlives device G start (Found (reached_by was.live) ∷ []) (UnderHost host)
+  opened_first registered pool services a b host honest was begins =
+      let lives = was.restored.durable in
+      let back = kept_back device registered a b was.state host.journal was.kept.old was.kept.version was.kept.found
+      was.kept.keeps in
+      runs_in (Found (reached_by was.live) ∷ []) host was.live
+      (was.running.registered_is ∙ sym (ap (λ (s : HostState). s.registered) lives)
+      ∙ sym (ap (λ (r : Reached). (r.durable).registered) begins))
+      (same_honesty device a b (first host) (second host) honest back.honesty_first back.honesty_second)
+      (was.saved honest) was.live_is (subst (λ (s : HostState). IsRunning s host) (sym lives) was.running) was.sound
+      (found_led [] start was.state was.live refl (sym lives ∙ sym (ap (λ (r : Reached). r.durable) begins)) lives)
+
   pub not_found : (events : List StoreEvent) (others : List Registration) (pool services : List B) (a b : D)
       (r : OpenRefused D) → Rested events a b
       → WasNotFound device G others pool services a b r → Rested events r.a r.b

@@ -45,7 +45,7 @@ use Rattle.ash_durable.proofs.RequestOutcomes.{lead_by}
 use Rattle.ash_durable.proofs.CrashedDisks.{same_honesty, settle_crashed, settle_read}
 use Rattle.ash_durable.proofs.LifeEvents.{runs_in, rests_on, still_whole, replied, stored, failed, crashed_handling}
 use Rattle.ash_durable.proofs.LifeEvents.{crashed_between, Rested, s_registered, t_registered, found_led, opened}
-use Rattle.ash_durable.proofs.LifeEvents.{not_found}
+use Rattle.ash_durable.proofs.LifeEvents.{opened_first, not_found}
 use Rattle.ash_durable.proofs.LifeEvents.{crashed_opening, looked, turned, created, IsClosedOrBegun, begun, open_begun}
 
 -- ---- what the disks read
@@ -302,6 +302,8 @@ module _ {D B : Type 0} (device : Device D) (G : Ghosts B) (stays : (disk : D) â
   outlives _ _ (lives.OpenedCreating registered pool services a b result a' b' pool' services' host begins fresh creates
       crash was) =
       opened_creating registered pool services a b result a' b' pool' services' host begins fresh creates crash was
+  outlives _ _ (lives.OpenedFirst registered pool services a b host honest was begins) =
+      opened_first device G start registered pool services a b host honest was begins
   outlives _ _ (lives.Replied events budget request old live end seq happened new life is handled took) =
       replied device G start events budget request old live end seq happened new (outlives events (UnderHost old) life)
       is handled took

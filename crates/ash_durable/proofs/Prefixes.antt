@@ -62,6 +62,7 @@ module _ {D B : Type 0} (device : Device D) (G : Ghosts B) (start : Reached) whe
   prefix _ _ (lives.CrashedCreating registered pool services a b result a' b' begins fresh creates crash is_open) = tt
   prefix _ _ (lives.OpenedCreating registered pool services a b result a' b' pool' services' host begins fresh creates
       crash was) = inr tt
+  prefix _ _ (lives.OpenedFirst registered pool services a b host honest was begins) = inr tt
   prefix _ _ (lives.Replied events budget request old live end seq happened new life is handled took) =
       inr (runs events old (ran_in live old is) (prefix events (UnderHost old) life))
   prefix _ _ (lives.Unanswered events budget request old reply new life handled not only) =

@@ -202,8 +202,9 @@ second_at (UnderHost host) = second host
 second_at (OnDisks one other) = other
 
 -- A life of a store that began with this state and these free boxes, with its events, the newest first. Each way to go
--- on is what the contract of a public call says, or a crash at any moment of one. It begins where a host is created, or
--- where a crash on the way there leaves the store; a crash that leaves no file open leaves no store.
+-- on is what the contract of a public call says, or a crash at any moment of one. It begins when a host is created, or
+-- when a crash on the way there leaves the store, or when a host is opened in a store that is there; a crash that leaves
+-- no file open leaves no store.
 pub data Life {D B : Type 0} (device : Device D) (G : Ghosts B) (start : Reached)
     : List StoreEvent → StoreLocation D B → Type 0 where
   -- a host is created
@@ -224,6 +225,10 @@ pub data Life {D B : Type 0} (device : Device D) (G : Ghosts B) (start : Reached
       → Crashed device (device.clock a) (device.clock b) (first_of result) (second_of result) a' b'
       → (opened : WasOpened device G registered pool' services' a' b' host)
       → Life device G start (Found (reached_by opened.live) ∷ []) (UnderHost host)
+  -- a host is opened on disks with a store of which nothing is known yet
+  OpenedFirst : (registered : List Registration) (pool services : List B) (a b : D) (host : Hosted D B)
+      → AreHonest device a b → (opened : WasOpened device G registered pool services a b host)
+      → start ≡ reached_by opened.live → Life device G start (Found (reached_by opened.live) ∷ []) (UnderHost host)
   -- a request is answered
   Replied : (events : List StoreEvent) (budget : ℕ) (request : Request) (old : Hosted D B) (live : LiveState B)
       (end : End) (seq : ℕ) (happened : List HostEvent) (new : Hosted D B)
