@@ -167,16 +167,20 @@ module _ {D B : Type 0} (device : Device D) (G : Ghosts B) (budget : ℕ) (reque
     may = λ was. inr (may_step_through G budget requests live lost.replies lost.after (was live is).boxes lost.steps);
     sound = λ was. lost.sound;
     moments = lost.settles;
-    ending = inr (inr (lost.stopped.stopped,
-        was_lost lost.between.journal (Refused refusal) new.journal lost.lost));
+    ending = inr (inr (
+      lost.stopped.stopped,
+      was_lost lost.between.journal (Refused refusal) new.journal lost.lost,
+    ));
   }
   comes_to live old (Err refusal) new is handled (inr (inr (inl lost))) = record {
     after = live;
     may = λ was. inl refl;
     sound = λ was. was live is;
     moments = lost.settles;
-    ending = inr (inr (lost.stopped.stopped,
-        subst (λ (r : Refusal SourceFault). LosesAnswer (Refused r)) (sym lost.refusal_is) tt));
+    ending = inr (inr (
+      lost.stopped.stopped,
+      subst (λ (r : Refusal SourceFault). LosesAnswer (Refused r)) (sym lost.refusal_is) tt,
+    ));
   }
   comes_to live old (Err refusal) new is handled (inr (inr (inr none))) = record {
     after = live;
@@ -210,9 +214,13 @@ module _ {D B : Type 0} (device : Device D) (G : Ghosts B) (budget : ℕ) (reque
           (subst (λ (l : Option (LiveState B)). BatchOutcome device G budget requests l old result new) none
           handled.outcome) in
           inl (none, stopped.0, stopped.1)
-      from (Some live) some = inr (live, some, comes_to live old result new some handled
-          (subst (λ (l : Option (LiveState B)). BatchOutcome device G budget requests l old result new) some
-          handled.outcome))
+      from (Some live) some = inr (
+        live,
+        some,
+        comes_to live old result new some handled
+            (subst (λ (l : Option (LiveState B)). BatchOutcome device G budget requests l old result new) some
+            handled.outcome),
+      )
 
   -- a host that gave replies to a batch took its steps
   pub took_batch : (old : Hosted D B) (replies : List BatchReply) (new : Hosted D B)
@@ -224,5 +232,9 @@ module _ {D B : Type 0} (device : Device D) (G : Ghosts B) (budget : ℕ) (reque
           → (live : LiveState B) × (old.live ≡ Some live) × TookBatch device G budget requests live old replies new
       from None none = absurd (subst (λ (l : Option (LiveState B)).
           BatchOutcome device G budget requests l old (Ok replies) new) none handled.outcome)
-      from (Some live) some = (live, some, subst (λ (l : Option (LiveState B)).
-          BatchOutcome device G budget requests l old (Ok replies) new) some handled.outcome)
+      from (Some live) some = (
+        live,
+        some,
+        subst (λ (l : Option (LiveState B)).
+            BatchOutcome device G budget requests l old (Ok replies) new) some handled.outcome,
+      )

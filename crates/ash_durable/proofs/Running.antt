@@ -135,16 +135,16 @@ module _ {D B : Type 0} (device : Device D) (G : Ghosts B) (budget : ℕ) where
   single request live old reply next is runs (inr (inr (inr (inr none)))) =
       elim (not_installed request old reply next none.wanted none.refused) [
         | inl spent ↦ inl (record {
-            after = live;
-            is = ap (λ (host : Hosted D B). host.live) spent.unchanged ∙ is;
-            runs = still_running live old next spent.unchanged runs;
-            steps = inr spent;
-          })
+          after = live;
+          is = ap (λ (host : Hosted D B). host.live) spent.unchanged ∙ is;
+          runs = still_running live old next spent.unchanged runs;
+          steps = inr spent;
+        })
         | inr failed ↦ inr (record {
-            stops = failed.0;
-            cause = inr (none.wanted, failed.1);
-            loses = subst LosesAnswer (sym failed.1) tt;
-          })
+          stops = failed.0;
+          cause = inr (none.wanted, failed.1);
+          loses = subst LosesAnswer (sym failed.1) tt;
+        })
       ]
 
   -- all requests of a batch stepped, and some were answered
@@ -191,11 +191,11 @@ module _ {D B : Type 0} (device : Device D) (G : Ghosts B) (budget : ℕ) where
   batch requests live old (Err refusal) next is runs (inr (inr (inr none))) =
       elim (not_installed (adding_request requests) old (Refused refusal) next none.wanted none.refused) [
         | inl spent ↦ inl (record {
-            after = live;
-            is = ap (λ (host : Hosted D B). host.live) spent.unchanged ∙ is;
-            runs = still_running live old next spent.unchanged runs;
-            steps = (refl, inr spent);
-          })
+          after = live;
+          is = ap (λ (host : Hosted D B). host.live) spent.unchanged ∙ is;
+          runs = still_running live old next spent.unchanged runs;
+          steps = (refl, inr spent);
+        })
         | inr failed ↦
             let one : Refusal SourceFault → BatchResult = λ r. Err r in
             inr (record {
