@@ -19,13 +19,13 @@ use Rattle.ash_durable.specs.Hosting.{Hosted, first, second, IsRunning, IsSaved,
 use Rattle.ash_durable.specs.Hosting.{IsSound, RunsSound}
 use Rattle.ash_durable.specs.OpenedStore.{AddNothing, WasOpened, WasNotFound, Opens, first_found, second_found}
 use Rattle.ash_durable.specs.OpenedStore.{NotFound, LeftThere}
-use Rattle.ash_durable.specs.StoredStates.{AreHonest, SettleNow, IsOne, IsEither, HaveState}
+use Rattle.ash_durable.specs.StoredStates.{AreHonest, SettleNow, IsOne, IsEither, HaveStateInTwo}
 use Rattle.ash_durable.specs.Store.{WereOnlyRead, IsClosedOrHasState, WasCreated, Creates}
 use Rattle.ash_durable.specs.Lives.{StoreEvent, Acknowledged, InDoubt, Found, LeadsTo, LeadTo, IsCertain}
 use Rattle.ash_durable.specs.Lives.{Crashed, AreFresh, first_of, second_of, StoreLocation, UnderHost}
 use Rattle.ash_durable.specs.Lives.{OnDisks, first_at, second_at, IsWholeHistory, Outlives}
 use Rattle.ash_durable.specs.declared.fault.OpenRefused.{OpenRefused}
-use Rattle.ash_durable.proofs.Settling.{settle_on_more, settle_now, settle_still}
+use Rattle.ash_durable.proofs.Settling.{settle_on_more, in_any_version, settle_now, settle_still}
 use Rattle.ash_durable.proofs.Answerers.{may_answer}
 use Rattle.ash_durable.proofs.Answering.{leaves}
 use Rattle.ash_durable.proofs.HandedOver.{live_saved}
@@ -289,7 +289,8 @@ module _ {D B : Type 0} (device : Device D) (G : Ghosts B) (start : Reached) whe
   opened events pool services a b host before was =
       let is : IsEither before.whole.s.durable before.whole.t.durable was.state =
       was.same before.whole.s.durable before.whole.t.durable before.honest (s_registered events a b before.whole)
-      (t_registered events a b before.whole) before.whole.settled in
+      (t_registered events a b before.whole)
+      (in_any_version device a b (IsEither before.whole.s.durable before.whole.t.durable) before.whole.settled) in
       let led : LeadTo G (Found (reached_by was.live) ∷ events) start (reached_by was.live) = elim is [
         | inl s_is ↦ found_led events before.whole.s was.state was.live before.whole.s_led s_is was.restored.durable
         | inr t_is ↦ found_led events before.whole.t was.state was.live before.whole.t_led t_is was.restored.durable
@@ -390,7 +391,7 @@ module _ {D B : Type 0} (device : Device D) (G : Ghosts B) (start : Reached) whe
   abbrev pub IsClosedOrBegun : List Registration → List B → List B → List ℕ → List ℕ → Type 0
   IsClosedOrBegun registered pool services x y = (IsClosed x × IsClosed y)
       ⊎ (IsSound G (begin G registered pool services)
-      × SettleOn (HaveState (IsOne (first_state G registered services))) x y)
+      × SettleOn (HaveStateInTwo (IsOne (first_state G registered services))) x y)
 
   with_sound : (registered : List Registration) (pool services : List B) (x y : List ℕ)
       → IsSound G (begin G registered pool services) → IsClosedOrHasState (first_state G registered services) x y
@@ -427,7 +428,7 @@ module _ {D B : Type 0} (device : Device D) (G : Ghosts B) (start : Reached) whe
   pub open_begun : (registered : List Registration) (pool services : List B) (x y : List ℕ) → IsOpen x ⊎ IsOpen y
       → IsClosedOrBegun registered pool services x y
       → IsSound G (begin G registered pool services)
-      × SettleOn (HaveState (IsOne (first_state G registered services))) x y
+      × SettleOn (HaveStateInTwo (IsOne (first_state G registered services))) x y
   open_begun registered pool services x y is (inr settle) = settle
   open_begun registered pool services x y (inl is_open) (inl closed) = absurd (open_closed x is_open closed.0)
   open_begun registered pool services x y (inr is_open) (inl closed) = absurd (open_closed y is_open closed.1)

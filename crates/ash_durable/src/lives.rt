@@ -2,7 +2,7 @@
 
 ghost use Rattle.std.specs.Prelude.{ℕ, List, ◌∷◌, ◌++◌};
 ghost use Rattle.ash_engine.specs.LiveSteps.{Reached};
-ghost use Rattle.ash_durable.specs.StoreFaults.{MayRefuse};
+ghost use Rattle.ash_durable.specs.StoreFaults.{IsMishap};
 ghost use Rattle.ash_states.specs.HostStates.{HostState};
 ghost use Rattle.ash_durable.specs.HandedBoxes.{AreSaved, CanOpen, RestoreKinds};
 ghost use Rattle.ash_durable.specs.Lives.{AreLeft, BeginWith, CanOpenAfter, Crashed, StoreEvent};
@@ -30,8 +30,7 @@ use ash_host::HostObject;
 /// it is no host runs.
 ///
 /// `opens`: a store is never refused to a host with the same registry, with boxes with which the state can be opened
-/// that the disks have as they read, except because memory ran out, because a disk failed, or because the store is of
-/// version 1 and the number of its generation is the last.
+/// that the disks have as they read, except because memory ran out or because a disk failed.
 ///
 /// It does nothing: the clauses are the theorem. Each step of a life is what the contract of a public call says.
 pub fn nothing_acknowledged_is_lost<D: Disk, B: HostObject>()
@@ -50,7 +49,7 @@ pub fn nothing_acknowledged_is_lost<D: Disk, B: HostObject>()
         → Life D.Disk B.HostObject start events (OnDisks a b)
         → CanOpenAfter D.Disk B.HostObject pool services events start a b
         → WasRefused D.Disk B.HostObject start.durable.registered pool services a b refused
-        → MayRefuse refused.fault }
+        → IsMishap refused.fault }
 {}
 
 /// With which boxes a state can be opened: with services of the registered kinds, and with boxes enough of each kind,
