@@ -4,13 +4,12 @@ use Rattle.std.specs.Bool.{IsTrue}
 use Rattle.ash_disk.specs.Device.{Device}
 use Rattle.ash_journal.specs.declared.error.CreateFault.TheVariants as creating
 use Rattle.ash_journal.specs.declared.journal.Journal.{Journal}
-use Rattle.ash_journal.specs.Current.{Contents, IsContents, HoldsOneOf, Represent, SettleOn}
+use Rattle.ash_journal.specs.Current.{Contents, Represent, SettleOn}
 use Rattle.ash_journal.specs.Journal.{first_disk, second_disk}
 use Rattle.ash_journal.proofs.SettleLaws.{represent_now, represent_once}
 use Rattle.ash_image.specs.declared.version.Version.{Version}
 use Rattle.ash_image.specs.declared.version.Version.TheVariants.{One, Two}
 use Rattle.ash_states.specs.HostStates.{HostState}
-use Rattle.ash_states.specs.Images.{IsImageIn}
 use Rattle.ash_host.specs.declared.host_object.HostObject.{Ghosts}
 use Rattle.ash_registry.specs.AcceptedRegistrations.{Registration}
 use Rattle.ash_engine.specs.LiveStates.{begin}
@@ -19,12 +18,12 @@ use Rattle.ash_engine.specs.LiveSteps.{Reached, reached_by}
 use Rattle.ash_durable.specs.HandedBoxes.{first_state, first_reached, AreSaved, CanOpen}
 use Rattle.ash_durable.specs.StoreFaults.{IsMishap}
 use Rattle.ash_durable.specs.Hosting.{Hosted, first, second, IsRunning, IsSound}
-use Rattle.ash_durable.specs.OpenedStore.{WasOpened, WasFound, WasLeft, WasRefused, Opens, Keeps, InstallsOrNot}
+use Rattle.ash_durable.specs.OpenedStore.{WasOpened, WasFound, WasLeft, WasRefused, Opens, Keeps}
 use Rattle.ash_durable.specs.OpenedStore.{first_found, second_found, NotFound, LeftThere}
 use Rattle.ash_durable.specs.StoredStates.{AreHonest, SettleSince, SettleNow, IsOne, IsEither, HaveStateInTwo}
 use Rattle.ash_durable.specs.Store.{WereOnlyRead, AreClosed, NotMadeFor, WasNotCreated, Creates}
 use Rattle.ash_durable.specs.Lives as lives
-use Rattle.ash_durable.specs.Lives.{StoreEvent, Found, LeadTo, LeadBy}
+use Rattle.ash_durable.specs.Lives.{StoreEvent, Found, LeadBy}
 use Rattle.ash_durable.specs.Lives.{Crashed, AreFresh, IsOneOpen, first_of, second_of, StoreLocation, UnderHost}
 use Rattle.ash_durable.specs.Lives.{CanOpenAfter}
 use Rattle.ash_durable.specs.Lives.{OnDisks, first_at, second_at, Life, Outlives}
@@ -34,10 +33,8 @@ use Rattle.ash_durable.specs.declared.fault.StoreFault.TheVariants as faults
 use Rattle.ash_durable.proofs.Faultless.{represent_open}
 use Rattle.ash_durable.proofs.HandedOver.{live_saved}
 use Rattle.ash_durable.proofs.Mishaps.{two_one, only_mishaps}
-use Rattle.ash_durable.proofs.Settling.{run_more, settle_on_more, settle_now, settle_still}
+use Rattle.ash_durable.proofs.Settling.{settle_on_more, settle_now, settle_still}
 use Rattle.ash_replay.specs.ReplayedStates.{IsStateOf}
-use Rattle.ash_replay.proofs.Adding.{state_of_alone}
-use Rattle.ash_replay.proofs.Faultless.{same_image}
 use Rattle.ash_replay.proofs.HostStatesRead.{host_state_once}
 use Rattle.ash_durable.proofs.Opened.{kept_back}
 use Rattle.ash_durable.proofs.BatchEvents.{replied_batch, refused_batch, failed_batch, crashed_batching}

@@ -10,7 +10,7 @@ use Rattle.ash_sources.specs.SourceFaults.{SourceFault}
 use Rattle.ash_engine.specs.LiveStates.{LiveState}
 use Rattle.ash_engine.specs.LiveSteps.{Reached}
 use Rattle.ash_durable.specs.Hosting.{Hosted, IsAnswer, TookStep, HostReplies, Handles}
-use Rattle.ash_durable.specs.Batches.{BatchRequest, BatchResult, HandlesBatch, HostCall, SingleCall, BatchCall}
+use Rattle.ash_durable.specs.Batches.{BatchRequest, HandlesBatch, HostCall, SingleCall, BatchCall}
 use Rattle.ash_durable.specs.Batches.{HostResult, SingleResult, BatchGiven, HandlesCall, HandlesCalls}
 use Rattle.ash_durable.specs.RequestRuns.{LosesAnswer}
 use Rattle.ash_durable.specs.Lives.{StoreEvent, Acknowledged, InDoubt, InDoubtBatch, UnderHost, Life, Replied}

@@ -1,18 +1,17 @@
 -- Calls that a host handled are a run of the definition, up to the first failure.
-use Rattle.std.proofs.Common.{◌≡◌, ◌⊎◌, inl, inr, ℕ, List, [], ◌∷◌, ◌++◌, append-nil, Option, Some, None, Ok, Err, refl}
+use Rattle.std.proofs.Common.{◌≡◌, ◌⊎◌, inl, inr, ℕ, List, [], ◌∷◌, append-nil, Option, Some, None, Ok, Err, refl}
 use Rattle.std.proofs.Common.{sym, ap, ◌∙◌, subst}
 use Rattle.ash_disk.specs.Device.{Device}
-use Rattle.ash_journal.specs.declared.journal.Journal.{Journal}
 use Rattle.ash_host.specs.declared.host_object.HostObject.{Ghosts}
 use Rattle.ash_requests.specs.Requests.{Request, Refusal, Reply, Refused, DeviceFailed, NoMemory, GenerationSpent}
 use Rattle.ash_sources.specs.SourceFaults.{SourceFault}
 use Rattle.ash_engine.specs.LiveStates.{LiveState}
-use Rattle.ash_durable.specs.Hosting.{Hosted, IsRunning, WantsInstall, InstallRefused, WasLost, HasStopped}
+use Rattle.ash_durable.specs.Hosting.{Hosted, IsRunning, WantsInstall, InstallRefused, HasStopped}
 use Rattle.ash_durable.specs.Hosting.{HostReplies, reply_stopped}
-use Rattle.ash_durable.specs.Batches.{BatchRequest, BatchReply, BatchResult, BatchOutcome, BatchNotCommitted}
+use Rattle.ash_durable.specs.Batches.{BatchRequest, BatchResult, BatchOutcome, BatchNotCommitted}
 use Rattle.ash_durable.specs.Batches.{HasBegunToChange, adding_request, HostCall, SingleCall, BatchCall, HostResult}
 use Rattle.ash_durable.specs.Batches.{SingleResult, BatchGiven, HandlesCall, HandlesCalls}
-use Rattle.ash_durable.specs.RequestRuns.{HostSteps, HostRuns, IsNoGeneration, HadNoNewGeneration, CallSteps}
+use Rattle.ash_durable.specs.RequestRuns.{HostSteps, HostRuns, HadNoNewGeneration, CallSteps}
 use Rattle.ash_durable.specs.RequestRuns.{CallChanges, CallWantsInstall, HasFailedDevice, result_stopped}
 use Rattle.ash_durable.specs.RequestRuns.{results_until_reopened, LosesAnswer, LosesAnswers, RunsUntilFailure}
 use Rattle.ash_durable.specs.RequestRuns.{RunsToFailure}

@@ -116,8 +116,8 @@ AreAcknowledged (InDoubt budget request ∷ earlier) = ⊥
 AreAcknowledged (InDoubtBatch budget requests ∷ earlier) = ⊥
 AreAcknowledged _ = Unit {0}
 
--- Since then the events are a prefix of the requests that were handled: each is one that was answered, but for the
--- newest, which may be a request or a batch in doubt.
+-- Since then the events are a prefix of the requests that were handled: each is one that was answered, except
+-- the newest, which may be a request or a batch in doubt.
 abbrev pub IsOfPrefix : List StoreEvent → Type 0
 IsOfPrefix (InDoubt budget request ∷ earlier) = AreAcknowledged earlier
 IsOfPrefix (InDoubtBatch budget requests ∷ earlier) = AreAcknowledged earlier

@@ -15,13 +15,15 @@ ghost use Rattle.ash_durable.specs.declared.fault.OpenRefused.{OpenRefused};
 use ash_disk::Disk;
 use ash_host::HostObject;
 
-/// In every life of a store on honest disks, whatever happens to it and as often as it does (requests, failures of the
-/// devices, out of memory, snapshots, closing and opening, refused openings and creations, the end of the process or of
-/// the power at any moment of any of these), the following holds.
+/// In every life of a store on honest disks, whatever happens to it and as often as it does (requests, batches, failures
+/// of the devices, out of memory, snapshots, closing and opening, refused openings and creations, the end of the
+/// process or of the power at any moment of any of these), the following holds. A life begins when a store is made, or
+/// when one that is there is first opened.
 ///
 /// `whole`: all that a crash may leave of the disks settles on states to which the events lead: every request that was
 /// answered, in order and with its answer, and each that is in doubt at its place once or not at all, as it was found
-/// at the next opening. Where the newest event is not in doubt there is one such state. A host that runs is in one.
+/// at the next opening; a batch in doubt as a whole. Where the newest event is not in doubt there is one such state. A
+/// host that runs is in one.
 ///
 /// `each`: so each event that ever came is in every such state, at its place among the others.
 ///
