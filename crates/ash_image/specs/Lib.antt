@@ -11,6 +11,7 @@ pub mod Fitting
 pub mod Delta
 pub mod DeltaReading
 pub mod DeltaViews
+pub mod Deltas
 pub mod Leading
 pub mod NamedViews
 pub mod DeltaExamples
