@@ -4,6 +4,7 @@ use super::fault::ProgramFault;
 use super::store::Store;
 use super::task::{Limits, ProgramTask};
 use crate::fault::RunFault;
+use ash_disk::take_closed_streams;
 use ash_lines::source::ReadFault;
 use std::fs::File;
 use std::rt::{Env, Files};
@@ -40,11 +41,13 @@ impl HostTask {
     }
 }
 
-/// Reads the words of the process, and opens the files that they name. Faults come in this order: of the words, of the
-/// files.
+/// Reads the words of the process, and opens the files that they name. The descriptors of standard streams that are
+/// closed are taken first: an input that was closed is empty, and a write to an output that was closed fails. Faults
+/// come in this order: of the words, of the files.
 pub fn prepare<R: Env + Files<File = File> + AllocGlobal>(
     rt: &R,
 ) -> Result<Prepared, ProgramFault> {
+    take_closed_streams(rt);
     let words = words_of(rt)?;
     match ProgramTask::read(rt.alloc(), &words)? {
         ProgramTask::Try { limits } => Ok(Prepared::Host(HostTask::Try { limits })),
