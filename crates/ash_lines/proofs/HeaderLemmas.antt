@@ -1,19 +1,20 @@
--- How many lines a batch has, as the line before it says.
+-- What no line asks: a load without a source that follows, or a batch of more lines than a batch may have.
 use Rattle.std.proofs.Common.{◌≡◌, ◌≤◌, ℕ, ◌&&◌, nat_le, Bool, true, false, if◌then◌else◌, List, [], ◌∷◌, codes, sym, subst}
 use Rattle.std.proofs.Common.{Option, Some, None, length, arith, refl}
 use Rattle.std.proofs.lemmas.Bool.Decides.{nat_tests}
 use Rattle.std.specs.List.{list_all}
 use Rattle.std.specs.Str.{bytes_eq}
 use Rattle.ash_requests.specs.declared.argument.Arg.{Arg}
-use Rattle.ash_requests.specs.Requests.{Seq, Snapshot}
+use Rattle.ash_requests.specs.Requests.{Load, Seq, Snapshot}
 use Rattle.ash_lines.specs.Lines.{Line, HostRequest, Quit, ParsedLine, Complete, LoadHeader, BatchHeader, max_batch}
 use Rattle.ash_lines.specs.Lines.{max_batch_digits, if_batch_length, batch_length_of, number_of, length_of, object_number_of}
 use Rattle.ash_lines.specs.Lines.{arguments_of, pieces, is_word, load_header, call_request, object_request, batch_header}
 use Rattle.ash_lines.specs.Lines.{parse_load, parse_call, parse_discard, parse_get, parse_object, parse_batch, parse_lone}
 use Rattle.ash_lines.specs.Lines.{parse_verb, parse_words, parse_line}
 
--- a batch of no more lines than a batch may have
+-- no load without a source that follows, and no batch of more lines than a batch may have
 abbrev IsBounded : ParsedLine → Type 0
+IsBounded (Complete (HostRequest (Load name source))) = ⊥
 IsBounded (Complete line) = Unit {0}
 IsBounded (LoadHeader name length) = Unit {0}
 IsBounded (BatchHeader count) = count ≤ max_batch
@@ -91,9 +92,9 @@ object-bounded [] = tt
 object-bounded (number ∷ []) = shown-bounded (object_number_of number)
 object-bounded (number ∷ other ∷ words) = tt
 
-lone-bounded : (line : Line) (words : List (List ℕ)) → IsBounded (parse_lone line words)
-lone-bounded line [] = tt
-lone-bounded line (word ∷ words) = tt
+lone-bounded : (line : Line) (words : List (List ℕ)) → IsBounded (Complete line) → IsBounded (parse_lone line words)
+lone-bounded line [] h = h
+lone-bounded line (word ∷ words) h = tt
 
 verb-bounded : (verb : List ℕ) (words : List (List ℕ)) → IsBounded (parse_verb verb words)
 verb-bounded verb words =
@@ -102,9 +103,9 @@ verb-bounded verb words =
     (bounded-if (bytes_eq verb (codes "discard")) _ _ (discard-bounded words)
     (bounded-if (bytes_eq verb (codes "get")) _ _ (get-bounded words)
     (bounded-if (bytes_eq verb (codes "object")) _ _ (object-bounded words)
-    (bounded-if (bytes_eq verb (codes "seq")) _ _ (lone-bounded (HostRequest Seq) words)
-    (bounded-if (bytes_eq verb (codes "snapshot")) _ _ (lone-bounded (HostRequest Snapshot) words)
-    (bounded-if (bytes_eq verb (codes "quit")) _ _ (lone-bounded Quit words)
+    (bounded-if (bytes_eq verb (codes "seq")) _ _ (lone-bounded (HostRequest Seq) words tt)
+    (bounded-if (bytes_eq verb (codes "snapshot")) _ _ (lone-bounded (HostRequest Snapshot) words tt)
+    (bounded-if (bytes_eq verb (codes "quit")) _ _ (lone-bounded Quit words tt)
     (bounded-if (bytes_eq verb (codes "batch")) _ _ (batch-bounded words) tt))))))))
 
 words-bounded : (words : List (List ℕ)) → IsBounded (parse_words words)
@@ -118,3 +119,7 @@ line-bounded line = bounded-if (list_all is_word (pieces line)) _ _ (words-bound
 -- the line before a batch
 pub batch-at-most : (line : List ℕ) (count : ℕ) → parse_line line ≡ BatchHeader count → count ≤ max_batch
 batch-at-most line count e = subst IsBounded e (line-bounded line)
+
+-- the line of a load
+pub load-follows : (line name source : List ℕ) → Complete (HostRequest (Load name source)) ≡ parse_line line → ⊥
+load-follows line name source e = subst IsBounded (sym e) (line-bounded line)

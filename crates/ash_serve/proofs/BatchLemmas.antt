@@ -9,7 +9,8 @@ use Rattle.ash_durable.specs.BatchViews.{batch_request_seen}
 use Rattle.ash_durable.specs.declared.batch.BatchRequest as code
 use Rattle.ash_lines.specs.Source.{Feed, IsFeed, Faults}
 use Rattle.ash_lines.specs.Lines.{Line, HostRequest, Quit, BadRequest, LineTooLong, InputLine, RequestLine, BatchLine, ConsistsBy}
-use Rattle.ash_lines.specs.Lines.{next_line, next_inner, inner_line, is_unfinished, lines_at}
+use Rattle.ash_lines.specs.Lines.{next_line, next_inner, inner_line, is_unfinished, lines_at, Complete, parse_line}
+use Rattle.ash_lines.proofs.HeaderLemmas.{load-follows}
 use Rattle.ash_lines.proofs.SourceLemmas.{faults_after}
 use Rattle.ash_serve.specs.BatchLines.{batch_request, asked_inside, prefix_of, owned_seen, ReadsInner, ReadsBatch}
 use Rattle.ash_serve.specs.InputItems.{ReadsItem, StopsInside, IsLast}
@@ -44,15 +45,23 @@ inner_kept feed s t line request w e = (inner_line line, inner_read feed s t lin
 pub inner_refused : {S : Type 0} (feed : Feed S) (s t : S) (line : InputLine) (fault : RunFault) → ReadsItem next_line feed s line t → fault ≡ faults.NoMemory → ReadsInner feed s (Err fault) t
 inner_refused feed s t line fault w e = rw e (inner_line line, inner_read feed s t line w)
 
--- what a request in a line of a batch asks
-pub inner_asks : (request : Request) → batch_request (inner_line (RequestLine (HostRequest request))) ≡ asked_inside request
-inner_asks (Load name source) = refl
-inner_asks (Call module_name function arguments) = refl
-inner_asks (Discard name) = refl
-inner_asks (Get module_name name) = refl
-inner_asks (Object number) = refl
-inner_asks Seq = refl
-inner_asks Snapshot = refl
+-- one that is all in its line has no source
+pub plain_asks : (line : List ℕ) (request : Request) → Complete (HostRequest request) ≡ parse_line line → asked_inside request ≡ prefix_of (batch_request (inner_line (RequestLine (HostRequest request))))
+plain_asks line (Load name source) e = absurd (load-follows line name source e)
+plain_asks line (Call module_name function arguments) e = refl
+plain_asks line (Discard name) e = refl
+plain_asks line (Get module_name name) e = refl
+plain_asks line (Object number) e = refl
+plain_asks line Seq e = refl
+plain_asks line Snapshot e = refl
+
+line-nil : is_unfinished (next_line []) ≡ true
+unfolding next_line
+line-nil = refl
+
+-- the end of the input cuts a batch
+pub inner_ended : {S : Type 0} (feed : Feed S) (s t : S) → feed.reads s [] t → feed.ended t → ReadsInner feed s (Err faults.Truncated) t
+inner_ended feed s t took ended = ([], took, ended, inner-cut [] line-nil)
 
 -- ---- lines one after another
 
@@ -96,8 +105,8 @@ has-more feed is s t u requests others count request h w e = record {
   kept = ap (map owned_seen) e ∙ kept-more requests h.lines request w.0 h.kept w.2;
 }
 
-pub has-all : {S : Type 0} (feed : Feed S) (s t : S) (requests : List OwnedRequest) (count : ℕ) (h : HasLines feed s requests count t) → ReadsItem (lines_at count) feed s h.lines t
-has-all feed s t requests count h = record { bytes = h.bytes; spells = λ more. lines-whole h.lines count (h.bytes ++ more) more h.counted (h.consists more); took = h.took }
+pub has-all : {S : Type 0} (feed : Feed S) (s t : S) (requests : List OwnedRequest) (done count : ℕ) (h : HasLines feed s requests done t) → done ≡ count → ReadsItem (lines_at count) feed s h.lines t
+has-all feed s t requests done count h e = record { bytes = h.bytes; spells = λ more. lines-whole h.lines count (h.bytes ++ more) more (h.counted ∙ e) (h.consists more); took = h.took }
 
 -- reading stopped inside one more
 

@@ -2,16 +2,19 @@
 use Rattle.std.proofs.Common.{◌≡◌, ◌<◌, ◌≤◌, ℕ, ◌+◌, ◌-◌, List, [], ◌∷◌, ◌++◌, length, map, replicate, refl, sym, ap, ◌∙◌, subst}
 use Rattle.std.proofs.Common.{append_assoc, arith, suc}
 use Rattle.std.proofs.lemmas.List.{append-nil}
+use Rattle.ash_durable.specs.BatchViews.{batch_reply_seen}
+use Rattle.ash_durable.specs.declared.batch.BatchReply as code
 use Rattle.ash_lines.specs.Sink.{Outlet, IsOutlet, Accepts, FailsPartway}
 use Rattle.ash_lines.specs.ReplyText.{LineReply, reply_line, text_of}
+use Rattle.ash_serve.specs.CommandReplies.{batch_line_reply}
 use Rattle.ash_lines.proofs.SinkLemmas.{accepts-nil, accepts-then, accepts-fails, fails-more}
 
 -- Of a text this is left to be written.
 abbrev pub LeavesText : {K : Type 0} → Outlet K → List ℕ → K → List ℕ → K → Type 0
 LeavesText outlet text old left new = (written : List ℕ) × Accepts outlet old written new × (text ≡ written ++ left)
 
-pub leaves-all : {K : Type 0} (outlet : Outlet K) → IsOutlet outlet → (text : List ℕ) (s : K) → LeavesText outlet text s text s
-leaves-all outlet is text s = ([], accepts-nil outlet is s, refl)
+pub leaves-all : {K : Type 0} (outlet : Outlet K) → IsOutlet outlet → (text left : List ℕ) (s : K) → text ≡ left → LeavesText outlet text s left s
+leaves-all outlet is text left s e = ([], accepts-nil outlet is s, e)
 
 pub leaves-less : {K : Type 0} (outlet : Outlet K) → IsOutlet outlet → (text piece more left : List ℕ) (s t u : K) → LeavesText outlet text s left t → left ≡ piece ++ more → Accepts outlet t piece u → LeavesText outlet text s more u
 leaves-less outlet is text piece more left s t u h e a = (
@@ -36,7 +39,7 @@ same-again count done reply l =
     let e : count - done ≡ suc (count - (done + 1)) = omega arith in
     ap (λ (n : ℕ). text_of (replicate n reply)) e
 
-pub same-ended : (count done : ℕ) (reply : LineReply) → count ≤ done → text_of (replicate (count - done) reply) ≡ []
-same-ended count done reply l =
-    let e : count - done ≡ 0 = omega arith in
-    ap (λ (n : ℕ). text_of (replicate n reply)) e
+-- no reply is left
+pub no-text : (left : List code.BatchReply) → length left ≤ 0 → text_of (map batch_line_reply (map batch_reply_seen left)) ≡ []
+no-text [] l = refl
+no-text (reply ∷ replies) l = absurd (omega arith)

@@ -78,7 +78,8 @@ impl Buffers {
         ensures room { HasRoom self.new }
     {
         match read_line(input, &mut self.line)? {
-            LineRead::End | LineRead::Cut => Err(RunFault::Truncated),
+            LineRead::End => Err(RunFault::Truncated),
+            LineRead::Cut => Err(RunFault::Truncated),
             LineRead::TooLong => Ok(OwnedRequest::Bad(LINE_TOO_LONG)),
             LineRead::Whole => self.keep_line(alloc, input),
         }
@@ -119,9 +120,9 @@ impl Buffers {
                     }
                 }
             }
-            ParsedLine::Batch(_) | ParsedLine::Quit | ParsedLine::BadRequest => {
-                Ok(OwnedRequest::Bad(BAD_REQUEST))
-            }
+            ParsedLine::Batch(_) => Ok(OwnedRequest::Bad(BAD_REQUEST)),
+            ParsedLine::Quit => Ok(OwnedRequest::Bad(BAD_REQUEST)),
+            ParsedLine::BadRequest => Ok(OwnedRequest::Bad(BAD_REQUEST)),
         }
     }
 }

@@ -23,16 +23,13 @@ pub trait RequestHandler {
     /// What the reply to a request may be, by a budget in ticks, and the host after it.
     ghost handles: { ℕ → RequestRelation Self };
 
+    /// What a batch of requests may be replied, by a budget in ticks for each, and the host after it.
+    ghost handles_batch: { ℕ → BatchRelation Self };
+
     /// Handles one request, with a budget in ticks.
     fn handle(&mut self, request: &Request, budget: u64) -> Reply<SourceFault>
         ensures handled { handles budget (request_seen request.now) self.old
             (reply_seen fault_of result) self.new };
-
-    /// A source that is too long is refused whatever bytes come after its prefix.
-    ghost depends_on_prefix: { (budget : ℕ) → DependsOnPrefix (handles budget) };
-
-    /// What a batch of requests may be replied, by a budget in ticks for each, and the host after it.
-    ghost handles_batch: { ℕ → BatchRelation Self };
 
     /// Handles the requests of a batch, with a budget in ticks for each.
     fn batch(
@@ -44,6 +41,9 @@ pub trait RequestHandler {
         ensures handled { handles_batch budget (map batch_request_seen requests.now) self.old
             (batch_result_seen result) self.new };
 
+    /// A source that is too long is refused whatever bytes come after its prefix.
+    ghost depends_on_prefix: { (budget : ℕ) → DependsOnPrefix (handles budget) };
+
     /// So it is in a batch.
     ghost batch_depends_on_prefix: { (budget : ℕ) → BatchDependsOnPrefix (handles_batch budget) };
 }
@@ -51,15 +51,15 @@ pub trait RequestHandler {
 impl<D: Disk, B: HostObject> RequestHandler for Host<D, B> {
     ghost handles = { Handles D.Disk B.HostObject };
 
+    ghost handles_batch = { HandlesBatch D.Disk B.HostObject };
+
     ghost depends_on_prefix = { handles_by_prefix _ _ };
+
+    ghost batch_depends_on_prefix = { batch_by_prefix _ _ };
 
     fn handle(&mut self, request: &Request, budget: u64) -> Reply<SourceFault> {
         Host::handle(self, request, budget)
     }
-
-    ghost handles_batch = { HandlesBatch D.Disk B.HostObject };
-
-    ghost batch_depends_on_prefix = { batch_by_prefix _ _ };
 
     fn batch(
         &mut self,

@@ -2,7 +2,7 @@
 
 ghost use Rattle.std.specs.Prelude.{◌≡◌, map, replicate};
 ghost use Rattle.ash_durable.specs.BatchViews.{batch_reply_seen};
-ghost use Rattle.ash_lines.specs.ReplyText.{HostReply, line_reply_of, text_of};
+ghost use Rattle.ash_lines.specs.ReplyText.{HostReply, line_reply_of, reply_line, text_of};
 ghost use Rattle.ash_lines.specs.Sink.{Writes};
 ghost use Rattle.ash_requests.specs.RequestViews.{refusal_seen};
 ghost use Rattle.ash_requests.specs.Requests.{Refused};
@@ -59,10 +59,17 @@ fn write_batch_replies<K: Sink>(
         (text_of (map batch_line_reply (map batch_reply_seen replies.items))) result output.new }
 {
     for reply in replies {
-        let reply = line_reply(reply);
-        write_line_reply(output, &reply)?;
+        write_batch_reply(output, reply)?;
     }
     Ok(())
+}
+
+fn write_batch_reply<K: Sink>(output: &mut K, reply: BatchReply) -> Result<(), WriteFault>
+    ensures text { Writes K.outlet output.old
+        (reply_line (batch_line_reply (batch_reply_seen reply))) result output.new }
+{
+    let reply = line_reply(reply);
+    write_line_reply(output, &reply)
 }
 
 /// Writes a refusal for each line of a batch.
@@ -76,8 +83,20 @@ fn write_refusals<K: Sink>(
         output.new }
 {
     let reply = LineReply::Host(Reply::Refused(refusal));
+    write_repeatedly(output, count, &reply)
+}
+
+/// Writes a reply so many times, each as a line.
+fn write_repeatedly<K: Sink>(
+    output: &mut K,
+    count: usize,
+    reply: &LineReply,
+) -> Result<(), WriteFault>
+    ensures text { Writes K.outlet output.old
+        (text_of (replicate count (line_reply_of reply.now))) result output.new }
+{
     for i in 0..count {
-        write_line_reply(output, &reply)?;
+        write_line_reply(output, reply)?;
     }
     Ok(())
 }
