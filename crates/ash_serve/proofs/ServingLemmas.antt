@@ -10,7 +10,7 @@ use Rattle.ash_lines.proofs.SinkLemmas.{accepts-nil, accepts-then, accepts-fails
 use Rattle.ash_lines.specs.declared.source.ReadFault.{ReadFault}
 use Rattle.ash_lines.specs.declared.source.ReadFault.TheVariants.{TooLong, Failed}
 use Rattle.ash_lines.specs.Lines.{HostRequest, Quit, BadRequest, LineTooLong, Command, Single, Batch, ContinuesRun, next}
-use Rattle.ash_lines.specs.Lines.{ConsistsOf, is_unfinished}
+use Rattle.ash_lines.specs.Lines.{next_line, ConsistsOf, is_unfinished}
 use Rattle.ash_lines.specs.ReplyText.{HostReply, QuitReply, BadRequestReply, LineTooLongReply}
 use Rattle.ash_serve.specs.InputItems.{BeginsWith}
 use Rattle.ash_serve.specs.CommandReplies.{CommandReply, SingleReply, BatchReplied, command_reply_of, command_text}

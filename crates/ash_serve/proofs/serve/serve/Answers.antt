@@ -1,4 +1,4 @@
-use Rattle.std.proofs.Common.{◌∙◌, sym, Ok, Err, Some, None}
+use Rattle.std.proofs.Common.{◌∙◌, sym, refl, inl, Ok, Err, Some, None}
 use Rattle.std.proofs.lemmas.Result.{err_from_is_err_and}
 use Rattle.ash_serve.specs.CommandReplies.{command_reply_of}
 use Rattle.ash_serve.specs.Serving.{handling_with, relations, request_state, run_state, serving_with}
@@ -81,3 +81,9 @@ requests-smaller g c =
     let after = request_state c.handle_next.new.input c.handle_next.new.host in
     let w = rw c.in-Ok-Some.field-0-is at (by_budget g.S.Source.feed g.H.RequestHandler.handles g.H.RequestHandler.handles_batch c.requests.session.budget c.args.budget last after (Ok c.in-Ok-Some.field-0) c.requests.invariant.budget c.in-Ok-Some.ensures.handled) in
     served-falls handling g.met.S.Source.is_feed last after w.0 (command_reply_of c.in-Ok-Some.reply) w.1
+
+pub returns-in_err-session : goal.returns-in_err-session
+returns-in_err-session g c = record {
+  serves = let p = err_from_is_err_and c.from_residual.result c.from_residual.ensures.1 in
+      rw (p.1, p.2) (inl (record { input_same = refl; output_same = refl; host_same = refl }));
+}
