@@ -23,8 +23,8 @@
 #include <sys/syscall.h>
 #include <unistd.h>
 
-#define REAL(result, name, ...)                                                                                              \
-    static result (*real)(__VA_ARGS__);                                                                                      \
+#define REAL(result, name, ...)                                                                                       \
+    static result (*real)(__VA_ARGS__);                                                                               \
     if (!real) real = (result (*)(__VA_ARGS__))dlsym(RTLD_NEXT, name)
 
 static long asked;
@@ -67,42 +67,42 @@ static size_t length(const char *way, size_t size) {
     return is(way, "torn") || is(way, "tear") || (is(way, "cut") && size > 1) ? size / 2 : size;
 }
 
-#define READS(name, offset_type)                                                                                             \
-    ssize_t name(int file, void *bytes, size_t size, offset_type at) {                                                       \
-        REAL(ssize_t, #name, int, void *, size_t, offset_type);                                                              \
-        const char *way = how("read", 0);                                                                                    \
-        return fails(way) ? -1 : real(file, bytes, length(way, size), at);                                                   \
+#define READS(name, offset_type)                                                                                      \
+    ssize_t name(int file, void *bytes, size_t size, offset_type at) {                                                \
+        REAL(ssize_t, #name, int, void *, size_t, offset_type);                                                       \
+        const char *way = how("read", 0);                                                                             \
+        return fails(way) ? -1 : real(file, bytes, length(way, size), at);                                            \
     }
 READS(pread, off_t)
 READS(pread64, off64_t)
 
-#define WRITES(name, offset_type)                                                                                            \
-    ssize_t name(int file, const void *bytes, size_t size, offset_type at) {                                                 \
-        REAL(ssize_t, #name, int, const void *, size_t, offset_type);                                                        \
-        const char *way = how("write", 0);                                                                                   \
-        if (is(way, "torn") || is(way, "tear")) real(file, bytes, size / 2, at);                                             \
-        if (is(way, "tear")) raise(SIGKILL);                                                                                 \
-        return fails(way) ? -1 : real(file, bytes, length(way, size), at);                                                   \
+#define WRITES(name, offset_type)                                                                                     \
+    ssize_t name(int file, const void *bytes, size_t size, offset_type at) {                                          \
+        REAL(ssize_t, #name, int, const void *, size_t, offset_type);                                                 \
+        const char *way = how("write", 0);                                                                            \
+        if (is(way, "torn") || is(way, "tear")) real(file, bytes, size / 2, at);                                      \
+        if (is(way, "tear")) raise(SIGKILL);                                                                          \
+        return fails(way) ? -1 : real(file, bytes, length(way, size), at);                                            \
     }
 WRITES(pwrite, off_t)
 WRITES(pwrite64, off64_t)
 
-#define SYNCS(name)                                                                                                          \
-    int name(int file) {                                                                                                     \
-        REAL(int, #name, int);                                                                                               \
-        return fails(how("sync", 0)) ? -1 : real(file);                                                                      \
+#define SYNCS(name)                                                                                                   \
+    int name(int file) {                                                                                              \
+        REAL(int, #name, int);                                                                                        \
+        return fails(how("sync", 0)) ? -1 : real(file);                                                               \
     }
 SYNCS(fsync)
 SYNCS(fdatasync)
 
-#define OPENS(name)                                                                                                          \
-    int name(const char *path, int flags, ...) {                                                                             \
-        REAL(int, #name, const char *, int, ...);                                                                            \
-        va_list rest;                                                                                                        \
-        va_start(rest, flags);                                                                                               \
-        mode_t mode = va_arg(rest, mode_t);                                                                                  \
-        va_end(rest);                                                                                                        \
-        return fails(how("open", 0)) ? -1 : real(path, flags, mode);                                                         \
+#define OPENS(name)                                                                                                   \
+    int name(const char *path, int flags, ...) {                                                                      \
+        REAL(int, #name, const char *, int, ...);                                                                     \
+        va_list rest;                                                                                                 \
+        va_start(rest, flags);                                                                                        \
+        mode_t mode = va_arg(rest, mode_t);                                                                           \
+        va_end(rest);                                                                                                 \
+        return fails(how("open", 0)) ? -1 : real(path, flags, mode);                                                  \
     }
 OPENS(open)
 OPENS(open64)

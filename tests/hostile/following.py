@@ -11,8 +11,8 @@ class Wrong(Exception):
 
 
 def follow(plan, replies, faults):
-    """The conditions, each with its number, in which a store may be found after these replies, of which one may be one of
-    these faults."""
+    """The conditions, each with its number, in which a store may be found after these replies, of which one may be
+    one of these faults."""
     now = plan.first()
     found, fault, lost = [now], None, False
     for index, (letter, reply) in enumerate(zip(plan.order, replies)):
@@ -40,8 +40,8 @@ def can_fail(request, reply):
 
 
 def may_be_lost(request, index, plan, at):
-    """Whether a request that was refused memory, at this index, may be why the one at the other index is not looked at: it
-    changes the state, and those between say nothing of it."""
+    """Whether a request that was refused memory, at this index, may be why the one at the other index is not
+    looked at: it changes the state, and those between say nothing of it."""
     between = {plan.requests[it] for it in plan.order[index + 1 : at]}
     return request.split()[0] in CHANGES and between <= {"seq"}
 

@@ -1,10 +1,11 @@
-"""Requests, and what the written rules say that they are replied to, whichever of them is refused: worked out by hand.
+"""Requests, and what the written rules say that they are replied to, whichever of them is refused: worked out by
+hand.
 
-A plan has requests by their letters, the order in which they are asked, and those that are asked of a store which is opened
-again. `replies` has for each condition of the modules the reply to each letter. A `#` in it stands for the sequence number of
-the answer, and ` > NAME` is the condition that it leads to, if that is another one. The first condition is that of a new
-store. A letter that a condition does not have is refused, since there is no such module; a snapshot has the reply `ok`, and
-`seq` the sequence number. So many requests were answered before."""
+A plan has requests by their letters, the order in which they are asked, and those that are asked of a store which
+is opened again. `replies` has for each condition of the modules the reply to each letter. A `#` in it stands for
+the sequence number of the answer, and ` > NAME` is the condition that it leads to, if that is another one. The
+first condition is that of a new store. A letter that a condition does not have is refused, since there is no such
+module; a snapshot has the reply `ok`, and `seq` the sequence number. So many requests were answered before."""
 
 from typing import NamedTuple
 

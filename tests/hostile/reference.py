@@ -60,8 +60,8 @@ def signed(kind):
 
 
 class Expression:
-    """A text, its type, and a function that gives its value for the values of the parameters. `number` is that of a number
-    alone, which takes the type of the other operand."""
+    """A text, its type, and a function that gives its value for the values of the parameters. `number` is that of
+    a number alone, which takes the type of the other operand."""
 
     def __init__(self, text, kind, value, number=None):
         self.text, self.kind, self.value, self.number = text, kind, value, number

@@ -37,8 +37,9 @@ class Module(NamedTuple):
 
 
 class Object(NamedTuple):
-    """`of` has the module's name and the class of a script object; the kind of a host object; what the elements of an array
-    are, and then the module's name and the class, or the kind. `holds` has words, or the state of a host object."""
+    """`of` has the module's name and the class of a script object; the kind of a host object; what the elements of
+    an array are, and then the module's name and the class, or the kind. `holds` has words, or the state of a host
+    object."""
 
     tag: int
     of: tuple
@@ -260,8 +261,8 @@ def contents(files):
 
 
 def states(files):
-    """The version, the text and the states of the two files, from the image on; each state after the first may break the
-    rules, except for the last."""
+    """The version, the text and the states of the two files, from the image on; each state after the first may
+    break the rules, except for the last."""
     image, bodies = contents(files)
     version, text, state = read_image(image)
     found = [state]
