@@ -20,6 +20,7 @@
 #![tactic(auto)]
 
 pub mod batch;
+mod batching;
 pub mod fault;
 mod header;
 pub mod host;
