@@ -1,8 +1,11 @@
 -- How a batch runs on by one request, and how it ends.
 use Rattle.std.proofs.Common.{◌≡◌, ◌⊎◌, inl, inr, ℕ, ◌≤◌, ◌<◌, ◌+◌, ◌*◌, ◌^◌, List, [], ◌∷◌, ◌++◌, length, map, Option}
 use Rattle.std.proofs.Common.{Some, None, IsSome, Result, Ok, Err, refl, sym, ◌∙◌, ap, subst, arith}
+use Rattle.std.proofs.Common.{get_or, take, drop, drop-cons, add-one}
 use Rattle.std.specs.List.{flat_map, AllByRecursion}
 use Rattle.std.proofs.lemmas.List.{length-append, length-map, map-append, append_assoc, nil_from_length}
+use Rattle.std.proofs.lemmas.List.{take_more, take-append-drop}
+use Rattle.std.proofs.Math.ListN.{take_of_length-le}
 use Rattle.std.proofs.lemmas.Grind.{flat_map-append}
 use Rattle.ash_host.specs.declared.host_object.HostObject.{Ghosts}
 use Rattle.ash_requests.specs.Requests.{Request, Snapshot, Reply, Answered, Value, ShownAs, Number, Done, Refused}
@@ -296,3 +299,49 @@ module _ {B : Type 0} (G : Ghosts B) (budget : ℕ) (requests : List BatchReques
         );
         short = omega (arith, longs, was.short, was.count, fewer, few);
       }
+
+-- ---- the requests of a batch, one by one
+
+module _ {B : Type 0} (G : Ghosts B) (budget : ℕ) (requests : List BatchRequest) (live : LiveState B)
+    (run : BatchRun) (engine : EngineState B) (was : HasRun G budget requests live run engine) where
+  -- the engine has a live state
+  pub run_has : IsSome engine.live
+  run_has = subst (λ (l : Option (LiveState B)). IsSome l) (sym was.stepped.live_is) refl
+
+  -- no more are answered than there are
+  pub run_few : run.answered ≤ length requests
+  run_few =
+      let few : length was.answered ≤ length requests =
+      subst (λ (ls : List (LiveState B)). length ls ≤ length requests) was.stepped.answered_are
+      (few_answered G budget requests live (map batch_reply_seen run.replies.items) was.stepped.after
+      was.stepped.steps) in
+      omega (arith, few, was.count)
+
+module _ {Q B : Type 0} (G : Ghosts B) (budget : ℕ) (view : Q → BatchRequest) (live : LiveState B) (xs : List Q)
+    (i : ℕ) (d : Q) (there : i < length xs) where
+  -- one more of those that are taken
+  pub run_next : (run : BatchRun) (engine : EngineState B)
+      → HasRun G budget (map view (take i xs) ++ view (get_or xs i d) ∷ []) live run engine
+      → HasRun G budget (map view (take (i + 1) xs)) live run engine
+  run_next run engine ran =
+      subst (λ (rs : List BatchRequest). HasRun G budget rs live run engine)
+      (sym (map-append view (take i xs) (get_or xs i d ∷ []))
+      ∙ ap (λ (ys : List Q). map view ys) (sym (take_more xs i d there))) ran
+
+  -- of all of them
+  pub stops_at : (stop : BatchStop) (engine : EngineState B)
+      → StopsBatch G budget (map view (take i xs) ++ view (get_or xs i d) ∷ map view (drop (i + 1) xs)) live stop engine
+      → StopsBatch G budget (map view xs) live stop engine
+  stops_at stop engine stopped =
+      let cut : drop i xs ≡ get_or xs i d ∷ drop (i + 1) xs = rw add-one (drop-cons xs i d there) in
+      subst (λ (rs : List BatchRequest). StopsBatch G budget rs live stop engine)
+      (sym (map-append view (take i xs) (get_or xs i d ∷ drop (i + 1) xs))
+      ∙ ap (λ (ys : List Q). map view ys) (ap (λ (ys : List Q). take i xs ++ ys) (sym cut) ∙ take-append-drop i xs))
+      stopped
+
+-- all of them
+pub run_all : {Q B : Type 0} (G : Ghosts B) (budget : ℕ) (view : Q → BatchRequest) (live : LiveState B) (xs : List Q)
+    (i : ℕ) (run : BatchRun) (engine : EngineState B) → length xs ≤ i
+    → HasRun G budget (map view (take i xs)) live run engine → HasRun G budget (map view xs) live run engine
+run_all {Q} G budget view live xs i run engine past ran =
+    subst (λ (ys : List Q). HasRun G budget (map view ys) live run engine) (take_of_length-le xs past) ran

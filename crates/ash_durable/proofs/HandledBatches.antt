@@ -116,6 +116,11 @@ batch_no_room device G budget requests old refusal new runs made =
           (made.wanted known.0.durable running wants)
     ]
 
+-- what a batch gives whose record was to be stored
+abbrev pub given_unless : List BatchReply → Result (Unit {0}) HostRefusal → BatchResult
+given_unless replies (Ok done) = Ok replies
+given_unless replies (Err refusal) = Err (refusal_seen fault_of refusal)
+
 -- ---- a batch that has room
 
 module _ {D B : Type 0} (device : Device D) (G : Ghosts B) (budget : ℕ) (requests : List BatchRequest)
@@ -308,13 +313,8 @@ module _ {D B : Type 0} (device : Device D) (G : Ghosts B) (budget : ℕ) (reque
             registered = commit_registered (Err refusal) new committed;
           }
 
-      -- what a batch gives whose record was to be stored
-      abbrev pub given_unless : Result (Unit {0}) HostRefusal → BatchResult
-      given_unless (Ok done) = Ok replies
-      given_unless (Err refusal) = Err (refusal_seen fault_of refusal)
-
       pub batch_committed : (result : Result (Unit {0}) HostRefusal) (new : Hosted D B)
           → CommitsRecord device live.durable.state.seq body (host_in after journal) result new
-          → HandlesBatch device G budget requests old (given_unless result) new
+          → HandlesBatch device G budget requests old (given_unless replies result) new
       batch_committed (Ok done) new committed = batch_stored new committed
       batch_committed (Err refusal) new committed = batch_not_stored refusal new committed
