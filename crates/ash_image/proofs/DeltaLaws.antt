@@ -241,7 +241,7 @@ pub put_rises : (version : Version) (bytes : List ℕ) (x : Delta × List ℕ) �
     → do_rise (numbers x.0.put) ≡ true
 put_rises version bytes x ok e = ((parts_field version).takes bytes x ok e).1.put.order
 
-delta_field : (version : Version) → IsField delta (FitsDelta version) (delta_at version)
+pub delta_field : (version : Version) → IsField delta (FitsDelta version) (delta_at version)
 unfolding delta_at
 delta_field version =
     refit_field (checked_field (λ (d : Delta). are_apart d.gone (numbers d.put)) (parts_field version))

@@ -2,6 +2,7 @@ pub mod Appended
 pub mod BodyLaws
 pub mod DeltaLaws
 pub mod DeltaLengths
+pub mod DeltasLaws
 pub mod ExampleLaws
 pub mod FieldLaws
 pub mod FittingLaws

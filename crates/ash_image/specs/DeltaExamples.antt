@@ -38,3 +38,12 @@ changed_m = record {
 
 abbrev pub changed_m_body : List ℕ
 changed_m_body = 2 ∷ in8 2 ++ in8 1 ++ none2 ++ 3 ∷ 1 ∷ 109 ∷ 1 ∷ 0 ∷ none2 ++ 1 ∷ 1 ∷ 0 ∷ 0 ∷ 0 ∷ none4 ++ none4
+
+-- the module `m` is loaded in the first request and discarded in the second, in one record
+abbrev pub loaded_and_discarded : List Delta
+loaded_and_discarded = loaded_m ∷ discarded_m ∷ []
+
+abbrev pub loaded_and_discarded_body : List ℕ
+loaded_and_discarded_body =
+    3 ∷ 2 ∷ in8 1 ++ none8 ++ none2 ++ 1 ∷ 1 ∷ 109 ∷ none4 ++ none2 ++ none4 ++ none4
+    ++ in8 2 ++ none8 ++ none2 ++ 2 ∷ 1 ∷ 109 ∷ none4 ++ none4

@@ -9,9 +9,9 @@ pub mod SnapshotViews
 pub mod Rules
 pub mod Fitting
 pub mod Delta
-pub mod Deltas
 pub mod DeltaReading
 pub mod DeltaViews
+pub mod Deltas
 pub mod Leading
 pub mod NamedViews
 pub mod DeltaExamples

@@ -17,7 +17,7 @@
 //!     tag            u8     2, it leads from a state to the next
 //!     delta                 all of the bytes after the tag
 
-ghost use Rattle.std.specs.Prelude.{◌≡◌, ◌++◌, ◌<◌, ◌≤◌, ◌^◌, length, OnOk, IfOk, IfSome};
+ghost use Rattle.std.specs.Prelude.{◌≡◌, ◌++◌, ◌<◌, ◌≤◌, ◌-◌, ◌^◌, length, OnOk, IfOk, IfSome};
 ghost use Rattle.std.specs.Prelude.{ℕ, List, Some, option_map, IsTrue};
 ghost use Rattle.std.specs.List.{flat_map, AllByRecursion};
 ghost use Rattle.ash_host.specs.Limits.{max_objects};
@@ -26,7 +26,7 @@ ghost use Rattle.ash_image.specs.Fields.{ReturnsField, times_at, number_at, numb
 ghost use Rattle.ash_image.specs.Image.{do_rise, service};
 ghost use Rattle.ash_image.specs.ObjectBytes.{kind_and_state_at, FitsHost};
 ghost use Rattle.ash_image.specs.SnapshotViews.{services_of, objects_of};
-ghost use Rattle.ash_image.specs.Delta.{Delta, delta, delta_tag, are_apart, FitsDelta, IsDelta};
+ghost use Rattle.ash_image.specs.Delta.{Delta, delta, are_apart, FitsDelta, IsDelta};
 ghost use Rattle.ash_image.specs.Delta.{IsDeltaBody, FitServiceStates, FitNumbers};
 ghost use Rattle.ash_image.specs.DeltaReading.{service_states_at, gone_at, parts_at, delta_at};
 ghost use Rattle.ash_image.specs.DeltaViews.{service_state_of, service_states_of, delta_of};
@@ -49,7 +49,7 @@ use crate::version::Version;
 use std::alloc::{AllocError, Global};
 
 /// The tag of a record's body that is a delta.
-const DELTA_TAG: u8 = 2;
+pub const DELTA_TAG: u8 = 2;
 
 /// The state of a service, and its index.
 fn service_state_of(alloc: Global, bytes: &[u8]) -> Result<(StoredService, &[u8]), ReadError>
@@ -211,8 +211,9 @@ fn are_apart(alloc: Global, gone: &[u64], put: &[StoredObject]) -> Result<bool, 
     Ok(none_among(gone, &others))
 }
 
+/// A delta, and the bytes after it.
 #[tactic(auto, unfolding(crate::specs::DeltaReading::delta_at))]
-fn delta_of(
+pub(crate) fn delta_of(
     alloc: Global,
     version: Version,
     bytes: &[u8],
@@ -260,10 +261,13 @@ pub fn read_delta(
     }
 }
 
-/// Bytes are the spelling of one delta. This function does nothing when it runs.
+/// Bytes are the spelling of one delta. It is short, if no more objects are gone than live at most. This function does
+/// nothing when it runs.
 pub fn delta_of_one_request()
     ensures one { (bytes : List ℕ) (version : Version) (c d : Delta)
         → IsDelta bytes version c → IsDelta bytes version d → c ≡ d }
+    ensures short { (version : Version) (d : Delta) → FitsDelta version d
+        → length d.gone ≤ max_objects → length (delta d) ≤ 2 ^ 28 - 2 }
 {}
 
 /// Each of the states of services.
@@ -313,6 +317,7 @@ fn write_numbers(out: &mut Vec<u8>, numbers: &[u64]) -> Result<(), AllocError>
     write_each_number(out, numbers)
 }
 
+/// Appends the spelling of a delta, in version 2.
 fn write_delta_into(out: &mut Vec<u8>, parts: DeltaParts<'_>) -> Result<(), AllocError>
     requires fits { FitsDelta Two (delta_in parts) }
     ensures value { OnOk result (out.new.items ≡ out.old.items ++ delta (delta_in parts.entry)) }
@@ -323,6 +328,16 @@ fn write_delta_into(out: &mut Vec<u8>, parts: DeltaParts<'_>) -> Result<(), Allo
     write_change(out, parts.change)?;
     write_numbers(out, parts.gone)?;
     write_objects(out, parts.put)
+}
+
+/// Appends a delta, in version 2. Its memory is taken at once.
+pub fn append_delta(out: &mut Vec<u8>, parts: DeltaParts<'_>) -> Result<(), AllocError>
+    requires fits { FitsDelta Two (delta_in parts) }
+    ensures appended { OnOk result (out.new.items
+        ≡ out.old.items ++ delta (delta_in parts.entry)) }
+{
+    out.reserve(delta_length(parts))?;
+    write_delta_into(out, parts)
 }
 
 /// A delta, in version 2. Its memory is taken at once.

@@ -22,3 +22,6 @@ pub const MAX_GLOBALS: u16 = 256;
 
 /// The most members of a class, so many fields has an object at most.
 pub const MAX_CLASS_MEMBERS: u8 = 32;
+
+/// The most deltas of a record.
+pub const MAX_DELTAS: u8 = 16;
