@@ -7,22 +7,17 @@ use Rattle.ash_host.specs.declared.host_object.HostObject.{Ghosts}
 use Rattle.ash_requests.specs.Requests.{Request, Reply, Answered, Value, ShownAs, Number, Done, Refused}
 use Rattle.ash_requests.specs.StepLaws.{events_of_reply}
 use Rattle.ash_sources.specs.SourceFaults.{SourceFault}
-use Rattle.ash_sources.proofs.SourceLaws.{read_sound}
 use Rattle.ash_image.specs.declared.version.Version.TheVariants.{Two}
-use Rattle.ash_image.specs.Delta.{delta, delta_tag}
 use Rattle.ash_image.specs.Image.{FitsVersion}
 use Rattle.ash_image.specs.Leading.{LeadsTo}
-use Rattle.ash_states.specs.HostStates.{HostState, IsAdmitted, embedding_for, offered_to}
+use Rattle.ash_states.specs.HostStates.{HostState, IsAdmitted}
 use Rattle.ash_states.specs.Indexes.{snapshot_for}
-use Rattle.ash_states.proofs.SnapshotRules.{rules}
-use Rattle.ash_change_records.proofs.BodiesLead.{after_fits}
-use Rattle.ash_change_records.proofs.ChangesLead.{changes_lead}
-use Rattle.ash_replay.specs.ReplayedStates.{IsBodyBetween}
+use Rattle.ash_change_records.proofs.BodiesLead.{listed_lead_to}
+use Rattle.ash_replay.specs.ReplayedStates.{IsBodyBetween, AreDeltasTo}
 use Rattle.ash_replay.proofs.Adding.{fits_in}
 use Rattle.ash_engine.specs.LiveStates.{LiveState}
 use Rattle.ash_engine.specs.LiveSteps.{TakesStep, IsNoAnswer}
 use Rattle.ash_engine.specs.RecordedChanges.{delta_named}
-use Rattle.ash_durable.specs.DeltaChains.{AreDeltasTo, IsDeltasTo}
 use Rattle.ash_durable.specs.StoredStates.{HoldsState}
 use Rattle.ash_durable.specs.Batches.{BatchRequest, BatchReply, BatchSteps, NoneLeft, Bad, Step, answered_in}
 use Rattle.ash_durable.specs.Batches.{IsBodyOfBatch}
@@ -36,16 +31,8 @@ module _ {B : Type 0} (G : Ghosts B) (budget : ℕ) where
       → IsAdmitted live.durable → FitsVersion Two (snapshot_for live.durable)
       → LeadsTo Two (delta_named next) (snapshot_for live.durable) (snapshot_for next.durable)
   one_leads request live reply next stepped answered stored was fits =
-      let happened = events_of_reply reply in
-      let same = stepped.taken.registered in
-      let names = stepped.named answered in (
-        changes_lead next.changes happened live.durable next.durable was stored.admitted same names,
-        after_fits next.changes happened live.durable next.durable (delta_tag ∷ delta (delta_named next)) was
-            stored.admitted same names fits (stored.fits, refl),
-        rules (embedding_for (next.durable).registered) (offered_to (next.durable).registered)
-            (read_sound (next.durable).registered) (next.durable).state (stored.admitted).formed
-            (next.durable).registered,
-      )
+      listed_lead_to next.changes (events_of_reply reply) live.durable next.durable was stored.admitted
+      stepped.taken.registered (stepped.named answered) fits stored.fits
 
   chain : (requests : List BatchRequest) (live : LiveState B) (replies : List BatchReply) (after : LiveState B)
       (steps : BatchSteps G budget requests live replies after) → AllByRecursion MayBeStored (answered_in steps)

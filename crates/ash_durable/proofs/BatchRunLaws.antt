@@ -4,8 +4,7 @@ use Rattle.std.proofs.Common.{Some, None, IsSome, Result, Ok, Err, refl, sym, �
 use Rattle.std.proofs.Common.{get_or, take, drop, drop-cons, add-one}
 use Rattle.std.specs.List.{flat_map, AllByRecursion}
 use Rattle.std.proofs.lemmas.List.{length-append, length-map, map-append, append_assoc, nil_from_length}
-use Rattle.std.proofs.lemmas.List.{take_more, take-append-drop}
-use Rattle.std.proofs.Math.ListN.{take_of_length-le}
+use Rattle.std.proofs.lemmas.List.{take_all, take_more, take-append-drop}
 use Rattle.std.proofs.lemmas.Grind.{flat_map-append}
 use Rattle.ash_host.specs.declared.host_object.HostObject.{Ghosts}
 use Rattle.ash_requests.specs.Requests.{Request, Snapshot, Reply, Answered, Value, ShownAs, Number, Done, Refused}
@@ -344,4 +343,4 @@ pub run_all : {Q B : Type 0} (G : Ghosts B) (budget : ℕ) (view : Q → BatchRe
     (i : ℕ) (run : BatchRun) (engine : EngineState B) → length xs ≤ i
     → HasRun G budget (map view (take i xs)) live run engine → HasRun G budget (map view xs) live run engine
 run_all {Q} G budget view live xs i run engine past ran =
-    subst (λ (ys : List Q). HasRun G budget (map view ys) live run engine) (take_of_length-le xs past) ran
+    subst (λ (ys : List Q). HasRun G budget (map view ys) live run engine) (take_all i xs past) ran

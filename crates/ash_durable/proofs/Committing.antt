@@ -1,5 +1,5 @@
 -- A state in a journal, by what the journal's calls say of bytes.
-use Rattle.std.proofs.Common.{◌≡◌, inr, ℕ, ◌+◌, List, [], ◌∷◌, ◌++◌, length, Result, Ok, Err, OnOk, refl, sym, subst}
+use Rattle.std.proofs.Common.{◌≡◌, inl, inr, ℕ, ◌+◌, List, [], ◌∷◌, ◌++◌, length, Result, Ok, Err, OnOk, refl, sym, subst}
 use Rattle.ash_disk.specs.Device.{Device}
 use Rattle.ash_journal.specs.declared.journal.Journal.{Journal}
 use Rattle.ash_journal.specs.Current.{IsContents, HoldsOneOf}
@@ -151,11 +151,11 @@ module _ {D B : Type 0} (device : Device D) (live : LiveState B) (admitted : IsA
       → IsBodyBetween Two body before live.durable
   by_delta before is holds = record {
     registered = sym is.registered;
-    leads = inr (
+    leads = inr (inl (
       bodies_lead live.changes is.happened before live.durable body holds.is_state.depicts.admitted admitted
           (sym is.registered) is.names (fits_in Two before holds.contents holds.is_state holds.in_two) is_body,
       admitted,
-    );
+    ));
   }
 
   outcome_by : (result : Result (Unit {0}) HostRefusal) → AddsRecordWith device body old result new

@@ -5,11 +5,9 @@ ghost use Rattle.std.specs.Prelude.{option_map, IfErr, IfOk, IsSome, IsTrue, OnO
 ghost use Rattle.ash_requests.specs.Requests.{Done, Snapshot};
 ghost use Rattle.ash_requests.specs.RequestViews.{request_seen, reply_seen};
 ghost use Rattle.ash_sources.specs.SourceFaults.{fault_of};
-ghost use Rattle.ash_image.specs.declared.version.Version.TheVariants.{Two};
-ghost use Rattle.ash_image.specs.Delta.{delta, FitsDelta};
 ghost use Rattle.ash_image.specs.Deltas.{deltas_tag};
 ghost use Rattle.ash_engine.specs.LiveStates.{LiveState};
-ghost use Rattle.ash_engine.specs.RecordedChanges.{delta_named};
+ghost use Rattle.ash_engine.specs.RecordedChanges.{AppendsChanges};
 ghost use Rattle.ash_durable.specs.Batches.{Asked, BatchRequest, adding_request, max_batch};
 ghost use Rattle.ash_durable.specs.BatchViews.{batch_request_seen, batch_reply_seen};
 ghost use Rattle.ash_durable.specs.BatchRuns.{asked_seen, adding_one, IsAnswered, IsReplyOfBatch};
@@ -133,18 +131,6 @@ fn is_answered(reply: &BatchReply) -> bool
     matches!(reply, BatchReply::Answer(_))
 }
 
-/// Appends what the last request that was answered changed, as a delta.
-fn append_delta<B: HostObject>(engine: &Engine<B>, body: &mut Vec<u8>) -> Result<(), AllocError>
-    requires live { IsSome engine.now.live }
-    ensures appended { (live : LiveState B) → engine.now.live ≡ Some live → OnOk result (
-        (body.new.items ≡ body.old.items ++ delta (delta_named live))
-        × FitsDelta Two (delta_named live)) }
-    ensures short { OnOk result (length body.new.items ≤ length body.old.items + max_delta_bytes) }
-{
-    let delta = engine.delta_body()?;
-    body.extend_from_slice(&delta[1..])
-}
-
 impl BatchRun {
     ghost use Rattle.std.specs.Prelude.{◌≡◌, ℕ};
 
@@ -192,15 +178,14 @@ impl BatchRun {
         requires live { IsSome engine.now.live }
         requires few { self.old.answered < max_batch }
         ensures replies { self.new.replies ≡ self.old.replies }
-        ensures added { (live : LiveState B) → engine.now.live ≡ Some live → OnOk result (
-            (self.new.body.items ≡ self.old.body.items ++ delta (delta_named live))
-            × FitsDelta Two (delta_named live)) }
+        ensures added { (live : LiveState B) → engine.now.live ≡ Some live
+            → OnOk result (AppendsChanges live self.old.body.items self.new.body.items) }
         ensures short { OnOk result (length self.new.body.items
             ≤ length self.old.body.items + max_delta_bytes) }
         ensures answered { OnOk result (self.new.answered ≡ self.old.answered + 1) }
         ensures stop { IfErr result (λ stop. stop ≡ BatchStop.Lost) }
     {
-        match append_delta(engine, &mut self.body) {
+        match engine.append_delta(&mut self.body) {
             Ok(()) => {
                 self.answered += 1;
                 Ok(())
