@@ -1,7 +1,9 @@
+pub mod AddingRequests
 pub mod Answerers
 pub mod Answering
 pub mod BatchLaws
 pub mod BatchLeads
+pub mod BatchReplies
 pub mod BatchRunLaws
 pub mod BatchesSeen
 pub mod Changing
