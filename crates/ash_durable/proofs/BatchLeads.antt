@@ -13,7 +13,7 @@ use Rattle.ash_image.specs.Leading.{LeadsTo}
 use Rattle.ash_states.specs.HostStates.{HostState, IsAdmitted}
 use Rattle.ash_states.specs.Indexes.{snapshot_for}
 use Rattle.ash_change_records.proofs.BodiesLead.{listed_lead_to}
-use Rattle.ash_replay.specs.ReplayedStates.{IsBodyBetween, AreDeltasTo}
+use Rattle.ash_replay.specs.ReplayedStates.{IsBodyBetween, LeadHosts}
 use Rattle.ash_replay.proofs.Adding.{fits_in}
 use Rattle.ash_engine.specs.LiveStates.{LiveState}
 use Rattle.ash_engine.specs.LiveSteps.{TakesStep, IsNoAnswer}
@@ -37,7 +37,7 @@ module _ {B : Type 0} (G : Ghosts B) (budget : ℕ) where
   chain : (requests : List BatchRequest) (live : LiveState B) (replies : List BatchReply) (after : LiveState B)
       (steps : BatchSteps G budget requests live replies after) → AllByRecursion MayBeStored (answered_in steps)
       → IsAdmitted live.durable → FitsVersion Two (snapshot_for live.durable)
-      → AreDeltasTo Two (map delta_named (answered_in steps)) live.durable after.durable
+      → LeadHosts Two (map delta_named (answered_in steps)) live.durable after.durable
   unfolding answered_in
   chain _ _ _ _ (NoneLeft live) stored was fits = refl
   chain _ _ _ _ (Bad number requests live replies after steps) stored was fits =
@@ -46,14 +46,12 @@ module _ {B : Type 0} (G : Ghosts B) (budget : ℕ) where
       fits =
       let leads = one_leads request live (Answered end seq happened) next stepped (λ no. no) stored.0 was fits in (
         next.durable,
-        stepped.taken.registered,
-        leads,
-        stored.0.admitted,
+        record { registered = stepped.taken.registered; leads = leads; admitted = stored.0.admitted },
         chain requests next replies after steps stored.1 stored.0.admitted leads.1,
       )
   chain _ _ _ _ (Step request requests live reply next replies after stepped steps) stored was fits =
       let same : next ≡ live = stepped.unchanged tt in
-      subst (λ (l : LiveState B). AreDeltasTo Two (map delta_named (answered_in steps)) l.durable after.durable) same
+      subst (λ (l : LiveState B). LeadHosts Two (map delta_named (answered_in steps)) l.durable after.durable) same
       (chain requests next replies after steps stored
       (subst (λ (l : LiveState B). IsAdmitted l.durable) (sym same) was)
       (subst (λ (l : LiveState B). FitsVersion Two (snapshot_for l.durable)) (sym same) fits))
@@ -69,5 +67,10 @@ batch_leads device G budget requests live replies after steps stored body is_bod
     let chained = chain G budget requests live replies after steps stored holds.is_state.depicts.admitted fits in
     record {
       registered = batch_registered G budget requests live replies after steps;
-      leads = inr (inr (map delta_named (answered_in steps), is_body, chained));
+      leads = inr (inr (record {
+        in_two = refl;
+        changes = map delta_named (answered_in steps);
+        is_body = is_body;
+        lead = chained;
+      }));
     }
