@@ -94,7 +94,7 @@ fn a_batch_is_one_record(rt: HostRuntime) -> Result<(), Fail> {
 }
 
 /// A call, a look at what it changed, and a call of a function that is not there.
-static CALLED: [BatchRequest<'static>; 3] = [
+const CALLED: &[BatchRequest<'static>] = &[
     BatchRequest::Call {
         module: "m",
         function: "f",
@@ -118,7 +118,7 @@ type Row = (&'static [BatchRequest<'static>], &'static str);
 
 static ROWS: [Row; 3] = [
     (&[], ""),
-    (&CALLED, REPLIES),
+    (CALLED, REPLIES),
     (
         &[BatchRequest::Bad(601), BatchRequest::Seq, BatchRequest::Bad(602)],
         "refused 601\nok 2\nrefused 602\n",
@@ -144,7 +144,7 @@ const CALLS_BEFORE: u64 = 9 + 4;
 /// What a batch, and then an empty one, are replied if the first disk fails after so many calls.
 fn stopped(alloc: Global, host: &mut FusedHost) -> Result<(String, String), Fail> {
     need(alloc, load(host, SOURCE))?;
-    let replies = lines_of(alloc, handled(host, &CALLED))?;
+    let replies = lines_of(alloc, handled(host, CALLED))?;
     let nothing = lines_of(alloc, handled(host, &[]))?;
     Ok((replies, nothing))
 }
