@@ -1,5 +1,5 @@
 -- What a batch does to a host that is seen to have room, by how its requests ran over the engine.
-use Rattle.std.proofs.Common.{◌≡◌, ℕ, List, [], map, length, Option, Some, None, IsSome, Result, Ok, Err}
+use Rattle.std.proofs.Common.{◌≡◌, ℕ, List, [], ◌∷◌, map, length, Option, Some, None, IsSome, Result, Ok, Err}
 use Rattle.std.proofs.Common.{refl, sym, ◌∙◌, ap, subst, arith}
 use Rattle.std.proofs.lemmas.List.{nil_from_length}
 use Rattle.std.specs.List.{AllByRecursion}
@@ -23,6 +23,11 @@ use Rattle.ash_durable.proofs.BatchLeads.{batch_leads}
 use Rattle.ash_durable.proofs.HandledBatches.{batch_ran_out, batch_lost, batch_untouched, batch_committed, given_unless}
 use Rattle.ash_durable.proofs.HandledRequests.{seen_host, host_in, host_stopped, HasRegistered, seen_in}
 use Rattle.ash_durable.proofs.Handling.{FoundRoom}
+
+-- where nothing was asked there are no requests
+pub none_asked : {Q : Type 0} (view : Q → BatchRequest) (xs : List Q) → map view xs ≡ [] → xs ≡ []
+none_asked view [] none = refl
+none_asked view (x ∷ xs) none = absurd (cc)
 
 module _ {D B : Type 0} (device : Device D) (G : Ghosts B) (budget : ℕ) (requests : List BatchRequest)
     (stopped : Option ℕ) (seen later : EngineState B) (journal : Journal D) (old : Hosted D B)

@@ -86,8 +86,12 @@ impl<D: Disk, B: HostObject> Host<D, B> {
         self.facts();
         match self.stopped {
             Some(_) => Err(Refusal::Reopen),
-            None if requests.is_empty() => Ok(Vec::new(self.alloc)),
-            None => self.batch_running(requests, budget),
+            None => {
+                if requests.is_empty() {
+                    return Ok(Vec::new(self.alloc));
+                }
+                self.batch_running(requests, budget)
+            }
         }
     }
 }

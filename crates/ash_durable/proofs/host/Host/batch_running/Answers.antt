@@ -1,11 +1,11 @@
 use Rattle.std.proofs.Common.{Ok, Err, map, subst}
-use Rattle.std.proofs.lemmas.Bool.{eqb-true, eqb-false}
 use Rattle.std.proofs.lemmas.Result.{err_from_is_err_and}
 use Rattle.ash_requests.specs.Requests.{Request}
 use Rattle.ash_durable.specs.Batches.{adding_request}
 use Rattle.ash_durable.specs.BatchViews.{batch_request_seen}
 use Rattle.ash_durable.specs.HostRequests.{MakesRoom}
-use Rattle.ash_durable.proofs.BatchesSeen.{ran_out_seen, lost_seen, untouched_seen, committed_seen, ran_live, ran_room}
+use Rattle.ash_durable.proofs.BatchesSeen.{none_asked, ran_out_seen, lost_seen, untouched_seen, committed_seen}
+use Rattle.ash_durable.proofs.BatchesSeen.{ran_live, ran_room}
 use Rattle.ash_durable.proofs.HandledBatches.{batch_no_room}
 use Rattle.ash_durable.proofs.Handling.{found_room, found_live}
 use Rattle.ash_durable.proofs.host.Host.batch_running.Goals as goal
@@ -19,4 +19,50 @@ returns-in_err-make_room g c = record {
       c.in_err-make_room.field-0.0 c.make_room.new.self c.requires.live
       (subst (λ (r : Request). MakesRoom g.D.Disk r c.args.self.now (Err c.in_err-make_room.field-0.0)
       c.make_room.new.self) c.adding_request.ensures.value c.in_err-make_room.ensures.makes_room));
+}
+
+pub seq-seq-requires : goal.seq-seq-requires
+seq-seq-requires g c =
+    let requests = map batch_request_seen c.args.requests.now in
+    let made = subst (λ (r : Request). MakesRoom g.D.Disk r c.args.self.now (Ok tt) c.make_room.new.self)
+    c.adding_request.ensures.value c.in_ok-make_room.ensures.makes_room in
+    let found = found_room g.D.Disk (adding_request requests) c.self.inside.stopped c.self.inside.engine
+    c.self.inside.journal c.args.self.now c.make_room.new.self c.requires.live made c.self.view_is in
+    record { live = found_live found }
+
+pub run_batch-requires-clause-live : goal.run_batch-requires-clause-live
+run_batch-requires-clause-live g c =
+    let requests = map batch_request_seen c.args.requests.now in
+    let made = subst (λ (r : Request). MakesRoom g.D.Disk r c.args.self.now (Ok tt) c.make_room.new.self)
+    c.adding_request.ensures.value c.in_ok-make_room.ensures.makes_room in
+    let found = found_room g.D.Disk (adding_request requests) c.self.inside.stopped c.self.inside.engine
+    c.self.inside.journal c.args.self.now c.make_room.new.self c.requires.live made c.self.view_is in
+    found_live found
+
+pub returns-in-Err-Unchanged : goal.returns-in-Err-Unchanged
+returns-in-Err-Unchanged g c = record {
+  handled =
+      let requests = map batch_request_seen c.args.requests.now in
+      let made = subst (λ (r : Request). MakesRoom g.D.Disk r c.args.self.now (Ok tt) c.make_room.new.self)
+      c.adding_request.ensures.value c.in_ok-make_room.ensures.makes_room in
+      let found = found_room g.D.Disk (adding_request requests) c.self.inside.stopped c.self.inside.engine
+      c.self.inside.journal c.args.self.now c.make_room.new.self c.requires.live made c.self.view_is in
+      let runs = rw c.in-Err-Unchanged.field-0-is at c.in-Err-Unchanged.ensures.runs found.live found.live_is in
+      ran_out_seen g.D.Disk g.B.HostObject c.args.budget requests c.self.inside.stopped c.self.inside.engine
+      c.run_batch.new.engine c.self.inside.journal c.args.self.now found c.in-Err-Unchanged.ensures.registered runs
+      (λ none. c.requires.some (none_asked batch_request_seen c.args.requests.now none));
+}
+
+pub returns-in-Err-Lost : goal.returns-in-Err-Lost
+returns-in-Err-Lost g c = record {
+  handled =
+      let requests = map batch_request_seen c.args.requests.now in
+      let made = subst (λ (r : Request). MakesRoom g.D.Disk r c.args.self.now (Ok tt) c.make_room.new.self)
+      c.adding_request.ensures.value c.in_ok-make_room.ensures.makes_room in
+      let found = found_room g.D.Disk (adding_request requests) c.self.inside.stopped c.self.inside.engine
+      c.self.inside.journal c.args.self.now c.make_room.new.self c.requires.live made c.self.view_is in
+      let runs = rw c.in-Err-Lost.field-0-is at c.in-Err-Lost.ensures.runs found.live found.live_is in
+      lost_seen g.D.Disk g.B.HostObject c.args.budget requests c.self.inside.stopped c.self.inside.engine
+      c.run_batch.new.engine c.self.inside.journal c.args.self.now found c.in-Err-Lost.ensures.registered
+      c.seq-seq.result (c.seq-seq.ensures.number found.live found.live_is) runs;
 }
