@@ -1,6 +1,6 @@
 -- The first request of a batch that may add a record.
-use Rattle.std.proofs.Common.{◌≡◌, ℕ, ◌+◌, ◌<◌, ◌≤◌, List, [], ◌∷◌, map, length, get_or, drop, drop-cons, add-one, Option}
-use Rattle.std.proofs.Common.{Some, None, refl, sym, ◌∙◌, ap}
+use Rattle.std.proofs.Common.{◌≡◌, ℕ, ◌+◌, ◌<◌, ◌≤◌, List, [], ◌∷◌, map, length, get_or, drop, drop-cons}
+use Rattle.std.proofs.Common.{add-one, Option, Some, None, refl, sym, ◌∙◌, ap}
 use Rattle.std.proofs.Math.ListN.{drop_of_length-le}
 use Rattle.ash_requests.specs.Requests.{Request, Load, Call, Discard, Get, Object, Seq, Snapshot}
 use Rattle.ash_durable.specs.Batches.{BatchRequest, Asked, BadRequest, adding_request}

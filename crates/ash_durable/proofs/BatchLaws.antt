@@ -1,19 +1,15 @@
 -- The steps of a batch: one after the other, what was answered, and where the deltas of the answered ones lead.
-use Rattle.std.proofs.Common.{◌≡◌, ◌⊎◌, inl, inr, ℕ, ◌≤◌, ◌+◌, List, [], ◌∷◌, ◌++◌, length, map, refl, sym, ◌∙◌, ap, subst}
-use Rattle.std.proofs.Common.{arith}
-use Rattle.std.specs.List.{AllByRecursion}
+use Rattle.std.proofs.Common.{◌≡◌, inl, ℕ, ◌≤◌, ◌+◌, List, [], ◌∷◌, ◌++◌, length, refl, ◌∙◌, ap, arith}
 use Rattle.ash_host.specs.declared.host_object.HostObject.{Ghosts}
-use Rattle.ash_requests.specs.Requests.{Request, Load, Call, Discard, Get, Object, Seq, Snapshot, Reply, Answered, Value}
-use Rattle.ash_requests.specs.Requests.{ShownAs, Number, Done, Refused}
-use Rattle.ash_requests.specs.StepLaws.{events_of_reply}
+use Rattle.ash_requests.specs.Requests.{Request, Load, Call, Discard, Get, Object, Seq, Snapshot, Reply, Answered}
+use Rattle.ash_requests.specs.Requests.{Value, ShownAs, Number, Done, Refused}
 use Rattle.ash_sources.specs.SourceFaults.{SourceFault}
-use Rattle.ash_registry.specs.AcceptedRegistrations.{Registration}
 use Rattle.ash_engine.specs.LiveStates.{LiveState}
 use Rattle.ash_engine.specs.LiveSteps.{TakesStep}
 use Rattle.ash_durable.specs.Hosting.{MayAdd}
 use Rattle.ash_durable.specs.Batches.{BatchRequest, Asked, BadRequest, BatchReply, Replied, RefusedBad}
 use Rattle.ash_durable.specs.Batches.{BatchSteps, NoneLeft, Bad, Step, after_answer, answered_in, adding_request}
-use Rattle.ash_durable.specs.BatchRuns.{answered_by, adding_one}
+use Rattle.ash_durable.specs.BatchRuns.{answered_by}
 use Rattle.ash_durable.proofs.Changing.{change_may_add}
 
 module _ {B : Type 0} (G : Ghosts B) (budget : ℕ) where

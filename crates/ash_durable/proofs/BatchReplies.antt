@@ -137,6 +137,7 @@ pub tried_delta : {B : Type 0} (live : LiveState B) (given : code_batch.BatchRep
     (stop : BatchStop) → IsAnswered (batch_reply_seen given) → stop ≡ stops.Lost
     → TriesReply live (batch_reply_seen given) old (Err stop) new
 tried_delta {B} live given old new stop answers is =
-    subst (λ (s : BatchStop). IsStopAfter (old.answered + length (answered_by (batch_reply_seen given) live)) s) (sym is)
+    subst (λ (s : BatchStop). IsStopAfter (old.answered + length (answered_by (batch_reply_seen given) live)) s)
+    (sym is)
     (subst (λ (xs : List (LiveState B)). IsStopAfter (old.answered + length xs) stops.Lost)
     (sym (is_one (batch_reply_seen given) live answers)) (λ none. omega (arith, none)))

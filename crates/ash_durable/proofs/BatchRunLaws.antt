@@ -140,7 +140,8 @@ module _ {B : Type 0} (G : Ghosts B) (budget : ℕ) where
         (admitted : IsAdmitted next.durable) where
       more : HaveStepped G budget (done ++ request ∷ []) live (map batch_reply_seen old.replies.items ++ reply ∷ [])
           (was.answered ++ answered_by reply next) later
-      more = stepped_more (map batch_reply_seen old.replies.items) was.answered engine later reply next was.stepped one is
+      more = stepped_more (map batch_reply_seen old.replies.items) was.answered engine later reply next was.stepped one
+          is
 
       -- the replies and the body go on
       run_more : AddsReply next reply old new → HasRun G budget (done ++ request ∷ []) live new later

@@ -7,12 +7,12 @@ use Rattle.ash_disk.specs.Device.{Device}
 use Rattle.ash_journal.specs.declared.journal.Journal.{Journal}
 use Rattle.ash_host.specs.declared.host_object.HostObject.{Ghosts}
 use Rattle.ash_registry.specs.AcceptedRegistrations.{Registration}
-use Rattle.ash_requests.specs.Requests.{Request, NoMemory}
+use Rattle.ash_requests.specs.Requests.{Reopen, NoMemory}
 use Rattle.ash_states.specs.HostStates.{HostState}
 use Rattle.ash_engine.specs.LiveStates.{LiveState, EngineState}
 use Rattle.ash_durable.specs.declared.batching.BatchRun.{BatchRun}
 use Rattle.ash_durable.specs.Saving.{HostRefusal}
-use Rattle.ash_durable.specs.Hosting.{Hosted, live_unless, IsFull, IsSound}
+use Rattle.ash_durable.specs.Hosting.{Hosted, live_unless, IsRunning, IsFull, IsSound}
 use Rattle.ash_durable.specs.HostRequests.{MakesRoom, CommitsRecord}
 use Rattle.ash_durable.specs.Batches.{BatchRequest, BatchReply, answered_in, adding_request, IsBodyOfBatch}
 use Rattle.ash_durable.specs.Batches.{HasBegunToChange, HandlesBatch}
@@ -20,6 +20,7 @@ use Rattle.ash_durable.specs.BatchViews.{batch_reply_seen}
 use Rattle.ash_durable.specs.BatchRuns.{HasRunWhole, MayBeStored}
 use Rattle.ash_durable.proofs.BatchLaws.{answered_may_add}
 use Rattle.ash_durable.proofs.BatchLeads.{batch_leads}
+use Rattle.ash_durable.proofs.HandledBatches.{batch_of_stopped, batch_of_none}
 use Rattle.ash_durable.proofs.HandledBatches.{batch_ran_out, batch_lost, batch_untouched, batch_committed, given_unless}
 use Rattle.ash_durable.proofs.HandledRequests.{seen_host, host_in, host_stopped, HasRegistered, seen_in}
 use Rattle.ash_durable.proofs.Handling.{FoundRoom}
@@ -28,6 +29,27 @@ use Rattle.ash_durable.proofs.Handling.{FoundRoom}
 pub none_asked : {Q : Type 0} (view : Q → BatchRequest) (xs : List Q) → map view xs ≡ [] → xs ≡ []
 none_asked view [] none = refl
 none_asked view (x ∷ xs) none = absurd (cc)
+
+-- a host that is seen to be stopped refuses each batch
+pub stopped_seen : {D B : Type 0} (device : Device D) (G : Ghosts B) (budget : ℕ) (requests : List BatchRequest)
+    (stopped : Option ℕ) (engine : EngineState B) (journal : Journal D) (host : Hosted D B) (seq : ℕ)
+    → stopped ≡ Some seq → seen_host stopped engine journal ≡ host
+    → HandlesBatch device G budget requests host (Err Reopen) host
+stopped_seen device G budget requests None engine journal host seq stops seen = absurd (cc)
+stopped_seen {D} {B} device G budget requests (Some n) engine journal host seq stops seen =
+    subst (λ (h : Hosted D B). HandlesBatch device G budget requests h (Err Reopen) h) seen
+    (batch_of_stopped device G budget requests (seen_host (Some n) engine journal) refl)
+
+-- one that runs has nothing to do if nothing was asked
+pub none_seen : {D B Q A : Type 0} (device : Device D) (G : Ghosts B) (budget : ℕ) (view : Q → BatchRequest)
+    (replied : A → BatchReply) (xs : List Q) (rs : List A) (live : LiveState B) (host : Hosted D B) → xs ≡ [] → rs ≡ []
+    → host.live ≡ Some live → IsRunning live.durable host
+    → HandlesBatch device G budget (map view xs) host (Ok (map replied rs)) host
+none_seen {D} {B} {Q} {A} device G budget view replied xs rs live host no_requests no_replies is runs =
+    subst (λ (ys : List Q). HandlesBatch device G budget (map view ys) host (Ok (map replied rs)) host)
+    (sym no_requests)
+    (subst (λ (ys : List A). HandlesBatch device G budget [] host (Ok (map replied ys)) host) (sym no_replies)
+    (batch_of_none device G budget live host is runs))
 
 module _ {D B : Type 0} (device : Device D) (G : Ghosts B) (budget : ℕ) (requests : List BatchRequest)
     (stopped : Option ℕ) (seen later : EngineState B) (journal : Journal D) (old : Hosted D B)

@@ -1,5 +1,6 @@
 -- A state in a journal, by what the journal's calls say of bytes.
-use Rattle.std.proofs.Common.{◌≡◌, inl, inr, ℕ, ◌+◌, List, [], ◌∷◌, ◌++◌, length, Result, Ok, Err, OnOk, refl, sym, subst}
+use Rattle.std.proofs.Common.{◌≡◌, inl, inr, ℕ, ◌+◌, List, [], ◌∷◌, ◌++◌, length, Result, Ok, Err, OnOk}
+use Rattle.std.proofs.Common.{refl, sym, subst}
 use Rattle.ash_disk.specs.Device.{Device}
 use Rattle.ash_journal.specs.declared.journal.Journal.{Journal}
 use Rattle.ash_journal.specs.Current.{IsContents, HoldsOneOf}
@@ -10,7 +11,8 @@ use Rattle.ash_journal.specs.SettledSince.{HoldsSince, Extends}
 use Rattle.ash_states.specs.HostStates.{HostState, IsAdmitted}
 use Rattle.ash_requests.specs.declared.refusal.Refusal.TheVariants as the
 use Rattle.ash_replay.specs.ReplayFaults.{record_header_size}
-use Rattle.ash_durable.specs.Saving.{HostRefusal, AddsRecordWith, AddsRecord, AddsWith, Adds, Installs, IsBefore, last_generation}
+use Rattle.ash_durable.specs.Saving.{HostRefusal, AddsRecordWith, AddsRecord, AddsWith, Adds, Installs, IsBefore}
+use Rattle.ash_durable.specs.Saving.{last_generation}
 use Rattle.ash_image.specs.declared.version.Version.TheVariants.{Two}
 use Rattle.ash_states.specs.Images.{IsImageIn}
 use Rattle.ash_durable.specs.StoredStates.{HoldsState, ExtendsHistory, BeginsAnew}

@@ -1,6 +1,6 @@
 -- How the requests of a batch run over an engine, before anything is stored.
-use Rattle.std.specs.Prelude.{◌≡◌, ℕ, ◌+◌, ◌-◌, ◌*◌, ◌^◌, ◌≤◌, ◌<◌, List, [], ◌∷◌, ◌++◌, length, map, Option, Some, None}
-use Rattle.std.specs.Prelude.{Result, Ok, Err}
+use Rattle.std.specs.Prelude.{◌≡◌, ℕ, ◌+◌, ◌-◌, ◌*◌, ◌^◌, ◌≤◌, ◌<◌, List, [], ◌∷◌, ◌++◌, length, map}
+use Rattle.std.specs.Prelude.{Option, Some, None, Result, Ok, Err}
 use Rattle.std.specs.List.{flat_map, AllByRecursion}
 use Rattle.ash_host.specs.declared.host_object.HostObject.{Ghosts}
 use Rattle.ash_requests.specs.Requests.{Request, Load, Call, Discard, Reply, Refused, NoMemory}
@@ -112,6 +112,13 @@ RunsRequest G budget done live request (Ok ran) run engine =
     HasRun G budget (done ++ request ∷ []) live run engine
 RunsRequest G budget done live request (Err stop) run engine =
     (rest : List BatchRequest) → StopsBatch G budget (done ++ request ∷ rest) live stop engine
+
+-- the same, whatever requests ran before from whatever live state
+abbrev pub RunsNext : {B : Type 0} → Ghosts B → ℕ → BatchRequest → BatchRun → EngineState B
+    → Result (Unit {0}) BatchStop → BatchRun → EngineState B → Type 0
+RunsNext {B} G budget request old engine result new later =
+    (live : LiveState B) (done : List BatchRequest) → HasRun G budget done live old engine
+    → RunsRequest G budget done live request result new later
 
 -- what came of all requests of a batch
 abbrev pub RunsBatch : {B : Type 0} → Ghosts B → ℕ → List BatchRequest → LiveState B → Result BatchRun BatchStop

@@ -8,10 +8,10 @@ ghost use Rattle.ash_sources.specs.SourceFaults.{fault_of};
 ghost use Rattle.ash_image.specs.Deltas.{deltas_tag};
 ghost use Rattle.ash_engine.specs.LiveStates.{LiveState};
 ghost use Rattle.ash_engine.specs.RecordedChanges.{AppendsChanges};
-ghost use Rattle.ash_durable.specs.Batches.{Asked, BatchRequest, adding_request, max_batch};
+ghost use Rattle.ash_durable.specs.Batches.{Asked, adding_request, max_batch};
 ghost use Rattle.ash_durable.specs.BatchViews.{batch_request_seen, batch_reply_seen};
 ghost use Rattle.ash_durable.specs.BatchRuns.{asked_seen, adding_one, IsAnswered, IsReplyOfBatch};
-ghost use Rattle.ash_durable.specs.BatchRuns.{IsStopAfter, TriesReply, HasRun, RunsRequest, RunsBatch};
+ghost use Rattle.ash_durable.specs.BatchRuns.{IsStopAfter, TriesReply, RunsNext, RunsBatch};
 ghost use Rattle.ash_durable.specs.BatchRuns.{max_delta_bytes};
 
 use crate::batch::{BatchRefusal, BatchReply, BatchRequest};
@@ -219,10 +219,8 @@ impl BatchRun {
         requires few { self.old.answered < max_batch }
         requires no_snapshot { request_seen request.now ≡ Snapshot → ⊥ }
         ensures registered { engine.new.registered ≡ engine.old.registered }
-        ensures runs { (live : LiveState B) (done : List BatchRequest)
-            → HasRun B.HostObject budget done live self.old engine.old
-            → RunsRequest B.HostObject budget done live (Asked (request_seen request.now)) result
-            self.new engine.new }
+        ensures runs { RunsNext B.HostObject budget (Asked (request_seen request.now)) self.old
+            engine.old result self.new engine.new }
     {
         let reply = match engine.handle(request, budget) {
             Ok(reply) => reply,
@@ -246,10 +244,8 @@ impl BatchRun {
         requires live { IsSome engine.old.live }
         requires few { self.old.answered < max_batch }
         ensures registered { engine.new.registered ≡ engine.old.registered }
-        ensures runs { (live : LiveState B) (done : List BatchRequest)
-            → HasRun B.HostObject budget done live self.old engine.old
-            → RunsRequest B.HostObject budget done live (batch_request_seen request.now) result
-            self.new engine.new }
+        ensures runs { RunsNext B.HostObject budget (batch_request_seen request.now) self.old
+            engine.old result self.new engine.new }
     {
         engine.facts();
         match asked(request) {

@@ -31,8 +31,8 @@ returns-in-Err-NoMemory g c = record {
       });
 }
 
-pub returns : goal.returns
-returns g c = record {
+pub returns-in-Err-DeviceFailed : goal.returns-in-Err-DeviceFailed
+returns-in-Err-DeviceFailed g c = record {
   adds =
       let said = c.in-Err-DeviceFailed.ensures in
       let is_failed = ap (λ (e : AppendError). Err e) c.in-Err-DeviceFailed.field-0-is in
