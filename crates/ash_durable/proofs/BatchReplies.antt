@@ -46,12 +46,12 @@ is_none (RefusedBad number) live not = refl
 -- ---- deltas
 
 -- A batch that runs has these deltas more.
-record HasDeltas {B : Type 0} (ls : List (LiveState B)) (old new : BatchRun) : Type 0 where
-  replies : new.replies ≡ old.replies
-  body : new.body.items ≡ old.body.items ++ flat_map delta (map delta_named ls)
-  fits : AllByRecursion (λ (l : LiveState B). FitsDelta Two (delta_named l)) ls
-  count : new.answered ≡ old.answered + length ls
-  short : length new.body.items ≤ length old.body.items + length ls * max_delta_bytes
+pub record HasDeltas {B : Type 0} (ls : List (LiveState B)) (old new : BatchRun) : Type 0 where
+  pub replies : new.replies ≡ old.replies
+  pub body : new.body.items ≡ old.body.items ++ flat_map delta (map delta_named ls)
+  pub fits : AllByRecursion (λ (l : LiveState B). FitsDelta Two (delta_named l)) ls
+  pub count : new.answered ≡ old.answered + length ls
+  pub short : length new.body.items ≤ length old.body.items + length ls * max_delta_bytes
 
 no_delta : {B : Type 0} (run : BatchRun) → HasDeltas {B = B} [] run run
 no_delta run = record {

@@ -12,7 +12,7 @@ use Rattle.ash_states.specs.HostStates.{HostState}
 use Rattle.ash_engine.specs.LiveStates.{LiveState, EngineState}
 use Rattle.ash_durable.specs.declared.batching.BatchRun.{BatchRun}
 use Rattle.ash_durable.specs.Saving.{HostRefusal}
-use Rattle.ash_durable.specs.Hosting.{Hosted, live_unless, IsRunning, IsFull, IsSound}
+use Rattle.ash_durable.specs.Hosting.{Hosted, live_unless, IsReadyUnless, IsRunning, IsFull, IsSound}
 use Rattle.ash_durable.specs.HostRequests.{MakesRoom, CommitsRecord}
 use Rattle.ash_durable.specs.Batches.{BatchRequest, BatchReply, answered_in, adding_request, IsBodyOfBatch}
 use Rattle.ash_durable.specs.Batches.{HasBegunToChange, HandlesBatch}
@@ -39,6 +39,16 @@ stopped_seen device G budget requests None engine journal host seq stops seen = 
 stopped_seen {D} {B} device G budget requests (Some n) engine journal host seq stops seen =
     subst (λ (h : Hosted D B). HandlesBatch device G budget requests h (Err Reopen) h) seen
     (batch_of_stopped device G budget requests (seen_host (Some n) engine journal) refl)
+
+-- one that may write on may still do so with another live state
+pub still_ready : {D B : Type 0} (stopped : Option ℕ) (was later : Option (LiveState B)) (journal : Journal D)
+    → IsReadyUnless stopped was journal → IsSome later → IsReadyUnless stopped later journal
+still_ready None was later journal ready has = (has, ready.1)
+still_ready (Some seq) was later journal ready has = tt
+
+-- an engine that is known to have a live state
+pub known_has : {B : Type 0} (known : Option (LiveState B)) (live : LiveState B) → known ≡ Some live → IsSome known
+known_has {B} known live is = subst (λ (l : Option (LiveState B)). IsSome l) (sym is) refl
 
 -- one that runs has nothing to do if nothing was asked
 pub none_seen : {D B Q A : Type 0} (device : Device D) (G : Ghosts B) (budget : ℕ) (view : Q → BatchRequest)

@@ -74,8 +74,9 @@ pub fn adding_request<'a>(requests: &[BatchRequest<'a>]) -> Request<'a>
     ensures value { request_seen result ≡ adding_request (map batch_request_seen requests.now) }
 {
     for request in requests {
-        if let Some(request) = adding(request) {
-            return request;
+        match adding(request) {
+            Some(request) => return request,
+            None => {}
         }
     }
     Request::Seq

@@ -13,3 +13,13 @@ returns-in-Some g c = record {
       c.self.inside.stopped c.self.inside.engine c.self.inside.journal c.args.self.now c.in-Some.field-0 c.in-Some.is
       c.self.view_is;
 }
+
+pub returns-then-is_empty : goal.returns-then-is_empty
+returns-then-is_empty g c = record {
+  handled =
+      let some = seen_some c.self.inside.stopped c.self.inside.engine c.self.inside.journal c.args.self.now
+      c.in-None.is c.self.invariant c.self.view_is in
+      none_seen g.D.Disk g.B.HostObject c.args.budget batch_request_seen batch_reply_seen c.args.requests.now
+      c.new.result.items some.0 c.args.self.now
+      (nil_from_length c.args.requests.now ?) c.new.ensures.items some.2 (c.facts.ensures.runs some.0 some.2);
+}
