@@ -1,4 +1,5 @@
--- The body of a record that lists what a request changed leads to a state that has an image, if the state before it has one.
+-- The delta that lists what a request changed, and the body of a record that has it, lead to a state that has an image, if
+-- the state before it has one.
 use Rattle.std.proofs.Common.{◌≡◌, ◌<◌, ◌^◌, ℕ, Bool, true, false, cond, List, [], ◌∷◌, length, map, zip, nat_eq, refl, sym, ap, ◌∙◌, subst, arith}
 use Rattle.std.specs.Prelude.{Option, Some, None, Contains}
 use Rattle.std.specs.List.{AllByRecursion}
@@ -15,7 +16,7 @@ use Rattle.ash_sources.proofs.SourceLaws.{read_sound}
 use Rattle.ash_image.specs.declared.version.Version.TheVariants.{Two}
 use Rattle.ash_image.specs.ObjectBytes.{FitsHost, FitsPlain}
 use Rattle.ash_image.specs.Image.{FitsText, FitsObject, FitsVersion}
-use Rattle.ash_image.specs.Delta.{delta}
+use Rattle.ash_image.specs.Delta.{delta, FitsDelta}
 use Rattle.ash_states.specs.HostStates.{HostState, IsAdmitted, service_kinds, embedding_for, offered_to}
 use Rattle.ash_states.specs.Indexes.{snapshot_for, index_in, plain_indexed, entry_indexed, HasKind, HaveKinds, HaveServiceKinds}
 use Rattle.ash_states.proofs.Lists.{all_more, all_map, each_at}
@@ -24,7 +25,7 @@ use Rattle.ash_states.proofs.Fitting.{fields_indexed}
 use Rattle.ash_states.proofs.Depicted.{snapshot_fits}
 use Rattle.ash_states.proofs.SnapshotRules.{rules}
 use Rattle.ash_change_laws.specs.ChangedStates.{Changes, Names}
-use Rattle.ash_change_records.specs.ListedChanges.{changes_listed, IsBodyListing, BodiesLead}
+use Rattle.ash_change_records.specs.ListedChanges.{changes_listed, ListedChangesLeadTo, BodiesLead}
 use Rattle.ash_change_records.proofs.Listing.{at_listed}
 use Rattle.ash_change_records.proofs.ChangesLead.{changes_lead}
 
@@ -75,9 +76,9 @@ at_indexed s n o at =
     at_renamed (plain_indexed (index_in (s.state).modules)) (fields_indexed (index_in (s.state).modules)) n (s.state).objects
     ∙ ap (option_map (plain_indexed (index_in (s.state).modules))) at
 
-module _ (c : Changes) (happened : List Event) (before after : HostState) (body : List ℕ) (was : IsAdmitted before) (is : IsAdmitted after)
+module _ (c : Changes) (happened : List Event) (before after : HostState) (was : IsAdmitted before) (is : IsAdmitted after)
     (same : after.registered ≡ before.registered) (h : Names c happened before.state after.state)
-    (fits : FitsVersion Two (snapshot_for before)) (written : IsBodyListing c after body) where
+    (fits : FitsVersion Two (snapshot_for before)) (spelled : FitsDelta Two (changes_listed c after)) where
   abbrev index : List ℕ → ℕ
   index = index_in (after.state).modules
 
@@ -90,7 +91,7 @@ module _ (c : Changes) (happened : List Event) (before after : HostState) (body 
           at_listed (λ n. object_at n (snapshot_for after).objects) e.0 c.living
           ∙ ap (λ (b : Bool). cond b (object_at e.0 (snapshot_for after).objects) None) living
           ∙ at_indexed after e.0 e.1 at in
-          has_kind (plain_indexed index e.1) (at_holds (FitsObject Two) (changes_listed c after).put ((written.0).put).each e.0 (plain_indexed index e.1) put).fits
+          has_kind (plain_indexed index e.1) (at_holds (FitsObject Two) (changes_listed c after).put (spelled.put).each e.0 (plain_indexed index e.1) put).fits
       by false living true gone =
           let none : Some e.1 ≡ None = sym at ∙ (h.went e.0 (is_among_says e.0 c.gone gone)).1 in
           absurd (cc)
@@ -116,15 +117,18 @@ module _ (c : Changes) (happened : List Event) (before after : HostState) (body 
       (firsts_fit (service_kinds before.registered) (before.state).services was.served (fits.services).each))
       kinds
 
+pub listed_lead_to : ListedChangesLeadTo
+listed_lead_to c happened before after was is same h fits spelled = (
+  changes_lead c happened before after was is same h,
+  after_fits c happened before after was is same h fits spelled,
+  rules (embedding_for after.registered) (offered_to after.registered) (read_sound after.registered) after.state is.formed after.registered,
+)
+
 pub bodies_lead : BodiesLead
 bodies_lead c happened before after body was is same h fits written = (
   delta (changes_listed c after),
   changes_listed c after,
   written.1,
   (written.0, refl),
-  (
-    changes_lead c happened before after was is same h,
-    after_fits c happened before after body was is same h fits written,
-    rules (embedding_for after.registered) (offered_to after.registered) (read_sound after.registered) after.state is.formed after.registered,
-  ),
+  listed_lead_to c happened before after was is same h fits written.0,
 )

@@ -1,5 +1,5 @@
 -- What a request changed, as a delta: what the names of its changes name, as it is in the state after the request.
-use Rattle.std.specs.Prelude.{◌≡◌, ◌≤◌, ◌<◌, ◌^◌, ℕ, List, Option, slice_get, length, Contains, ⊤}
+use Rattle.std.specs.Prelude.{◌≡◌, ◌≤◌, ◌<◌, ◌^◌, ◌++◌, ℕ, List, Option, slice_get, length, Contains, ⊤}
 use Rattle.std.specs.Bool.{IsTrue}
 use Rattle.std.specs.List.{filter_map, AllByRecursion}
 use Rattle.std.specs.List.Sorted.{IsStrictlyIncreasing}
@@ -10,12 +10,13 @@ use Rattle.ash_host.specs.Objects.{object_at}
 use Rattle.ash_image.specs.declared.version.Version.TheVariants.{Two}
 use Rattle.ash_image.specs.Image.{is_module_name, FitsVersion}
 use Rattle.ash_image.specs.Snapshots.{Loaded}
-use Rattle.ash_image.specs.Delta.{ModuleChange, Unchanged, Added, Removed, Globals, Delta, IsDeltaBody}
+use Rattle.ash_image.specs.Delta.{ModuleChange, Unchanged, Added, Removed, Globals, Delta, delta, FitsDelta}
+use Rattle.ash_image.specs.Delta.{IsDeltaBody}
 use Rattle.ash_states.specs.HostStates.{HostState, IsAdmitted}
 use Rattle.ash_states.specs.Indexes.{snapshot_for}
 use Rattle.ash_change_laws.specs.ChangedStates as changed
 use Rattle.ash_change_laws.specs.ChangedStates.{Changes, Names}
-use Rattle.ash_image.specs.Leading.{module_named, named, Leads, IsDeltaBetween}
+use Rattle.ash_image.specs.Leading.{module_named, named, Leads, LeadsTo, IsDeltaBetween}
 
 -- what there is at each of these numbers, with the number; of a number at which there is nothing, nothing
 abbrev pub listed : {A : Type 0} → (ℕ → Option A) → List ℕ → List (ℕ × A)
@@ -45,6 +46,13 @@ changes_listed c after = record {
 abbrev pub IsBodyListing : Changes → HostState → List ℕ → Type 0
 IsBodyListing c after body = IsDeltaBody body Two (changes_listed c after)
 
+-- The delta of what the names name is appended to bytes, in its one spelling in version 2. It is short, since no more
+-- objects are gone than live at most.
+pub record AppendsListing (c : Changes) (after : HostState) (old new : List ℕ) : Type 0 where
+  pub fits : FitsDelta Two (changes_listed c after)
+  pub few : length c.gone ≤ max_objects
+  pub appended : new ≡ old ++ delta (changes_listed c after)
+
 -- which names a delta can list
 
 -- the places of globals ascend, and the name of a module that was discarded is one
@@ -72,6 +80,15 @@ ListedChangesLead = (c : Changes) (happened : List Event) (before after : HostSt
     → IsAdmitted before → IsAdmitted after → after.registered ≡ before.registered
     → Names c happened before.state after.state
     → Leads (changes_listed c after) (named (snapshot_for before)) (named (snapshot_for after))
+
+-- If the one before has an image in version 2 and that delta has a spelling, the one after has an image in it too.
+abbrev pub ListedChangesLeadTo : Type 0
+ListedChangesLeadTo = (c : Changes) (happened : List Event) (before after : HostState)
+    → IsAdmitted before → IsAdmitted after → after.registered ≡ before.registered
+    → Names c happened before.state after.state
+    → FitsVersion Two (snapshot_for before)
+    → FitsDelta Two (changes_listed c after)
+    → LeadsTo Two (changes_listed c after) (snapshot_for before) (snapshot_for after)
 
 -- And its body is that of a record that leads from one to the other, if the one before has an image in version 2.
 abbrev pub BodiesLead : Type 0

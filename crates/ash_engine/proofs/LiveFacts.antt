@@ -1,12 +1,12 @@
 -- What is known of the live state of an engine, if there is one.
 use Rattle.std.proofs.Common.{◌≡◌, ℕ, Vec, Global, List, sym, ap, ◌∙◌, subst}
-use Rattle.std.specs.Prelude.{Option, Some, None, IfSome, option_map, Result, IfOk}
+use Rattle.std.specs.Prelude.{Option, Some, None, IfSome, option_map, Result, IfOk, OnOk}
 use Rattle.ash_host.specs.declared.host_object.HostObject.{Ghosts}
 use Rattle.ash_registry.specs.AcceptedRegistrations.{Registration}
 use Rattle.ash_plain_steps.specs.StateViews.{modules_seen}
 use Rattle.ash_engine.specs.declared.live.Live.{Live}
-use Rattle.ash_change_records.specs.ListedChanges.{IsBodyListing}
-use Rattle.ash_engine.specs.RecordedChanges.{IsBodyOfChanges}
+use Rattle.ash_change_records.specs.ListedChanges.{IsBodyListing, AppendsListing}
+use Rattle.ash_engine.specs.RecordedChanges.{IsBodyOfChanges, AppendsChanges}
 use Rattle.ash_engine.specs.LiveStates.{LiveState, AreOf}
 use Rattle.ash_engine.specs.NamedChanges.{changes_seen}
 use Rattle.ash_engine.specs.LiveSteps.{reached_by, IsReached}
@@ -50,6 +50,18 @@ module _ {B : Type 0} (G : Ghosts B) (registered : List Registration) where
       let one : x ≡ l = cc in
       let both : live_seen G registered l ≡ live = ap (live_seen G registered) (sym one) ∙ same in
       subst (λ (y : LiveState B). IfOk r (λ body. IsBodyOfChanges y body.items)) both written
+
+  -- the delta that is appended of the live state is that of its changes
+  pub appended_in : (o : Option (Live B)) (l : Live B) → o ≡ Some l → (live : LiveState B) → option_map (live_seen G registered) o ≡ Some live
+      → {T E : Type 0} (r : Result T E) (old new : List ℕ)
+      → OnOk r (AppendsListing (changes_seen (modules_seen l.loaded.modules.items) l.changes) (durable_seen G registered l) old new)
+      → OnOk r (AppendsChanges live old new)
+  appended_in None l there live is r old new written = absurd (cc)
+  appended_in (Some x) l there live is r old new written =
+      let same : live_seen G registered x ≡ live = cc in
+      let one : x ≡ l = cc in
+      let both : live_seen G registered l ≡ live = ap (live_seen G registered) (sym one) ∙ same in
+      subst (λ (y : LiveState B). OnOk r (AppendsChanges y old new)) both written
 
   pub changes_in : (o : Option (Live B)) (l : Live B) → o ≡ Some l → (live : LiveState B) → option_map (live_seen G registered) o ≡ Some live
       → changes_seen ((live.durable).state).modules l.changes ≡ live.changes

@@ -14,7 +14,7 @@ use Rattle.ash_plain_steps.specs.declared.state.LoadedModule as code
 use Rattle.ash_plain_steps.specs.StateViews.{modules_seen}
 use Rattle.ash_states.specs.Writing.{HavePartKinds}
 use Rattle.ash_table_states.specs.WrittenObjects.{index_at, objects_written}
-use Rattle.ash_change_records.specs.ListedChanges.{listed, changes_listed, IsBodyListing}
+use Rattle.ash_change_records.specs.ListedChanges.{listed, changes_listed, IsBodyListing, AppendsListing}
 use Rattle.ash_engine.specs.LiveStates.{LiveState}
 use Rattle.ash_engine.specs.TableStates.{slots_of, IsLive}
 use Rattle.ash_engine.specs.declared.live.Live.{Live}
@@ -29,6 +29,10 @@ module _ {B : Type 0} where
   -- The bytes are the body of a record: the tag of a delta, and the one spelling of this delta in version 2.
   abbrev pub IsBodyOfChanges : LiveState B → List ℕ → Type 0
   IsBodyOfChanges live body = IsBodyListing live.changes live.durable body
+
+  -- The delta of the changes is appended to bytes, in its one spelling in version 2.
+  abbrev pub AppendsChanges : LiveState B → List ℕ → List ℕ → Type 0
+  AppendsChanges live old new = AppendsListing live.changes live.durable old new
 
 -- Where globals of a module are named, the words are those that they hold, each with its place.
 abbrev pub AreWordsOf : List code.LoadedModule → ModuleChange → List IndexedWord → Type 0

@@ -1,6 +1,6 @@
 //! The engine: a live state, which takes the steps of requests.
 
-ghost use Rattle.std.specs.Prelude.{◌≡◌, ◌<◌, ◌^◌, ℕ, length, Some, IfOk, IsSome, IsErrOf};
+ghost use Rattle.std.specs.Prelude.{◌≡◌, ◌<◌, ◌≤◌, ◌+◌, ◌-◌, ◌^◌, ℕ, length, Some, IfOk, OnOk, IsSome, IsErrOf};
 ghost use Rattle.ash_registry.specs.RegistryViews.{registered};
 ghost use Rattle.ash_requests.specs.RequestViews.{request_seen};
 ghost use Rattle.ash_objects.specs.declared.restoring.TableFault.{TableFault};
@@ -9,14 +9,14 @@ ghost use Rattle.ash_states.specs.Images.{IsImageIn, IsBodyIn};
 ghost use Rattle.ash_engine.specs.LiveStates.{LiveState, AreOf, begin};
 ghost use Rattle.ash_engine.specs.LiveSteps.{reached_by, IsReached, Handled};
 ghost use Rattle.ash_engine.specs.NamedChanges.{changes_seen};
-ghost use Rattle.ash_engine.specs.RecordedChanges.{IsBodyOfChanges};
+ghost use Rattle.ash_engine.specs.RecordedChanges.{IsBodyOfChanges, AppendsChanges};
 ghost use Rattle.ash_engine.specs.RestoredBoxes.{HasServices, LacksService, IsShort};
 ghost use Rattle.ash_engine.specs.RestoredBoxes.{IsRefused, Restores};
 
 use crate::boxes::take_services;
 use crate::changes::Changes;
 use crate::live::Live;
-use crate::recording::delta_body;
+use crate::recording::{append_changes, delta_body};
 use crate::starting::{first_live, restored_live};
 use crate::steps::step_of;
 use crate::writing::{body_of, image_of};
@@ -207,6 +207,21 @@ impl<B: HostObject> Engine<B> {
             unreachable!()
         };
         delta_body(live)
+    }
+
+    /// Appends the delta of what the last request that was answered changed, in version 2: it lists what the changes
+    /// name, as it is in the state, and nothing else. An `Err` means that memory was refused.
+    pub fn append_delta(&self, body: &mut Vec<u8>) -> Result<(), AllocError>
+        requires live { IsSome self.now.live }
+        ensures delta { (live : LiveState B) → self.now.live ≡ Some live
+            → OnOk result (AppendsChanges live body.old.items body.new.items) }
+        // Sixteen of them fit into a record.
+        ensures short { OnOk result (length body.new.items ≤ length body.old.items + (2 ^ 28 - 2)) }
+    {
+        let Some(live) = &self.live else {
+            unreachable!()
+        };
+        append_changes(live, body)
     }
 
     /// One request, with so many ticks. If memory is refused before anything changes, the reply is the refusal

@@ -1,6 +1,7 @@
-//! The body of a record of what the last answered request changed, without a copy of the state.
+//! The delta of what the last answered request changed, and the body of a record that has it, without a copy of the
+//! state.
 
-ghost use Rattle.std.specs.Prelude.{◌≡◌, ◌<◌, ◌≤◌, ◌^◌, List, Some, length, map, slice_get, option_map, IfOk};
+ghost use Rattle.std.specs.Prelude.{◌≡◌, ◌<◌, ◌≤◌, ◌^◌, List, Some, length, map, slice_get, option_map, IfOk, OnOk};
 ghost use Rattle.std.specs.Prelude.{string_bytes};
 ghost use Rattle.std.specs.List.{AllByRecursion};
 ghost use Rattle.ash_registry.specs.AcceptedRegistrations.{Registration};
@@ -15,6 +16,7 @@ ghost use Rattle.ash_image.specs.declared.version.Version.TheVariants.{Two};
 ghost use Rattle.ash_states.specs.Indexes.{stored_of, stored_modules_of};
 ghost use Rattle.ash_table_states.specs.WrittenObjects.{listed_entry, listed_entries};
 ghost use Rattle.ash_change_records.specs.ListedChanges.{listed, change_listed, changes_listed, IsBodyListing};
+ghost use Rattle.ash_change_records.specs.ListedChanges.{AppendsListing};
 ghost use Rattle.ash_engine.specs.NamedChanges.{module_change_seen, changes_seen};
 ghost use Rattle.ash_engine.specs.RecordedChanges.{AreWordsOf, AreListedParts};
 ghost use Rattle.ash_engine.specs.TableStates.{durable_seen, IsLive};
@@ -23,7 +25,7 @@ use crate::changes::ModuleChange;
 use crate::live::Live;
 use crate::writing::slots_of;
 use ash_host::{HostObject, Word};
-use ash_image::delta::write_delta_body;
+use ash_image::delta::{DELTA_TAG, append_delta};
 use ash_image::delta_parts::{ChangeParts, DeltaParts, GlobalsParts, ServiceParts};
 use ash_image::parts::{ModuleParts, ObjectParts};
 use ash_image::stored_delta::{IndexedWord, StoredService};
@@ -227,21 +229,42 @@ fn delta_parts<'a, B: HostObject>(
     }
 }
 
-/// The body of a record of what the last answered request changed, by the parts of the services that were called, the
+/// Appends the delta of what the last answered request changed, by the parts of the services that were called, the
 /// words of globals, and the parts of the objects that were made or changed.
-fn body_by<B: HostObject>(
+fn append_by<B: HostObject>(
     live: &Live<B>,
     services: &[ServiceParts<'_>],
     words: &[IndexedWord],
     put: &[ObjectParts<'_>],
-) -> Result<Vec<u8>, AllocError>
+    out: &mut Vec<u8>,
+) -> Result<(), AllocError>
     requires listed { AreListedParts B.HostObject live.now services.now words.now put.now }
-    ensures body { (registered : List Registration) → IfOk result (λ body. IsBodyListing
+    ensures appended { (registered : List Registration) → OnOk result (AppendsListing
         (changes_seen (modules_seen live.now.loaded.modules.items) live.now.changes)
-        (durable_seen B.HostObject registered live.now) body.items) }
-    ensures short { IfOk result (λ body. length body.items < 2 ^ 28) }
+        (durable_seen B.HostObject registered live.now) out.old.items out.new.items) }
 {
-    write_delta_body(live.loaded.alloc, delta_parts(live, services, words, put))
+    append_delta(out, delta_parts(live, services, words, put))
+}
+
+/// Appends the delta of what the last answered request changed, in version 2.
+pub(crate) fn append_changes<B: HostObject>(
+    live: &Live<B>,
+    out: &mut Vec<u8>,
+) -> Result<(), AllocError>
+    requires live { (registered : List Registration) × IsLive B.HostObject registered live.now }
+    ensures appended { (registered : List Registration) → OnOk result (AppendsListing
+        (changes_seen (modules_seen live.now.loaded.modules.items) live.now.changes)
+        (durable_seen B.HostObject registered live.now) out.old.items out.new.items) }
+{
+    let alloc = live.loaded.alloc;
+    let slots = slots_of(alloc, &live.compiled)?;
+    let called = services_at(alloc, live.table.services(), &live.changes.services)?;
+    let services = service_parts(alloc, &called)?;
+    let words = changed_words(alloc, &live.loaded.modules, &live.changes.modules)?;
+    let objects = objects_at(alloc, &live.table, &live.changes.living)?;
+    let states = object_states(alloc, &objects)?;
+    let put = object_parts(alloc, &slots, &objects, &states)?;
+    append_by(live, &services, &words, &put, out)
 }
 
 /// The body of a record of what the last answered request changed, in version 2.
@@ -252,13 +275,8 @@ pub(crate) fn delta_body<B: HostObject>(live: &Live<B>) -> Result<Vec<u8>, Alloc
         (durable_seen B.HostObject registered live.now) body.items) }
     ensures short { IfOk result (λ body. length body.items < 2 ^ 28) }
 {
-    let alloc = live.loaded.alloc;
-    let slots = slots_of(alloc, &live.compiled)?;
-    let called = services_at(alloc, live.table.services(), &live.changes.services)?;
-    let services = service_parts(alloc, &called)?;
-    let words = changed_words(alloc, &live.loaded.modules, &live.changes.modules)?;
-    let objects = objects_at(alloc, &live.table, &live.changes.living)?;
-    let states = object_states(alloc, &objects)?;
-    let put = object_parts(alloc, &slots, &objects, &states)?;
-    body_by(live, &services, &words, &put)
+    let mut body = Vec::new(live.loaded.alloc);
+    body.push(DELTA_TAG)?;
+    append_changes(live, &mut body)?;
+    Ok(body)
 }

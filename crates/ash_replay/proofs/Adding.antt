@@ -1,20 +1,23 @@
 -- A record more leads to the next state.
-use Rattle.std.proofs.Common.{◌≡◌, ◌∙◌, inl, inr, ℕ, List, [], ◌∷◌, ◌++◌, refl, sym, ap, subst}
+use Rattle.std.proofs.Common.{◌≡◌, ◌≤◌, ◌∙◌, inl, inr, ℕ, List, [], ◌∷◌, ◌++◌, length, refl, sym, ap, subst, arith}
 use Rattle.ash_image.specs.declared.version.Version.{Version}
 use Rattle.ash_image.specs.Snapshots.{Snapshot}
 use Rattle.ash_image.specs.Image.{FitsVersion}
 use Rattle.ash_image.specs.Rules.{KeepsRules}
+use Rattle.ash_image.specs.Delta.{Delta}
+use Rattle.ash_image.specs.Deltas.{deltas}
 use Rattle.ash_image.specs.Leading.{NamedSnapshot, named, Leads, IsDeltaBetween}
 use Rattle.ash_registry.specs.RegistryText.{text_of}
 use Rattle.ash_image.proofs.OneState.{known_by_names}
 use Rattle.ash_sources.proofs.SourceLaws.{read_sound}
-use Rattle.ash_states.specs.HostStates.{HostState, embedding_for, offered_to}
+use Rattle.ash_states.specs.HostStates.{HostState, IsAdmitted, embedding_for, offered_to}
 use Rattle.ash_states.specs.Images.{IsDepicted, IsImageIn}
 use Rattle.ash_states.specs.Indexes.{snapshot_for}
 use Rattle.ash_states.proofs.Depicted.{depicted}
 use Rattle.ash_states.proofs.SnapshotRules.{rules}
-use Rattle.ash_replay.specs.Replay.{IsRecordBetween, LeadThrough, LeadTo}
-use Rattle.ash_replay.specs.ReplayedStates.{AreIn, IsStateOf, IsBodyBetween, RecordsLeadOn, StatesFit}
+use Rattle.ash_replay.specs.Replay.{LeadOneByOne, IsRecordBetween, LeadThrough, LeadTo}
+use Rattle.ash_replay.specs.ReplayedStates.{AreIn, IsStateOf, LeadsHost, LeadHosts, IsDeltasTo, IsBodyBetween}
+use Rattle.ash_replay.specs.ReplayedStates.{RecordsLeadOn, StatesFit}
 use Rattle.ash_replay.proofs.Names.{names_of_one, in_order}
 use Rattle.ash_replay.proofs.Once.{image_once}
 
@@ -40,7 +43,7 @@ led_push version image bodies body before after led leads = record {
 -- a delta between two snapshots leads from each that is the first by names
 by_delta : (version : Version) (body : List ℕ) (from before after : Snapshot) → named from ≡ named before
     → IsDeltaBetween body version before after → IsRecordBetween version body (named from) (named after)
-by_delta version body from before after same between = inr (
+by_delta version body from before after same between = inr (inl (
   between.0,
   between.2,
   record {
@@ -49,9 +52,72 @@ by_delta version body from before after same between = inr (
     leads = subst (λ (x : NamedSnapshot). Leads between.1 x (named after)) (sym same) between.4.0;
     ordered = in_order version after between.4.1 between.4.2;
   },
+))
+
+-- deltas between the states of hosts lead from what is the first by names
+one_by_one : (version : Version) (ds : List Delta) (from : NamedSnapshot) (before after : HostState)
+    → from ≡ named (snapshot_for before) → LeadHosts version ds before after
+    → LeadOneByOne ds from (named (snapshot_for after))
+one_by_one version [] from before after same lead =
+    ap (λ (s : HostState). named (snapshot_for s)) lead ∙ sym same
+one_by_one version (d ∷ ds) from before after same lead = (
+  named (snapshot_for lead.0),
+  subst (λ (x : NamedSnapshot). Leads d x (named (snapshot_for lead.0))) (sym same) lead.1.leads.0,
+  in_order version (snapshot_for lead.0) lead.1.leads.1 lead.1.leads.2,
+  one_by_one version ds (named (snapshot_for lead.0)) lead.0 after refl lead.2,
 )
 
--- a record leads to the snapshot of its image, or to the snapshot that a delta leads to
+-- what is known of the state that the last of them leads to
+record IsLed (version : Version) (state : HostState) : Type 0 where
+  pub fits : FitsVersion version (snapshot_for state)
+  pub rules : KeepsRules (snapshot_for state)
+  pub admitted : IsAdmitted state
+
+is_led : (version : Version) (d : Delta) (before after : HostState) → LeadsHost version d before after
+    → IsLed version after
+is_led version d before after lead = record {
+  fits = lead.leads.1;
+  rules = lead.leads.2;
+  admitted = lead.admitted;
+}
+
+led_on : (version : Version) (ds : List Delta) (before after : HostState) → IsLed version before
+    → LeadHosts version ds before after → IsLed version after
+led_on version [] before after is lead = subst (λ (s : HostState). IsLed version s) (sym lead) is
+led_on version (d ∷ ds) before after is lead =
+    led_on version ds lead.0 after (is_led version d before lead.0 lead.1) lead.2
+
+last_led : (version : Version) (ds : List Delta) (before after : HostState) → 1 ≤ length ds
+    → LeadHosts version ds before after → IsLed version after
+last_led version [] before after some lead = absurd (omega (arith, some))
+last_led version (d ∷ ds) before after some lead =
+    led_on version ds lead.0 after (is_led version d before lead.0 lead.1) lead.2
+
+-- a delta after the last leads on from where those before it lead
+pub hosts_push : (version : Version) (ds : List Delta) (d : Delta) (first before after : HostState)
+    → LeadHosts version ds first before → LeadsHost version d before after
+    → LeadHosts version (ds ++ d ∷ []) first after
+hosts_push version [] d first before after same lead =
+    (after, subst (λ (from : HostState). LeadsHost version d from after) same lead, refl)
+hosts_push version (e ∷ ds) d first before after more lead =
+    (more.0, more.1, hosts_push version ds d more.0 before after more.2 lead)
+
+-- deltas lead from each snapshot of the first state
+by_deltas : (version : Version) (body : List ℕ) (from : Snapshot) (before after : HostState) → IsDepicted from before
+    → IsDeltasTo version body before after → IsRecordBetween version body (named from) (named (snapshot_for after))
+by_deltas version body from before after depicts between = inr (inr (
+  deltas between.changes,
+  between.is_body.1,
+  record {
+    in_two = between.in_two;
+    changes = between.changes;
+    are_deltas = (between.is_body.0, refl);
+    lead = one_by_one version between.changes (named from) before after
+        (names_of_one from (snapshot_for before) before depicts (depicted before depicts.admitted)) between.lead;
+  },
+))
+
+-- a record leads to the snapshot of its image, or to the snapshot that a delta leads to, or the last of several
 record NextState (version : Version) (body : List ℕ) (from : Snapshot) (after : HostState) : Type 0 where
   pub snapshot : Snapshot
   pub between : IsRecordBetween version body (named from) (named snapshot)
@@ -74,7 +140,7 @@ led_by version body from before after depicts body_is = elim body_is.leads [
     rules = image.2.1.1;
     depicts = image.2.2;
   }
-  | inr delta ↦ record {
+  | inr (inl delta) ↦ record {
     snapshot = snapshot_for after;
     between = by_delta version body from (snapshot_for before) (snapshot_for after)
         (names_of_one from (snapshot_for before) before depicts (depicted before depicts.admitted)) delta.0;
@@ -82,6 +148,15 @@ led_by version body from before after depicts body_is = elim body_is.leads [
     rules = delta.0.4.2;
     depicts = depicted after delta.1;
   }
+  | inr (inr deltas) ↦
+      let is = last_led version deltas.changes before after deltas.is_body.0.some deltas.lead in
+      record {
+        snapshot = snapshot_for after;
+        between = by_deltas version body from before after depicts deltas;
+        fits = is.fits;
+        rules = is.rules;
+        depicts = depicted after is.admitted;
+      }
 ]
 
 -- contents with a record more are of the state to which it leads

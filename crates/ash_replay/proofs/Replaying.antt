@@ -13,12 +13,15 @@ use Rattle.ash_image.specs.declared.version.Version.{Version}
 use Rattle.ash_image.specs.Snapshots.{Snapshot}
 use Rattle.ash_image.specs.Image.{FitsVersion}
 use Rattle.ash_image.specs.Rules.{KeepsRules, IsImage, IsImageBody}
-use Rattle.ash_image.specs.Delta.{delta_tag}
+use Rattle.ash_image.specs.Delta.{Delta, delta_tag}
+use Rattle.ash_image.specs.Deltas.{deltas_tag}
 use Rattle.ash_image.specs.SnapshotViews.{image_read, snapshot_of}
-use Rattle.ash_image.specs.Leading.{NamedSnapshot, named}
+use Rattle.ash_image.specs.Leading.{NamedSnapshot, named, Leads, IsOrdered}
+use Rattle.ash_image.proofs.OneState.{one_led}
 use Rattle.ash_replay.specs.declared.fault.ReplayFault.{ReplayFault}
 use Rattle.ash_replay.specs.declared.fault.ReplayFault.TheVariants as faults
-use Rattle.ash_replay.specs.Replay.{LeadsByImage, LeadsByDelta, IsRecordBetween, LeadThrough, LeadTo, IsStateIn}
+use Rattle.ash_replay.specs.Replay.{LeadsByImage, LeadsByDelta, LeadOneByOne, LeadsByDeltas, IsRecordBetween}
+use Rattle.ash_replay.specs.Replay.{LeadThrough, LeadTo, IsStateIn}
 use Rattle.ash_replay.specs.ReplayFaults.{record_header_size, after_image, last_gate_from, IsNoImage, StopsAt}
 use Rattle.ash_replay.specs.ReplayFaults.{LeadsNowhere, BreaksRules, IsMisshapen}
 use Rattle.ash_replay.specs.ReplaySteps.{ReportsDamage, LeadsOn, StopsAtGate, LeadsThrough, newest_gate}
@@ -74,24 +77,65 @@ read_with version body before after stored only leads =
 same_tail : (body a b : List ℕ) (tag : ℕ) → body ≡ tag ∷ a → body ≡ tag ∷ b → a ≡ b
 same_tail body a b tag p q = cc
 
-other_tag : (body a b : List ℕ) → body ≡ 1 ∷ a → body ≡ 2 ∷ b → ⊥
-other_tag body a b p q = cc
+image_or_delta : (body a b : List ℕ) → body ≡ 1 ∷ a → body ≡ 2 ∷ b → ⊥
+image_or_delta body a b p q = cc
+
+image_or_deltas : (body a b : List ℕ) → body ≡ 1 ∷ a → body ≡ 3 ∷ b → ⊥
+image_or_deltas body a b p q = cc
+
+delta_or_deltas : (body a b : List ℕ) → body ≡ 2 ∷ a → body ≡ 3 ∷ b → ⊥
+delta_or_deltas body a b p q = cc
 
 -- a body with the tag of a delta leads by it
 pub delta_only : (version : Version) (body bytes : List ℕ) (before after : NamedSnapshot) → body ≡ delta_tag ∷ bytes
     → IsRecordBetween version body before after → LeadsByDelta version bytes before after
 delta_only version body bytes before after tagged (inl by_image) =
-    absurd (other_tag body (by_image.is_body).0 bytes (by_image.is_body).1 tagged)
-delta_only version body bytes before after tagged (inr (other, is, by_delta)) =
+    absurd (image_or_delta body (by_image.is_body).0 bytes (by_image.is_body).1 tagged)
+delta_only version body bytes before after tagged (inr (inl (other, is, by_delta))) =
     let same : other ≡ bytes = same_tail body other bytes 2 is tagged in
     subst (λ (b : List ℕ). LeadsByDelta version b before after) same by_delta
+delta_only version body bytes before after tagged (inr (inr (other, is, by_deltas))) =
+    absurd (delta_or_deltas body bytes other tagged is)
+
+-- a body with the tag of several deltas leads by them
+pub deltas_only : (version : Version) (body bytes : List ℕ) (before after : NamedSnapshot) → body ≡ deltas_tag ∷ bytes
+    → IsRecordBetween version body before after → LeadsByDeltas version bytes before after
+deltas_only version body bytes before after tagged (inl by_image) =
+    absurd (image_or_deltas body (by_image.is_body).0 bytes (by_image.is_body).1 tagged)
+deltas_only version body bytes before after tagged (inr (inl (other, is, by_delta))) =
+    absurd (delta_or_deltas body other bytes is tagged)
+deltas_only version body bytes before after tagged (inr (inr (other, is, by_deltas))) =
+    let same : other ≡ bytes = same_tail body other bytes 3 is tagged in
+    subst (λ (b : List ℕ). LeadsByDeltas version b before after) same by_deltas
 
 -- another leads by an image
 pub image_only : (version : Version) (body : List ℕ) (before after : NamedSnapshot)
-    → ((bytes : List ℕ) → body ≡ delta_tag ∷ bytes → ⊥) → IsRecordBetween version body before after
-    → LeadsByImage version body before after
-image_only version body before after others (inl by_image) = by_image
-image_only version body before after others (inr (bytes, is, by_delta)) = absurd (others bytes is)
+    → ((bytes : List ℕ) → body ≡ delta_tag ∷ bytes → ⊥) → ((bytes : List ℕ) → body ≡ deltas_tag ∷ bytes → ⊥)
+    → IsRecordBetween version body before after → LeadsByImage version body before after
+image_only version body before after no_delta no_deltas (inl by_image) = by_image
+image_only version body before after no_delta no_deltas (inr (inl (bytes, is, by_delta))) = absurd (no_delta bytes is)
+image_only version body before after no_delta no_deltas (inr (inr (bytes, is, by_deltas))) =
+    absurd (no_deltas bytes is)
+
+-- ---- from delta to delta
+
+-- The deltas that are left lead from a state where all of them lead from the first, and the other way round.
+pub record LeadLikewise (all left : List Delta) (first state : NamedSnapshot) : Type 0 where
+  pub on : (after : NamedSnapshot) → LeadOneByOne left state after → LeadOneByOne all first after
+  pub only : (after : NamedSnapshot) → LeadOneByOne all first after → LeadOneByOne left state after
+
+-- one more leads on
+pub led_one : (all left later : List Delta) (d : Delta) (first state next : NamedSnapshot) → left ≡ d ∷ later
+    → LeadLikewise all left first state → Leads d state next → IsOrdered next → LeadLikewise all later first next
+led_one all left later d first state next is likewise leads ordered = record {
+  on = λ after lead.
+      likewise.on after
+      (subst (λ (ds : List Delta). LeadOneByOne ds state after) (sym is) (next, leads, ordered, lead));
+  only = λ after lead.
+      let there = subst (λ (ds : List Delta). LeadOneByOne ds state after) is (likewise.only after lead) in
+      let same : there.0 ≡ next = one_led d state there.0 next there.1 leads there.2 ordered in
+      subst (λ (from : NamedSnapshot). LeadOneByOne later from after) same there.3;
+}
 
 -- where no state is found, a body leads nowhere
 pub nowhere : (version : Version) (bytes body : List ℕ) (before : NamedSnapshot) (found : Option NamedState)

@@ -2,10 +2,12 @@
 use Rattle.std.specs.Prelude.{◌≡◌, ◌⊎◌, ℕ, List, [], ◌∷◌}
 use Rattle.ash_journal.specs.Current.{Contents}
 use Rattle.ash_image.specs.declared.version.Version.{Version}
+use Rattle.ash_image.specs.declared.version.Version.TheVariants.{Two}
 use Rattle.ash_image.specs.Snapshots.{Snapshot}
 use Rattle.ash_image.specs.Image.{FitsVersion}
 use Rattle.ash_image.specs.Rules.{KeepsRules, IsImage, IsImageBody}
 use Rattle.ash_image.specs.Delta.{Delta, IsDelta, delta_tag}
+use Rattle.ash_image.specs.Deltas.{IsDeltas, deltas_tag}
 use Rattle.ash_image.specs.Leading.{NamedSnapshot, named, Leads, IsOrdered}
 
 -- The body of a record has an image: it leads to the state of that image, if the text of what was registered is the
@@ -24,12 +26,27 @@ pub record LeadsByDelta (version : Version) (bytes : List ℕ) (before after : N
   pub leads : Leads changes before after
   pub ordered : IsOrdered after
 
--- The body of a record leads from a state to the next, whatever the rules of a state are: by an image, or by a tag and
--- a delta.
+-- Deltas lead from a state to another, one after the other, each to one whose modules ascend by name and whose objects
+-- ascend by number.
+abbrev pub LeadOneByOne : List Delta → NamedSnapshot → NamedSnapshot → Type 0
+LeadOneByOne [] before after = after ≡ before
+LeadOneByOne (d ∷ ds) before after =
+    (next : NamedSnapshot) × Leads d before next × IsOrdered next × LeadOneByOne ds next after
+
+-- The bytes are several deltas, which version 2 alone has, and they lead from the state to the other.
+pub record LeadsByDeltas (version : Version) (bytes : List ℕ) (before after : NamedSnapshot) : Type 0 where
+  pub in_two : version ≡ Two
+  pub changes : List Delta
+  pub are_deltas : IsDeltas bytes changes
+  pub lead : LeadOneByOne changes before after
+
+-- The body of a record leads from a state to the next, whatever the rules of a state are: by an image, by a tag and a
+-- delta, or by another tag and several deltas.
 abbrev pub IsRecordBetween : Version → List ℕ → NamedSnapshot → NamedSnapshot → Type 0
 IsRecordBetween version body before after =
     LeadsByImage version body before after
-    ⊎ ((bytes : List ℕ) × (body ≡ delta_tag ∷ bytes) × LeadsByDelta version bytes before after)
+    ⊎ (((bytes : List ℕ) × (body ≡ delta_tag ∷ bytes) × LeadsByDelta version bytes before after)
+    ⊎ ((bytes : List ℕ) × (body ≡ deltas_tag ∷ bytes) × LeadsByDeltas version bytes before after))
 
 -- records lead from a state to another, one after the other
 abbrev pub LeadThrough : Version → List (List ℕ) → NamedSnapshot → NamedSnapshot → Type 0

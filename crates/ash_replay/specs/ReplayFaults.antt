@@ -36,7 +36,7 @@ abbrev pub IsNoImage : List ℕ → Type 0
 IsNoImage image = (version : Version) (s : Snapshot) → IsImage image version s → ⊥
 
 -- The body of a record leads from a state to none: it is the body of no record in the version, or its image has another
--- text of what was registered, or it changes a service, a module or a global that is not there.
+-- text of what was registered, or a delta changes a service, a module or a global that is not there.
 abbrev pub LeadsNowhere : Version → List ℕ → NamedSnapshot → Type 0
 LeadsNowhere version body before = (after : NamedSnapshot) → IsRecordBetween version body before after → ⊥
 

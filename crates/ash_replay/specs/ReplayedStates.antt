@@ -5,10 +5,13 @@ use Rattle.ash_journal.specs.Current.{Contents}
 use Rattle.ash_registry.specs.AcceptedRegistrations.{Registration}
 use Rattle.ash_registry.specs.RegistryText.{text_of}
 use Rattle.ash_image.specs.declared.version.Version.{Version}
+use Rattle.ash_image.specs.declared.version.Version.TheVariants.{Two}
 use Rattle.ash_image.specs.Snapshots.{Snapshot}
 use Rattle.ash_image.specs.Image.{FitsVersion}
 use Rattle.ash_image.specs.Rules.{IsImage}
-use Rattle.ash_image.specs.Leading.{IsDeltaBetween}
+use Rattle.ash_image.specs.Delta.{Delta}
+use Rattle.ash_image.specs.Deltas.{IsDeltasBody}
+use Rattle.ash_image.specs.Leading.{LeadsTo, IsDeltaBetween}
 use Rattle.ash_states.specs.HostStates.{HostState, IsAdmitted}
 use Rattle.ash_states.specs.Images.{IsDepicted, IsImageIn, IsBodyIn}
 use Rattle.ash_states.specs.Indexes.{snapshot_for}
@@ -34,11 +37,31 @@ abbrev pub IsDeltaTo : Version → List ℕ → HostState → HostState → Type
 IsDeltaTo version body before after =
     IsDeltaBetween body version (snapshot_for before) (snapshot_for after) × IsAdmitted after
 
--- The body of a record leads from the state of a host to another with the same registered: it has an image of that, or
--- it is a delta that leads there.
+-- A delta leads from the state of a host to another with the same registered, which a host may be in.
+pub record LeadsHost (version : Version) (d : Delta) (before after : HostState) : Type 0 where
+  pub registered : after.registered ≡ before.registered
+  pub leads : LeadsTo version d (snapshot_for before) (snapshot_for after)
+  pub admitted : IsAdmitted after
+
+-- Deltas lead from the state of a host to another, one after the other, each to one that a host may be in.
+abbrev pub LeadHosts : Version → List Delta → HostState → HostState → Type 0
+LeadHosts version [] before after = after ≡ before
+LeadHosts version (d ∷ ds) before after =
+    (next : HostState) × LeadsHost version d before next × LeadHosts version ds next after
+
+-- The body of a record in version 2 has deltas that lead from the state of a host to another.
+pub record IsDeltasTo (version : Version) (body : List ℕ) (before after : HostState) : Type 0 where
+  pub in_two : version ≡ Two
+  pub changes : List Delta
+  pub is_body : IsDeltasBody body changes
+  pub lead : LeadHosts version changes before after
+
+-- The body of a record leads from the state of a host to another with the same registered: it has an image of that, it
+-- is a delta that leads there, or it has several deltas that lead there.
 pub record IsBodyBetween (version : Version) (body : List ℕ) (before after : HostState) : Type 0 where
   pub registered : after.registered ≡ before.registered
-  pub leads : IsBodyIn version body after ⊎ IsDeltaTo version body before after
+  pub leads : IsBodyIn version body after
+      ⊎ (IsDeltaTo version body before after ⊎ IsDeltasTo version body before after)
 
 -- An image and the records after it lead to a state with another text of what was registered.
 abbrev pub AreOfOthers : List Registration → Contents → Type 0

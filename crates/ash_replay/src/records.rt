@@ -2,34 +2,34 @@
 
 ghost use Rattle.std.specs.Prelude.{◌≡◌, ◌↔◌, ◌∷◌, List, ℕ, None, IsTrue, IfOk, IfSome, IsSome};
 ghost use Rattle.ash_image.specs.SnapshotViews.{snapshot_of};
-ghost use Rattle.ash_image.specs.Delta.{delta_tag};
+ghost use Rattle.ash_image.specs.Deltas.{deltas_of};
 ghost use Rattle.ash_image.specs.Leading.{NamedSnapshot};
 ghost use Rattle.ash_image.specs.NamedViews.{state_seen};
 ghost use Rattle.ash_image.specs.declared.version.Version.{Version};
-ghost use Rattle.ash_replay.specs.Replay.{IsRecordBetween, LeadsByDelta, LeadsByImage};
+ghost use Rattle.ash_replay.specs.Replay.{IsRecordBetween, LeadsByDelta, LeadsByDeltas};
+ghost use Rattle.ash_replay.specs.Replay.{LeadsByImage, LeadOneByOne};
 ghost use Rattle.ash_replay.specs.ReplaySteps.{LeadsOn, LeadsThrough};
 
 use crate::fault::ReplayFault;
-use ash_image::delta::read_delta;
+use ash_image::delta::{DELTA_TAG, read_delta};
+use ash_image::deltas::{DELTAS_TAG, read_deltas};
 use ash_image::image::read_body;
 use ash_image::leading::lead;
 use ash_image::named_state::NamedState;
 use ash_image::naming::named_state;
 use ash_image::stored::StoredImage;
+use ash_image::stored_delta::StoredDelta;
 use ash_image::version::Version;
 use ash_journal::Record;
 use std::alloc::{AllocError, Global};
 
-/// The tag of a record's body that is a delta.
-const DELTA_TAG: u8 = 2;
-
-/// What follows the tag of a delta. `None` where that is not the tag.
-fn delta_bytes(body: &[u8]) -> Option<&[u8]>
-    ensures tagged { IfSome result (λ bytes. body.now ≡ delta_tag ∷ bytes.now) }
-    ensures others { result ≡ None → (bytes : List ℕ) → body.now ≡ delta_tag ∷ bytes → ⊥ }
+/// What follows a tag. `None` if the body has another.
+fn bytes_after(tag: u8, body: &[u8]) -> Option<&[u8]>
+    ensures tagged { IfSome result (λ bytes. body.now ≡ tag ∷ bytes.now) }
+    ensures others { result ≡ None → (bytes : List ℕ) → body.now ≡ tag ∷ bytes → ⊥ }
 {
-    let (tag, bytes) = body.split_first()?;
-    if *tag == DELTA_TAG { Some(bytes) } else { None }
+    let (first, bytes) = body.split_first()?;
+    if *first == tag { Some(bytes) } else { None }
 }
 
 /// Whether what was stored has this version, and this text of what was registered.
@@ -83,6 +83,50 @@ fn state_by_delta(
     }
 }
 
+/// The state to which deltas lead, one after the other. `None` where one of them leads nowhere.
+fn lead_one_by_one(
+    alloc: Global,
+    before: NamedState,
+    deltas: Vec<StoredDelta>,
+) -> Result<Option<NamedState>, AllocError>
+    ensures leads { IfOk result (λ last. IfSome last (λ after.
+        LeadOneByOne (deltas_of deltas.items) (state_seen before) (state_seen after))) }
+    ensures only { (after : NamedSnapshot)
+        → LeadOneByOne (deltas_of deltas.items) (state_seen before) after
+        → IfOk result (λ last. IsSome last) }
+{
+    let mut state = before;
+    for delta in deltas {
+        let Some(next) = lead(alloc, state, delta)? else {
+            return Ok(None);
+        };
+        state = next;
+    }
+    Ok(Some(state))
+}
+
+/// The state to which several deltas lead, which version 2 alone has. `None` where the bytes are none, or where they
+/// lead nowhere.
+fn state_by_deltas(
+    alloc: Global,
+    version: Version,
+    before: NamedState,
+    bytes: &[u8],
+) -> Result<Option<NamedState>, AllocError>
+    ensures leads { IfOk result (λ next. IfSome next (λ after.
+        LeadsByDeltas version bytes.now (state_seen before) (state_seen after))) }
+    ensures only { (after : NamedSnapshot) → LeadsByDeltas version bytes.now (state_seen before) after
+        → IfOk result (λ next. IsSome next) }
+{
+    if version != Version::Two {
+        return Ok(None);
+    }
+    match read_deltas(alloc, bytes)? {
+        Some(deltas) => lead_one_by_one(alloc, before, deltas),
+        None => Ok(None),
+    }
+}
+
 /// The state to which the body of a record leads. `None` where it leads nowhere.
 fn state_by_body(
     alloc: Global,
@@ -96,8 +140,11 @@ fn state_by_body(
         → IsRecordBetween version body.now (state_seen before) after
         → IfOk result (λ next. IsSome next) }
 {
-    match delta_bytes(body) {
-        Some(bytes) => state_by_delta(alloc, version, before, bytes),
+    if let Some(bytes) = bytes_after(DELTA_TAG, body) {
+        return state_by_delta(alloc, version, before, bytes);
+    }
+    match bytes_after(DELTAS_TAG, body) {
+        Some(bytes) => state_by_deltas(alloc, version, before, bytes),
         None => state_by_image(alloc, version, &before, body),
     }
 }

@@ -11,15 +11,15 @@ use Rattle.ash_change_records.specs.ListedChanges.{listed}
 use Rattle.ash_engine.specs.RecordedChanges.{AreWordsOf}
 use Rattle.ash_engine.specs.TableStates.{slots_of}
 use Rattle.ash_engine.proofs.ListedParts.{few_slots}
-use Rattle.ash_engine.proofs.recording.delta_body.Goals as goal
+use Rattle.ash_engine.proofs.recording.append_changes.Goals as goal
 
 pub object_parts-requires-clause-few : goal.object_parts-requires-clause-few
 object_parts-requires-clause-few g c =
     few_slots g.B.HostObject c.requires.live.0 c.args.live.now c.requires.live.1 c.deref-7.result.now
     (c.deref-7.ensures.value ∙ c.in_ok-slots.ensures.slots ∙ ap slots_of c.deref.ensures.value)
 
-pub body_by-requires : goal.body_by-requires
-body_by-requires g c =
+pub append_by-requires : goal.append_by-requires
+append_by-requires g c =
     let l = c.args.live.now in
     let G = g.B.HostObject in
     let slots = c.deref-7.ensures.value ∙ c.in_ok-slots.ensures.slots ∙ ap slots_of c.deref.ensures.value in
