@@ -6,3 +6,4 @@ pub mod Fuse
 pub mod DiskImage
 pub mod Memory
 pub mod Moments
+pub mod Standard

@@ -1,7 +1,9 @@
 //! A file of the system as a disk.
-ghost use Rattle.std.specs.Prelude.{◌≡◌, false, ⊤, [], IfOk};
+ghost use Rattle.std.specs.Prelude.{◌≡◌, ◌↔◌, false, ⊤, [], IfOk, IsErr};
+ghost use Rattle.ash_disk.specs.Standard.{IsStandard};
 
 use crate::failure::count_failure;
+use crate::standard::{is_standard, take_closed_streams};
 use crate::{DeviceFailed, Disk};
 use std::fs::{File, Files, OpenOptions};
 use std::io;
@@ -9,41 +11,57 @@ use std::os::unix::fs::FileExt;
 use std::path::Path;
 
 /// An open file of the system. Reads and writes are at positions, and a sync reaches the device. No contract can
-/// say what a real device keeps, so it is never claimed honest.
+/// say what a real device keeps, so it is never claimed honest. Its descriptor is not that of a standard stream, so
+/// nothing that is meant for one is written to it, and nothing is read of it as input.
 #[derive(Drop)]
 pub struct FileDisk {
     file: File,
     failures: u64,
+    ghost apart: { IsStandard file → ⊥ },
 }
 
 impl FileDisk {
-    ghost use Rattle.ash_disk.specs.File.{file_failures};
+    ghost use Rattle.ash_disk.specs.File.{file_failures, file_of};
 
-    /// The disk of a file that is open for reading and writing.
-    pub fn new(file: File) -> FileDisk
-        ensures failures { file_failures result ≡ 0 }
+    /// The disk of a file that is open for reading and writing. A file that stands where a standard stream belongs is
+    /// refused.
+    pub fn new(file: File) -> io::Result<FileDisk>
+        ensures failures { IfOk result (λ disk. file_failures disk ≡ 0) }
+        ensures same { IfOk result (λ disk. file_of disk ≡ file) }
+        ensures refused { IsErr result ↔ IsStandard file }
     {
-        FileDisk { file, failures: 0 }
+        if is_standard(&file) {
+            return Err(io::Error::new(
+                io::ErrorKind::Unsupported,
+                "a file has the descriptor of a standard stream",
+            ));
+        }
+        Ok(FileDisk { file, failures: 0 })
     }
 
-    /// Opens a file that is there.
+    /// Opens a file that is there. The descriptors of standard streams that are closed are taken first.
     pub fn open<R: Files<File = File>>(files: &R, path: &str) -> io::Result<FileDisk>
         ensures failures { IfOk result (λ disk. file_failures disk ≡ 0) }
+        ensures apart { IfOk result (λ disk. IsStandard (file_of disk) → ⊥) }
     {
+        take_closed_streams(files);
         let file = OpenOptions::new().read(true).write(true).open(files, path)?;
-        Ok(FileDisk::new(file))
+        FileDisk::new(file)
     }
 
     /// Opens a file, or makes an empty one where there is none, and syncs its folder, so that a file which was just
-    /// made is still there after a crash. What the file holds stays.
+    /// made is still there after a crash. What the file holds stays. The descriptors of standard streams that are
+    /// closed are taken first.
     pub fn open_or_make<R: Files<File = File>>(files: &R, path: &str) -> io::Result<FileDisk>
         ensures failures { IfOk result (λ disk. file_failures disk ≡ 0) }
+        ensures apart { IfOk result (λ disk. IsStandard (file_of disk) → ⊥) }
     {
+        take_closed_streams(files);
         let mut options = OpenOptions::new();
         options.read(true).write(true).create(true);
-        let file = options.open(files, path)?;
+        let disk = FileDisk::new(options.open(files, path)?)?;
         sync_folder(files, path)?;
-        Ok(FileDisk::new(file))
+        Ok(disk)
     }
 }
 

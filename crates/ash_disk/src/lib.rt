@@ -3,11 +3,11 @@
 //! any moment may leave, and of every disk that `DeviceFailed` is reported only where the device has failed.
 //!
 //! In reading order: `failure` (the one error and its count), `disk` (the trait), `durably` (a write and its sync),
-//! `file` (a file of the system), `fuse` (a disk that fails from a chosen call on), `memory` (a disk in memory, with
-//! `call` and `bytes`, what it records and how it writes), `crash` (what a crash may leave of it, for tests). The words
-//! of the clauses are in `specs/DiskImage` (files and torn writes), `specs/Moments` (times) and `specs/Device` (a disk
-//! during calls, for the crates above, which pass `D.Disk`), and the laws about them in `proofs/TornLaws`,
-//! `proofs/MomentLaws` and `proofs/DeviceLaws`.
+//! `standard` (the descriptors of the standard streams), `file` (a file of the system), `fuse` (a disk that fails from
+//! a chosen call on), `memory` (a disk in memory, with `call` and `bytes`, what it records and how it writes), `crash`
+//! (what a crash may leave of it, for tests). The words of the clauses are in `specs/DiskImage` (files and torn
+//! writes), `specs/Moments` (times) and `specs/Device` (a disk during calls, for the crates above, which pass
+//! `D.Disk`), and the laws about them in `proofs/TornLaws`, `proofs/MomentLaws` and `proofs/DeviceLaws`.
 #![tactic(auto)]
 
 mod bytes;
@@ -19,6 +19,7 @@ mod failure;
 mod file;
 mod fuse;
 mod memory;
+mod standard;
 
 pub use crash::Survives;
 pub use disk::Disk;
@@ -27,3 +28,4 @@ pub use failure::DeviceFailed;
 pub use file::FileDisk;
 pub use fuse::FuseDisk;
 pub use memory::MemoryDisk;
+pub use standard::take_closed_streams;

@@ -275,7 +275,7 @@ module _ {B : Type 0} (G : Ghosts B) (budget : ℕ) (requests : List BatchReques
   run_whole old new few was replies_same answered_same counted =
       let body = counted (flat_map delta (map delta_named was.answered)) was.body_is in
       let ds = map delta_named was.answered in
-      let many : length ds ≡ length was.answered = length-map delta_named was.answered in
+      let many : length ds ≡ length was.answered = length-map was.answered delta_named in
       let fewer : length was.answered ≤ length requests =
       subst (λ (ls : List (LiveState B)). length ls ≤ length requests) was.stepped.answered_are
       (few_answered G budget requests live (map batch_reply_seen old.replies.items) was.stepped.after

@@ -1,4 +1,4 @@
-use Rattle.std.proofs.Common.{length, map}
+use Rattle.std.proofs.Common.{length, map, sym, ◌∙◌}
 use Rattle.std.proofs.lemmas.Bool.{eqb-true}
 use Rattle.std.proofs.lemmas.List.{nil_from_length}
 use Rattle.ash_durable.specs.BatchViews.{batch_request_seen, batch_reply_seen}
@@ -21,5 +21,6 @@ returns-then-is_empty g c = record {
       c.in-None.is c.self.invariant c.self.view_is in
       none_seen g.D.Disk g.B.HostObject c.args.budget batch_request_seen batch_reply_seen c.args.requests.now
       c.new.result.items some.0 c.args.self.now
-      (nil_from_length c.args.requests.now ?) c.new.ensures.items some.2 (c.facts.ensures.runs some.0 some.2);
+      (nil_from_length c.args.requests.now
+      (eqb-true (length c.args.requests.now) 0 (sym c.is_empty.ensures ∙ c.if-is_empty.true))) c.new.ensures.items some.2 (c.facts.ensures.runs some.0 some.2);
 }
