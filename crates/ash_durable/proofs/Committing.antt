@@ -38,7 +38,8 @@ module _ {D : Type 0} (device : Device D) (state : HostState) (old new : Journal
       (HoldsOneOf (IsContents (image, [])) (IsContents (was, bodies)))) → HoldsState device state old
       → BeginsAnew device state state old new
   installed_moments image depicts run holds =
-      image_begins_anew device state image holds.contents.0 holds.contents.1 old new holds.is_state depicts
+      image_begins_anew device state image holds.contents.0 holds.contents.1 old new holds.is_state
+      holds.in_two depicts
       (run holds.contents.0 holds.contents.1 holds.holds)
 
   pub installs : (image : List ℕ) → IsImageIn Two image state

@@ -6,7 +6,7 @@ use Rattle.ash_disk.specs.Moments.{LeftSince}
 use Rattle.ash_journal.proofs.SettleLaws.{settle_turned}
 use Rattle.ash_states.specs.HostStates.{HostState}
 use Rattle.ash_durable.specs.Hosting.{Hosted, first, second, IsRunning, IsSaved, IsHonest}
-use Rattle.ash_durable.specs.StoredStates.{AreHonest, SettleSince, SettleNow, IsOne, HaveState}
+use Rattle.ash_durable.specs.StoredStates.{AreHonest, SettleSince, SettleNow, IsOne, HaveStateInTwo}
 use Rattle.ash_durable.specs.Store.{WereOnlyRead}
 use Rattle.ash_durable.specs.Lives.{AreLeft, BeginWith, Crashed}
 use Rattle.ash_durable.proofs.Settling.{holds_now}
@@ -76,7 +76,7 @@ module _ {D : Type 0} (device : Device D) where
   settle_swapped x y P run = record {
     first_began = run.second_began;
     second_began = run.first_began;
-    moments = λ s t u v from_a s_end from_b t_end left_u left_v. settle_turned (HaveState P) v u
+    moments = λ s t u v from_a s_end from_b t_end left_u left_v. settle_turned (HaveStateInTwo P) v u
         (run.moments t s v u from_b t_end from_a s_end left_v left_u);
   }
 

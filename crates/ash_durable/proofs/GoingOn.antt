@@ -8,6 +8,7 @@ use Rattle.ash_host.specs.declared.host_object.HostObject.{Ghosts}
 use Rattle.ash_requests.specs.Requests.{Request, Reply}
 use Rattle.ash_sources.specs.SourceFaults.{SourceFault}
 use Rattle.ash_durable.specs.Hosting.{Hosted, Handles, HandlesAll}
+use Rattle.ash_durable.specs.Batches.{HandlesCalls, single_calls, single_results}
 
 replied_last : {A : Type 0} (replied : A → Reply SourceFault) (replies : List A) (reply : A)
     (more : List (Reply SourceFault))
@@ -49,3 +50,14 @@ nothing_left device G view replied budget first last requests i replies passed g
     let done : HandlesAll device G budget last (map view (drop i requests)) [] last =
     rw (drop_of_length-le requests passed) refl in
     rw append-nil at (go_on [] last done)
+
+-- requests that were handled are calls of their own
+pub as_calls : {D B : Type 0} (device : Device D) (G : Ghosts B) (budget : ℕ) (old : Hosted D B)
+    (requests : List Request) (replies : List (Reply SourceFault)) (new : Hosted D B)
+    → HandlesAll device G budget old requests replies new
+    → HandlesCalls device G budget old (single_calls requests) (single_results replies) new
+as_calls device G budget old [] [] new all = all
+as_calls device G budget old (request ∷ requests) (reply ∷ replies) new all =
+    (all.0, all.1, as_calls device G budget all.0 requests replies new all.2)
+as_calls device G budget old [] (reply ∷ replies) new all = absurd all
+as_calls device G budget old (request ∷ requests) [] new all = absurd all

@@ -1,8 +1,10 @@
 pub mod AddingRequests
 pub mod Answerers
 pub mod Answering
+pub mod BatchEvents
 pub mod BatchLaws
 pub mod BatchLeads
+pub mod BatchOutcomes
 pub mod BatchReplies
 pub mod BatchRunLaws
 pub mod BatchesSeen

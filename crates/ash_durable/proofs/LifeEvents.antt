@@ -19,13 +19,13 @@ use Rattle.ash_durable.specs.Hosting.{Hosted, first, second, IsRunning, IsSaved,
 use Rattle.ash_durable.specs.Hosting.{IsSound, RunsSound}
 use Rattle.ash_durable.specs.OpenedStore.{AddNothing, WasOpened, WasNotFound, Opens, first_found, second_found}
 use Rattle.ash_durable.specs.OpenedStore.{NotFound, LeftThere}
-use Rattle.ash_durable.specs.StoredStates.{AreHonest, SettleNow, IsOne, IsEither, HaveState}
+use Rattle.ash_durable.specs.StoredStates.{AreHonest, SettleNow, IsOne, IsEither, HaveStateInTwo}
 use Rattle.ash_durable.specs.Store.{WereOnlyRead, IsClosedOrHasState, WasCreated, Creates}
-use Rattle.ash_durable.specs.Lives.{StoreEvent, Acknowledged, InDoubt, Found, LeadsTo, LeadTo}
+use Rattle.ash_durable.specs.Lives.{StoreEvent, Acknowledged, InDoubt, Found, LeadsTo, LeadTo, IsCertain}
 use Rattle.ash_durable.specs.Lives.{Crashed, AreFresh, first_of, second_of, StoreLocation, UnderHost}
 use Rattle.ash_durable.specs.Lives.{OnDisks, first_at, second_at, IsWholeHistory, Outlives}
 use Rattle.ash_durable.specs.declared.fault.OpenRefused.{OpenRefused}
-use Rattle.ash_durable.proofs.Settling.{settle_on_more, settle_now, settle_still}
+use Rattle.ash_durable.proofs.Settling.{settle_on_more, in_any_version, settle_now, settle_still}
 use Rattle.ash_durable.proofs.Answerers.{may_answer}
 use Rattle.ash_durable.proofs.Answering.{leaves}
 use Rattle.ash_durable.proofs.HandedOver.{live_saved}
@@ -81,7 +81,7 @@ module _ {D B : Type 0} (device : Device D) (G : Ghosts B) (start : Reached) whe
       same_live other other_is = let h : Some live ≡ Some other = sym is ∙ other_is in cc
 
   -- A host that must be reopened.
-  stops_in : (events : List StoreEvent) (host : Hosted D B) → host.registered ≡ (start.durable).registered
+  pub stops_in : (events : List StoreEvent) (host : Hosted D B) → host.registered ≡ (start.durable).registered
       → IsHonest device host → IsSaved device host → host.live ≡ None
       → IsWholeHistory device G start events (first host) (second host)
       → Outlives device G start events (UnderHost host)
@@ -121,36 +121,37 @@ module _ {D B : Type 0} (device : Device D) (G : Ghosts B) (start : Reached) whe
         certain = was.certain;
       }
 
-  -- a request is in doubt that was not handled
-  not_done : (events : List StoreEvent) (budget : ℕ) (request : Request) (a b : D)
-      → IsWholeHistory device G start events a b
-      → IsWholeHistory device G start (InDoubt budget request ∷ events) a b
-  not_done events budget request a b was = record {
+  -- an event is in doubt that changed nothing
+  pub not_done : (events : List StoreEvent) (event : StoreEvent) (a b : D) → (IsCertain (event ∷ events) → ⊥)
+      → ((reached : Reached) → LeadsTo G event reached reached) → IsWholeHistory device G start events a b
+      → IsWholeHistory device G start (event ∷ events) a b
+  not_done events event a b doubtful stays was = record {
     s = was.s;
     t = was.t;
-    s_led = (was.s, was.s_led, inl refl);
-    t_led = (was.t, was.t_led, inl refl);
+    s_led = (was.s, was.s_led, stays was.s);
+    t_led = (was.t, was.t_led, stays was.t);
     s_saved = was.s_saved;
     t_saved = was.t_saved;
     settled = was.settled;
-    certain = λ no. absurd no;
+    certain = λ no. absurd (doubtful no);
   }
 
-  -- a request is in doubt, handled or not
-  in_doubt : (events : List StoreEvent) (budget : ℕ) (request : Request) (live after : LiveState B) (a b : D)
+  -- an event is in doubt: it took place, or changed nothing
+  pub in_doubt : (events : List StoreEvent) (event : StoreEvent) (live after : LiveState B) (a b : D)
+      → (IsCertain (event ∷ events) → ⊥) → ((reached : Reached) → LeadsTo G event reached reached)
       → LeadTo G events start (reached_by live) → IsSound G live → IsSound G after
-      → LeadsTo G (InDoubt budget request) (reached_by live) (reached_by after)
+      → LeadsTo G event (reached_by live) (reached_by after)
       → SettleNow device a b (IsEither live.durable after.durable)
-      → IsWholeHistory device G start (InDoubt budget request ∷ events) a b
-  in_doubt events budget request live after a b led sound sound_after may settled = record {
+      → IsWholeHistory device G start (event ∷ events) a b
+  in_doubt events event live after a b doubtful stays led sound sound_after may settled = record {
     s = reached_by live;
     t = reached_by after;
-    s_led = (reached_by live, led, inl refl);
+    s_led = (reached_by live, led, stays (reached_by live));
     t_led = (reached_by live, led, may);
     s_saved = live_saved G live sound;
     t_saved = live_saved G after sound_after;
     settled = settled;
-    certain = λ no. absurd no;
+    certain = λ no. absurd (doubtful no);
   }
 
   -- ---- requests
@@ -165,7 +166,7 @@ module _ {D B : Type 0} (device : Device D) (G : Ghosts B) (start : Reached) whe
       honest handled.honesty_first handled.honesty_second
 
   -- a host as it was, if it had events before
-  as_before : (events : List StoreEvent) (old new : Hosted D B) → new ≡ old → Before events old → Before events new
+  pub as_before : (events : List StoreEvent) (old new : Hosted D B) → new ≡ old → Before events old → Before events new
   as_before events old new same before = subst (λ (host : Hosted D B). Outlives device G start events (UnderHost host))
       (sym same) before
 
@@ -221,8 +222,8 @@ module _ {D B : Type 0} (device : Device D) (G : Ghosts B) (start : Reached) whe
         | inr some ↦
             stops_in (InDoubt budget request ∷ events) new (handled.registered ∙ before.runs.registered_is)
             (handled_honest budget request old reply new before.honest handled) (handled.saved before.runs.saved) none
-            (in_doubt events budget request some.0 some.2.after (first new) (second new)
-            (before.runs.led some.0 some.1) (before.runs.sound some.0 some.1) (some.2.sound before.runs.sound)
+            (in_doubt events (InDoubt budget request) some.0 some.2.after (first new) (second new) (λ no. no)
+            (λ reached. inl refl) (before.runs.led some.0 some.1) (before.runs.sound some.0 some.1) (some.2.sound before.runs.sound)
             (some.2.may before.runs.sound)
             (settle_now device (device.clock (first old)) (device.clock (second old)) (first new) (second new)
             (IsEither some.0.durable some.2.after.durable) (some.2.moments before.honest before.runs.saved)))
@@ -241,12 +242,12 @@ module _ {D B : Type 0} (device : Device D) (G : Ghosts B) (start : Reached) whe
             (device.clock (second old))
             (first host) (second host) a b) stopped.2 crash in
             rests_on (InDoubt budget request ∷ events) a b crash.honest
-            (not_done events budget request a b (still_whole events (first old) (second old) a b before.whole
+            (not_done events (InDoubt budget request) a b (λ no. no) (λ reached. inl refl) (still_whole events (first old) (second old) a b before.whole
             (settle_crashed device (device.clock (first old)) (device.clock (second old)) (first old) (second old) a b
             (IsEither before.whole.s.durable before.whole.t.durable) before.whole.settled crash_old)))
         | inr some ↦
             rests_on (InDoubt budget request ∷ events) a b crash.honest
-            (in_doubt events budget request some.0 some.2.after a b
+            (in_doubt events (InDoubt budget request) some.0 some.2.after a b (λ no. no) (λ reached. inl refl)
             (before.runs.led some.0 some.1) (before.runs.sound some.0 some.1) (some.2.sound before.runs.sound)
             (some.2.may before.runs.sound)
             (settle_crashed device (device.clock (first old)) (device.clock (second old)) (first new) (second new) a b
@@ -288,7 +289,8 @@ module _ {D B : Type 0} (device : Device D) (G : Ghosts B) (start : Reached) whe
   opened events pool services a b host before was =
       let is : IsEither before.whole.s.durable before.whole.t.durable was.state =
       was.same before.whole.s.durable before.whole.t.durable before.honest (s_registered events a b before.whole)
-      (t_registered events a b before.whole) before.whole.settled in
+      (t_registered events a b before.whole)
+      (in_any_version device a b (IsEither before.whole.s.durable before.whole.t.durable) before.whole.settled) in
       let led : LeadTo G (Found (reached_by was.live) ∷ events) start (reached_by was.live) = elim is [
         | inl s_is ↦ found_led events before.whole.s was.state was.live before.whole.s_led s_is was.restored.durable
         | inr t_is ↦ found_led events before.whole.t was.state was.live before.whole.t_led t_is was.restored.durable
@@ -300,6 +302,21 @@ module _ {D B : Type 0} (device : Device D) (G : Ghosts B) (start : Reached) whe
       (same_honesty device a b (first host) (second host) before.honest back.honesty_first back.honesty_second)
       (was.saved before.honest) was.live_is
       (subst (λ (s : HostState). IsRunning s host) (sym was.restored.durable) was.running) was.sound led
+
+  -- a store whose life begins with what was found
+  pub opened_first : (registered : List Registration) (pool services : List B) (a b : D) (host : Hosted D B)
+      → AreHonest device a b → (was : WasOpened device G registered pool services a b host)
+      → start ≡ reached_by was.live → Outlives device G start (Found (reached_by was.live) ∷ []) (UnderHost host)
+  opened_first registered pool services a b host honest was begins =
+      let lives = was.restored.durable in
+      let back = kept_back device registered a b was.state host.journal was.kept.old was.kept.version was.kept.found
+      was.kept.keeps in
+      runs_in (Found (reached_by was.live) ∷ []) host was.live
+      (was.running.registered_is ∙ sym (ap (λ (s : HostState). s.registered) lives)
+      ∙ sym (ap (λ (r : Reached). (r.durable).registered) begins))
+      (same_honesty device a b (first host) (second host) honest back.honesty_first back.honesty_second)
+      (was.saved honest) was.live_is (subst (λ (s : HostState). IsRunning s host) (sym lives) was.running) was.sound
+      (found_led [] start was.state was.live refl (sym lives ∙ sym (ap (λ (r : Reached). r.durable) begins)) lives)
 
   pub not_found : (events : List StoreEvent) (others : List Registration) (pool services : List B) (a b : D)
       (r : OpenRefused D) → Rested events a b
@@ -374,7 +391,7 @@ module _ {D B : Type 0} (device : Device D) (G : Ghosts B) (start : Reached) whe
   abbrev pub IsClosedOrBegun : List Registration → List B → List B → List ℕ → List ℕ → Type 0
   IsClosedOrBegun registered pool services x y = (IsClosed x × IsClosed y)
       ⊎ (IsSound G (begin G registered pool services)
-      × SettleOn (HaveState (IsOne (first_state G registered services))) x y)
+      × SettleOn (HaveStateInTwo (IsOne (first_state G registered services))) x y)
 
   with_sound : (registered : List Registration) (pool services : List B) (x y : List ℕ)
       → IsSound G (begin G registered pool services) → IsClosedOrHasState (first_state G registered services) x y
@@ -411,7 +428,7 @@ module _ {D B : Type 0} (device : Device D) (G : Ghosts B) (start : Reached) whe
   pub open_begun : (registered : List Registration) (pool services : List B) (x y : List ℕ) → IsOpen x ⊎ IsOpen y
       → IsClosedOrBegun registered pool services x y
       → IsSound G (begin G registered pool services)
-      × SettleOn (HaveState (IsOne (first_state G registered services))) x y
+      × SettleOn (HaveStateInTwo (IsOne (first_state G registered services))) x y
   open_begun registered pool services x y is (inr settle) = settle
   open_begun registered pool services x y (inl is_open) (inl closed) = absurd (open_closed x is_open closed.0)
   open_begun registered pool services x y (inr is_open) (inl closed) = absurd (open_closed y is_open closed.1)

@@ -4,27 +4,26 @@ use Rattle.std.specs.Bool.{IsTrue}
 use Rattle.ash_disk.specs.Device.{Device}
 use Rattle.ash_journal.specs.declared.error.CreateFault.TheVariants as creating
 use Rattle.ash_journal.specs.declared.journal.Journal.{Journal}
-use Rattle.ash_journal.specs.Current.{Contents, IsContents, HoldsOneOf, Represent, SettleOn}
+use Rattle.ash_journal.specs.Current.{Contents, Represent, SettleOn}
 use Rattle.ash_journal.specs.Journal.{first_disk, second_disk}
 use Rattle.ash_journal.proofs.SettleLaws.{represent_now, represent_once}
 use Rattle.ash_image.specs.declared.version.Version.{Version}
 use Rattle.ash_image.specs.declared.version.Version.TheVariants.{One, Two}
 use Rattle.ash_states.specs.HostStates.{HostState}
-use Rattle.ash_states.specs.Images.{IsImageIn}
 use Rattle.ash_host.specs.declared.host_object.HostObject.{Ghosts}
 use Rattle.ash_registry.specs.AcceptedRegistrations.{Registration}
 use Rattle.ash_engine.specs.LiveStates.{begin}
 use Rattle.ash_engine.specs.RestoredBoxes.{LacksService}
 use Rattle.ash_engine.specs.LiveSteps.{Reached, reached_by}
 use Rattle.ash_durable.specs.HandedBoxes.{first_state, first_reached, AreSaved, CanOpen}
-use Rattle.ash_durable.specs.StoreFaults.{MayRefuse}
+use Rattle.ash_durable.specs.StoreFaults.{IsMishap}
 use Rattle.ash_durable.specs.Hosting.{Hosted, first, second, IsRunning, IsSound}
-use Rattle.ash_durable.specs.OpenedStore.{WasOpened, WasFound, WasLeft, WasRefused, Opens, Keeps, InstallsOrNot}
+use Rattle.ash_durable.specs.OpenedStore.{WasOpened, WasFound, WasLeft, WasRefused, Opens, Keeps}
 use Rattle.ash_durable.specs.OpenedStore.{first_found, second_found, NotFound, LeftThere}
-use Rattle.ash_durable.specs.StoredStates.{AreHonest, SettleSince, SettleNow, IsOne, IsEither, HaveState}
+use Rattle.ash_durable.specs.StoredStates.{AreHonest, SettleSince, SettleNow, IsOne, IsEither, HaveStateInTwo}
 use Rattle.ash_durable.specs.Store.{WereOnlyRead, AreClosed, NotMadeFor, WasNotCreated, Creates}
 use Rattle.ash_durable.specs.Lives as lives
-use Rattle.ash_durable.specs.Lives.{StoreEvent, Found, LeadTo, LeadBy}
+use Rattle.ash_durable.specs.Lives.{StoreEvent, Found, LeadBy}
 use Rattle.ash_durable.specs.Lives.{Crashed, AreFresh, IsOneOpen, first_of, second_of, StoreLocation, UnderHost}
 use Rattle.ash_durable.specs.Lives.{CanOpenAfter}
 use Rattle.ash_durable.specs.Lives.{OnDisks, first_at, second_at, Life, Outlives}
@@ -33,18 +32,17 @@ use Rattle.ash_durable.specs.declared.fault.StoreFault.{StoreFault}
 use Rattle.ash_durable.specs.declared.fault.StoreFault.TheVariants as faults
 use Rattle.ash_durable.proofs.Faultless.{represent_open}
 use Rattle.ash_durable.proofs.HandedOver.{live_saved}
-use Rattle.ash_durable.proofs.Mishaps.{only_mishaps}
-use Rattle.ash_durable.proofs.Settling.{run_more, settle_on_more, settle_now, settle_still}
+use Rattle.ash_durable.proofs.Mishaps.{two_one, only_mishaps}
+use Rattle.ash_durable.proofs.Settling.{settle_on_more, settle_now, settle_still}
 use Rattle.ash_replay.specs.ReplayedStates.{IsStateOf}
-use Rattle.ash_replay.proofs.Adding.{state_of_alone}
-use Rattle.ash_replay.proofs.Faultless.{same_image}
 use Rattle.ash_replay.proofs.HostStatesRead.{host_state_once}
 use Rattle.ash_durable.proofs.Opened.{kept_back}
+use Rattle.ash_durable.proofs.BatchEvents.{replied_batch, refused_batch, failed_batch, crashed_batching}
 use Rattle.ash_durable.proofs.RequestOutcomes.{lead_by}
 use Rattle.ash_durable.proofs.CrashedDisks.{same_honesty, settle_crashed, settle_read}
 use Rattle.ash_durable.proofs.LifeEvents.{runs_in, rests_on, still_whole, replied, stored, failed, crashed_handling}
 use Rattle.ash_durable.proofs.LifeEvents.{crashed_between, Rested, s_registered, t_registered, found_led, opened}
-use Rattle.ash_durable.proofs.LifeEvents.{not_found}
+use Rattle.ash_durable.proofs.LifeEvents.{opened_first, not_found}
 use Rattle.ash_durable.proofs.LifeEvents.{crashed_opening, looked, turned, created, IsClosedOrBegun, begun, open_begun}
 
 -- ---- what the disks read
@@ -53,9 +51,9 @@ module _ {D : Type 0} (device : Device D) (stays : (disk : D) → IsTrue (device
     → device.leaves disk (device.clock disk) (device.seen disk)) where
   -- a store's files, as they read, represent a state of those that they settle on
   reads_one : (a b : D) (P : HostState → Type 0) → AreHonest device a b → SettleNow device a b P → (contents : Contents)
-      × HaveState P contents × Represent contents (device.seen a) (device.seen b)
+      × HaveStateInTwo P contents × Represent contents (device.seen a) (device.seen b)
   reads_one a b P honest run =
-      represent_now (HaveState P) (device.seen a) (device.seen b)
+      represent_now (HaveStateInTwo P) (device.seen a) (device.seen b)
       (run.moments (device.clock a) (device.clock b) (device.seen a) (device.seen b) (omega arith) (omega arith)
       (omega arith) (omega arith) (stays a honest.honest_first) (stays b honest.honest_second))
 
@@ -68,35 +66,24 @@ module _ {D : Type 0} (device : Device D) (stays : (disk : D) → IsTrue (device
 
   -- ---- what is moved to version 2
 
-  -- files that settled on some states when an opening began settle on them while what it found is moved
-  moved_on : (others : List Registration) (a b : D) (P : HostState → Type 0) (state : HostState) (old new : Journal D)
-      (image : List ℕ) → AreHonest device a b → SettleNow device a b P → WasFound device others a b One state old
-      → IsImageIn Two image state → InstallsOrNot device image old new
-      → SettleSince device (device.clock (first_disk old)) (device.clock (second_disk old)) (first_disk new)
-      (second_disk new) P
-  moved_on others a b P state old new image honest settle found is run =
+  -- files that settle on states in version 2 are not found in version 1
+  never_in_one : (others : List Registration) (a b : D) (P : HostState → Type 0) (state : HostState) (old : Journal D)
+      → AreHonest device a b → SettleNow device a b P → WasFound device others a b One state old → ⊥
+  never_in_one others a b P state old honest settle found =
       let holds = found.holds honest in
       let one = reads_one a b P honest settle in
-      let w = one.1.0 in
-      let of : IsStateOf w holds.contents = subst (IsStateOf w)
-      (represent_once one.0 holds.contents (device.seen a) (device.seen b) one.2 holds.represented) one.1.2 in
-      let w_is = same_image w state holds.contents image of holds.is_state is in
-      run_more device (device.clock (first_disk old)) (device.clock (second_disk old)) (first_disk new)
-      (second_disk new) (HoldsOneOf (IsContents (image, [])) (IsContents holds.contents)) (HaveState P)
-      (run holds.contents holds.holds)
-      (λ contents either. elim either [
-        | inl new_is ↦ (w, one.1.1, subst (IsStateOf w) (sym new_is) (state_of_alone Two w image w_is))
-        | inr same ↦ (w, one.1.1, subst (IsStateOf w) (sym same) of)
-      ])
+      two_one one.0 holds.contents
+      (represent_once holds.contents one.0 (device.seen a) (device.seen b) holds.represented one.2) one.1.1
+      holds.in_version
 
-  -- and so they do where it is kept as it was found
+  -- and what is found in version 2 is kept as it was found
   kept_on : (others : List Registration) (a b : D) (P : HostState → Type 0) (state : HostState)
       (old new : Journal D) (version : Version) → AreHonest device a b → SettleNow device a b P
       → WasFound device others a b version state old → Keeps device version state old new
       → SettleSince device (device.clock (first_disk old)) (device.clock (second_disk old)) (first_disk new)
       (second_disk new) P
   kept_on others a b P state old new One honest settle found moved =
-      moved_on others a b P state old new moved.image honest settle found moved.is_image moved.moments
+      absurd (never_in_one others a b P state old honest settle found)
   kept_on others a b P state old new Two honest settle found same =
       let x = first_disk old in
       let y = second_disk old in
@@ -173,7 +160,7 @@ module _ {D B : Type 0} (device : Device D) (G : Ghosts B) (stays : (disk : D) �
 
       images : (x y : List ℕ) → device.leaves a' (device.clock a') x → device.leaves b' (device.clock b') y
           → IsSound G (begin G registered pool services)
-          × SettleOn (HaveState (IsOne (first_state G registered services))) x y
+          × SettleOn (HaveStateInTwo (IsOne (first_state G registered services))) x y
       images x y left_x left_y =
           open_begun device G start registered pool services x y (is_open x y left_x left_y)
           (begun device G start registered pool services a b result a' b' x y fresh creates crash left_x left_y)
@@ -203,11 +190,12 @@ module _ {D B : Type 0} (device : Device D) (G : Ghosts B) (stays : (disk : D) �
       absurd (represent_open contents x y is closed)
   state_at_first registered pool services contents state x y with_it is is_state (inr settle) =
       let none = first_state G registered services in
-      let one = represent_now (HaveState (IsOne none)) x y settle.1 in
-      let other : IsStateOf one.1.0 contents =
-      subst (IsStateOf one.1.0) (represent_once one.0 contents x y one.2 is) one.1.2 in
+      let one = represent_now (HaveStateInTwo (IsOne none)) x y settle.1 in
+      let found = one.1.0 in
+      let other : IsStateOf found.0 contents =
+      subst (IsStateOf found.0) (represent_once one.0 contents x y one.2 is) found.2 in
       host_state_once state none contents with_it is_state
-      (subst (λ (s : HostState). IsStateOf s contents) one.1.1 other)
+      (subst (λ (s : HostState). IsStateOf s contents) found.1 other)
 
   opened_creating : (registered : List Registration) (pool services : List B) (a b : D)
       (result : Result (Hosted D B) (OpenRefused D)) (a' b' : D) (pool' services' : List B) (host : Hosted D B)
@@ -235,16 +223,12 @@ module _ {D B : Type 0} (device : Device D) (G : Ghosts B) (stays : (disk : D) �
       (subst (λ (s : HostState). IsRunning s host) (sym was.restored.durable) was.running) was.sound
       (found_led device G start [] start was.state was.live refl (is ∙ sym start_is) was.restored.durable)
 
-  left_on : (others : List Registration) (pool services : List B) (a b : D) (P : HostState → Type 0) (r : OpenRefused D)
-      → AreHonest device a b → SettleNow device a b P → (left : WasLeft device G others pool services a b r)
-      → SettleSince device (device.clock (first_disk left.old)) (device.clock (second_disk left.old)) r.a r.b P
-  left_on others pool services a b P r honest settle left =
-      let x = device.clock (first_disk left.old) in
-      let y = device.clock (second_disk left.old) in
-      subst (λ (d : D). SettleSince device x y d r.b P) (sym left.left.first_is)
-      (subst (λ (d : D). SettleSince device x y (first_disk left.left.new) d P) (sym left.left.second_is)
-      (moved_on device stays others a b P left.state left.old left.left.new left.left.image honest settle left.found
-      left.left.is_image left.left.moments))
+  -- so nothing is left in version 1
+  never_left : (others : List Registration) (pool services : List B) (a b : D) (P : HostState → Type 0)
+      (r : OpenRefused D) → AreHonest device a b → SettleNow device a b P
+      → WasLeft device G others pool services a b r → ⊥
+  never_left others pool services a b P r honest settle left =
+      never_in_one device stays others a b P left.state left.old honest settle left.found
 
   refused : (events : List StoreEvent) (others : List Registration) (pool services : List B) (a b : D)
       (r : OpenRefused D) → Rested device G start events a b → WasRefused device G others pool services a b r
@@ -252,14 +236,8 @@ module _ {D B : Type 0} (device : Device D) (G : Ghosts B) (stays : (disk : D) �
   refused events others pool services a b r before (NotFound none) =
       not_found device G start events others pool services a b r before none
   refused events others pool services a b r before (LeftThere left) =
-      let P = IsEither before.whole.s.durable before.whole.t.durable in
-      rests_on device G start events r.a r.b
-      (same_honesty device a b r.a r.b before.honest
-      (left.left.disks.honesty_first ∙ left.found.disks.honesty_first)
-      (left.left.disks.honesty_second ∙ left.found.disks.honesty_second))
-      (still_whole device G start events a b r.a r.b before.whole
-      (settle_now device (device.clock (first_disk left.old)) (device.clock (second_disk left.old)) r.a r.b P
-      (left_on others pool services a b P r before.honest before.whole.settled left)))
+      absurd (never_left others pool services a b (IsEither before.whole.s.durable before.whole.t.durable) r
+      before.honest before.whole.settled left)
 
   moving_settles : (others : List Registration) (pool services : List B) (a b : D) (P : HostState → Type 0)
       (result : Result (Hosted D B) (OpenRefused D)) → AreHonest device a b → SettleNow device a b P
@@ -274,7 +252,7 @@ module _ {D B : Type 0} (device : Device D) (G : Ghosts B) (stays : (disk : D) �
       settle_now device (device.clock a) (device.clock b) r.a r.b P
       (settle_still device (device.clock a) (device.clock b) a b r.a r.b P (was.moments honest) settle)
   moving_settles others pool services a b P (Err r) honest settle (LeftThere left) =
-      left_on others pool services a b P r honest settle left
+      absurd (never_left others pool services a b P r honest settle left)
 
   crashed_moving : (events : List StoreEvent) (others : List Registration) (pool services : List B) (a b : D)
       (result : Result (Hosted D B) (OpenRefused D)) (a' b' : D) → Rested device G start events a b
@@ -301,6 +279,8 @@ module _ {D B : Type 0} (device : Device D) (G : Ghosts B) (stays : (disk : D) �
   outlives _ _ (lives.OpenedCreating registered pool services a b result a' b' pool' services' host begins fresh creates
       crash was) =
       opened_creating registered pool services a b result a' b' pool' services' host begins fresh creates crash was
+  outlives _ _ (lives.OpenedFirst registered pool services a b host honest was begins) =
+      opened_first device G start registered pool services a b host honest was begins
   outlives _ _ (lives.Replied events budget request old live end seq happened new life is handled took) =
       replied device G start events budget request old live end seq happened new (outlives events (UnderHost old) life)
       is handled took
@@ -313,6 +293,18 @@ module _ {D B : Type 0} (device : Device D) (G : Ghosts B) (stays : (disk : D) �
   outlives _ _ (lives.CrashedHandling events budget request old reply new a b life handled ran crash) =
       crashed_handling device G start events budget request old reply new a b (outlives events (UnderHost old) life)
       handled crash
+  outlives _ _ (lives.RepliedBatch events budget requests old live replies new life is handled took) =
+      replied_batch device G start events budget requests old live replies new (outlives events (UnderHost old) life)
+      is handled took
+  outlives _ _ (lives.UnansweredBatch events budget requests old refusal new life handled only) =
+      refused_batch device G start events budget requests old refusal new (outlives events (UnderHost old) life)
+      handled only
+  outlives _ _ (lives.FailedBatch events budget requests old refusal new life handled ran none) =
+      failed_batch device G start events budget requests old refusal new (outlives events (UnderHost old) life)
+      handled ran none
+  outlives _ _ (lives.CrashedBatching events budget requests old result new a b life handled ran crash) =
+      crashed_batching device G start events budget requests old result new a b
+      (outlives events (UnderHost old) life) handled crash
   outlives _ _ (lives.Closed events host life) =
       let before = outlives events (UnderHost host) life in
       rests_on device G start events (first host) (second host) before.honest before.whole
@@ -352,32 +344,33 @@ module _ {D B : Type 0} (device : Device D) (G : Ghosts B) (stays : (disk : D) �
             (lead_by G later event earlier start whole.t whole.t_led)
       ])
 
-  -- No opening of a store is refused but because memory ran out, a disk failed or its version 1 has no more
-  -- generations, where the boxes are such as it can be opened with.
+  -- No opening of a store is refused but because memory ran out or a disk failed, where the boxes are such as it can be
+  -- opened with.
   pub opens : (events : List StoreEvent) (pool services : List B) (a b : D) (r : OpenRefused D)
       → Life device G start events (OnDisks a b) → CanOpenAfter device G pool services events start a b
-      → WasRefused device G (start.durable).registered pool services a b r → MayRefuse r.fault
+      → WasRefused device G (start.durable).registered pool services a b r → IsMishap r.fault
   opens events pool services a b r life can (NotFound was) =
       let before = outlives events (OnDisks a b) life in
       let whole = before.whole in
       let one = reads_one device stays a b (IsEither whole.s.durable whole.t.durable) before.honest whole.settled in
-      let state = one.1.0 in
+      let found = one.1.0 in
+      let state = found.0 in
       let registered = (start.durable).registered in
       let known : (state.registered ≡ registered) × CanOpen G pool services state =
-      elim one.1.1 [
+      elim found.1 [
         | inl s_is ↦
             let with_it = ap (λ (s : HostState). s.registered) s_is ∙ s_registered device G start events a b whole in (
               with_it,
               subst (CanOpen G pool services) (sym s_is)
-                  (can whole.s whole.s_led whole.s_saved (one.0, one.2, state, with_it, one.1.2, s_is)),
+                  (can whole.s whole.s_led whole.s_saved (one.0, one.2, state, with_it, found.2, s_is)),
             )
         | inr t_is ↦
             let with_it = ap (λ (s : HostState). s.registered) t_is ∙ t_registered device G start events a b whole in (
               with_it,
               subst (CanOpen G pool services) (sym t_is)
-                  (can whole.t whole.t_led whole.t_saved (one.0, one.2, state, with_it, one.1.2, t_is)),
+                  (can whole.t whole.t_led whole.t_saved (one.0, one.2, state, with_it, found.2, t_is)),
             )
       ] in
       only_mishaps G registered pool services state one.0 r.fault (device.seen a) (device.seen b) known.0
-      one.2 one.1.2 known.1 (was.cause before.honest)
-  opens events pool services a b r life can (LeftThere left) = subst MayRefuse (sym left.left.fault_is) tt
+      one.2 found.2 one.1.1 known.1 (was.cause before.honest)
+  opens events pool services a b r life can (LeftThere left) = subst IsMishap (sym left.left.fault_is) tt

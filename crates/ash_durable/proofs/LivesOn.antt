@@ -1,19 +1,22 @@
--- How handling requests goes on with a life.
-use Rattle.std.proofs.Common.{◌≡◌, ◌⊎◌, inl, inr, ℕ, List, [], ◌∷◌, ◌++◌, Option, Some, None, refl, sym, ◌∙◌, ap, subst}
-use Rattle.std.proofs.Common.{append_assoc}
+-- How calls of a host go on with a life.
+use Rattle.std.proofs.Common.{◌≡◌, ◌⊎◌, inl, inr, ℕ, List, [], ◌∷◌, ◌++◌, Option, Some, None, Ok, Err, refl, sym, ◌∙◌}
+use Rattle.std.proofs.Common.{ap, subst, append_assoc}
 use Rattle.ash_disk.specs.Device.{Device}
 use Rattle.ash_host.specs.declared.event.Event.{Event as HostEvent}
 use Rattle.ash_host.specs.declared.host_object.HostObject.{Ghosts}
 use Rattle.ash_meaning.specs.Ends.{End}
-use Rattle.ash_requests.specs.Requests.{Request, Reply, Answered, Value, ShownAs, Number, Done, Refused}
+use Rattle.ash_requests.specs.Requests.{Request, Reply, Answered, Value, ShownAs, Number, Done, Refused, Refusal}
 use Rattle.ash_sources.specs.SourceFaults.{SourceFault}
 use Rattle.ash_engine.specs.LiveStates.{LiveState}
 use Rattle.ash_engine.specs.LiveSteps.{Reached}
-use Rattle.ash_durable.specs.Hosting.{Hosted, IsAnswer, TookStep, HostReplies, Handles, HandlesAll}
+use Rattle.ash_durable.specs.Hosting.{Hosted, IsAnswer, TookStep, HostReplies, Handles}
+use Rattle.ash_durable.specs.Batches.{BatchRequest, HandlesBatch, HostCall, SingleCall, BatchCall}
+use Rattle.ash_durable.specs.Batches.{HostResult, SingleResult, BatchGiven, HandlesCall, HandlesCalls}
 use Rattle.ash_durable.specs.RequestRuns.{LosesAnswer}
-use Rattle.ash_durable.specs.Lives.{StoreEvent, Acknowledged, InDoubt, UnderHost, Life, Replied, Unanswered, Failed}
-use Rattle.ash_durable.specs.Lives.{Records}
-use Rattle.ash_durable.specs.Lives.{LivesOn}
+use Rattle.ash_durable.specs.Lives.{StoreEvent, Acknowledged, InDoubt, InDoubtBatch, UnderHost, Life, Replied}
+use Rattle.ash_durable.specs.Lives.{Unanswered, Failed, RepliedBatch, UnansweredBatch, FailedBatch, acknowledged_in}
+use Rattle.ash_durable.specs.Lives.{Records, RecordsCall, LivesOn}
+use Rattle.ash_durable.proofs.BatchOutcomes.{batch_or_stopped, took_batch, all_recorded}
 use Rattle.ash_durable.proofs.RequestOutcomes.{handled_or_stopped, stopped_answer}
 
 -- the events of a request that is not answered
@@ -37,6 +40,21 @@ module _ {D B : Type 0} (device : Device D) (G : Ghosts B) (budget : ℕ) where
           | inl on ↦ let h : None ≡ Some some.2.after = sym none ∙ on.0 in absurd (cc)
           | inr (inl same) ↦ let h : None ≡ Some live = sym none
               ∙ ap (λ (host : Hosted D B). host.live) same.1 ∙ ran in absurd (cc)
+          | inr (inr lost) ↦ lost.1
+        ]
+      ]
+
+  -- and so had one that did so in a batch
+  refused_by : (requests : List BatchRequest) (old : Hosted D B) (refusal : Refusal SourceFault) (new : Hosted D B)
+      (live : LiveState B) → old.live ≡ Some live → new.live ≡ None
+      → HandlesBatch device G budget requests old (Err refusal) new → LosesAnswer (Refused refusal)
+  refused_by requests old refusal new live ran none handled =
+      elim (batch_or_stopped device G budget requests old (Err refusal) new handled) [
+        | inl stopped ↦ let h : None ≡ Some live = sym stopped.0 ∙ ran in absurd (cc)
+        | inr some ↦ elim some.2.ending [
+          | inl on ↦ let h : None ≡ Some some.0 = sym none ∙ on.0 in absurd (cc)
+          | inr (inl same) ↦ let h : None ≡ Some live = sym none
+              ∙ ap (λ (host : Hosted D B). host.live) same ∙ ran in absurd (cc)
           | inr (inr lost) ↦ lost.1
         ]
       ]
@@ -121,22 +139,67 @@ module _ {D B : Type 0} (device : Device D) (G : Ghosts B) (budget : ℕ) where
     lives_once request events old (Refused refusal) new life handled =
         other_once request events old (Refused refusal) new life handled (λ no. no)
 
-  pub lives_on : (old : Hosted D B) (requests : List Request) (replies : List (Reply SourceFault)) (new : Hosted D B)
-      → HandlesAll device G budget old requests replies new → LivesOn device G budget old requests replies new
+    -- a life that goes on with one call
+    abbrev LivesOnceBy : HostCall → List StoreEvent → HostResult → Hosted D B → Type 0
+    LivesOnceBy call events result new =
+        (one : List StoreEvent) × Life device G start (one ++ events) (UnderHost new)
+        × RecordsCall budget call result one
+
+    refused_once : (requests : List BatchRequest) (events : List StoreEvent) (old : Hosted D B)
+        (refusal : Refusal SourceFault) (new : Hosted D B) → Life device G start events (UnderHost old)
+        → HandlesBatch device G budget requests old (Err refusal) new
+        → LivesOnceBy (BatchCall requests) events (BatchGiven (Err refusal)) new
+    refused_once requests events old refusal new life handled = by new.live old.live refl refl
+      where
+        goes_on : (new.live ≡ None → old.live ≡ None)
+            → LivesOnceBy (BatchCall requests) events (BatchGiven (Err refusal)) new
+        goes_on only =
+            ([], UnansweredBatch events budget requests old refusal new life handled only, inl refl)
+
+        by : (is was : Option (LiveState B)) → new.live ≡ is → old.live ≡ was
+            → LivesOnceBy (BatchCall requests) events (BatchGiven (Err refusal)) new
+        by (Some live) was runs before = goes_on (λ none. let h : None ≡ Some live = sym none ∙ runs in absurd (cc))
+        by None None none before = goes_on (λ again. before)
+        by None (Some live) none before =
+            let ran : old.live ≡ None → ⊥ = λ stopped. let h : None ≡ Some live = sym stopped ∙ before in
+            absurd (cc) in (
+              InDoubtBatch budget requests ∷ [],
+              FailedBatch events budget requests old refusal new life handled ran none,
+              inr (refused_by requests old refusal new live before none handled, refl),
+            )
+
+    call_once : (call : HostCall) (events : List StoreEvent) (old : Hosted D B) (result : HostResult)
+        (new : Hosted D B) → Life device G start events (UnderHost old) → HandlesCall device G budget call old result new
+        → LivesOnceBy call events result new
+    call_once (SingleCall request) events old (SingleResult reply) new life handled =
+        lives_once request events old reply new life handled
+    call_once (BatchCall requests) events old (BatchGiven (Ok replies)) new life handled =
+        let took = took_batch device G budget requests old replies new handled in (
+          acknowledged_in took.2.steps,
+          RepliedBatch events budget requests old took.0 replies new life took.1 handled took.2,
+          all_recorded G budget requests took.0 replies took.2.after took.2.steps,
+        )
+    call_once (BatchCall requests) events old (BatchGiven (Err refusal)) new life handled =
+        refused_once requests events old refusal new life handled
+    call_once (SingleCall request) events old (BatchGiven result) new life handled = absurd handled
+    call_once (BatchCall requests) events old (SingleResult reply) new life handled = absurd handled
+
+  pub lives_on : (old : Hosted D B) (calls : List HostCall) (results : List HostResult) (new : Hosted D B)
+      → HandlesCalls device G budget old calls results new → LivesOn device G budget old calls results new
   lives_on old [] [] new all =
       λ start events life. (
         [],
         subst (λ (host : Hosted D B). Life device G start events (UnderHost host)) (sym all) life,
         refl,
       )
-  lives_on old (request ∷ requests) (reply ∷ replies) new all =
+  lives_on old (call ∷ calls) (result ∷ results) new all =
       λ start events life.
-      let one = lives_once start request events old reply all.0 life all.1 in
-      let more = lives_on all.0 requests replies new all.2 start (one.0 ++ events) one.1 in (
+      let one = call_once start call events old result all.0 life all.1 in
+      let more = lives_on all.0 calls results new all.2 start (one.0 ++ events) one.1 in (
         more.0 ++ one.0,
         subst (λ (later : List StoreEvent). Life device G start later (UnderHost new))
             (sym (append_assoc more.0 one.0 events)) more.1,
         (more.0, one.0, one.2, more.2, refl),
       )
-  lives_on old [] (reply ∷ replies) new all = absurd all
-  lives_on old (request ∷ requests) [] new all = absurd all
+  lives_on old [] (result ∷ results) new all = absurd all
+  lives_on old (call ∷ calls) [] new all = absurd all

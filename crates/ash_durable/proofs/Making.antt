@@ -21,12 +21,12 @@ use Rattle.ash_image.specs.declared.version.Version.TheVariants.{Two}
 use Rattle.ash_states.specs.HostStates.{HostState}
 use Rattle.ash_states.specs.Images.{IsImageIn}
 use Rattle.ash_durable.specs.StoreFaults.{IsFailed}
-use Rattle.ash_durable.specs.StoredStates.{AreHonest, IsOne, HaveState}
+use Rattle.ash_durable.specs.StoredStates.{AreHonest, IsOne, HaveStateInTwo}
 use Rattle.ash_durable.specs.Store.{HandsBack, WereOnlyRead, AreClosed, MakesOrNot, WasMade, NotMadeFor, WasNotMade}
 use Rattle.ash_durable.specs.declared.fault.StoreFault.{StoreFault}
 use Rattle.ash_durable.specs.declared.fault.StoreFault.TheVariants as faults
 use Rattle.ash_durable.proofs.OpenedJournals.{handed_on}
-use Rattle.ash_replay.specs.ReplayedStates.{IsStateOf}
+use Rattle.ash_replay.specs.ReplayedStates.{AreIn, IsStateOf}
 use Rattle.ash_replay.proofs.Adding.{alone_in, state_of_alone}
 
 -- ---- files that are closed
@@ -122,12 +122,10 @@ module _ {D : Type 0} (device : Device D) where
         s t x y from_p to_a from_q to_b left_x left_y in
         elim made [
           | inl none ↦ inl none
-          | inr settle ↦ inr (settle_more (IsContents (image, [])) (HaveState (IsOne state))
+          | inr settle ↦ inr (settle_more (IsContents (image, [])) (HaveStateInTwo (IsOne state))
               (λ contents same. (
-                state,
-                refl,
-                subst (IsStateOf state) (sym same)
-                    (state_of_alone Two state image depicts),
+                (state, refl, subst (IsStateOf state) (sym same) (state_of_alone Two state image depicts)),
+                subst (AreIn Two) (sym same) (alone_in Two state image depicts),
               ))
               x y settle)
         ]

@@ -1,5 +1,5 @@
--- Files that represent contents of a state are refused because memory ran out, a device failed or their version 1 has
--- no further generation, and for nothing else, where the boxes are such as the state can be opened with.
+-- Files that represent contents of a state in version 2 are refused because memory ran out or a device failed, and for
+-- nothing else, where the boxes are such as the state can be opened with.
 use Rattle.std.proofs.Common.{◌≡◌, inl, inr, ℕ, ◌∙◌, List, sym, subst}
 use Rattle.ash_journal.specs.declared.error.OpenFault.TheVariants as opening
 use Rattle.ash_journal.specs.Current.{Contents, Represent}
@@ -13,7 +13,7 @@ use Rattle.ash_replay.specs.ReplayedStates.{AreIn, IsStateOf, IsReadFault}
 use Rattle.ash_replay.proofs.Faultless.{only_memory}
 use Rattle.ash_replay.proofs.HostStatesRead.{host_state_once}
 use Rattle.ash_replay.proofs.Once.{image_once}
-use Rattle.ash_durable.specs.StoreFaults.{IsMishap, MayRefuse}
+use Rattle.ash_durable.specs.StoreFaults.{IsMishap}
 use Rattle.ash_host.specs.declared.host_object.HostObject.{Ghosts}
 use Rattle.ash_engine.specs.RestoredBoxes.{IsShort, IsRefused}
 use Rattle.ash_durable.specs.HandedBoxes.{CanOpen}
@@ -32,6 +32,13 @@ misread registered state contents other fault x y with_it is is_state other_is r
     only_memory registered contents state fault with_it is_state
     (subst (λ (c : Contents). IsReadFault registered c fault) (represent_once other contents x y other_is is) reads)
 
+-- what is in version 2 is not in version 1
+pub two_one : (contents other : Contents) → other ≡ contents → AreIn Two contents → AreIn One other → ⊥
+two_one contents other same two one =
+    let here = subst (AreIn One) same one in
+    let is : Two ≡ One = (image_once contents.0 Two One two.0 here.0 two.1 here.1).0 in
+    absurd (cc)
+
 module _ {B : Type 0} (G : Ghosts B) (registered : List Registration) (pool services : List B) where
   -- boxes with which the state can be opened are not short, nor is a state refused
   boxes_there : (P : HostState → Type 0) (state : HostState) (contents : Contents) (x y : List ℕ)
@@ -41,54 +48,38 @@ module _ {B : Type 0} (G : Ghosts B) (registered : List Registration) (pool serv
       let same : IsStateOf s contents = subst (IsStateOf s) (represent_once other contents x y other_is is) s_of in
       never (subst P (host_state_once s state contents (s_with ∙ sym with_it) same is_state) has)
 
-  pub only_mishaps : (state : HostState) (contents : Contents) (fault : StoreFault) (x y : List ℕ)
-      → state.registered ≡ registered → Represent contents x y → IsStateOf state contents
-      → CanOpen G pool services state → StoreFaultIs G registered pool services fault x y → MayRefuse fault
-  only_mishaps state contents (faults.Open opening.NoMemory) x y with_it is is_state can cause = tt
-  only_mishaps state contents (faults.Open opening.DeviceFailed) x y with_it is is_state can cause = tt
-  only_mishaps state contents faults.GenerationSpent x y with_it is is_state can cause = tt
-  only_mishaps state contents (faults.PoolShort kind) x y with_it is is_state can cause =
-      absurd (boxes_there (λ s. IsShort G s pool services kind) state contents x y with_it is is_state cause
-      (λ short. not_short G pool services state kind can short))
-  only_mishaps state contents (faults.RestoreRefused number) x y with_it is is_state can cause =
-      absurd (boxes_there (λ s. IsRefused G s pool services number) state contents x y with_it is is_state cause
-      (λ refused. not_refused G pool services state number can refused))
-  only_mishaps state contents (faults.Open opening.NoGeneration) x y with_it is is_state can cause =
-      absurd (represent_open contents x y is cause)
-  only_mishaps state contents (faults.Open (opening.Damaged at)) x y with_it is is_state can (inl (inl unsound)) =
-      absurd (represent_sound contents x y is unsound.0)
-  only_mishaps state contents (faults.Open (opening.Damaged at)) x y with_it is is_state can (inl (inr cut)) =
-      absurd (represent_whole contents x y at is cut)
-  only_mishaps state contents (faults.Open (opening.Damaged at)) x y with_it is is_state can
-      (inr (other, other_is, wrong)) =
-      let same : replaying.Damaged at ≡ replaying.NoMemory =
-      misread registered state contents other (replaying.Damaged at) x y with_it is is_state other_is
-      wrong in absurd (cc)
-  only_mishaps state contents faults.OtherInterface x y with_it is is_state can (other, other_is, others) =
-      let same : replaying.OtherInterface ≡ replaying.NoMemory =
-      misread registered state contents other replaying.OtherInterface x y with_it is is_state other_is others in
-      absurd (cc)
-  only_mishaps state contents (faults.Create fault) x y with_it is is_state can cause = absurd cause
-
--- what is in version 2 is not in version 1
-two_one : (contents other : Contents) → other ≡ contents → AreIn Two contents → AreIn One other → ⊥
-two_one contents other same two one =
-    let here = subst (AreIn One) same one in
-    let is : Two ≡ One = (image_once contents.0 Two One two.0 here.0 two.1 here.1).0 in
-    absurd (cc)
-
-module _ {B : Type 0} (G : Ghosts B) (registered : List Registration) (pool services : List B) where
   -- files that are in version 2 are not refused because no generation is left
   never_spent : (contents : Contents) (x y : List ℕ) → Represent contents x y
       → AreIn Two contents → IsSpent G registered pool services x y → ⊥
   never_spent contents x y is two spent =
       two_one contents spent.contents (represent_once spent.contents contents x y spent.represented is) two spent.in_one
 
-  -- so they are refused for a mishap
-  pub mishap : (fault : StoreFault) (contents : Contents) (x y : List ℕ)
-      → Represent contents x y → AreIn Two contents → StoreFaultIs G registered pool services fault x y
-      → MayRefuse fault → IsMishap fault
-  mishap faults.GenerationSpent contents x y is two cause may = absurd (never_spent contents x y is two cause)
-  mishap (faults.Open opening.NoMemory) contents x y is two cause may = may
-  mishap (faults.Open opening.DeviceFailed) contents x y is two cause may = may
-  mishap _ contents x y is two cause may = absurd may
+  pub only_mishaps : (state : HostState) (contents : Contents) (fault : StoreFault) (x y : List ℕ)
+      → state.registered ≡ registered → Represent contents x y → IsStateOf state contents → AreIn Two contents
+      → CanOpen G pool services state → StoreFaultIs G registered pool services fault x y → IsMishap fault
+  only_mishaps state contents (faults.Open opening.NoMemory) x y with_it is is_state two can cause = tt
+  only_mishaps state contents (faults.Open opening.DeviceFailed) x y with_it is is_state two can cause = tt
+  only_mishaps state contents faults.GenerationSpent x y with_it is is_state two can cause =
+      absurd (never_spent contents x y is two cause)
+  only_mishaps state contents (faults.PoolShort kind) x y with_it is is_state two can cause =
+      absurd (boxes_there (λ s. IsShort G s pool services kind) state contents x y with_it is is_state cause
+      (λ short. not_short G pool services state kind can short))
+  only_mishaps state contents (faults.RestoreRefused number) x y with_it is is_state two can cause =
+      absurd (boxes_there (λ s. IsRefused G s pool services number) state contents x y with_it is is_state cause
+      (λ refused. not_refused G pool services state number can refused))
+  only_mishaps state contents (faults.Open opening.NoGeneration) x y with_it is is_state two can cause =
+      absurd (represent_open contents x y is cause)
+  only_mishaps state contents (faults.Open (opening.Damaged at)) x y with_it is is_state two can (inl (inl unsound)) =
+      absurd (represent_sound contents x y is unsound.0)
+  only_mishaps state contents (faults.Open (opening.Damaged at)) x y with_it is is_state two can (inl (inr cut)) =
+      absurd (represent_whole contents x y at is cut)
+  only_mishaps state contents (faults.Open (opening.Damaged at)) x y with_it is is_state two can
+      (inr (other, other_is, wrong)) =
+      let same : replaying.Damaged at ≡ replaying.NoMemory =
+      misread registered state contents other (replaying.Damaged at) x y with_it is is_state other_is
+      wrong in absurd (cc)
+  only_mishaps state contents faults.OtherInterface x y with_it is is_state two can (other, other_is, others) =
+      let same : replaying.OtherInterface ≡ replaying.NoMemory =
+      misread registered state contents other replaying.OtherInterface x y with_it is is_state other_is others in
+      absurd (cc)
+  only_mishaps state contents (faults.Create fault) x y with_it is is_state two can cause = absurd cause

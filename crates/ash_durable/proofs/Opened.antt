@@ -18,7 +18,7 @@ use Rattle.ash_durable.specs.StoreFaults.{IsMishap}
 use Rattle.ash_durable.specs.Hosting.{Hosted, first, second, IsRunning, IsSound, RunsSound}
 use Rattle.ash_durable.specs.OpenedStore.{HasFound, WasFound, Keeps, WasKept, WasOpened, Opens, OpensAgain, NotFound}
 use Rattle.ash_durable.specs.OpenedStore.{LeftThere}
-use Rattle.ash_durable.specs.StoredStates.{AreHonest, HoldsState, SettleNow, IsOne, IsEither}
+use Rattle.ash_durable.specs.StoredStates.{AreHonest, HoldsState, SettleInAnyVersion, IsOne, IsEither}
 use Rattle.ash_durable.specs.Store.{HandsBack, HasMade, WasMade, WasCreated}
 use Rattle.ash_durable.specs.declared.fault.OpenRefused.{OpenRefused}
 use Rattle.ash_durable.specs.declared.store.Found.{Found}
@@ -27,8 +27,8 @@ use Rattle.ash_replay.proofs.Adding.{alone_in, state_of_alone}
 use Rattle.ash_durable.proofs.OpenedJournals.{handed_on}
 use Rattle.ash_durable.proofs.Composing.{live_there}
 use Rattle.ash_durable.proofs.HandedOver.{live_saved}
-use Rattle.ash_durable.proofs.Mishaps.{only_mishaps, mishap}
-use Rattle.ash_durable.proofs.Settling.{settle_on_more, settled_state, holds_now}
+use Rattle.ash_durable.proofs.Mishaps.{only_mishaps}
+use Rattle.ash_durable.proofs.Settling.{settle_on_more, in_any_version, settled_state, holds_now}
 
 -- a host runs in one state
 pub runs_once : {D B : Type 0} (host : Hosted D B) (s t : HostState) → IsRunning s host → IsRunning t host → s ≡ t
@@ -106,7 +106,7 @@ module _ {D : Type 0} (device : Device D) (stays : (disk : D) → IsTrue (device
   found_either : (registered : List Registration) (a b : D) (version : Version) (state : HostState)
       (journal : Journal D)
       → WasFound device registered a b version state journal → (s t : HostState) → AreHonest device a b
-      → s.registered ≡ registered → t.registered ≡ registered → SettleNow device a b (IsEither s t)
+      → s.registered ≡ registered → t.registered ≡ registered → SettleInAnyVersion device a b (IsEither s t)
       → IsEither s t state
   found_either registered a b version state journal found s t honest s_with t_with settle =
       let holds = found.holds honest in
@@ -161,7 +161,8 @@ module _ {D B : Type 0} (device : Device D) (G : Ghosts B) (stays : (disk : D) �
         let now = settle_on_more device (device.clock (first host)) (device.clock (second host)) (first host)
         (second host) (IsOne state) (IsEither state state)
         (holds_now device state host.journal (saved honest state runs)) (λ s is. inl is) in
-        let same : opens.state ≡ state = elim (opens.same state state honest with_it with_it now)
+        let same : opens.state ≡ state = elim (opens.same state state honest with_it with_it
+        (in_any_version device (first host) (second host) (IsEither state state) now))
         [ inl is ↦ is | inr is ↦ is ] in
         (subst (λ (s : HostState). IsRunning s new) same opens.running, opens.saved honest),
   )
@@ -172,9 +173,8 @@ module _ {D B : Type 0} (device : Device D) (G : Ghosts B) (stays : (disk : D) �
       let y = device.seen (second host) in
       let known = live_there host.live state runs.state_is in
       let has : AreSaved G state = subst (AreSaved G) known.2 (live_saved G known.0 (sound known.0 known.1)) in
-      mishap G host.registered pool services refused.fault holds.contents x y read holds.in_two (none.cause honest)
-      (only_mishaps G host.registered pool services state holds.contents refused.fault x y (sym runs.registered_is) read
-      holds.is_state (can has) (none.cause honest))
+      only_mishaps G host.registered pool services state holds.contents refused.fault x y (sym runs.registered_is) read
+      holds.is_state holds.in_two (can has) (none.cause honest)
   opens_again host (Err refused) sound (LeftThere left) = λ state honest runs saved can.
       subst IsMishap (sym left.left.fault_is) tt
 

@@ -12,13 +12,24 @@ use Rattle.ash_durable.specs.Hosting.{Hosted, first, second, IsRunning, IsSaved,
 use Rattle.ash_durable.specs.Hosting.{InstallRefused, WasLost, HostReplies, reply_stopped, Handles}
 use Rattle.ash_durable.specs.RequestRuns.{LosesAnswer}
 use Rattle.ash_durable.specs.StoredStates.{SettleSince, IsEither}
-use Rattle.ash_durable.specs.Lives.{StoreEvent, Acknowledged, InDoubt, Found, LeadsTo, LeadTo, LeadBy}
+use Rattle.ash_durable.specs.Batches.{BatchRequest, Asked, BadRequest}
+use Rattle.ash_durable.specs.Lives.{StoreEvent, Acknowledged, InDoubt, InDoubtBatch, Found, LeadsTo, LeadTo, LeadBy}
+use Rattle.ash_durable.specs.Lives.{MayStepThrough}
 use Rattle.ash_durable.proofs.Answerers.{may_answer}
 use Rattle.ash_durable.proofs.Composing.{room_same}
 
 -- ---- events
 
 module _ {B : Type 0} (G : Ghosts B) where
+  -- no requests of a batch change what is registered
+  through_registered : (budget : ℕ) (requests : List BatchRequest) (before after : Reached)
+      → MayStepThrough G budget requests before after → (after.durable).registered ≡ (before.durable).registered
+  through_registered budget [] before after same = ap (λ (r : Reached). (r.durable).registered) same
+  through_registered budget (BadRequest number ∷ requests) before after through =
+      through_registered budget requests before after through
+  through_registered budget (Asked request ∷ requests) before after through =
+      through_registered budget requests through.0 after through.2 ∙ through.1.stepped.registered
+
   -- no event changes what is registered
   take_registered : (event : StoreEvent) (before after : Reached) → LeadsTo G event before after
       → (after.durable).registered ≡ (before.durable).registered
@@ -26,6 +37,10 @@ module _ {B : Type 0} (G : Ghosts B) where
   take_registered (InDoubt budget request) before after (inl same) =
       ap (λ (r : Reached). (r.durable).registered) same
   take_registered (InDoubt budget request) before after (inr some) = some.3.registered
+  take_registered (InDoubtBatch budget requests) before after (inl same) =
+      ap (λ (r : Reached). (r.durable).registered) same
+  take_registered (InDoubtBatch budget requests) before after (inr through) =
+      through_registered budget requests before after through
   take_registered (Found reached) before after found =
       ap (λ (r : Reached). (r.durable).registered) found.1 ∙ sym (ap (λ (s : HostState). s.registered) found.0)
 
@@ -103,7 +118,8 @@ pub record Outcome {D B : Type 0} (device : Device D) (G : Ghosts B) (budget : �
       (IsEither live.durable after.durable)
   pub ending : Ending G budget request live after old reply new
 
-was_lost : {D : Type 0} (old : Journal D) (reply : Reply SourceFault) (new : Journal D) → WasLost old reply new
+-- what was not kept lost an answer
+pub was_lost : {D : Type 0} (old : Journal D) (reply : Reply SourceFault) (new : Journal D) → WasLost old reply new
     → LosesAnswer reply
 was_lost old (Refused DeviceFailed) new lost = tt
 was_lost old (Refused NoMemory) new lost = tt

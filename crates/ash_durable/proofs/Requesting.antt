@@ -49,6 +49,7 @@ module _ {D B : Type 0} (device : Device D) (live : LiveState B) (old new : Jour
         installs.honesty_first installs.honesty_second honest in
         at_each live new (λ (s : HostState). HoldsState device s new)
         (installs.holds (was honest_then live.durable (running_seen live old))) other runs;
+    settles = λ honest was. installs.moments (was honest live.durable (running_seen live old));
   }
 
   pub install_ok : Installs device live.durable old (Ok tt) new

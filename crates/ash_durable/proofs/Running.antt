@@ -1,195 +1,301 @@
--- Requests that a host handled are a run of the definition, up to the first failure.
-use Rattle.std.proofs.Common.{◌≡◌, ◌⊎◌, inl, inr, ℕ, List, [], ◌∷◌, Option, Some, None, refl, sym, ap, ◌∙◌, subst}
+-- Calls that a host handled are a run of the definition, up to the first failure.
+use Rattle.std.proofs.Common.{◌≡◌, ◌⊎◌, inl, inr, ℕ, List, [], ◌∷◌, append-nil, Option, Some, None, Ok, Err, refl}
+use Rattle.std.proofs.Common.{sym, ap, ◌∙◌, subst}
 use Rattle.ash_disk.specs.Device.{Device}
-use Rattle.ash_journal.specs.declared.journal.Journal.{Journal}
 use Rattle.ash_host.specs.declared.host_object.HostObject.{Ghosts}
 use Rattle.ash_requests.specs.Requests.{Request, Refusal, Reply, Refused, DeviceFailed, NoMemory, GenerationSpent}
-use Rattle.ash_requests.specs.TaskResults.{TaskChangesState}
 use Rattle.ash_sources.specs.SourceFaults.{SourceFault}
-use Rattle.ash_states.specs.StateSteps.{task_of}
 use Rattle.ash_engine.specs.LiveStates.{LiveState}
-use Rattle.ash_durable.specs.Hosting.{Hosted, IsRunning, WantsInstall, InstallRefused, WasLost, HasStopped}
-use Rattle.ash_durable.specs.Hosting.{Handles, HostReplies, HandlesAll, reply_stopped}
-use Rattle.ash_durable.specs.RequestRuns.{HostSteps, HostRuns, replies_until_reopened, LosesAnswer}
-use Rattle.ash_durable.specs.RequestRuns.{RunsUntilFailure, RunsToFailure}
+use Rattle.ash_durable.specs.Hosting.{Hosted, IsRunning, WantsInstall, InstallRefused, HasStopped}
+use Rattle.ash_durable.specs.Hosting.{HostReplies, reply_stopped}
+use Rattle.ash_durable.specs.Batches.{BatchRequest, BatchResult, BatchOutcome, BatchNotCommitted}
+use Rattle.ash_durable.specs.Batches.{HasBegunToChange, adding_request, HostCall, SingleCall, BatchCall, HostResult}
+use Rattle.ash_durable.specs.Batches.{SingleResult, BatchGiven, HandlesCall, HandlesCalls}
+use Rattle.ash_durable.specs.RequestRuns.{HostSteps, HostRuns, HadNoNewGeneration, CallSteps}
+use Rattle.ash_durable.specs.RequestRuns.{CallChanges, CallWantsInstall, HasFailedDevice, result_stopped}
+use Rattle.ash_durable.specs.RequestRuns.{results_until_reopened, LosesAnswer, LosesAnswers, RunsUntilFailure}
+use Rattle.ash_durable.specs.RequestRuns.{RunsToFailure}
+use Rattle.ash_durable.proofs.BatchOutcomes.{stopped_batch}
 use Rattle.ash_durable.proofs.Composing.{room_same}
+use Rattle.ash_durable.proofs.RequestOutcomes.{was_lost}
 
-loses_answer : {D : Type 0} (old : Journal D) (reply : Reply SourceFault) (new : Journal D) → WasLost old reply new
-    → LosesAnswer reply
-loses_answer old (Refused DeviceFailed) new lost = tt
-loses_answer old (Refused NoMemory) new lost = tt
-loses_answer old _ new lost = absurd lost
+-- What came of a new generation that was wanted before a call: there is none, and nothing has changed; or a device failed
+-- while it was installed.
+abbrev NotInstalled : {D B : Type 0} → Request → Hosted D B → Reply SourceFault → Hosted D B → Type 0
+NotInstalled request old reply new = HadNoNewGeneration request old reply new
+    ⊎ (HasStopped old new × (reply ≡ Refused DeviceFailed))
+
+not_installed_for : {D B : Type 0} (request : Request) (old : Hosted D B) (refusal : Refusal SourceFault)
+    (new : Hosted D B) → WantsInstall request old → InstallRefused old (Refused refusal) new
+    → NotInstalled request old (Refused refusal) new
+not_installed_for request old GenerationSpent new wanted refused =
+    inl (record { wanted = wanted; cause = refused.0; unchanged = refused.1 })
+not_installed_for request old NoMemory new wanted refused =
+    inl (record { wanted = wanted; cause = refused.0; unchanged = refused.1 })
+not_installed_for request old DeviceFailed new wanted refused = inr (refused.1, refl)
+not_installed_for request old _ new wanted refused = absurd refused
+
+not_installed : {D B : Type 0} (request : Request) (old : Hosted D B) (reply : Reply SourceFault) (new : Hosted D B)
+    → WantsInstall request old → InstallRefused old reply new → NotInstalled request old reply new
+not_installed request old (Refused refusal) new wanted refused =
+    not_installed_for request old refusal new wanted refused
+not_installed request old _ new wanted refused = absurd refused
+
+-- a refusal is a device's failure if its reply is
+device_failed : (refusal : Refusal SourceFault) → Refused refusal ≡ Refused DeviceFailed → refusal ≡ DeviceFailed
+device_failed refusal is = cc
 
 module _ {D B : Type 0} (device : Device D) (G : Ghosts B) (budget : ℕ) where
-  -- a host that must be reopened
-  while_stopped : (old : Hosted D B) (requests : List Request) (replies : List (Reply SourceFault)) (new : Hosted D B)
-      → old.live ≡ None → HandlesAll device G budget old requests replies new
-      → (replies ≡ replies_until_reopened requests old.seq) × (new ≡ old)
+  -- ---- a host that must be reopened
+
+  one_stopped : (call : HostCall) (result : HostResult) (old next : Hosted D B) → old.live ≡ None
+      → HandlesCall device G budget call old result next → (result ≡ result_stopped old.seq call) × (next ≡ old)
+  one_stopped (SingleCall request) (SingleResult reply) old next none handled =
+      let one : (reply ≡ reply_stopped request old.seq) × (next ≡ old) =
+      subst (λ (live : Option (LiveState B)). HostReplies device G budget request live old reply next) none
+      handled.replies in
+      (ap (λ (r : Reply SourceFault). SingleResult r) one.0, one.1)
+  one_stopped (BatchCall requests) (BatchGiven result) old next none handled =
+      let one = stopped_batch device G budget requests old result next
+      (subst (λ (live : Option (LiveState B)). BatchOutcome device G budget requests live old result next) none
+      handled.outcome) in
+      (ap (λ (r : BatchResult). BatchGiven r) one.0, one.1)
+  one_stopped (SingleCall request) (BatchGiven result) old next none handled = absurd handled
+  one_stopped (BatchCall requests) (SingleResult reply) old next none handled = absurd handled
+
+  while_stopped : (old : Hosted D B) (calls : List HostCall) (results : List HostResult) (new : Hosted D B)
+      → old.live ≡ None → HandlesCalls device G budget old calls results new
+      → (results ≡ results_until_reopened calls old.seq) × (new ≡ old)
   while_stopped old [] [] new none all = (refl, all)
-  while_stopped old (request ∷ requests) (reply ∷ replies) new none all =
-      let one : (reply ≡ reply_stopped request old.seq) × (all.0 ≡ old) =
-      subst (λ (live : Option (LiveState B)). HostReplies device G budget request live old reply all.0) none
-      all.1.replies in
-      let more = while_stopped all.0 requests replies new
+  while_stopped old (call ∷ calls) (result ∷ results) new none all =
+      let one = one_stopped call result old all.0 none all.1 in
+      let more = while_stopped all.0 calls results new
       (ap (λ (host : Hosted D B). host.live) one.1 ∙ none) all.2 in
-      let rest : replies ≡ replies_until_reopened requests old.seq = more.0
-      ∙ ap (λ (host : Hosted D B). replies_until_reopened requests host.seq) one.1 in (
-        ap (λ (first : Reply SourceFault). first ∷ replies) one.0
-            ∙ ap (λ (later : List (Reply SourceFault)). reply_stopped request old.seq ∷ later) rest,
+      let rest : results ≡ results_until_reopened calls old.seq = more.0
+      ∙ ap (λ (host : Hosted D B). results_until_reopened calls host.seq) one.1 in (
+        ap (λ (first : HostResult). first ∷ results) one.0
+            ∙ ap (λ (later : List HostResult). result_stopped old.seq call ∷ later) rest,
         more.1 ∙ one.1,
       )
-  while_stopped old [] (reply ∷ replies) new none all = absurd all
-  while_stopped old (request ∷ requests) [] new none all = absurd all
+  while_stopped old [] (result ∷ results) new none all = absurd all
+  while_stopped old (call ∷ calls) [] new none all = absurd all
+
+  -- ---- one call of a host that runs
+
+  -- What a call comes to: the host runs on; or it must be reopened, and the call lost answers or the state, or a device
+  -- failed while a new generation was installed.
+  record CallRunsOn (call : HostCall) (live : LiveState B) (old : Hosted D B) (result : HostResult) (next : Hosted D B)
+      : Type 0 where
+    after : LiveState B
+    is : next.live ≡ Some after
+    runs : IsRunning after.durable next
+    steps : CallSteps G budget call live old result after next
+
+  record CallFails (call : HostCall) (live : LiveState B) (old : Hosted D B) (result : HostResult) (next : Hosted D B)
+      : Type 0 where
+    stops : HasStopped old next
+    cause : CallChanges G budget call live ⊎ (CallWantsInstall call old × HasFailedDevice result)
+    loses : LosesAnswers result
+
+  abbrev ComesTo : HostCall → LiveState B → Hosted D B → HostResult → Hosted D B → Type 0
+  ComesTo call live old result next = CallRunsOn call live old result next ⊎ CallFails call live old result next
+
+  still_running : (live : LiveState B) (old next : Hosted D B) → next ≡ old → IsRunning live.durable old
+      → IsRunning live.durable next
+  still_running live old next same runs = subst (λ (host : Hosted D B). IsRunning live.durable host) (sym same) runs
+
+  -- a request, by what came of it
+  single : (request : Request) (live : LiveState B) (old : Hosted D B) (reply : Reply SourceFault) (next : Hosted D B)
+      → old.live ≡ Some live → IsRunning live.durable old
+      → HostReplies device G budget request (Some live) old reply next
+      → ComesTo (SingleCall request) live old (SingleResult reply) next
+  single request live old reply next is runs (inl took) = inl (record {
+    after = took.after;
+    is = took.live_is;
+    runs = took.running;
+    steps = inl (inl took.stepped);
+  })
+  single request live old reply next is runs (inr (inl out)) = inl (record {
+    after = live;
+    is = room_same device request live old next out.room ∙ is;
+    runs = out.running;
+    steps = inl (inr out.ran_out);
+  })
+  single request live old reply next is runs (inr (inr (inl lost))) = inr (record {
+    stops = lost.stopped;
+    cause = inl lost.changes;
+    loses = was_lost lost.between.journal reply next.journal lost.lost;
+  })
+  single request live old reply next is runs (inr (inr (inr (inl lost)))) = inr (record {
+    stops = lost.stopped;
+    cause = inl lost.changes;
+    loses = subst LosesAnswer (sym lost.reply_is) tt;
+  })
+  single request live old reply next is runs (inr (inr (inr (inr none)))) =
+      elim (not_installed request old reply next none.wanted none.refused) [
+        | inl spent ↦ inl (record {
+          after = live;
+          is = ap (λ (host : Hosted D B). host.live) spent.unchanged ∙ is;
+          runs = still_running live old next spent.unchanged runs;
+          steps = inr spent;
+        })
+        | inr failed ↦ inr (record {
+          stops = failed.0;
+          cause = inr (none.wanted, failed.1);
+          loses = subst LosesAnswer (sym failed.1) tt;
+        })
+      ]
+
+  -- all requests of a batch stepped, and some were answered
+  begun : (requests : List BatchRequest) (live : LiveState B) (old : Hosted D B) (refusal : Refusal SourceFault)
+      (next : Hosted D B) → BatchNotCommitted device G budget requests live old refusal next
+      → HasBegunToChange G budget requests live
+  begun requests live old refusal next lost = record {
+    done = requests;
+    left = [];
+    requests_are = sym (append-nil requests);
+    replies = lost.replies;
+    reached = lost.after;
+    steps = lost.steps;
+    changes = inl lost.answered;
+  }
+
+  -- a batch, by what came of it
+  batch : (requests : List BatchRequest) (live : LiveState B) (old : Hosted D B) (result : BatchResult)
+      (next : Hosted D B) → old.live ≡ Some live → IsRunning live.durable old
+      → BatchOutcome device G budget requests (Some live) old result next
+      → ComesTo (BatchCall requests) live old (BatchGiven result) next
+  batch requests live old (Ok replies) next is runs took = inl (record {
+    after = took.after;
+    is = took.live_is;
+    runs = took.running;
+    steps = took.steps;
+  })
+  batch requests live old (Err refusal) next is runs (inl out) = inl (record {
+    after = live;
+    is = room_same device (adding_request requests) live old next out.room ∙ is;
+    runs = out.running;
+    steps = (refl, inl out.refusal_is);
+  })
+  batch requests live old (Err refusal) next is runs (inr (inl lost)) = inr (record {
+    stops = lost.stopped;
+    cause = inl (begun requests live old refusal next lost);
+    loses = was_lost lost.between.journal (Refused refusal) next.journal lost.lost;
+  })
+  batch requests live old (Err refusal) next is runs (inr (inr (inl lost))) = inr (record {
+    stops = lost.stopped;
+    cause = inl lost.changes;
+    loses = subst (λ (r : Refusal SourceFault). LosesAnswer (Refused r)) (sym lost.refusal_is) tt;
+  })
+  batch requests live old (Err refusal) next is runs (inr (inr (inr none))) =
+      elim (not_installed (adding_request requests) old (Refused refusal) next none.wanted none.refused) [
+        | inl spent ↦ inl (record {
+          after = live;
+          is = ap (λ (host : Hosted D B). host.live) spent.unchanged ∙ is;
+          runs = still_running live old next spent.unchanged runs;
+          steps = (refl, inr spent);
+        })
+        | inr failed ↦
+            let one : Refusal SourceFault → BatchResult = λ r. Err r in
+            inr (record {
+              stops = failed.0;
+              cause = inr (none.wanted, ap one (device_failed refusal failed.1));
+              loses = subst LosesAnswer (sym failed.1) tt;
+            })
+      ]
+
+  one_call : (call : HostCall) (live : LiveState B) (old : Hosted D B) (result : HostResult) (next : Hosted D B)
+      → old.live ≡ Some live → IsRunning live.durable old → HandlesCall device G budget call old result next
+      → ComesTo call live old result next
+  one_call (SingleCall request) live old (SingleResult reply) next is runs handled =
+      single request live old reply next is runs
+      (subst (λ (l : Option (LiveState B)). HostReplies device G budget request l old reply next) is handled.replies)
+  one_call (BatchCall requests) live old (BatchGiven result) next is runs handled =
+      batch requests live old result next is runs
+      (subst (λ (l : Option (LiveState B)). BatchOutcome device G budget requests l old result next) is handled.outcome)
+  one_call (SingleCall request) live old (BatchGiven result) next is runs handled = absurd handled
+  one_call (BatchCall requests) live old (SingleResult reply) next is runs handled = absurd handled
+
+  -- ---- calls of a host that runs
 
   -- what a host that runs did
-  abbrev Ran : Hosted D B → List Request → List (Reply SourceFault) → Hosted D B → Type 0
-  Ran old requests replies new = HostRuns device G budget old requests replies new
-      ⊎ RunsUntilFailure device G budget old requests replies new
+  abbrev Ran : Hosted D B → List HostCall → List HostResult → Hosted D B → Type 0
+  Ran old calls results new = HostRuns device G budget old calls results new
+      ⊎ RunsUntilFailure device G budget old calls results new
 
-  one_step : (request : Request) (reply : Reply SourceFault) (old next : Hosted D B) (requests : List Request)
-      (replies : List (Reply SourceFault)) (new : Hosted D B) → HostSteps device G budget request old reply next
-      → Ran next requests replies new → Ran old (request ∷ requests) (reply ∷ replies) new
-  one_step request reply old next requests replies new step (inl through) = inl (next, step, through)
-  one_step request reply old next requests replies new step (inr until) = inr (record {
-    before = request ∷ until.before;
+  one_step : (call : HostCall) (result : HostResult) (old next : Hosted D B) (calls : List HostCall)
+      (results : List HostResult) (new : Hosted D B) → HostSteps device G budget call old result next
+      → Ran next calls results new → Ran old (call ∷ calls) (result ∷ results) new
+  one_step call result old next calls results new step (inl through) = inl (next, step, through)
+  one_step call result old next calls results new step (inr until) = inr (record {
+    before = call ∷ until.before;
     failed = until.failed;
     later = until.later;
-    replied = reply ∷ until.replied;
+    given = result ∷ until.given;
     failure = until.failure;
     last = until.last;
     live = until.live;
     last_runs = until.last_runs;
-    requests_are = ap (λ (more : List Request). request ∷ more) until.requests_are;
-    replies_are = ap (λ (more : List (Reply SourceFault)). reply ∷ more) until.replies_are;
+    calls_are = ap (λ (more : List HostCall). call ∷ more) until.calls_are;
+    results_are = ap (λ (more : List HostResult). result ∷ more) until.results_are;
     run = (next, step, until.run);
     cause = until.cause;
-    loses_answer = until.loses_answer;
+    loses_answers = until.loses_answers;
     stopped = until.stopped;
     seq_is = until.seq_is;
   })
 
-  -- a request after which the host must be reopened
-  failed_first : (request : Request) (reply : Reply SourceFault) (live : LiveState B) (old next : Hosted D B)
-      (requests : List Request) (replies : List (Reply SourceFault)) (new : Hosted D B) → old.live ≡ Some live
-      → IsRunning live.durable old → HasStopped old next → TaskChangesState (task_of request live.durable)
-      ⊎ (WantsInstall request old × (reply ≡ Refused DeviceFailed)) → LosesAnswer reply
-      → HandlesAll device G budget next requests replies new
-      → RunsUntilFailure device G budget old (request ∷ requests) (reply ∷ replies) new
-  failed_first request reply live old next requests replies new is runs stops cause failure all =
-      let after = while_stopped next requests replies new stops.stopped all in
-      let seq : next.seq ≡ live.durable.state.seq = stops.seq_same ∙ runs.seq_is in
+  -- a call after which the host must be reopened
+  failed_first : (call : HostCall) (result : HostResult) (live : LiveState B) (old next : Hosted D B)
+      (calls : List HostCall) (results : List HostResult) (new : Hosted D B) → old.live ≡ Some live
+      → IsRunning live.durable old → CallFails call live old result next → HandlesCalls device G budget next calls results new
+      → RunsUntilFailure device G budget old (call ∷ calls) (result ∷ results) new
+  failed_first call result live old next calls results new is runs fails all =
+      let after = while_stopped next calls results new fails.stops.stopped all in
+      let seq : next.seq ≡ live.durable.state.seq = fails.stops.seq_same ∙ runs.seq_is in
       record {
         before = [];
-        failed = request;
-        later = requests;
-        replied = [];
-        failure = reply;
+        failed = call;
+        later = calls;
+        given = [];
+        failure = result;
         last = old;
         live = live;
         last_runs = is;
-        requests_are = refl;
-        replies_are = ap (λ (more : List (Reply SourceFault)). reply ∷ more)
-            (after.0 ∙ ap (λ (n : ℕ). replies_until_reopened requests n) seq);
+        calls_are = refl;
+        results_are = ap (λ (more : List HostResult). result ∷ more)
+            (after.0 ∙ ap (λ (n : ℕ). results_until_reopened calls n) seq);
         run = refl;
-        cause = cause;
-        loses_answer = failure;
-        stopped = ap (λ (host : Hosted D B). host.live) after.1 ∙ stops.stopped;
+        cause = fails.cause;
+        loses_answers = fails.loses;
+        stopped = ap (λ (host : Hosted D B). host.live) after.1 ∙ fails.stops.stopped;
         seq_is = ap (λ (host : Hosted D B). host.seq) after.1 ∙ seq;
       }
 
-  -- a request for which there was no room, by what it was refused with
-  put_off_for : (request : Request) (refusal : Refusal SourceFault) (live : LiveState B) (old next : Hosted D B)
-      (requests : List Request) (replies : List (Reply SourceFault)) (new : Hosted D B) → old.live ≡ Some live
-      → IsRunning live.durable old → Handles device G budget request old (Refused refusal) next
-      → WantsInstall request old → InstallRefused old (Refused refusal) next
-      → HandlesAll device G budget next requests replies new
-      → (next.live ≡ Some live → IsRunning live.durable next → Ran next requests replies new)
-      → Ran old (request ∷ requests) (Refused refusal ∷ replies) new
-  put_off_for request GenerationSpent live old next requests replies new is runs handled wanted refused all goes_on =
-      let still : next.live ≡ Some live = ap (λ (host : Hosted D B). host.live) refused.1 ∙ is in
-      one_step request (Refused GenerationSpent) old next requests replies new
-      (record {
-        handled = handled;
-        before = live;
-        after = live;
-        was = is;
-        is = still;
-        steps = inr (record { wanted = wanted; cause = refused.0; unchanged = refused.1 });
-      })
-      (goes_on still (subst (λ (host : Hosted D B). IsRunning live.durable host) (sym refused.1) runs))
-  put_off_for request NoMemory live old next requests replies new is runs handled wanted refused all goes_on =
-      let still : next.live ≡ Some live = ap (λ (host : Hosted D B). host.live) refused.1 ∙ is in
-      one_step request (Refused NoMemory) old next requests replies new
-      (record {
-        handled = handled;
-        before = live;
-        after = live;
-        was = is;
-        is = still;
-        steps = inr (record { wanted = wanted; cause = refused.0; unchanged = refused.1 });
-      })
-      (goes_on still (subst (λ (host : Hosted D B). IsRunning live.durable host) (sym refused.1) runs))
-  put_off_for request DeviceFailed live old next requests replies new is runs handled wanted refused all goes_on =
-      inr (failed_first request (Refused DeviceFailed) live old next requests replies new is runs refused.1
-      (inr (wanted, refl)) tt all)
-  put_off_for request _ live old next requests replies new is runs handled wanted refused all goes_on = absurd refused
-
-  put_off : (request : Request) (reply : Reply SourceFault) (live : LiveState B) (old next : Hosted D B)
-      (requests : List Request) (replies : List (Reply SourceFault)) (new : Hosted D B) → old.live ≡ Some live
-      → IsRunning live.durable old → Handles device G budget request old reply next
-      → WantsInstall request old → InstallRefused old reply next
-      → HandlesAll device G budget next requests replies new
-      → (next.live ≡ Some live → IsRunning live.durable next → Ran next requests replies new)
-      → Ran old (request ∷ requests) (reply ∷ replies) new
-  put_off request (Refused refusal) live old next requests replies new is runs handled wanted refused all goes_on =
-      put_off_for request refusal live old next requests replies new is runs handled wanted refused all goes_on
-  put_off request _ live old next requests replies new is runs handled wanted refused all goes_on = absurd refused
-
-  while_running : (live : LiveState B) (old : Hosted D B) (requests : List Request)
-      (replies : List (Reply SourceFault)) (new : Hosted D B) → old.live ≡ Some live → IsRunning live.durable old
-      → HandlesAll device G budget old requests replies new → Ran old requests replies new
+  while_running : (live : LiveState B) (old : Hosted D B) (calls : List HostCall) (results : List HostResult)
+      (new : Hosted D B) → old.live ≡ Some live → IsRunning live.durable old
+      → HandlesCalls device G budget old calls results new → Ran old calls results new
   while_running live old [] [] new is runs all = inl all
-  while_running live old (request ∷ requests) (reply ∷ replies) new is runs all =
-      let one : HostReplies device G budget request (Some live) old reply all.0 =
-      subst (λ (l : Option (LiveState B)). HostReplies device G budget request l old reply all.0) is all.1.replies in
-      elim one [
-        | inl took ↦ one_step request reply old all.0 requests replies new
+  while_running live old (call ∷ calls) (result ∷ results) new is runs all =
+      elim (one_call call live old result all.0 is runs all.1) [
+        | inl on ↦ one_step call result old all.0 calls results new
             (record {
               handled = all.1;
               before = live;
-              after = took.after;
+              after = on.after;
               was = is;
-              is = took.live_is;
-              steps = inl (inl took.stepped);
+              is = on.is;
+              steps = on.steps;
             })
-            (while_running took.after all.0 requests replies new took.live_is took.running all.2)
-        | inr (inl out) ↦
-            let still : (all.0).live ≡ Some live = room_same device request live old all.0 out.room ∙ is in
-            one_step request reply old all.0 requests replies new
-            (record {
-              handled = all.1;
-              before = live;
-              after = live;
-              was = is;
-              is = still;
-              steps = inl (inr out.ran_out);
-            })
-            (while_running live all.0 requests replies new still out.running all.2)
-        | inr (inr (inl lost)) ↦ inr (failed_first request reply live old all.0 requests replies new is runs
-            lost.stopped (inl lost.changes) (loses_answer lost.between.journal reply all.0.journal lost.lost) all.2)
-        | inr (inr (inr (inl lost))) ↦ inr (failed_first request reply live old all.0 requests replies new is runs
-            lost.stopped (inl lost.changes) (subst LosesAnswer (sym lost.reply_is) tt) all.2)
-        | inr (inr (inr (inr none))) ↦ put_off request reply live old all.0 requests replies new is runs all.1
-            none.wanted none.refused all.2
-            (λ still runs_still. while_running live all.0 requests replies new still runs_still all.2)
+            (while_running on.after all.0 calls results new on.is on.runs all.2)
+        | inr fails ↦ inr (failed_first call result live old all.0 calls results new is runs fails all.2)
       ]
-  while_running live old [] (reply ∷ replies) new is runs all = absurd all
-  while_running live old (request ∷ requests) [] new is runs all = absurd all
+  while_running live old [] (result ∷ results) new is runs all = absurd all
+  while_running live old (call ∷ calls) [] new is runs all = absurd all
 
-  pub runs_to_failure : (old : Hosted D B) (requests : List Request) (replies : List (Reply SourceFault))
-      (new : Hosted D B) → HandlesAll device G budget old requests replies new
-      → RunsToFailure device G budget old requests replies new
-  runs_to_failure old requests replies new all = record {
-    running = λ live is runs. while_running live old requests replies new is runs all;
-    stopped = λ none. while_stopped old requests replies new none all;
+  pub runs_to_failure : (old : Hosted D B) (calls : List HostCall) (results : List HostResult) (new : Hosted D B)
+      → HandlesCalls device G budget old calls results new → RunsToFailure device G budget old calls results new
+  runs_to_failure old calls results new all = record {
+    running = λ live is runs. while_running live old calls results new is runs all;
+    stopped = λ none. while_stopped old calls results new none all;
   }

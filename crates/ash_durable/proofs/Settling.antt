@@ -11,10 +11,11 @@ use Rattle.ash_journal.proofs.SettleLaws.{Property, Implies, settle_more, furthe
 use Rattle.ash_states.specs.HostStates.{HostState}
 use Rattle.ash_image.specs.declared.version.Version.TheVariants.{Two}
 use Rattle.ash_states.specs.Images.{IsImageIn}
-use Rattle.ash_durable.specs.StoredStates.{HaveState, IsOne, IsEither, SettleSince, SettleNow}
+use Rattle.ash_durable.specs.StoredStates.{HaveState, HaveStateInTwo, IsOne, IsEither, SettleSince, SettleNow}
+use Rattle.ash_durable.specs.StoredStates.{SettleInAnyVersion}
 use Rattle.ash_durable.specs.StoredStates.{HoldsState, ExtendsHistory, BeginsAnew}
 use Rattle.ash_replay.specs.ReplayedStates.{AreIn, IsStateOf, IsBodyBetween}
-use Rattle.ash_replay.proofs.Adding.{state_of_alone, state_of_push}
+use Rattle.ash_replay.proofs.Adding.{alone_in, push_in, state_of_alone, state_of_push}
 use Rattle.ash_replay.proofs.HostStatesRead.{host_state_once}
 
 -- files that come to nothing new, after files that come to nothing new
@@ -40,7 +41,15 @@ module _ {D : Type 0} (device : Device D) where
   pub settle_on_more : (a b : ℕ) (first second : D) (P Q : HostState → Type 0) → SettleSince device a b first second P
       → ((s : HostState) → P s → Q s) → SettleSince device a b first second Q
   settle_on_more a b first second P Q run more =
-      run_more a b first second (HaveState P) (HaveState Q) run (λ contents one. (one.0, more one.0 one.1, one.2))
+      run_more a b first second (HaveStateInTwo P) (HaveStateInTwo Q) run
+      (λ contents one. ((one.0.0, more one.0.0 one.0.1, one.0.2), one.1))
+
+  -- what files settle on in version 2 they settle on
+  pub in_any_version : (first second : D) (P : HostState → Type 0) → SettleNow device first second P
+      → SettleInAnyVersion device first second P
+  in_any_version first second P run =
+      run_more (device.clock first) (device.clock second) first second (HaveStateInTwo P) (HaveState P) run
+      (λ contents one. one.0)
 
   -- what files settle on since two times, they settle on since later ones
   pub settle_later : (a b c d : ℕ) (first second : D) (P : HostState → Type 0) → a ≤ c → b ≤ d → c ≤ device.clock first
@@ -64,8 +73,8 @@ module _ {D : Type 0} (device : Device D) where
       → Extends device first second first' second' NoContents → SettleSince device a b first second P
       → SettleSince device a b first' second' P
   settle_still a b first second first' second' P call run =
-      run_more a b first' second' (HoldsOneOf NoContents (HaveState P)) (HaveState P)
-      (run_extends device a b first second first' second' (HaveState P) NoContents run call)
+      run_more a b first' second' (HoldsOneOf NoContents (HaveStateInTwo P)) (HaveStateInTwo P)
+      (run_extends device a b first second first' second' (HaveStateInTwo P) NoContents run call)
       (λ contents one. elim one [ inl new ↦ absurd new | inr was ↦ was ])
 
   -- calls that add no new contents, after calls that add none
@@ -96,7 +105,7 @@ module _ {D : Type 0} (device : Device D) where
   -- files that settle on states with P, and represent a state as they read: it has P
   pub settled_state : (a b : ℕ) (first second : D) (P : HostState → Type 0) (contents : Contents) (state : HostState)
       (x y : List ℕ) → device.leaves first (device.clock first) x → device.leaves second (device.clock second) y
-      → SettleSince device a b first second P → Represent contents x y → IsStateOf state contents
+      → HoldsSince device a b first second (HaveState P) → Represent contents x y → IsStateOf state contents
       → ((s : HostState) → P s → s.registered ≡ state.registered) → P state
   settled_state a b first second P contents state x y left_x left_y run is is_state alike =
       let one = represented device a b first second (HaveState P) contents x y left_x left_y run is in
@@ -107,8 +116,11 @@ module _ {D : Type 0} (device : Device D) where
       → SettleNow device (first_disk journal) (second_disk journal) (IsOne state)
   holds_now state journal holds =
       run_more (device.clock (first_disk journal)) (device.clock (second_disk journal)) (first_disk journal)
-      (second_disk journal) (IsContents holds.contents) (HaveState (IsOne state)) holds.holds.run
-      (λ contents is. (state, refl, subst (IsStateOf state) (sym is) holds.is_state))
+      (second_disk journal) (IsContents holds.contents) (HaveStateInTwo (IsOne state)) holds.holds.run
+      (λ contents is. (
+        (state, refl, subst (IsStateOf state) (sym is) holds.is_state),
+        subst (AreIn Two) (sym is) holds.in_two,
+      ))
 
   -- a journal that was not touched goes on
   pub still_goes_on : (before after : HostState) (journal : Journal D)
@@ -125,18 +137,21 @@ module _ {D : Type 0} (device : Device D) where
       (IsContents (image, bodies ++ body ∷ [])) → ExtendsHistory device before after old new
   record_goes_on before after image body bodies old new is_state in_two leads call a b run =
       run_more a b (first_disk new) (second_disk new)
-      (HoldsOneOf (IsContents (image, bodies ++ body ∷ [])) (HaveState (IsOne before)))
-      (HaveState (IsEither before after))
+      (HoldsOneOf (IsContents (image, bodies ++ body ∷ [])) (HaveStateInTwo (IsOne before)))
+      (HaveStateInTwo (IsEither before after))
       (run_extends device a b (first_disk old) (second_disk old) (first_disk new) (second_disk new)
-      (HaveState (IsOne before)) (IsContents (image, bodies ++ body ∷ [])) run call)
+      (HaveStateInTwo (IsOne before)) (IsContents (image, bodies ++ body ∷ [])) run call)
       (λ contents one. elim one [
         | inl is ↦ (
-          after,
-          inr refl,
-          subst (IsStateOf after) (sym is)
-              (state_of_push Two before after image bodies body is_state in_two leads),
+          (
+            after,
+            inr refl,
+            subst (IsStateOf after) (sym is)
+                (state_of_push Two before after image bodies body is_state in_two leads),
+          ),
+          subst (AreIn Two) (sym is) (push_in Two image bodies body in_two),
         )
-        | inr was ↦ (was.0, inl was.1, was.2)
+        | inr was ↦ ((was.0.0, inl was.0.1, was.0.2), was.1)
       ])
 
   -- what goes on from a journal that holds a state begins anew there
@@ -153,16 +168,19 @@ module _ {D : Type 0} (device : Device D) where
 
   -- an image of the state that the journal holds, in place of what it holds
   pub image_begins_anew : (state : HostState) (image was : List ℕ) (bodies : List (List ℕ)) (old new : Journal D)
-      → IsStateOf state (was, bodies) → IsImageIn Two image state
+      → IsStateOf state (was, bodies) → AreIn Two (was, bodies) → IsImageIn Two image state
       → HoldsSince device (device.clock (first_disk old)) (device.clock (second_disk old)) (first_disk new)
       (second_disk new)
       (HoldsOneOf (IsContents (image, [])) (IsContents (was, bodies))) → BeginsAnew device state state old new
-  image_begins_anew state image was bodies old new is_state depicts run =
+  image_begins_anew state image was bodies old new is_state in_two depicts run =
       run_more (device.clock (first_disk old)) (device.clock (second_disk old)) (first_disk new) (second_disk new)
-      (HoldsOneOf (IsContents (image, [])) (IsContents (was, bodies))) (HaveState (IsEither state state)) run
+      (HoldsOneOf (IsContents (image, [])) (IsContents (was, bodies))) (HaveStateInTwo (IsEither state state)) run
       (λ contents one. elim one [
-        | inl is ↦ (state, inl refl, subst (IsStateOf state) (sym is) (state_of_alone Two state image depicts))
-        | inr is ↦ (state, inl refl, subst (IsStateOf state) (sym is) is_state)
+        | inl is ↦ (
+          (state, inl refl, subst (IsStateOf state) (sym is) (state_of_alone Two state image depicts)),
+          subst (AreIn Two) (sym is) (alone_in Two state image depicts),
+        )
+        | inr is ↦ ((state, inl refl, subst (IsStateOf state) (sym is) is_state), subst (AreIn Two) (sym is) in_two)
       ])
 
   -- a new generation of a state, and then calls that go on from there

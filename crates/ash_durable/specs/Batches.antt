@@ -1,5 +1,6 @@
 -- A batch of requests: its steps, what it stores, what a host replies to it and what it leaves.
-use Rattle.std.specs.Prelude.{◌≡◌, ◌⊎◌, ℕ, List, [], ◌∷◌, ◌++◌, map, Option, Some, None, Result, Ok, Err}
+use Rattle.std.specs.Prelude.{◌≡◌, ◌⊎◌, ℕ, List, [], ◌∷◌, ◌++◌, map, take, Option, Some, None, Result}
+use Rattle.std.specs.Prelude.{Ok, Err}
 use Rattle.ash_disk.specs.Device.{Device}
 use Rattle.ash_journal.specs.declared.journal.Journal.{Journal}
 use Rattle.ash_journal.specs.JournalFailures.{CountsFailures}
@@ -13,7 +14,7 @@ use Rattle.ash_image.specs.Delta.{Delta}
 use Rattle.ash_image.specs.Deltas.{IsDeltasBody}
 use Rattle.ash_states.specs.HostStates.{HostState}
 use Rattle.ash_states.specs.StateSteps.{task_of}
-use Rattle.ash_engine.specs.LiveStates.{LiveState}
+use Rattle.ash_engine.specs.LiveStates.{LiveState, AreOf}
 use Rattle.ash_engine.specs.LiveSteps.{TakesStep}
 use Rattle.ash_engine.specs.RecordedChanges.{delta_named}
 use Rattle.ash_durable.specs.Saving.{HasRecord}
@@ -43,8 +44,8 @@ max_batch = 16
 
 -- ---- the steps of a batch
 
--- The requests of a batch step one after the other, each from the live state that the one before it left. What is no
--- request is refused by its number, and changes nothing.
+-- The requests of a batch step one after the other, each from the live state that the one before it left; after each
+-- the boxes are those of the state. What is no request is refused by its number, and changes nothing.
 pub data BatchSteps {B : Type 0} (G : Ghosts B) (budget : ℕ)
     : List BatchRequest → LiveState B → List BatchReply → LiveState B → Type 0 where
   NoneLeft : (live : LiveState B) → BatchSteps G budget [] live [] live
@@ -53,7 +54,7 @@ pub data BatchSteps {B : Type 0} (G : Ghosts B) (budget : ℕ)
       → BatchSteps G budget (BadRequest number ∷ requests) live (RefusedBad number ∷ replies) after
   Step : (request : Request) (requests : List BatchRequest) (live : LiveState B) (reply : Reply SourceFault)
       (next : LiveState B) (replies : List BatchReply) (after : LiveState B)
-      → TakesStep G budget request live reply next → BatchSteps G budget requests next replies after
+      → TakesStep G budget request live reply next → AreOf G next → BatchSteps G budget requests next replies after
       → BatchSteps G budget (Asked request ∷ requests) live (Replied reply ∷ replies) after
 
 -- the live state after a request, before those after later ones, if the request was answered
@@ -67,7 +68,7 @@ unfoldable pub answered_in : {B : Type 0} {G : Ghosts B} {budget : ℕ} {request
     → BatchSteps G budget requests live replies after → List (LiveState B)
 answered_in (NoneLeft live) = []
 answered_in (Bad number requests live replies after more) = answered_in more
-answered_in (Step request requests live reply next replies after stepped more) =
+answered_in (Step request requests live reply next replies after stepped boxes more) =
     after_answer reply next (answered_in more)
 
 -- ---- what a batch stores
@@ -233,3 +234,11 @@ single_calls requests = map (λ request. SingleCall request) requests
 
 abbrev pub single_results : List (Reply SourceFault) → List HostResult
 single_results replies = map (λ reply. SingleResult reply) replies
+
+-- ---- sources
+
+-- The same request, with no more of a source than its first 65,537 bytes: a source that has more bytes is refused
+-- whatever they are.
+abbrev pub prefixed : BatchRequest → BatchRequest
+prefixed (Asked (Load module_name source)) = Asked (Load module_name (take 65537 source))
+prefixed request = request

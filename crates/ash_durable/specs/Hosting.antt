@@ -109,7 +109,7 @@ WantsInstall Snapshot host = Unit {0}
 WantsInstall request host = MayAdd request × IsFull host
 
 -- The state of a host became a new generation without records, in the file that was not current, and nothing else of
--- the host has changed.
+-- the host has changed. At every moment of it the files settled on that state alone.
 pub record WasInstalled {D B : Type 0} (device : Device D) (state : HostState) (old new : Hosted D B) : Type 0 where
   pub running : IsRunning state new
   pub live_same : new.live ≡ old.live
@@ -117,6 +117,7 @@ pub record WasInstalled {D B : Type 0} (device : Device D) (state : HostState) (
   pub emptied : record_bytes new.journal ≡ 0
   pub untouched : LeavesCurrent old.journal new.journal
   pub saved : IsSaved device old → IsSaved device new
+  pub settles : Settles device state state old new
 
 -- the host that handles a request: where one is wanted, a new generation is installed first
 abbrev pub MakesRoomFor : {D B : Type 0} → Device D → Request → HostState → Hosted D B → Hosted D B → Type 0

@@ -22,8 +22,9 @@ use Rattle.ash_engine.specs.LiveStates.{LiveState, hosts_in}
 use Rattle.ash_engine.specs.LiveSteps.{Reached, reached_by, StepsFor, TakesStep, IsValidOf}
 use Rattle.ash_durable.specs.HandedBoxes.{first_reached, AreSaved, CanOpen}
 use Rattle.ash_durable.specs.Hosting.{Hosted, first, second, IsRunning, IsSaved, IsAnswer, Handles, TookStep, RunsSound}
-use Rattle.ash_durable.specs.Batches.{BatchRequest, Asked, BadRequest, BatchReply, Replied, BatchResult, BatchSteps}
-use Rattle.ash_durable.specs.Batches.{NoneLeft, Bad, Step, TookBatch, HandlesBatch, HostCall, SingleCall, BatchCall}
+use Rattle.ash_durable.specs.Batches as batches
+use Rattle.ash_durable.specs.Batches.{BatchRequest, Asked, BadRequest, BatchReply, BatchResult, BatchSteps, NoneLeft}
+use Rattle.ash_durable.specs.Batches.{Bad, Step, TookBatch, HandlesBatch, HostCall, SingleCall, BatchCall}
 use Rattle.ash_durable.specs.Batches.{HostResult, SingleResult, BatchGiven}
 use Rattle.ash_durable.specs.OpenedStore.{AreOfState, WasOpened, WasRefused, Opens, first_found, second_found}
 use Rattle.ash_durable.specs.RequestRuns.{LosesAnswer}
@@ -115,8 +116,8 @@ AreAcknowledged (InDoubt budget request ∷ earlier) = ⊥
 AreAcknowledged (InDoubtBatch budget requests ∷ earlier) = ⊥
 AreAcknowledged _ = Unit {0}
 
--- Since then the events are a prefix of the requests that were handled: each is one that was answered, but for the
--- newest, which may be a request or a batch in doubt.
+-- Since then the events are a prefix of the requests that were handled: each is one that was answered, except
+-- the newest, which may be a request or a batch in doubt.
 abbrev pub IsOfPrefix : List StoreEvent → Type 0
 IsOfPrefix (InDoubt budget request ∷ earlier) = AreAcknowledged earlier
 IsOfPrefix (InDoubtBatch budget requests ∷ earlier) = AreAcknowledged earlier
@@ -137,7 +138,7 @@ unfoldable pub acknowledged_in : {B : Type 0} {G : Ghosts B} {budget : ℕ} {req
     → BatchSteps G budget requests live replies after → List StoreEvent
 acknowledged_in (NoneLeft live) = []
 acknowledged_in (Bad number requests live replies after more) = acknowledged_in more
-acknowledged_in (Step request requests live reply next replies after stepped more) =
+acknowledged_in (Step request requests live reply next replies after stepped boxes more) =
     acknowledged_in more ++ event_of reply stepped
 
 -- ---- crashes
@@ -201,8 +202,9 @@ second_at (UnderHost host) = second host
 second_at (OnDisks one other) = other
 
 -- A life of a store that began with this state and these free boxes, with its events, the newest first. Each way to go
--- on is what the contract of a public call says, or a crash at any moment of one. It begins where a host is created, or
--- where a crash on the way there leaves the store; a crash that leaves no file open leaves no store.
+-- on is what the contract of a public call says, or a crash at any moment of one. It begins when a host is created, or
+-- when a crash on the way there leaves the store, or when a host is opened in a store that is there; a crash that leaves
+-- no file open leaves no store.
 pub data Life {D B : Type 0} (device : Device D) (G : Ghosts B) (start : Reached)
     : List StoreEvent → StoreLocation D B → Type 0 where
   -- a host is created
@@ -223,6 +225,10 @@ pub data Life {D B : Type 0} (device : Device D) (G : Ghosts B) (start : Reached
       → Crashed device (device.clock a) (device.clock b) (first_of result) (second_of result) a' b'
       → (opened : WasOpened device G registered pool' services' a' b' host)
       → Life device G start (Found (reached_by opened.live) ∷ []) (UnderHost host)
+  -- a host is opened on disks with a store of which nothing is known yet
+  OpenedFirst : (registered : List Registration) (pool services : List B) (a b : D) (host : Hosted D B)
+      → AreHonest device a b → (opened : WasOpened device G registered pool services a b host)
+      → start ≡ reached_by opened.live → Life device G start (Found (reached_by opened.live) ∷ []) (UnderHost host)
   -- a request is answered
   Replied : (events : List StoreEvent) (budget : ℕ) (request : Request) (old : Hosted D B) (live : LiveState B)
       (end : End) (seq : ℕ) (happened : List HostEvent) (new : Hosted D B)
@@ -387,7 +393,7 @@ Records budget request reply events = (events ≡ []) ⊎ (LosesAnswer reply × 
 -- the events of a batch that was carried out, by its replies, the newest first: each of its requests that was answered
 abbrev pub RecordsBatch : ℕ → List BatchRequest → List BatchReply → List StoreEvent → Type 0
 RecordsBatch budget [] [] events = events ≡ []
-RecordsBatch budget (Asked request ∷ requests) (Replied (Answered end seq happened) ∷ replies) events =
+RecordsBatch budget (Asked request ∷ requests) (batches.Replied (Answered end seq happened) ∷ replies) events =
     (later : List StoreEvent) × (answers : List HostRecord) × RecordsBatch budget requests replies later
     × (events ≡ later ++ Acknowledged budget request end seq happened answers ∷ [])
 RecordsBatch budget (_ ∷ requests) (_ ∷ replies) events = RecordsBatch budget requests replies events

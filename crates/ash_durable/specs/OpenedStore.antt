@@ -29,7 +29,7 @@ use Rattle.ash_durable.specs.StoreFaults.{IsFailed, IsMishap}
 use Rattle.ash_durable.specs.HandedBoxes.{AreSaved, CanOpen}
 use Rattle.ash_durable.specs.Hosting.{Hosted, first, second, IsRunning, IsSaved, IsHonest, IsSound}
 use Rattle.ash_durable.specs.Saving.{last_generation}
-use Rattle.ash_durable.specs.StoredStates.{AreHonest, SettleNow, IsEither}
+use Rattle.ash_durable.specs.StoredStates.{AreHonest, SettleInAnyVersion, IsEither}
 use Rattle.ash_durable.specs.Store.{HandsBack, WereOnlyRead}
 use Rattle.ash_durable.specs.declared.fault.OpenRefused.{OpenRefused}
 use Rattle.ash_durable.specs.declared.fault.StoreFault.{StoreFault}
@@ -396,7 +396,7 @@ pub record WasOpened {D B : Type 0} (device : Device D) (G : Ghosts B) (register
   pub sound : IsSound G live
   pub kept : WasKept device registered a b state host.journal
   pub same : (s t : HostState) → AreHonest device a b → s.registered ≡ registered → t.registered ≡ registered
-      → SettleNow device a b (IsEither s t) → IsEither s t state
+      → SettleInAnyVersion device a b (IsEither s t) → IsEither s t state
   pub saved : AreHonest device a b → IsSaved device host
 
 -- A host is opened on two disks, or both are handed back.

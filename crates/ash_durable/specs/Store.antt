@@ -19,7 +19,7 @@ use Rattle.ash_engine.specs.RestoredBoxes.{HasServices, LacksService}
 use Rattle.ash_durable.specs.HandedBoxes.{first_state}
 use Rattle.ash_durable.specs.StoreFaults.{IsFailed}
 use Rattle.ash_durable.specs.Hosting.{Hosted, IsRunning, IsSaved, IsSound, RunsSound}
-use Rattle.ash_durable.specs.StoredStates.{AreHonest, HoldsState, IsOne, HaveState}
+use Rattle.ash_durable.specs.StoredStates.{AreHonest, HoldsState, IsOne, HaveStateInTwo}
 use Rattle.ash_durable.specs.declared.fault.OpenRefused.{OpenRefused}
 use Rattle.ash_durable.specs.declared.fault.StoreFault.{StoreFault}
 use Rattle.ash_durable.specs.declared.fault.StoreFault.TheVariants as faults
@@ -49,9 +49,9 @@ pub record AreClosed {D : Type 0} (device : Device D) (a b : D) : Type 0 where
   pub closed_first : IsClosed (device.seen a)
   pub closed_second : IsClosed (device.seen b)
 
--- no file is open, or they settle on one state
+-- no file is open, or they settle on one state, in version 2
 abbrev pub IsClosedOrHasState : HostState → List ℕ → List ℕ → Type 0
-IsClosedOrHasState state x y = (IsClosed x × IsClosed y) ⊎ SettleOn (HaveState (IsOne state)) x y
+IsClosedOrHasState state x y = (IsClosed x × IsClosed y) ⊎ SettleOn (HaveStateInTwo (IsOne state)) x y
 
 -- While a store was made, at every moment since two earlier times from which on each file had rested, a crash left no
 -- file open, or the store of this state.

@@ -42,10 +42,3 @@ abbrev pub IsMishap : StoreFault → Type 0
 IsMishap (faults.Open opening.NoMemory) = Unit {0}
 IsMishap (faults.Open opening.DeviceFailed) = Unit {0}
 IsMishap _ = ⊥
-
--- Why an opening may be refused where a host with the same registry made the store, and boxes are handed over with
--- which it can be opened: memory ran out, a disk failed, or the store is of version 1 and the number of its generation
--- is the last.
-abbrev pub MayRefuse : StoreFault → Type 0
-MayRefuse faults.GenerationSpent = Unit {0}
-MayRefuse fault = IsMishap fault

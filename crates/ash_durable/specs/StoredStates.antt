@@ -14,6 +14,10 @@ use Rattle.ash_replay.specs.ReplayedStates.{AreIn, IsStateOf}
 abbrev pub HaveState : (HostState → Type 0) → Contents → Type 0
 HaveState P contents = (state : HostState) × P state × IsStateOf state contents
 
+-- the same in version 2
+abbrev pub HaveStateInTwo : (HostState → Type 0) → Contents → Type 0
+HaveStateInTwo P contents = HaveState P contents × AreIn Two contents
+
 -- this state and no other
 abbrev pub IsOne : HostState → HostState → Type 0
 IsOne one state = state ≡ one
@@ -27,13 +31,19 @@ pub record AreHonest {D : Type 0} (device : Device D) (first second : D) : Type 
   pub honest_first : IsTrue (device.honest first)
   pub honest_second : IsTrue (device.honest second)
 
--- At every two moments of two disks, from two earlier times up to now, what a crash may leave settles on states with P.
+-- At every two moments of two disks, from two earlier times up to now, what a crash may leave settles on states with P,
+-- in version 2.
 abbrev pub SettleSince : {D : Type 0} → Device D → ℕ → ℕ → D → D → (HostState → Type 0) → Type 0
-SettleSince device a b first second P = HoldsSince device a b first second (HaveState P)
+SettleSince device a b first second P = HoldsSince device a b first second (HaveStateInTwo P)
 
--- what a crash now may leave of two disks settles on states with P
+-- what a crash now may leave of two disks settles on states with P, in version 2
 abbrev pub SettleNow : {D : Type 0} → Device D → D → D → (HostState → Type 0) → Type 0
 SettleNow device first second P = SettleSince device (device.clock first) (device.clock second) first second P
+
+-- or in any version
+abbrev pub SettleInAnyVersion : {D : Type 0} → Device D → D → D → (HostState → Type 0) → Type 0
+SettleInAnyVersion device first second P =
+    HoldsSince device (device.clock first) (device.clock second) first second (HaveState P)
 
 -- A journal's files hold a state, in version 2: all of it is on the devices, and they settle on it alone, whatever a
 -- crash does.

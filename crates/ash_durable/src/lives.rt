@@ -2,7 +2,7 @@
 
 ghost use Rattle.std.specs.Prelude.{ℕ, List, ◌∷◌, ◌++◌};
 ghost use Rattle.ash_engine.specs.LiveSteps.{Reached};
-ghost use Rattle.ash_durable.specs.StoreFaults.{MayRefuse};
+ghost use Rattle.ash_durable.specs.StoreFaults.{IsMishap};
 ghost use Rattle.ash_states.specs.HostStates.{HostState};
 ghost use Rattle.ash_durable.specs.HandedBoxes.{AreSaved, CanOpen, RestoreKinds};
 ghost use Rattle.ash_durable.specs.Lives.{AreLeft, BeginWith, CanOpenAfter, Crashed, StoreEvent};
@@ -15,13 +15,15 @@ ghost use Rattle.ash_durable.specs.declared.fault.OpenRefused.{OpenRefused};
 use ash_disk::Disk;
 use ash_host::HostObject;
 
-/// In every life of a store on honest disks, whatever happens to it and as often as it does (requests, failures of the
-/// devices, out of memory, snapshots, closing and opening, refused openings and creations, the end of the process or of
-/// the power at any moment of any of these), the following holds.
+/// In every life of a store on honest disks, whatever happens to it and as often as it does (requests, batches, failures
+/// of the devices, out of memory, snapshots, closing and opening, refused openings and creations, the end of the
+/// process or of the power at any moment of any of these), the following holds. A life begins when a store is made, or
+/// when one that is there is first opened.
 ///
 /// `whole`: all that a crash may leave of the disks settles on states to which the events lead: every request that was
 /// answered, in order and with its answer, and each that is in doubt at its place once or not at all, as it was found
-/// at the next opening. Where the newest event is not in doubt there is one such state. A host that runs is in one.
+/// at the next opening; a batch in doubt as a whole. Where the newest event is not in doubt there is one such state. A
+/// host that runs is in one.
 ///
 /// `each`: so each event that ever came is in every such state, at its place among the others.
 ///
@@ -30,8 +32,7 @@ use ash_host::HostObject;
 /// it is no host runs.
 ///
 /// `opens`: a store is never refused to a host with the same registry, with boxes with which the state can be opened
-/// that the disks have as they read, except because memory ran out, because a disk failed, or because the store is of
-/// version 1 and the number of its generation is the last.
+/// that the disks have as they read, except because memory ran out or because a disk failed.
 ///
 /// It does nothing: the clauses are the theorem. Each step of a life is what the contract of a public call says.
 pub fn nothing_acknowledged_is_lost<D: Disk, B: HostObject>()
@@ -50,7 +51,7 @@ pub fn nothing_acknowledged_is_lost<D: Disk, B: HostObject>()
         → Life D.Disk B.HostObject start events (OnDisks a b)
         → CanOpenAfter D.Disk B.HostObject pool services events start a b
         → WasRefused D.Disk B.HostObject start.durable.registered pool services a b refused
-        → MayRefuse refused.fault }
+        → IsMishap refused.fault }
 {}
 
 /// With which boxes a state can be opened: with services of the registered kinds, and with boxes enough of each kind,
