@@ -4,7 +4,7 @@ use Rattle.ash_host.specs.declared.host_object.HostObject.{Ghosts}
 use Rattle.ash_requests.specs.Requests.{Request, Load, Call, Discard, Get, Object, Seq, Snapshot, Reply, Answered}
 use Rattle.ash_requests.specs.Requests.{Value, ShownAs, Number, Done, Refused}
 use Rattle.ash_sources.specs.SourceFaults.{SourceFault}
-use Rattle.ash_engine.specs.LiveStates.{LiveState}
+use Rattle.ash_engine.specs.LiveStates.{LiveState, AreOf}
 use Rattle.ash_engine.specs.LiveSteps.{TakesStep}
 use Rattle.ash_durable.specs.Hosting.{MayAdd}
 use Rattle.ash_durable.specs.Batches.{BatchRequest, Asked, BadRequest, BatchReply, Replied, RefusedBad}
@@ -23,8 +23,8 @@ module _ {B : Type 0} (G : Ghosts B) (budget : ℕ) where
   steps_then _ _ _ _ ys ss after (Bad number requests live replies between steps) more =
       Bad number (requests ++ ys) live (replies ++ ss) after
       (steps_then requests live replies between ys ss after steps more)
-  steps_then _ _ _ _ ys ss after (Step request requests live reply next replies between stepped steps) more =
-      Step request (requests ++ ys) live reply next (replies ++ ss) after stepped
+  steps_then _ _ _ _ ys ss after (Step request requests live reply next replies between stepped boxes steps) more =
+      Step request (requests ++ ys) live reply next (replies ++ ss) after stepped boxes
       (steps_then requests next replies between ys ss after steps more)
 
   after_answer_then : (reply : Reply SourceFault) (next : LiveState B) (xs ys : List (LiveState B))
@@ -44,18 +44,18 @@ module _ {B : Type 0} (G : Ghosts B) (budget : ℕ) where
   answered_then _ _ _ _ ys ss after (NoneLeft live) more = refl
   answered_then _ _ _ _ ys ss after (Bad number requests live replies between steps) more =
       answered_then requests live replies between ys ss after steps more
-  answered_then _ _ _ _ ys ss after (Step request requests live reply next replies between stepped steps) more =
+  answered_then _ _ _ _ ys ss after (Step request requests live reply next replies between stepped boxes steps) more =
       ap (after_answer reply next) (answered_then requests next replies between ys ss after steps more)
       ∙ after_answer_then reply next (answered_in steps) (answered_in more)
 
   -- one step
   pub one_step : (request : Request) (live : LiveState B) (reply : Reply SourceFault) (next : LiveState B)
-      → TakesStep G budget request live reply next
+      → TakesStep G budget request live reply next → AreOf G next
       → (steps : BatchSteps G budget (Asked request ∷ []) live (Replied reply ∷ []) next)
       × (answered_in steps ≡ answered_by (Replied reply) next)
   unfolding answered_in
-  one_step request live reply next stepped =
-      (Step request [] live reply next [] next stepped (NoneLeft next), refl)
+  one_step request live reply next stepped boxes =
+      (Step request [] live reply next [] next stepped boxes (NoneLeft next), refl)
 
   pub one_bad : (number : ℕ) (live : LiveState B)
       → (steps : BatchSteps G budget (BadRequest number ∷ []) live (RefusedBad number ∷ []) live)
@@ -90,7 +90,7 @@ module _ {B : Type 0} (G : Ghosts B) (budget : ℕ) where
   none_answered _ _ _ _ (NoneLeft live) none = refl
   none_answered _ _ _ _ (Bad number requests live replies after steps) none =
       none_answered requests live replies after steps none
-  none_answered _ _ _ _ (Step request requests live reply next replies after stepped steps) none =
+  none_answered _ _ _ _ (Step request requests live reply next replies after stepped boxes steps) none =
       let one = unanswered_step request live reply next (answered_in steps) stepped none in
       none_answered requests next replies after steps one.1 ∙ one.0
 
@@ -111,7 +111,7 @@ module _ {B : Type 0} (G : Ghosts B) (budget : ℕ) where
   few_answered _ _ _ _ (NoneLeft live) = omega arith
   few_answered _ _ _ _ (Bad number requests live replies after steps) =
       omega (arith, few_answered requests live replies after steps)
-  few_answered _ _ _ _ (Step request requests live reply next replies after stepped steps) =
+  few_answered _ _ _ _ (Step request requests live reply next replies after stepped boxes steps) =
       omega (arith, after_answer_few reply next (answered_in steps), few_answered requests next replies after steps)
 
   -- no request changes what is registered
@@ -121,7 +121,7 @@ module _ {B : Type 0} (G : Ghosts B) (budget : ℕ) where
   batch_registered _ _ _ _ (NoneLeft live) = refl
   batch_registered _ _ _ _ (Bad number requests live replies after steps) =
       batch_registered requests live replies after steps
-  batch_registered _ _ _ _ (Step request requests live reply next replies after stepped steps) =
+  batch_registered _ _ _ _ (Step request requests live reply next replies after stepped boxes steps) =
       batch_registered requests next replies after steps ∙ stepped.taken.registered
 
   -- ---- requests that may add a record
@@ -146,19 +146,19 @@ module _ {B : Type 0} (G : Ghosts B) (budget : ℕ) where
   answered_may_add _ _ _ _ (NoneLeft live) some = absurd (some refl)
   answered_may_add _ _ _ _ (Bad number requests live replies after steps) some =
       answered_may_add requests live replies after steps some
-  answered_may_add _ _ _ _ (Step (Load name source) requests live reply next replies after stepped steps) some = tt
-  answered_may_add _ _ _ _ (Step (Call name function args) requests live reply next replies after stepped steps) some =
+  answered_may_add _ _ _ _ (Step (Load name source) requests live reply next replies after stepped boxes steps) some = tt
+  answered_may_add _ _ _ _ (Step (Call name function args) requests live reply next replies after stepped boxes steps) some =
       tt
-  answered_may_add _ _ _ _ (Step (Discard name) requests live reply next replies after stepped steps) some = tt
-  answered_may_add _ _ _ _ (Step (Get name global) requests live reply next replies after stepped steps) some =
+  answered_may_add _ _ _ _ (Step (Discard name) requests live reply next replies after stepped boxes steps) some = tt
+  answered_may_add _ _ _ _ (Step (Get name global) requests live reply next replies after stepped boxes steps) some =
       answered_may_add requests next replies after steps
       (λ none. some (adds_none (Get name global) live reply next (answered_in steps) stepped (λ no. no) ∙ none))
-  answered_may_add _ _ _ _ (Step (Object number) requests live reply next replies after stepped steps) some =
+  answered_may_add _ _ _ _ (Step (Object number) requests live reply next replies after stepped boxes steps) some =
       answered_may_add requests next replies after steps
       (λ none. some (adds_none (Object number) live reply next (answered_in steps) stepped (λ no. no) ∙ none))
-  answered_may_add _ _ _ _ (Step Seq requests live reply next replies after stepped steps) some =
+  answered_may_add _ _ _ _ (Step Seq requests live reply next replies after stepped boxes steps) some =
       answered_may_add requests next replies after steps
       (λ none. some (adds_none Seq live reply next (answered_in steps) stepped (λ no. no) ∙ none))
-  answered_may_add _ _ _ _ (Step Snapshot requests live reply next replies after stepped steps) some =
+  answered_may_add _ _ _ _ (Step Snapshot requests live reply next replies after stepped boxes steps) some =
       answered_may_add requests next replies after steps
       (λ none. some (adds_none Snapshot live reply next (answered_in steps) stepped (λ no. no) ∙ none))

@@ -42,14 +42,14 @@ module _ {B : Type 0} (G : Ghosts B) (budget : ℕ) where
   chain _ _ _ _ (NoneLeft live) stored was fits = refl
   chain _ _ _ _ (Bad number requests live replies after steps) stored was fits =
       chain requests live replies after steps stored was fits
-  chain _ _ _ _ (Step request requests live (Answered end seq happened) next replies after stepped steps) stored was
+  chain _ _ _ _ (Step request requests live (Answered end seq happened) next replies after stepped boxes steps) stored was
       fits =
       let leads = one_leads request live (Answered end seq happened) next stepped (λ no. no) stored.0 was fits in (
         next.durable,
         record { registered = stepped.taken.registered; leads = leads; admitted = stored.0.admitted },
         chain requests next replies after steps stored.1 stored.0.admitted leads.1,
       )
-  chain _ _ _ _ (Step request requests live reply next replies after stepped steps) stored was fits =
+  chain _ _ _ _ (Step request requests live reply next replies after stepped boxes steps) stored was fits =
       let same : next ≡ live = stepped.unchanged tt in
       subst (λ (l : LiveState B). LeadHosts Two (map delta_named (answered_in steps)) l.durable after.durable) same
       (chain requests next replies after steps stored

@@ -19,7 +19,7 @@ use Rattle.ash_image.specs.Delta.{Delta, delta, FitsDelta}
 use Rattle.ash_image.specs.Deltas.{deltas_tag, FitDeltas}
 use Rattle.ash_states.specs.HostStates.{HostState, IsAdmitted}
 use Rattle.ash_states.specs.StateSteps.{FailsInChange}
-use Rattle.ash_engine.specs.LiveStates.{LiveState, EngineState}
+use Rattle.ash_engine.specs.LiveStates.{LiveState, EngineState, AreOf}
 use Rattle.ash_engine.specs.LiveSteps.{LiveSteps, Handled, TakesStep, IsNoAnswer, IsReached, reached_by}
 use Rattle.ash_engine.specs.RecordedChanges.{delta_named}
 use Rattle.std.specs.declared.vec.Vec.{Vec}
@@ -230,17 +230,19 @@ module _ {B : Type 0} (G : Ghosts B) (budget : ℕ) (done : List BatchRequest) (
 
     -- it has a reply
     pub asked_replied : (reply : BatchReply) → IsReplyOfBatch (reply_seen fault_of given) (Some reply)
+        → ((l : LiveState B) → later.live ≡ Some l → AreOf G l)
         → ((l : LiveState B) → later.live ≡ Some l → IsReached (reached_by l)) → (new : BatchRun)
         → (result : Result (Unit {0}) BatchStop)
         → ((l : LiveState B) → later.live ≡ Some l → TriesReply l reply old result new)
         → RunsRequest G budget done live (Asked request) result new later
-    asked_replied reply is reached new result tries =
+    asked_replied reply is boxes reached new result tries =
         let after = handled_ok G budget request was.stepped.after given later.live handled in
         let taken = step_taken G budget request was.stepped.after after.0 (reply_seen fault_of given) after.2 is.1 in
         let one : TriesReply after.0 (Replied (reply_seen fault_of given)) old result new =
         subst (λ (r : BatchReply). TriesReply after.0 r old result new) is.0 (tries after.0 after.1) in
         tries_more G budget done live (Asked request) old new engine later (Replied (reply_seen fault_of given))
-        after.0 was (one_step G budget request was.stepped.after (reply_seen fault_of given) after.0 taken) after.1
+        after.0 was (one_step G budget request was.stepped.after (reply_seen fault_of given) after.0 taken
+        (boxes after.0 after.1)) after.1
         (reached after.0 after.1).admitted result one
 
 -- an engine that replies has a live state, and does not reply that it is done

@@ -26,7 +26,7 @@ returns-in-Some-clause-runs g c live done was =
     asked_replied g.B.HostObject c.args.budget done live (request_seen c.args.request.now) c.args.self.now
     c.args.engine.now c.handle.new.self was c.in-Ok.reply
     (c.in-Ok.ensures.handled was.stepped.after was.stepped.live_is) (batch_reply_seen c.in-Some.reply)
-    c.in-Some.ensures.same c.facts.ensures.reached c.add.new.self c.add.result c.add.ensures.tries
+    c.in-Some.ensures.same c.facts.ensures.boxes c.facts.ensures.reached c.add.new.self c.add.result c.add.ensures.tries
 
 pub returns-in-None-clause-runs : goal.returns-in-None-clause-runs
 returns-in-None-clause-runs g c live done was rest =
