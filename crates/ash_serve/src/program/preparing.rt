@@ -1,7 +1,7 @@
 //! The program is prepared: its words are read, and the files that they name are opened.
 
 use super::fault::ProgramFault;
-use super::store::Store;
+use super::store::{NewStore, Store};
 use super::task::{Limits, ProgramTask};
 use crate::fault::RunFault;
 use ash_disk::take_closed_streams;
@@ -25,7 +25,7 @@ pub enum HostTask {
     /// Serve standard input and output, with the store in memory.
     Try { limits: Limits },
     /// Make a store in these files.
-    Create { store: Store },
+    Create { store: NewStore },
     /// Serve standard input and output, with the store in these files.
     Serve { store: Store, limits: Limits },
 }
@@ -52,7 +52,7 @@ pub fn prepare<R: Env + Files<File = File> + AllocGlobal>(
     match ProgramTask::read(rt.alloc(), &words)? {
         ProgramTask::Try { limits } => Ok(Prepared::Host(HostTask::Try { limits })),
         ProgramTask::Create { folder } => Ok(Prepared::Host(HostTask::Create {
-            store: Store::make(rt, folder)?,
+            store: NewStore::make(rt, folder)?,
         })),
         ProgramTask::Serve { folder, limits } => Ok(Prepared::Host(HostTask::Serve {
             store: Store::open(rt, folder)?,
