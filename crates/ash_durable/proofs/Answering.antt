@@ -38,7 +38,7 @@ pub some_once : {A : Type 0} (x y : A) → Some x ≡ Some y → x ≡ y
 some_once x y is = cc
 
 -- what is there of a value was made of one that was there
-mapped_some : {A B : Type 0} (f : A → B) (found : Option A) (y : B) → option_map f found ≡ Some y → (x : A)
+pub mapped_some : {A B : Type 0} (f : A → B) (found : Option A) (y : B) → option_map f found ≡ Some y → (x : A)
     × (found ≡ Some x) × (f x ≡ y)
 mapped_some f None y is = absurd (cc)
 mapped_some f (Some x) y is = (x, refl, some_once (f x) y is)
@@ -46,7 +46,7 @@ mapped_some f (Some x) y is = (x, refl, some_once (f x) y is)
 -- ---- what a task does
 
 -- how a run of initializers ends, it is answered
-load_answers : (name source : List ℕ) (old : State) (end : End) (world : World)
+pub load_answers : (name source : List ℕ) (old : State) (end : End) (world : World)
     → IsAnswer (after_load_with {Fault = SourceFault} name source old end world).reply
 load_answers name source old (Finished value) world = tt
 load_answers name source old (Threw exception function line) world = tt

@@ -1,5 +1,6 @@
 -- A state in a journal, by what the journal's calls say of bytes.
-use Rattle.std.proofs.Common.{◌≡◌, inr, ℕ, ◌+◌, List, [], ◌∷◌, ◌++◌, length, Ok, Err, sym}
+use Rattle.std.proofs.Common.{◌≡◌, inl, inr, ℕ, ◌+◌, List, [], ◌∷◌, ◌++◌, length, Result, Ok, Err, OnOk}
+use Rattle.std.proofs.Common.{refl, sym, subst}
 use Rattle.ash_disk.specs.Device.{Device}
 use Rattle.ash_journal.specs.declared.journal.Journal.{Journal}
 use Rattle.ash_journal.specs.Current.{IsContents, HoldsOneOf}
@@ -10,7 +11,8 @@ use Rattle.ash_journal.specs.SettledSince.{HoldsSince, Extends}
 use Rattle.ash_states.specs.HostStates.{HostState, IsAdmitted}
 use Rattle.ash_requests.specs.declared.refusal.Refusal.TheVariants as the
 use Rattle.ash_replay.specs.ReplayFaults.{record_header_size}
-use Rattle.ash_durable.specs.Saving.{Adds, Installs, IsBefore, last_generation}
+use Rattle.ash_durable.specs.Saving.{HostRefusal, AddsRecordWith, AddsRecord, AddsWith, Adds, Installs, IsBefore}
+use Rattle.ash_durable.specs.Saving.{last_generation}
 use Rattle.ash_image.specs.declared.version.Version.TheVariants.{Two}
 use Rattle.ash_states.specs.Images.{IsImageIn}
 use Rattle.ash_durable.specs.StoredStates.{HoldsState, ExtendsHistory, BeginsAnew}
@@ -81,68 +83,118 @@ module _ {D : Type 0} (device : Device D) (state : HostState) (old new : Journal
     honesty_second = disks.honesty_second;
   }
 
-module _ {D B : Type 0} (device : Device D) (live : LiveState B) (admitted : IsAdmitted live.durable)
-    (old new : Journal D) where
-  -- the delta of what a request changed leads from the state before it
-  by_delta : (body : List ℕ) (before : HostState) → IsBodyOfChanges live body → IsBefore live before
-      → HoldsState device before old → IsBodyBetween Two body before live.durable
-  by_delta body before is_body is holds = record {
-    registered = sym is.registered;
-    leads = inr (
-      bodies_lead live.changes is.happened before live.durable body holds.is_state.depicts.admitted admitted
-          (sym is.registered) is.names (fits_in Two before holds.contents holds.is_state holds.in_two) is_body,
-      admitted,
-    );
-  }
+-- ---- a record more
 
-  added_moments : (body : List ℕ) → IsBodyOfChanges live body
-      → ((image : List ℕ) (bodies : List (List ℕ)) → Holds device old image bodies
-      → Extends device (first_disk old) (second_disk old) (first_disk new) (second_disk new)
-      (IsContents (image, bodies ++ body ∷ []))) → (before : HostState) → IsBefore live before
-      → HoldsState device before old → ExtendsHistory device before live.durable old new
-  added_moments body is_body extends before is holds =
-      record_goes_on device before live.durable holds.contents.0 body holds.contents.1 old new holds.is_state
-      holds.in_two (by_delta body before is_body is holds)
-      (extends holds.contents.0 holds.contents.1 holds.holds)
+module _ {D : Type 0} (device : Device D) (body : List ℕ) (old new : Journal D)
+    (extends : (image : List ℕ) (bodies : List (List ℕ)) → Holds device old image bodies
+    → Extends device (first_disk old) (second_disk old) (first_disk new) (second_disk new)
+    (IsContents (image, bodies ++ body ∷ []))) (untouched : LeavesOther old new) where
+  -- the files go on to the state that the body leads to, whatever came of the call
+  record_moments : (before after : HostState) → IsBodyBetween Two body before after → HoldsState device before old
+      → ExtendsHistory device before after old new
+  record_moments before after leads holds =
+      record_goes_on device before after holds.contents.0 body holds.contents.1 old new holds.is_state holds.in_two
+      leads (extends holds.contents.0 holds.contents.1 holds.holds)
 
-  pub adds : (body : List ℕ) → IsBodyOfChanges live body
-      → ((image : List ℕ) (bodies : List (List ℕ)) → Holds device old image bodies
-      → Extends device (first_disk old) (second_disk old) (first_disk new) (second_disk new)
-      (IsContents (image, bodies ++ body ∷ [])))
-      → ((image : List ℕ) (bodies : List (List ℕ)) → Holds device old image bodies
+  -- the record is there
+  pub record_added : ((image : List ℕ) (bodies : List (List ℕ)) → Holds device old image bodies
       → Holds device new image (bodies ++ body ∷ [])) → IsReady new → generation new ≡ generation old
-      → record_bytes new ≡ record_bytes old + record_header_size + length body → LeavesOther old new
-      → Disks device old new ⊥ → Adds device live old (Ok tt) new
-  adds body is_body extends acknowledged ready number longer untouched disks = record {
+      → record_bytes new ≡ record_bytes old + record_header_size + length body
+      → Disks device old new ⊥ → AddsRecord device body old (Ok tt) new
+  record_added acknowledged ready number longer disks = record {
     outcome = (
       ready,
-      record { same = number; body = body; is_body = is_body; added = acknowledged; longer = longer },
+      record { same = number; body = body; is_body = refl; added = acknowledged; longer = longer },
     );
     untouched = untouched;
-    holds = λ before is holds. record {
+    holds = λ before after leads holds. record {
       contents = (holds.contents.0, holds.contents.1 ++ body ∷ []);
       holds = acknowledged holds.contents.0 holds.contents.1 holds.holds;
-      is_state = state_of_push Two before live.durable holds.contents.0 holds.contents.1 body holds.is_state
-          holds.in_two (by_delta body before is_body is holds);
+      is_state = state_of_push Two before after holds.contents.0 holds.contents.1 body holds.is_state holds.in_two
+          leads;
       in_two = holds.in_two;
     };
-    moments = added_moments body is_body extends;
+    moments = record_moments;
     failures = disks.failures;
     honesty_first = disks.honesty_first;
     honesty_second = disks.honesty_second;
   }
 
-  pub adds_not : (body : List ℕ) → IsBodyOfChanges live body
-      → ((image : List ℕ) (bodies : List (List ℕ)) → Holds device old image bodies
-      → Extends device (first_disk old) (second_disk old) (first_disk new) (second_disk new)
-      (IsContents (image, bodies ++ body ∷ []))) → HasFailed new → LeavesOther old new
-      → Disks device old new (Unit {0}) → Adds device live old (Err the.DeviceFailed) new
-  adds_not body is_body extends failed untouched disks = record {
+  -- memory was refused
+  pub record_refused : new ≡ old → Disks device old new ⊥ → AddsRecord device body old (Err the.NoMemory) new
+  record_refused same disks = record {
+    outcome = same;
+    untouched = untouched;
+    holds = tt;
+    moments = record_moments;
+    failures = disks.failures;
+    honesty_first = disks.honesty_first;
+    honesty_second = disks.honesty_second;
+  }
+
+  -- it is there or not
+  pub record_in_doubt : HasFailed new → Disks device old new (Unit {0})
+      → AddsRecord device body old (Err the.DeviceFailed) new
+  record_in_doubt failed disks = record {
     outcome = failed;
     untouched = untouched;
     holds = tt;
-    moments = added_moments body is_body extends;
+    moments = record_moments;
     failures = disks.failures;
     honesty_first = disks.honesty_first;
     honesty_second = disks.honesty_second;
+  }
+
+-- ---- what a request changed, as a record more
+
+module _ {D B : Type 0} (device : Device D) (live : LiveState B) (admitted : IsAdmitted live.durable)
+    (old new : Journal D) (body : List ℕ) (is_body : IsBodyOfChanges live body) where
+  -- the delta of what a request changed leads from the state before it
+  by_delta : (before : HostState) → IsBefore live before → HoldsState device before old
+      → IsBodyBetween Two body before live.durable
+  by_delta before is holds = record {
+    registered = sym is.registered;
+    leads = inr (inl (
+      bodies_lead live.changes is.happened before live.durable body holds.is_state.depicts.admitted admitted
+          (sym is.registered) is.names (fits_in Two before holds.contents holds.is_state holds.in_two) is_body,
+      admitted,
+    ));
+  }
+
+  outcome_by : (result : Result (Unit {0}) HostRefusal) → AddsRecordWith device body old result new
+      → AddsWith device live old result new
+  outcome_by (Ok done) outcome = (
+    outcome.0,
+    record {
+      same = outcome.1.same;
+      body = outcome.1.body;
+      is_body = subst (IsBodyOfChanges live) (sym outcome.1.is_body) is_body;
+      added = outcome.1.added;
+      longer = outcome.1.longer;
+    },
+  )
+  outcome_by (Err the.NoMemory) outcome = outcome
+  outcome_by (Err the.DeviceFailed) outcome = outcome
+  outcome_by (Err _) outcome = absurd outcome
+
+  holds_by : (result : Result (Unit {0}) HostRefusal)
+      → OnOk result ((before after : HostState) → IsBodyBetween Two body before after → HoldsState device before old
+      → HoldsState device after new)
+      → OnOk result ((before : HostState) → IsBefore live before → HoldsState device before old
+      → HoldsState device live.durable new)
+  holds_by (Ok done) holds =
+      λ before is held. holds before live.durable (by_delta before is held) held
+  holds_by (Err refusal) holds = tt
+
+  -- what came of the record with this body came of the state
+  pub adds_by : (result : Result (Unit {0}) HostRefusal) → AddsRecord device body old result new
+      → Adds device live old result new
+  adds_by result adds = record {
+    outcome = outcome_by result adds.outcome;
+    untouched = adds.untouched;
+    holds = holds_by result adds.holds;
+    moments = λ before is held. adds.moments before live.durable (by_delta before is held) held;
+    failures = adds.failures;
+    honesty_first = adds.honesty_first;
+    honesty_second = adds.honesty_second;
   }

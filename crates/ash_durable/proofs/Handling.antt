@@ -100,13 +100,13 @@ found_live {D} {B} found = subst (λ (l : Option (LiveState B)). IsSome l) (sym 
 -- ---- a request that is handled once room was made
 
 -- a request that has no end changes the state
-no_end_changes : (request : Request) (state : HostState) (error : StepError)
+pub no_end_changes : (request : Request) (state : HostState) (error : StepError)
     → FailsInChange request state error → TaskChangesState (task_of request state)
 no_end_changes request state errors.NoMemory no_end = no_end
 no_end_changes request state errors.NoStep no_end = absurd no_end
 
 -- where there is a reply, there is a live state after it
-handled_ok : {B : Type 0} (G : Ghosts B) (budget : ℕ) (request : Request) (live : LiveState B)
+pub handled_ok : {B : Type 0} (G : Ghosts B) (budget : ℕ) (request : Request) (live : LiveState B)
     (reply : code_reply.Reply code_fault.SourceFault) (known : Option (LiveState B))
     → Handled G budget request live (Ok reply) known
     → (after : LiveState B) × (known ≡ Some after) × LiveSteps G budget request live (reply_seen fault_of reply) after
@@ -185,7 +185,7 @@ saved_unchanged : {D B : Type 0} (device : Device D) (old new : Hosted D B) → 
     → IsSaved device new
 saved_unchanged {D} {B} device old new same was = subst (λ (host : Hosted D B). IsSaved device host) (sym same) was
 
-saved_refused_for : {D B : Type 0} (device : Device D) (refusal : Refusal SourceFault) (old new : Hosted D B)
+pub saved_refused_for : {D B : Type 0} (device : Device D) (refusal : Refusal SourceFault) (old new : Hosted D B)
     → InstallRefused old (Refused refusal) new → IsSaved device old → IsSaved device new
 saved_refused_for device GenerationSpent old new refused was = saved_unchanged device old new refused.1 was
 saved_refused_for device NoMemory old new refused was = saved_unchanged device old new refused.1 was
@@ -193,7 +193,7 @@ saved_refused_for device DeviceFailed old new refused was =
     λ honest state runs. absurd (stopped_runs new state refused.1.stopped runs)
 saved_refused_for device _ old new refused was = absurd refused
 
-sound_refused_for : {D B : Type 0} (G : Ghosts B) (refusal : Refusal SourceFault) (old new : Hosted D B)
+pub sound_refused_for : {D B : Type 0} (G : Ghosts B) (refusal : Refusal SourceFault) (old new : Hosted D B)
     → InstallRefused old (Refused refusal) new → RunsSound G old → RunsSound G new
 sound_refused_for {D} {B} G GenerationSpent old new refused was =
     sound_same G old new (ap (λ (host : Hosted D B). host.live) refused.1) was

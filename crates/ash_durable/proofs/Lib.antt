@@ -1,7 +1,13 @@
+pub mod AddingRequests
 pub mod Answerers
 pub mod Answering
 pub mod BatchEvents
+pub mod BatchLaws
+pub mod BatchLeads
 pub mod BatchOutcomes
+pub mod BatchReplies
+pub mod BatchRunLaws
+pub mod BatchesSeen
 pub mod Changing
 pub mod Committing
 pub mod Composing
@@ -10,6 +16,7 @@ pub mod Faultless
 pub mod Finding
 pub mod GoingOn
 pub mod HandedOver
+pub mod HandledBatches
 pub mod HandledRequests
 pub mod Handling
 pub mod LifeEvents
@@ -19,11 +26,13 @@ pub mod LongSources
 pub mod Making
 pub mod Mishaps
 pub mod Moving
+pub mod NotDone
 pub mod Opened
 pub mod OpenedJournals
 pub mod Outcomes
 pub mod Prefixes
 pub mod QuietSteps
+pub mod RecordCommits
 pub mod Refusing
 pub mod RequestOutcomes
 pub mod Requesting

@@ -28,7 +28,7 @@ at_each live journal P here other runs = subst P
     (runs_in (host_in live journal) live.durable other (running_seen live journal) runs) here
 
 -- what is said of a live state is said of each that a host has
-at_live : {B : Type 0} (live : LiveState B) (P : LiveState B → Type 0) → P live
+pub at_live : {B : Type 0} (live : LiveState B) (P : LiveState B → Type 0) → P live
     → (other : LiveState B) → Some live ≡ Some other → P other
 at_live {B} live P here other is = let same : live ≡ other = cc in subst P same here
 

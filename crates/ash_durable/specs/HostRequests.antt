@@ -1,13 +1,15 @@
 -- What the parts of a request do to a host.
-use Rattle.std.specs.Prelude.{◌≡◌, ℕ, Some, None, Result, Ok, Err, OnOk}
+use Rattle.std.specs.Prelude.{◌≡◌, ℕ, List, Some, None, Result, Ok, Err, OnOk}
 use Rattle.ash_disk.specs.Device.{Device}
 use Rattle.ash_journal.specs.JournalFailures.{CountsFailures}
 use Rattle.ash_journal.specs.Journal.{LeavesOther}
 use Rattle.ash_requests.specs.Requests.{Request}
 use Rattle.ash_states.specs.HostStates.{HostState}
 use Rattle.ash_engine.specs.LiveStates.{LiveState}
+use Rattle.ash_image.specs.declared.version.Version.TheVariants.{Two}
+use Rattle.ash_replay.specs.ReplayedStates.{IsBodyBetween}
 use Rattle.ash_durable.specs.StoredStates.{HoldsState, ExtendsHistory}
-use Rattle.ash_durable.specs.Saving.{HostRefusal, FailsBy, HasOneMore, IsBefore}
+use Rattle.ash_durable.specs.Saving.{HostRefusal, FailsBy, HasRecord, HasOneMore, IsBefore}
 use Rattle.ash_durable.specs.Hosting.{Hosted, first, second, IsRunning, IsFull, MayAdd, WantsInstall, Settles}
 use Rattle.ash_durable.specs.Hosting.{WasInstalled, InstallRefused, WasLost}
 use Rattle.ash_durable.specs.HostReplies.{refused_by}
@@ -65,4 +67,24 @@ pub record Commits {D B : Type 0} (device : Device D) (seq : ℕ) (old : Hosted 
       → HoldsState device before old.journal → HoldsState device live.durable new.journal)
   pub moments : (before : HostState) (live : LiveState B) → old.live ≡ Some live → IsBefore live before
       → HoldsState device before old.journal → ExtendsHistory device before live.durable old.journal new.journal
+  pub disks : PreservesDisks device old result new
+
+-- what came of a record with this body that was to be added
+abbrev pub CommitsRecordWith : {D B : Type 0} → Device D → ℕ → List ℕ → LiveState B → Hosted D B
+    → Result (Unit {0}) HostRefusal → Hosted D B → Type 0
+CommitsRecordWith device seq body live old (Ok done) new =
+    IsRunning live.durable new × (new.live ≡ old.live)
+    × HasRecord device (λ other. other ≡ body) old.journal new.journal × LeavesOther old.journal new.journal
+CommitsRecordWith device seq body live old (Err refusal) new =
+    (new.live ≡ None) × (new.seq ≡ seq) × WasLost old.journal (refused_by refusal) new.journal
+
+-- A record with this body was to be added, before what it has is answered. If the body leads from the state that the
+-- files held to another, they then hold that one.
+pub record CommitsRecord {D B : Type 0} (device : Device D) (seq : ℕ) (body : List ℕ) (old : Hosted D B)
+    (result : Result (Unit {0}) HostRefusal) (new : Hosted D B) : Type 0 where
+  pub outcome : (live : LiveState B) → old.live ≡ Some live → CommitsRecordWith device seq body live old result new
+  pub holds : OnOk result ((before after : HostState) → IsBodyBetween Two body before after
+      → HoldsState device before old.journal → HoldsState device after new.journal)
+  pub moments : (before after : HostState) → IsBodyBetween Two body before after
+      → HoldsState device before old.journal → ExtendsHistory device before after old.journal new.journal
   pub disks : PreservesDisks device old result new

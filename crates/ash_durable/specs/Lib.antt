@@ -7,6 +7,7 @@ pub mod HostReplies
 pub mod HostRequests
 pub mod Batches
 pub mod BatchViews
+pub mod BatchRuns
 pub mod RequestRuns
 pub mod Store
 pub mod OpenedStore

@@ -17,6 +17,8 @@ ghost use Rattle.ash_durable.specs.HostRequests.{Commits, MakesRoom, TriesInstal
 ghost use Rattle.ash_durable.specs.RequestRuns.{RunsToFailure};
 ghost use Rattle.ash_durable.specs.Store.{Creates};
 
+mod batches;
+
 use crate::fault::OpenRefused;
 use crate::saving::{add_state, install_state};
 use crate::store::{find, make};

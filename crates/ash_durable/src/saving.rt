@@ -1,9 +1,9 @@
 //! Keeping a state in a journal: what a request changed as one record more, or the whole as a new generation.
 
-ghost use Rattle.std.specs.Prelude.{◌≡◌, ◌<◌, Some, IsSome};
+ghost use Rattle.std.specs.Prelude.{◌≡◌, ◌<◌, ◌^◌, length, Some, IsSome};
 ghost use Rattle.ash_journal.specs.Journal.{IsReady, record_bytes, record_bytes_limit};
 ghost use Rattle.ash_engine.specs.LiveStates.{LiveState};
-ghost use Rattle.ash_durable.specs.Saving.{Adds, Installs};
+ghost use Rattle.ash_durable.specs.Saving.{Adds, AddsRecord, Installs};
 
 use ash_disk::Disk;
 use ash_engine::engine::Engine;
@@ -11,6 +11,23 @@ use ash_host::HostObject;
 use ash_journal::{AppendError, InstallError, Journal};
 use ash_requests::Refusal;
 use ash_states::state::HostRefusal;
+
+/// Adds a record with this body to a journal that is ready. At `Ok` every crash leaves it.
+///
+/// `NoMemory` comes before any call of a device, and changes nothing. After `DeviceFailed` the record is there or not,
+/// and the journal is to be opened again.
+pub fn add_record<D: Disk>(body: &[u8], journal: &mut Journal<D>) -> Result<(), HostRefusal>
+    requires short { length body.now < 2 ^ 32 }
+    requires ready { IsReady journal.old }
+    requires room { record_bytes journal.old < record_bytes_limit }
+    ensures adds { AddsRecord D.Disk body.now journal.old result journal.new }
+{
+    match journal.append(body) {
+        Ok(()) => Ok(()),
+        Err(AppendError::NoMemory) => Err(Refusal::NoMemory),
+        Err(AppendError::DeviceFailed) => Err(Refusal::DeviceFailed),
+    }
+}
 
 /// Adds what the last request of an engine changed to a journal that is ready, as one record more. At `Ok` every crash
 /// leaves it.
@@ -29,11 +46,7 @@ pub fn add_state<D: Disk, B: HostObject>(
 {
     engine.facts();
     let body = engine.delta_body()?;
-    match journal.append(&body) {
-        Ok(()) => Ok(()),
-        Err(AppendError::NoMemory) => Err(Refusal::NoMemory),
-        Err(AppendError::DeviceFailed) => Err(Refusal::DeviceFailed),
-    }
+    add_record(&body, journal)
 }
 
 /// Writes the state of an engine, which a journal holds, into it as a new generation without records, in the file that

@@ -7,8 +7,8 @@ use Rattle.ash_requests.specs.Requests.{Request, Load, Call, Discard, Get, Objec
 use Rattle.ash_durable.specs.Batches.{BatchRequest}
 use Rattle.ash_durable.specs.BatchViews.{batch_request_seen}
 use Rattle.ash_durable.specs.declared.batch.BatchRequest as code
-use Rattle.ash_lines.specs.Source.{Feed, IsFeed, Faults}
-use Rattle.ash_lines.specs.Lines.{Line, HostRequest, Quit, BadRequest, LineTooLong, InputLine, RequestLine, BatchLine, ConsistsBy}
+use Rattle.ash_lines.specs.Source.{Feed, IsFeed}
+use Rattle.ash_lines.specs.Lines.{Line, HostRequest, InputLine, RequestLine, ConsistsBy}
 use Rattle.ash_lines.specs.Lines.{next_line, next_inner, inner_line, is_unfinished, lines_at, Complete, parse_line}
 use Rattle.ash_lines.proofs.HeaderLemmas.{load-follows}
 use Rattle.ash_lines.proofs.SourceLemmas.{faults_after}

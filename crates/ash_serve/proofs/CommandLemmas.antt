@@ -1,5 +1,5 @@
 -- Commands and the lines of batches, by the lines of the input of which they consist.
-use Rattle.std.proofs.Common.{◌≡◌, ◌<◌, ◌≤◌, ℕ, ◌+◌, true, false, List, [], ◌∷◌, ◌++◌, length, refl, sym, ap, ◌∙◌, arith}
+use Rattle.std.proofs.Common.{◌≡◌, ℕ, ◌+◌, true, false, List, [], ◌∷◌, ◌++◌, length, refl, ap, ◌∙◌, arith}
 use Rattle.std.proofs.Common.{zero, suc}
 use Rattle.ash_lines.specs.Lines.{Line, RequestLine, BatchLine, InputLine, Single, Batch, Next, End, Cut, Whole}
 use Rattle.ash_lines.specs.Lines.{is_unfinished, ConsistsBy, next, next_line, next_inner, inner_line, inner_next, onto_lines}

@@ -4,8 +4,8 @@ use Rattle.std.proofs.Common.{refl, ap, ◌∙◌, subst, arith, append_assoc, S
 use Rattle.std.proofs.lemmas.Grind.{common_steps}
 use Rattle.std.proofs.lemmas.Bool.Decides.{nat_tests}
 use Rattle.ash_lines.specs.Reading.{is_line}
-use Rattle.ash_lines.specs.Lines.{Line, HostRequest, BadRequest, LineTooLong, InputLine, RequestLine, BatchLine, cut_line}
-use Rattle.ash_lines.specs.Lines.{parse_line, Complete, max_line_bytes, LoadHeader, BatchHeader, Next, End, Cut, Whole}
+use Rattle.ash_lines.specs.Lines.{Line, HostRequest, BadRequest, LineTooLong, RequestLine, BatchLine, cut_line}
+use Rattle.ash_lines.specs.Lines.{parse_line, Complete, max_line_bytes, LoadHeader, BatchHeader, Cut, Whole}
 use Rattle.ash_lines.specs.Lines.{next_line, on_line, after_line, after_source, is_unfinished}
 use Rattle.ash_requests.specs.Requests.{Load}
 use Rattle.ash_serve.specs.InputItems.{BeginsWith}

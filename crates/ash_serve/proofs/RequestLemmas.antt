@@ -1,9 +1,8 @@
 -- What was read of a line, with its source, by what its parts are.
 use Rattle.std.proofs.Common.{◌≡◌, ◌<◌, ◌≤◌, ℕ, true, List, [], ◌∷◌, ◌++◌, length, sym, ap, arith, Ok}
-use Rattle.ash_requests.specs.Requests.{Load}
 use Rattle.ash_lines.specs.Source.{Feed, IsFeed, Faults}
 use Rattle.ash_lines.specs.Reading.{ReadsLinePart, ReadsWholeLine, FaultsInLine, source_prefix}
-use Rattle.ash_lines.specs.Lines.{Line, HostRequest, BadRequest, LineTooLong, RequestLine, BatchLine, parse_line, Complete}
+use Rattle.ash_lines.specs.Lines.{Line, BadRequest, LineTooLong, RequestLine, BatchLine, parse_line, Complete}
 use Rattle.ash_lines.specs.Lines.{LoadHeader, BatchHeader, next_line, is_unfinished, max_line_bytes}
 use Rattle.ash_serve.specs.InputItems.{ReadsItem, StopsInside, ReadsSource}
 use Rattle.ash_lines.specs.declared.source.ReadFault.{ReadFault}

@@ -11,9 +11,8 @@ use Rattle.ash_durable.specs.Batches.{BatchRequest, BatchResult}
 use Rattle.ash_lines.specs.Lines.{Line, HostRequest, Quit, BadRequest, LineTooLong, Command, Single, Batch, ConsistsOf, next}
 use Rattle.ash_lines.specs.ReplyText.{LineReply, HostReply, QuitReply, BadRequestReply, LineTooLongReply}
 use Rattle.ash_serve.specs.CommandReplies.{CommandReply, SingleReply, BatchReplied, command_text, replies_text}
-use Rattle.ash_serve.specs.InputItems.{BeginsBatch}
 use Rattle.ash_serve.specs.Serving.{RequestRelation, BatchRelation, HostRelation, Serving, RunState, RepliesToLine, RepliesTo}
-use Rattle.ash_serve.specs.Serving.{RepliesToAll, Log, OngoingLog, Serves, EndsByFault, IsUntouched, LacksMemory}
+use Rattle.ash_serve.specs.Serving.{RepliesToAll, Log, Serves}
 use Rattle.ash_serve.specs.Serving.{EndsBetweenRequests, Quits, run_state, serving_with}
 use Rattle.ash_serve.specs.StreamRuns.{Run, KnownState, RunEnds, ReadsPrefix, ReadsProperPrefix, ReadsAll, GoOn}
 use Rattle.ash_serve.specs.StreamRuns.{EndsWithQuit}

@@ -1,6 +1,6 @@
 -- A run, request by request.
 use Rattle.std.proofs.Common.{◌≡◌, ◌<◌, ℕ, true, false, List, [], ◌∷◌, ◌++◌, length, refl, sym, ap, ◌∙◌, subst, arith}
-use Rattle.std.proofs.Common.{append_assoc, Option, Some, None, Result, Ok, Err, inl, inr, ◌⊎◌}
+use Rattle.std.proofs.Common.{append_assoc, Option, Some, None, Result, Ok, Err, inl, inr}
 use Rattle.std.proofs.lemmas.List.{append-nil}
 use Rattle.std.specs.List.{AllByRecursion}
 use Rattle.ash_lines.specs.Source.{Feed, Faults, IsFeed}
@@ -16,8 +16,8 @@ use Rattle.ash_serve.specs.InputItems.{BeginsWith}
 use Rattle.ash_serve.specs.CommandReplies.{CommandReply, SingleReply, BatchReplied, command_reply_of, command_text}
 use Rattle.ash_serve.specs.CommandReplies.{replies_text}
 use Rattle.ash_serve.specs.Serving.{HostRelation, Handling, RequestState, Serving, RunState, handling_with, handling_of}
-use Rattle.ash_serve.specs.Serving.{without_output, HandlesNext, HandledCommand, RepliesTo, RepliesToAll, Log, IsUnhandled}
-use Rattle.ash_serve.specs.Serving.{OngoingLog, Serves, EndsByFault, FlushFails, Quits, Closes, ends_run, IsUntouched}
+use Rattle.ash_serve.specs.Serving.{without_output, HandlesNext, HandledCommand, RepliesTo, RepliesToAll, Log}
+use Rattle.ash_serve.specs.Serving.{OngoingLog, Serves, EndsByFault, FlushFails, Quits, Closes, ends_run}
 use Rattle.ash_serve.specs.Serving.{BatchRelation, RequestRelation, relations}
 use Rattle.ash_serve.specs.declared.fault.RunFault.{RunFault}
 use Rattle.ash_serve.specs.declared.fault.RunFault.TheVariants as faults

@@ -1,5 +1,5 @@
 -- What commands are replied, and its text.
-use Rattle.std.specs.Prelude.{ℕ, ◌==◌, if◌then◌else◌, List, map, replicate, Result, Ok, Err}
+use Rattle.std.specs.Prelude.{ℕ, ◌==◌, if◌then◌else◌, List, map, replicate, Ok, Err}
 use Rattle.std.specs.List.{flat_map}
 use Rattle.ash_requests.specs.Requests.{Refused}
 use Rattle.ash_durable.specs.Batches.{BatchReply, Replied, RefusedBad, BatchResult}

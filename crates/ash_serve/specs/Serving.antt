@@ -15,7 +15,7 @@ use Rattle.ash_lines.specs.declared.source.ReadFault.{ReadFault}
 use Rattle.ash_serve.specs.BatchLines.{batch_request, prefix_of}
 use Rattle.ash_serve.specs.CommandReplies.{CommandReply, SingleReply, BatchReplied, command_reply_of, command_text}
 use Rattle.ash_serve.specs.CommandReplies.{replies_text}
-use Rattle.ash_serve.specs.InputItems.{ReadsItem, StopsInside, BeginsWith, BeginsBatch}
+use Rattle.ash_serve.specs.InputItems.{StopsInside, BeginsWith, BeginsBatch}
 use Rattle.ash_serve.specs.declared.reply.CommandReply as code
 use Rattle.ash_serve.specs.declared.fault.RunFault.{RunFault}
 use Rattle.ash_serve.specs.declared.fault.RunFault.TheVariants as faults

@@ -74,10 +74,7 @@ impl OwnedRequest {
 }
 
 /// A request, kept. A snapshot is no request of a batch.
-pub(crate) fn own_request(
-    alloc: Global,
-    request: &Request<'_>,
-) -> Result<OwnedRequest, AllocError>
+pub(crate) fn own_request(alloc: Global, request: &Request<'_>) -> Result<OwnedRequest, AllocError>
     ensures same { IfOk result (λ owned. owned_seen owned ≡ asked_inside (request_seen request.now)) }
 {
     match *request {

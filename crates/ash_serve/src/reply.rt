@@ -51,10 +51,7 @@ pub(crate) fn write_command_reply<K: Sink>(
 }
 
 /// Writes the replies to the requests of a batch, each as a line.
-fn write_batch_replies<K: Sink>(
-    output: &mut K,
-    replies: Vec<BatchReply>,
-) -> Result<(), WriteFault>
+fn write_batch_replies<K: Sink>(output: &mut K, replies: Vec<BatchReply>) -> Result<(), WriteFault>
     ensures text { Writes K.outlet output.old
         (text_of (map batch_line_reply (map batch_reply_seen replies.items))) result output.new }
 {

@@ -1,4 +1,4 @@
-use Rattle.std.proofs.Common.{◌∙◌, sym, refl, inl, Ok, Err, Some, None}
+use Rattle.std.proofs.Common.{◌∙◌, sym, refl, inl, Ok, Err}
 use Rattle.std.proofs.lemmas.Result.{err_from_is_err_and}
 use Rattle.ash_serve.specs.CommandReplies.{command_reply_of}
 use Rattle.ash_serve.specs.Serving.{handling_with, relations, request_state, run_state, serving_with}
