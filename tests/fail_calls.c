@@ -9,7 +9,8 @@
    torn    half of the bytes are written, and it fails: of writes, which alone are counted
    tear    half of the bytes are written, and the process is killed: the same
 
-   The file that FAILED names gets the call's name, and its number among the calls of that name. */
+   The file that FAILED names gets the call's name, and its number among the calls of that name. An open of /dev/null has the
+   name `null`. */
 #define _GNU_SOURCE
 #include <dlfcn.h>
 #include <errno.h>
@@ -102,7 +103,8 @@ SYNCS(fdatasync)
         va_start(rest, flags);                                                                                        \
         mode_t mode = va_arg(rest, mode_t);                                                                           \
         va_end(rest);                                                                                                 \
-        return fails(how("open", 0)) ? -1 : real(path, flags, mode);                                                  \
+        const char *way = how(is(path, "/dev/null") ? "null" : "open", 0);                                            \
+        return fails(way) ? -1 : real(path, flags, mode);                                                             \
     }
 OPENS(open)
 OPENS(open64)

@@ -5,7 +5,11 @@ A plan has requests by their letters, the order in which they are asked, and tho
 is opened again. `replies` has for each condition of the modules the reply to each letter. A `#` in it stands for
 the sequence number of the answer, and ` > NAME` is the condition that it leads to, if that is another one. The
 first condition is that of a new store. A letter that a condition does not have is refused, since there is no such
-module; a snapshot has the reply `ok`, and `seq` the sequence number. So many requests were answered before."""
+module; a snapshot has the reply `ok`, `seq` the sequence number, and `frob`, which is no request, 601. So many
+requests were answered before.
+
+`batches` has letters too, and for each the letters of the requests in it. The reply to a batch is the lines of the
+replies to these, each as if it were asked alone after the one before, except that a snapshot is no request there."""
 
 from typing import NamedTuple
 
@@ -17,11 +21,33 @@ class Plan(NamedTuple):
     looks: str
     replies: dict
     answered: int = 0
+    batches: dict = {}
+
+    def parts(self, letter):
+        """The letters of the requests of a batch, and otherwise the letter."""
+        return self.batches.get(letter, letter)
+
+    def text(self, letter):
+        """The lines of a request."""
+        requests = "\n".join(self.requests[it] for it in self.parts(letter))
+        return f"batch {len(self.parts(letter))}\n{requests}" if letter in self.batches else requests
+
+    def refused(self, letter, refusal):
+        """The reply if a request, or a batch as a whole, is refused so."""
+        return "\n".join([refusal] * len(self.parts(letter)))
 
     def reply(self, condition, number, letter):
         """The reply to a request in a condition, after so many answers, and the condition and the number after it."""
+        replies = []
+        for it in self.parts(letter):
+            reply, condition, number = self.reply_alone(condition, number, it)
+            is_snapshot = letter in self.batches and self.requests[it] == "snapshot"
+            replies.append(BAD_REQUEST if is_snapshot else reply)
+        return "\n".join(replies), condition, number
+
+    def reply_alone(self, condition, number, letter):
         request = self.requests[letter]
-        default = {"seq": f"ok {number}", "snapshot": "ok"}.get(request, NO_MODULE)
+        default = {"seq": f"ok {number}", "snapshot": "ok", "frob": BAD_REQUEST}.get(request, NO_MODULE)
         reply, _, after = self.replies[condition].get(letter, default).partition(" > ")
         if "#" not in reply:
             return reply, condition, number
@@ -37,6 +63,7 @@ def load(name, source):
 
 NO_MODULE = "refused 401 NoModule"
 NO_OBJECT = "refused 407 NoObject"
+BAD_REQUEST = "refused 601 BadRequest"
 TWO = (
     "int two(Counter@ h, int k) { return k; } int f() { Counter@ a = Counter(1); Counter@ c = Counter(5); "
     "int r = two(@a = null, c.add(1)); c.add(1); return r; }"
@@ -56,6 +83,10 @@ INTERFACE = (
     "bool c() { A@ a = cast<A>(g); return a is null; }"
 )
 TWICE = "class A { int v; } A@ a = A(); int f() { a.v = a.v + 2; return a.v; }"
+KEPT = (
+    "int n = 0; Counter@ g = Counter(7); array<Counter@> l; int f(int k) { n += k; g.add(1); l.insertLast(Counter(n)); "
+    "tally(k); return total(); } int d(int k) { l.removeLast(); n = 9; return 1 / k; }"
+)
 MANY = "array<int> a; array<uint64> b(3); int f(uint n) { a.resize(n); a[n - 1] = 5; b.insertLast(n); return a.length(); }"
 
 PLANS = [
@@ -222,5 +253,57 @@ PLANS = [
             "k alone called": {"O": NO_OBJECT, "P": "ok object 2 k.A count 1 v 2"},
             "gone": {"O": NO_OBJECT, "P": NO_OBJECT},
         },
+    ),
+    Plan(
+        "batches",
+        {
+            "a": load("m", KEPT),
+            "b": "call m f 5",
+            "c": "call m nope",
+            "d": load("k", "int v = 4;"),
+            "e": "call m d 0",
+            "x": "frob",
+            "G": "get m n",
+            "K": "get k v",
+            "O": "object 1",
+            "P": "object 3",
+            "S": "snapshot",
+            "N": "seq",
+        },
+        "aRBSRN",
+        "NGKOPR",
+        {
+            "new": {"a": "ok seq # > loaded", "d": "ok seq # > k", "O": NO_OBJECT, "P": NO_OBJECT},
+            "k": {"K": "ok 4", "O": NO_OBJECT, "P": NO_OBJECT},
+            "loaded": {
+                "b": "ok 5 seq # > called",
+                "c": "refused 403 NoFunction",
+                "G": "ok 0",
+                "O": "ok object 1 Counter count 1 state 07000000",
+                "P": NO_OBJECT,
+            },
+            "called": {
+                "c": "refused 403 NoFunction",
+                "d": "ok seq # > both",
+                "G": "ok 5",
+                "O": "ok object 1 Counter count 1 state 08000000",
+                "P": "ok object 3 Counter count 1 state 05000000",
+            },
+            "both": {
+                "e": "exception DivideByZero d 1 seq # dropped 3 > ended",
+                "G": "ok 5",
+                "K": "ok 4",
+                "O": "ok object 1 Counter count 1 state 08000000",
+                "P": "ok object 3 Counter count 1 state 05000000",
+            },
+            "ended": {
+                "c": "refused 403 NoFunction",
+                "G": "ok 9",
+                "K": "ok 4",
+                "O": "ok object 1 Counter count 1 state 08000000",
+                "P": NO_OBJECT,
+            },
+        },
+        batches={"B": "bGcSdxPeN", "R": "GOcN"},
     ),
 ]

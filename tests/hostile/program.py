@@ -1,6 +1,7 @@
 """Runs of ashd: the program that ASHD names, else that of the checkout."""
 
 import concurrent.futures
+import itertools
 import os
 import select
 import shutil
@@ -26,20 +27,18 @@ class Ran:
 
 
 def talk(words, requests, **environment):
-    """Sends each request once the one before is replied to, until there is no reply; and then reads to the end."""
-    how = {"stdin": subprocess.PIPE, "stdout": subprocess.PIPE, "stderr": subprocess.PIPE}
+    """Sends each request once the one before is replied to, until there is no reply; and then reads to the end. The
+    lines of the replies to a batch are one reply."""
+    how = {"stdin": subprocess.PIPE, "stdout": subprocess.PIPE, "stderr": subprocess.PIPE, "bufsize": 0}
     with subprocess.Popen([ASHD, *words], env={**os.environ, **environment}, **how) as run:
         replies = []
         try:
             for request in requests:
                 run.stdin.write(request.encode() + b"\n")
-                run.stdin.flush()
-                if not select.select([run.stdout], [], [], SECONDS)[0]:
-                    raise subprocess.TimeoutExpired(words, SECONDS)
-                line = run.stdout.readline()
-                if not line.endswith(b"\n"):
+                lines = [next_line(run, words) for _ in range(lines_of(request))]
+                if not all(it.endswith(b"\n") for it in lines):
                     break
-                replies.append(line[:-1].decode())
+                replies.append(b"".join(lines)[:-1].decode())
         except BrokenPipeError:
             pass
         try:
@@ -50,10 +49,27 @@ def talk(words, requests, **environment):
         return Ran(replies, rest.decode(errors="replace"), run.returncode, error.decode(errors="replace").strip())
 
 
+def next_line(run, words):
+    """The next line of a run with these words, which comes in time."""
+    if not select.select([run.stdout], [], [], SECONDS)[0]:
+        raise subprocess.TimeoutExpired(words, SECONDS)
+    return run.stdout.readline()
+
+
+def lines_of(request):
+    """How many lines the reply to a request has."""
+    words = request.split(maxsplit=2)
+    return int(words[1]) if words[0] == "batch" else 1
+
+
 def ask(words, requests, seconds=SECONDS, **environment):
-    """Sends all requests at once."""
+    """Sends all requests at once. The lines of the replies to a batch are one reply."""
     text = "".join(f"{it}\n" for it in requests).encode()
-    return feed(words, text, seconds, **environment)
+    ran = feed(words, text, seconds, **environment)
+    lines = iter(ran.replies)
+    parts = [[*itertools.islice(lines, lines_of(it))] for it in requests]
+    ran.replies = ["\n".join(it) for it in parts if it] + [*lines]
+    return ran
 
 
 def feed(words, data, seconds=SECONDS, **environment):

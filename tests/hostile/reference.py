@@ -179,7 +179,8 @@ def truth(chance, parameters, depth):
 
 
 class Model:
-    """A host, of modules from one script: the reply to each line of bytes that is a request, or none."""
+    """A host, of modules from one script: the reply to each line of bytes that is a request, or none. A line that
+    begins a batch has none of its own; `left` is how many lines the batch has still."""
 
     SCRIPT = (
         "int n = 2; uint64 u = 18446744073709551615; bool t = true; int add(int k) { n += k; return n; } "
@@ -192,7 +193,7 @@ class Model:
     LIMIT = 50
 
     def __init__(self):
-        self.modules, self.seq = {}, 0
+        self.modules, self.seq, self.left = {}, 0, 0
 
     def answer(self, text):
         self.seq += 1
@@ -202,10 +203,18 @@ class Model:
         """The reply to a line, and to the source that comes after it and ends where it says."""
         words = line.decode("latin-1").split(" ")
         is_request = all(WORD.fullmatch(it.encode("latin-1")) for it in words)
-        verb = getattr(self, f"do_{words[0]}", None) if is_request and words[0].isalpha() else None
+        is_here = words[0].isalpha() and not (self.left and words[0] in ("batch", "snapshot", "quit"))
+        verb = getattr(self, f"do_{words[0]}", None) if is_request and is_here else None
+        self.left -= self.left > 0
         if len(line) > 4096 or verb is None:
             return LONG if len(line) > 4096 else BAD
         return verb(words[1:], source) if words[0] == "load" else verb(words[1:])
+
+    def do_batch(self, words):
+        if len(words) != 1 or not re.fullmatch("[0-9]{1,2}", words[0]) or not 1 <= int(words[0]) <= 16:
+            return BAD
+        self.left = int(words[0])
+        return None
 
     def do_seq(self, words):
         return BAD if words else f"ok {self.seq}"
@@ -318,13 +327,16 @@ def fault_of(source):
     return known.get(source)
 
 
+COUNTS = ["0", "00", "01", "17", "99", "016", "-1", "+1", "x", "1 1", "2 ", " 3"]
 SOURCES = [b"", b" \r\n\t", b"int", b"float f;", b"int n = x;", b"/* ", b'"', b" " * 65537, b"// \xff", b"\xc3", b"//\xe2\x82"]
 
 
-def line(chance):
-    """A line of a session, and the source after it, if it is a load: mostly of what there is, and sometimes wrong."""
+def line(chance, in_batch):
+    """A line of a session, in a batch or not, and the source after it, if it is a load: mostly of what there is, and
+    sometimes wrong."""
     names = [*"abcdefghijklmnopq", "m" * 64]
-    verb = chance.choice(("load", "call", "call", "call", "call", "get", "get", "seq", "snapshot", "discard", "object", "frob", ""))
+    verbs = ("load", "call", "call", "call", "call", "get", "get", "seq", "snapshot", "discard", "object", "frob", "", "batch")
+    verb = chance.choice((*verbs, "quit") if in_batch else verbs)
     name = chance.choice(names) if chance.random() < 0.95 else chance.choice(("9x", "m" * 65, "a-b", "_", "A_9", "\x7f", "é"))
     source = Model.SCRIPT.encode() if chance.random() < 0.8 else chance.choice(SOURCES)
     numbers = (0, 1, 7, -1, 2**31 - 1, 2**31, -(2**31), -(2**31) - 1, 2**32 - 1, 2**32, 2**63, -(2**63), 2**64 - 1, 2**64, 10**20)
@@ -337,6 +349,7 @@ def line(chance):
         given = given[1:] if chance.random() < 0.5 else [*given, chance.choice(("1", "x", "-", "--1", "+1", "0x1", "007", "-0"))]
     words = {
         "load": [name, str(len(source))], "call": [name, function, *given], "get": [name, chance.choice("nutx")],
+        "batch": [str(chance.randint(1, 16)) if chance.random() < 0.8 else chance.choice(COUNTS)],
         "discard": [name], "object": [chance.choice(("1", "0", "x", "-1", str(2**64), str(2**64 - 1)))],
     }.get(verb, [])
     text = " ".join([verb, *words]).encode()

@@ -162,9 +162,19 @@ def is_utf8(text):
         return False
 
 
-def after_delta(version, before, data):
-    """The state to which a delta leads."""
-    reader = Reader(data)
+def after_deltas(version, before, data):
+    """The states to which the deltas of a batch lead, one after the other."""
+    reader, found = Reader(data), [before]
+    count = reader.number("<B")
+    need(version == 2 and 1 <= count <= 16)
+    for _ in range(count):
+        found.append(after_delta(version, found[-1], reader))
+    reader.end()
+    return found[1:]
+
+
+def after_delta(version, before, reader):
+    """The state to which the next delta leads."""
     seq, last = reader.number("<Q"), reader.number("<Q")
     services = list(before.services)
     for index, state in reader.ascending("<H", 16, reader.service):
@@ -173,7 +183,6 @@ def after_delta(version, before, data):
     modules = after_change(reader, dict(before.modules))
     gone = reader.ascending("<I", 1 << 32, lambda: (reader.number("<Q"),))
     put = reader.ascending("<I", 4096, lambda: reader.object(version, sorted(modules)))
-    reader.end()
     gone = {number for number, in gone}
     need(not gone & {number for number, _ in put})
     objects = {number: it for number, it in before.objects.items() if number not in gone}
@@ -267,15 +276,25 @@ def states(files):
     version, text, state = read_image(image)
     found = [state]
     for body in bodies:
-        need(body[:1] in (b"\1", b"\2"))
-        if body[:1] == b"\2":
-            found.append(after_delta(version, found[-1], body[1:]))
-        else:
-            other = read_image(body[1:])
-            need(other[:2] == (version, text))
-            found.append(other[2])
+        found += states_after(version, text, found[-1], body)
     check_rules(found[-1])
     return version, text, found
+
+
+def states_after(version, text, before, body):
+    """The states to which the body of a record leads: those after each request of a batch, and else one."""
+    tag = body[:1]
+    need(tag in (b"\1", b"\2", b"\3"))
+    if tag == b"\3":
+        return after_deltas(version, before, body[1:])
+    if tag == b"\2":
+        reader = Reader(body[1:])
+        after = after_delta(version, before, reader)
+        reader.end()
+        return [after]
+    other = read_image(body[1:])
+    need(other[:2] == (version, text))
+    return [other[2]]
 
 
 def read_files(folder):
@@ -340,6 +359,24 @@ def image_bytes(version, text, state):
             list_with("<I", [object_bytes(number, it, names) for number, it in sorted(state.objects.items())]),
         ]
     )
+
+
+def delta_bytes(seq, change=b"\0", rest=b"\0" * 8):
+    """A delta of what happens to a module, and to objects."""
+    return struct.pack("<QQH", seq, 0, 0) + change + rest
+
+
+def added(name, source):
+    return b"\1" + bytes_with("<B", name) + bytes_with("<I", source) + b"\0\0"
+
+
+def removed(name):
+    return b"\2" + bytes_with("<B", name)
+
+
+def body_of_batch(deltas, count=None):
+    """The body of the record of a batch, with its count or another one."""
+    return bytes([3, len(deltas) if count is None else count]) + b"".join(deltas)
 
 
 def file_bytes(generation, image, bodies=()):
