@@ -19,14 +19,14 @@ handle-requires-clause-live g c =
     let some = some_live c.args.engine.now.live c.requires.live in
     let i = c.loop-request.request-index in
     run_has g.B.HostObject c.args.budget (map batch_request_seen (take i c.args.requests.now)) some.0
-    c.loop-request.run' c.loop-request.engine (c.loop-request.invariant.runs some.0 some.1)
+    c.loop-request.run c.loop-request.engine (c.loop-request.invariant.runs some.0 some.1)
 
 pub handle-requires-clause-few : goal.handle-requires-clause-few
 handle-requires-clause-few g c =
     let some = some_live c.args.engine.now.live c.requires.live in
     let i = c.loop-request.request-index in
     let xs = c.args.requests.now in
-    let few = run_few g.B.HostObject c.args.budget (map batch_request_seen (take i xs)) some.0 c.loop-request.run'
+    let few = run_few g.B.HostObject c.args.budget (map batch_request_seen (take i xs)) some.0 c.loop-request.run
     c.loop-request.engine (c.loop-request.invariant.runs some.0 some.1) in
     omega (arith, few, length-map (take i xs) batch_request_seen, length-take i xs, c.loop-request-test.true,
     c.requires.few)
@@ -57,3 +57,6 @@ returns-in_err-handle g c =
           (c.in_err-handle.ensures.runs live (map batch_request_seen (take i xs))
           (c.loop-request.invariant.runs live is) (map batch_request_seen (drop (i + 1) xs))));
     }
+
+pub returns-clause-runs : goal.returns-clause-runs
+returns-clause-runs g c live is = ?
