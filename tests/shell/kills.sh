@@ -167,3 +167,28 @@ for round in $(seq 30); do
     fi
     same "the store after kill $round of create" "$scratch/new" "$scratch/empty"
 done
+
+# Batches of three calls and a look, killed at random times: of each batch all is found or nothing, and nothing that was answered is
+# lost. The store has objects, a counter and the tally.
+batched=$scratch/batched
+empty_store "$batched"
+asks "load m ${#source}\n$source\n"
+ends "serve a host for batches" 0 "" serve "$batched" --budget 1000 --counters 1
+holds "a host for batches" 'ok seq 1'
+number=1
+for round in $(seq 200); do
+    kill_in_time "$round" "$batched" 32 $'batch 4\ncall m f\ncall m f\nget m n\ncall m f'
+    last=$(sed '$d' "$scratch/replies" | sed -n 's/.* seq \([0-9]*\).*/\1/p' | tail -n 1)
+    found=$(printf 'seq\nget m n\nobject 1\n' | "$ashd" serve "$batched" --budget 1000 --counters 2 2>&1 | tr '\n' ' ')
+    before=$number
+    number=${found#ok }
+    number=${number%% *}
+    count=$((number - 1))
+    state=$(printf %02x $((count & 255)) $((count >> 8 & 255)) $((count >> 16 & 255)) 0)
+    [ "$found" = "ok $number ok $count ok object 1 Counter count 1 state $state " ] && [ $((count % 3)) -eq 0 ] \
+        && [ "$number" -ge "${last:-$before}" ]
+    verdict $? "kill $round within batches, after the answer ${last:-$before}: $found"
+    [ "$failed" -eq 0 ] || break
+done
+[ "$number" -gt 300 ]
+verdict $? "requests in batches between kills: $number"

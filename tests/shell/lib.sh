@@ -146,6 +146,18 @@ record() {
     } >> "$1"
 }
 
+# counted COMMAND..: a command of tests/hostile, whose last line has how many passed and failed, over the program that is tried
+counted() {
+    local passes fails
+    ASHD=$ashd "$@" > "$scratch/output" 2>&1
+    read -r passes fails < <(sed -nE '$s/^([0-9]+) passed, ([0-9]+) failed$/\1 \2/p' "$scratch/output")
+    passed=$((passed + ${passes:-0}))
+    failed=$((failed + ${fails:-1}))
+    [ "${passes:-0}/${fails:-1}" != 0/0 ]
+    verdict $? "$*: nothing was tried"
+    [ "${fails:-1}" -eq 0 ] || sed "s/^/$subject: /" "$scratch/output"
+}
+
 # empty_store FOLDER: the two files of a store without modules, with what ashd registers, written by hand
 empty_store() {
     mkdir -p "$1"

@@ -39,6 +39,11 @@ long_line() {
 long_line 4096 "refused 601 BadRequest"
 long_line 4097 "refused 602 LineTooLong"
 
+# A line that is too long in a batch, a source that no line feed follows, and an empty line.
+{ printf 'batch 3\n'; printf '%*s' 4097 '' | tr ' ' a; printf '\nload m 2\nabcd\n\nseq\n'; } > "$scratch/input"
+ends "a batch of lines that are none" 0 "" try --budget 1000 --counters 0
+holds "the replies to them" "refused 602 LineTooLong"$'\n'"$bad"$'\n'"$bad"$'\nok 0'
+
 # cut_off REQUESTS REPLIES: a run ends inside the last request, which is not replied to
 cut_off() {
     asks "$1"
@@ -50,6 +55,21 @@ cut_off 'seq\nload m 4\nabc' "ok 0"
 cut_off 'seq\nload m 3\nabc' "ok 0"
 cut_off 'seq\nload m 3\nabcd' "ok 0"
 cut_off 'load m 45\nint n = 2; int f(int k) { n += k; return n; }\nload k 3\nab' "ok seq 1"
+cut_off 'load m 45\nint n = 2; int f(int k) { n += k; return n; }\nbatch 2\ncall m f 1\n' "ok seq 1"
+cut_off 'seq\nbatch 2\nseq\nse' "ok 0"
+cut_off 'seq\nbatch 1\n' "ok 0"
+cut_off 'seq\nbatch 1' "ok 0"
+cut_off 'seq\nbatch 1\nload m 4\nabc' "ok 0"
+cut_off 'seq\nbatch 1\nload m 3\nabc' "ok 0"
+
+# A batch that the end of the input cuts is not carried out: the store is as it was.
+empty_store "$scratch/cut"
+asks 'load m 45\nint n = 2; int f(int k) { n += k; return n; }\ncall m f 5\nbatch 2\ncall m f 1\n'
+ends "a batch cut by the end, over a store" 1 "ashd: 603 Truncated" serve "$scratch/cut" --budget 1000 --counters 0
+holds "the replies before it" $'ok seq 1\nok 7 seq 2'
+asks 'get m n\nseq\n'
+ends "the store that it left" 0 "" serve "$scratch/cut" --budget 1000 --counters 0
+holds "the replies of the store that it left" $'ok 7\nok 2'
 
 asks 'seq\nseq'
 ends "a request cut by the end" 1 "ashd: 603 Truncated" try --budget 1 --counters 0
@@ -104,4 +124,17 @@ read -r -t 10 empty <&"$replies"
 read -r -t 10 left <&"$replies"
 [ "$first/$second/$third/$loaded/$empty/$left" = "ok 0/ok 0/ok 0/ok seq 1/ok seq 2/ok" ]
 verdict $? "requests that come in parts: $first/$second/$third/$loaded/$empty/$left"
+end_talk
+
+# A reply comes while the batch after it is not whole, and the replies to a batch once it is.
+begin_talk
+printf 'seq\nbatch 2\nseq\n' >&"$requests"
+read -r -t 10 first <&"$replies"
+printf 'load m 10\nint n = 7;\n' >&"$requests"
+read -r -t 10 second <&"$replies"
+read -r -t 10 third <&"$replies"
+printf 'quit\n' >&"$requests"
+read -r -t 10 left <&"$replies"
+[ "$first/$second/$third/$left" = "ok 0/ok 0/ok seq 1/ok" ]
+verdict $? "a batch that comes in parts: $first/$second/$third/$left"
 end_talk

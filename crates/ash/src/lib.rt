@@ -20,7 +20,8 @@ pub use ash_disk::{DeviceFailed, Disk, FileDisk, MemoryDisk};
 // The host, and why there is none.
 pub use ash_durable::{CreateFault, Host, OpenFault, OpenRefused, StoreFault};
 
-// Requests and their replies.
+// Requests and their replies, alone and in batches.
+pub use ash_durable::batch::{BatchRefusal, BatchReply, BatchRequest};
 pub use ash_host::{Event, Target};
 pub use ash_requests::{
     Answer, Arg, Exception, ObjectContents, Outcome, Refusal, Reply, Request, Shown,

@@ -7,7 +7,7 @@ use crate::standard::{is_standard, take_closed_streams};
 use crate::{DeviceFailed, Disk};
 use std::fs::{File, Files, OpenOptions};
 use std::io;
-use std::os::unix::fs::FileExt;
+use std::os::unix::fs::{FileExt, MetadataExt};
 use std::path::Path;
 
 /// An open file of the system. Reads and writes are at positions, and a sync reaches the device. No contract can
@@ -74,6 +74,16 @@ fn sync_folder<R: Files<File = File>>(files: &R, path: &str) -> io::Result<()> {
     File::open(files, folder)?.sync_all()
 }
 
+/// Syncs a file. It is an error if no name leads to the file any more, as after it was removed or another was moved over
+/// it: what was written would be lost once the file is closed.
+fn sync_named(file: &File) -> io::Result<()> {
+    file.sync_all()?;
+    if file.metadata()?.nlink() == 0 {
+        return Err(io::ErrorKind::NotFound.into());
+    }
+    Ok(())
+}
+
 impl Disk for FileDisk {
     ghost use Rattle.ash_disk.specs.File.{file_failures};
 
@@ -103,6 +113,6 @@ impl Disk for FileDisk {
     }
 
     fn sync(&mut self) -> Result<(), DeviceFailed> {
-        count_failure(self.file.sync_all(), &mut self.failures)
+        count_failure(sync_named(&self.file), &mut self.failures)
     }
 }

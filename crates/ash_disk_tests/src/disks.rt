@@ -298,7 +298,7 @@ fn open_file(rt: &HostRuntime, path: &str, mode: OpenMode) -> io::Result<FileDis
     match mode {
         OpenMode::Make => FileDisk::open_or_make(rt, path),
         OpenMode::Existing => FileDisk::open(rt, path),
-        OpenMode::ReadOnly => Ok(FileDisk::new(fs::File::open(rt, path)?)),
+        OpenMode::ReadOnly => FileDisk::new(fs::File::open(rt, path)?),
     }
 }
 

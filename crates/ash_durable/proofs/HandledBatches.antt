@@ -181,140 +181,140 @@ module _ {D B : Type 0} (device : Device D) (G : Ghosts B) (budget : ℕ) (reque
   }
 
   module _ (replies : List BatchReply) (after : LiveState B) (steps : BatchSteps G budget requests live replies after)
-      where
-    -- no request was answered
-    pub batch_untouched : answered_in steps ≡ []
-        → HandlesBatch device G budget requests old (Ok replies) (host_in after journal)
-    batch_untouched none =
-        let same : after ≡ live = none_answered G budget requests live replies after steps none in
-        let seen : host_in after journal ≡ host_in live journal = ap (λ (l : LiveState B). host_in l journal) same in
-        record {
-          outcome = subst (λ (known : Option (LiveState B)). BatchOutcome device G budget requests known old
-              (Ok replies) (host_in after journal)) room.live_same
-              (record {
-                between = host_in live journal;
-                room = room.room;
-                after = after;
-                steps = steps;
-                live_is = refl;
-                running = subst (λ (l : LiveState B). IsRunning l.durable (host_in l journal)) (sym same) room.running;
-                added = λ some. absurd (some none);
-                untouched = λ _. seen;
-                settles = subst (λ (l : LiveState B). Settles device live.durable l.durable old (host_in l journal))
-                    (sym same) (settles_as_it_is device (adding_request requests) live.durable old
-                    (host_in live journal) room);
-              });
-          sound = sound_same G old (host_in after journal) (ap (λ (l : LiveState B). Some l) same ∙ room.live_same);
-          saved = λ was. subst (λ (host : Hosted D B). IsSaved device host) (sym seen) (room.saved was);
-          failures = room_counts (Ok replies) (λ failed. failed);
-          honesty_first = room.disks.honesty_first;
-          honesty_second = room.disks.honesty_second;
-          registered = ap (λ (l : LiveState B). l.durable.registered) same ∙ room.disks.registered;
-        }
-
-    -- some were, and what they changed is a record
-    module _ (some : answered_in steps ≡ [] → ⊥) (sound : IsSound G after) (body : List ℕ)
-        (is_body : IsBodyOfBatch (answered_in steps) body)
-        (leads : HoldsState device live.durable journal → IsBodyBetween Two body live.durable after.durable) where
-      registered_same : live.durable.registered ≡ after.durable.registered
-      registered_same = sym (batch_registered G budget requests live replies after steps)
-
-      module _ (result : Result (Unit {0}) HostRefusal) (new : Hosted D B)
-          (committed : CommitsRecord device live.durable.state.seq body (host_in after journal) result new) where
-        commit_registered : new.registered ≡ old.registered
-        commit_registered = committed.disks.registered ∙ sym registered_same ∙ room.disks.registered
-
-        settles_stored : Settles device live.durable after.durable old new
-        settles_stored = settles_added device (adding_request requests) live.durable old (host_in live journal) room
-            after.durable new (λ held. committed.moments live.durable after.durable (leads held) held)
-
-      batch_stored : (new : Hosted D B)
-          → CommitsRecord device live.durable.state.seq body (host_in after journal) (Ok tt) new
-          → HandlesBatch device G budget requests old (Ok replies) new
-      batch_stored new committed =
-          let outcome = committed.outcome after refl in
+    where
+      -- no request was answered
+      pub batch_untouched : answered_in steps ≡ []
+          → HandlesBatch device G budget requests old (Ok replies) (host_in after journal)
+      batch_untouched none =
+          let same : after ≡ live = none_answered G budget requests live replies after steps none in
+          let seen : host_in after journal ≡ host_in live journal = ap (λ (l : LiveState B). host_in l journal) same in
           record {
             outcome = subst (λ (known : Option (LiveState B)). BatchOutcome device G budget requests known old
-                (Ok replies) new) room.live_same
+                (Ok replies) (host_in after journal)) room.live_same
                 (record {
                   between = host_in live journal;
                   room = room.room;
                   after = after;
                   steps = steps;
-                  live_is = outcome.1;
-                  running = outcome.0;
-                  added = λ _. (
-                    record {
-                      same = outcome.2.same;
-                      body = outcome.2.body;
-                      is_body = subst (λ (bs : List ℕ). IsBodyOfBatch (answered_in steps) bs) (sym outcome.2.is_body)
-                          is_body;
-                      added = outcome.2.added;
-                      longer = outcome.2.longer;
-                    },
-                    outcome.3,
-                  );
-                  untouched = λ none. absurd (some none);
-                  settles = settles_stored (Ok tt) new committed;
+                  live_is = refl;
+                  running = subst (λ (l : LiveState B). IsRunning l.durable (host_in l journal)) (sym same) room.running;
+                  added = λ some. absurd (some none);
+                  untouched = λ _. seen;
+                  settles = subst (λ (l : LiveState B). Settles device live.durable l.durable old (host_in l journal))
+                      (sym same) (settles_as_it_is device (adding_request requests) live.durable old
+                      (host_in live journal) room);
                 });
-            sound = λ was other is.
-                let h : Some after ≡ Some other = sym outcome.1 ∙ is in
-                let same : after ≡ other = cc in
-                subst (IsSound G) same sound;
-            saved = λ was honest other runs.
-                let honest_then : IsHonest device (host_in live journal) =
-                honest_before device (host_in after journal) new committed.disks.honesty_first
-                committed.disks.honesty_second honest in
-                let held : HoldsState device live.durable journal =
-                held_between device (adding_request requests) live.durable old (host_in live journal) room honest_then
-                was in
-                subst (λ (s : HostState). HoldsState device s new.journal)
-                (runs_in new after.durable other outcome.0 runs)
-                (committed.holds live.durable after.durable (leads held) held);
-            failures = counts_then ⊥ (FailsBatch (Ok replies)) (device.failures (first old))
-                (device.failures (second old)) (device.failures (first_disk journal))
-                (device.failures (second_disk journal)) (device.failures (first new)) (device.failures (second new))
-                (λ no. no) room.disks.failures committed.disks.failures;
-            honesty_first = committed.disks.honesty_first ∙ room.disks.honesty_first;
-            honesty_second = committed.disks.honesty_second ∙ room.disks.honesty_second;
-            registered = commit_registered (Ok tt) new committed;
+            sound = sound_same G old (host_in after journal) (ap (λ (l : LiveState B). Some l) same ∙ room.live_same);
+            saved = λ was. subst (λ (host : Hosted D B). IsSaved device host) (sym seen) (room.saved was);
+            failures = room_counts (Ok replies) (λ failed. failed);
+            honesty_first = room.disks.honesty_first;
+            honesty_second = room.disks.honesty_second;
+            registered = ap (λ (l : LiveState B). l.durable.registered) same ∙ room.disks.registered;
           }
 
-      batch_not_stored : (refusal : HostRefusal) (new : Hosted D B)
-          → CommitsRecord device live.durable.state.seq body (host_in after journal) (Err refusal) new
-          → HandlesBatch device G budget requests old (Err (refusal_seen fault_of refusal)) new
-      batch_not_stored refusal new committed =
-          let outcome = committed.outcome after refl in
-          record {
-            outcome = subst (λ (known : Option (LiveState B)). BatchOutcome device G budget requests known old
-                (Err (refusal_seen fault_of refusal)) new) room.live_same
-                (inr (inl (record {
-                  between = host_in live journal;
-                  room = room.room;
-                  replies = replies;
-                  after = after;
-                  steps = steps;
-                  answered = some;
-                  sound = sound;
-                  lost = outcome.2;
-                  stopped = record { stopped = outcome.0; seq_same = outcome.1 ∙ sym room.began.seq_is };
-                  settles = settles_stored (Err refusal) new committed;
-                })));
-            sound = λ was. sound_stopped G new outcome.0;
-            saved = λ was honest other runs. absurd (stopped_runs new other outcome.0 runs);
-            failures = counts_then ⊥ (IsDeviceFailed (refused_by refusal)) (device.failures (first old))
-                (device.failures (second old)) (device.failures (first_disk journal))
-                (device.failures (second_disk journal)) (device.failures (first new)) (device.failures (second new))
-                (λ no. no) room.disks.failures
-                (counts_replied refusal (device.failures (first_disk journal)) (device.failures (second_disk journal))
-                (device.failures (first new)) (device.failures (second new)) committed.disks.failures);
-            honesty_first = committed.disks.honesty_first ∙ room.disks.honesty_first;
-            honesty_second = committed.disks.honesty_second ∙ room.disks.honesty_second;
-            registered = commit_registered (Err refusal) new committed;
-          }
+      -- some were, and what they changed is a record
+      module _ (some : answered_in steps ≡ [] → ⊥) (sound : IsSound G after) (body : List ℕ)
+          (is_body : IsBodyOfBatch (answered_in steps) body)
+          (leads : HoldsState device live.durable journal → IsBodyBetween Two body live.durable after.durable) where
+        registered_same : live.durable.registered ≡ after.durable.registered
+        registered_same = sym (batch_registered G budget requests live replies after steps)
 
-      pub batch_committed : (result : Result (Unit {0}) HostRefusal) (new : Hosted D B)
-          → CommitsRecord device live.durable.state.seq body (host_in after journal) result new
-          → HandlesBatch device G budget requests old (given_unless replies result) new
-      batch_committed (Ok done) new committed = batch_stored new committed
-      batch_committed (Err refusal) new committed = batch_not_stored refusal new committed
+        module _ (result : Result (Unit {0}) HostRefusal) (new : Hosted D B)
+            (committed : CommitsRecord device live.durable.state.seq body (host_in after journal) result new) where
+          commit_registered : new.registered ≡ old.registered
+          commit_registered = committed.disks.registered ∙ sym registered_same ∙ room.disks.registered
+
+          settles_stored : Settles device live.durable after.durable old new
+          settles_stored = settles_added device (adding_request requests) live.durable old (host_in live journal) room
+              after.durable new (λ held. committed.moments live.durable after.durable (leads held) held)
+
+        batch_stored : (new : Hosted D B)
+            → CommitsRecord device live.durable.state.seq body (host_in after journal) (Ok tt) new
+            → HandlesBatch device G budget requests old (Ok replies) new
+        batch_stored new committed =
+            let outcome = committed.outcome after refl in
+            record {
+              outcome = subst (λ (known : Option (LiveState B)). BatchOutcome device G budget requests known old
+                  (Ok replies) new) room.live_same
+                  (record {
+                    between = host_in live journal;
+                    room = room.room;
+                    after = after;
+                    steps = steps;
+                    live_is = outcome.1;
+                    running = outcome.0;
+                    added = λ _. (
+                      record {
+                        same = outcome.2.same;
+                        body = outcome.2.body;
+                        is_body = subst (λ (bs : List ℕ). IsBodyOfBatch (answered_in steps) bs) (sym outcome.2.is_body)
+                            is_body;
+                        added = outcome.2.added;
+                        longer = outcome.2.longer;
+                      },
+                      outcome.3,
+                    );
+                    untouched = λ none. absurd (some none);
+                    settles = settles_stored (Ok tt) new committed;
+                  });
+              sound = λ was other is.
+                  let h : Some after ≡ Some other = sym outcome.1 ∙ is in
+                  let same : after ≡ other = cc in
+                  subst (IsSound G) same sound;
+              saved = λ was honest other runs.
+                  let honest_then : IsHonest device (host_in live journal) =
+                  honest_before device (host_in after journal) new committed.disks.honesty_first
+                  committed.disks.honesty_second honest in
+                  let held : HoldsState device live.durable journal =
+                  held_between device (adding_request requests) live.durable old (host_in live journal) room honest_then
+                  was in
+                  subst (λ (s : HostState). HoldsState device s new.journal)
+                  (runs_in new after.durable other outcome.0 runs)
+                  (committed.holds live.durable after.durable (leads held) held);
+              failures = counts_then ⊥ (FailsBatch (Ok replies)) (device.failures (first old))
+                  (device.failures (second old)) (device.failures (first_disk journal))
+                  (device.failures (second_disk journal)) (device.failures (first new)) (device.failures (second new))
+                  (λ no. no) room.disks.failures committed.disks.failures;
+              honesty_first = committed.disks.honesty_first ∙ room.disks.honesty_first;
+              honesty_second = committed.disks.honesty_second ∙ room.disks.honesty_second;
+              registered = commit_registered (Ok tt) new committed;
+            }
+
+        batch_not_stored : (refusal : HostRefusal) (new : Hosted D B)
+            → CommitsRecord device live.durable.state.seq body (host_in after journal) (Err refusal) new
+            → HandlesBatch device G budget requests old (Err (refusal_seen fault_of refusal)) new
+        batch_not_stored refusal new committed =
+            let outcome = committed.outcome after refl in
+            record {
+              outcome = subst (λ (known : Option (LiveState B)). BatchOutcome device G budget requests known old
+                  (Err (refusal_seen fault_of refusal)) new) room.live_same
+                  (inr (inl (record {
+                    between = host_in live journal;
+                    room = room.room;
+                    replies = replies;
+                    after = after;
+                    steps = steps;
+                    answered = some;
+                    sound = sound;
+                    lost = outcome.2;
+                    stopped = record { stopped = outcome.0; seq_same = outcome.1 ∙ sym room.began.seq_is };
+                    settles = settles_stored (Err refusal) new committed;
+                  })));
+              sound = λ was. sound_stopped G new outcome.0;
+              saved = λ was honest other runs. absurd (stopped_runs new other outcome.0 runs);
+              failures = counts_then ⊥ (IsDeviceFailed (refused_by refusal)) (device.failures (first old))
+                  (device.failures (second old)) (device.failures (first_disk journal))
+                  (device.failures (second_disk journal)) (device.failures (first new)) (device.failures (second new))
+                  (λ no. no) room.disks.failures
+                  (counts_replied refusal (device.failures (first_disk journal)) (device.failures (second_disk journal))
+                  (device.failures (first new)) (device.failures (second new)) committed.disks.failures);
+              honesty_first = committed.disks.honesty_first ∙ room.disks.honesty_first;
+              honesty_second = committed.disks.honesty_second ∙ room.disks.honesty_second;
+              registered = commit_registered (Err refusal) new committed;
+            }
+
+        pub batch_committed : (result : Result (Unit {0}) HostRefusal) (new : Hosted D B)
+            → CommitsRecord device live.durable.state.seq body (host_in after journal) result new
+            → HandlesBatch device G budget requests old (given_unless replies result) new
+        batch_committed (Ok done) new committed = batch_stored new committed
+        batch_committed (Err refusal) new committed = batch_not_stored refusal new committed

@@ -8,7 +8,10 @@ use ash_states::state::HostRefusal;
 #[derive(Clone, Copy)]
 pub enum BatchRequest<'a> {
     /// Load a source as a module of this name.
-    Load { name: &'a str, source: &'a [u8] },
+    Load {
+        name: &'a str,
+        source: &'a [u8],
+    },
     /// Call a function of a module.
     Call {
         module: &'a str,
@@ -16,9 +19,14 @@ pub enum BatchRequest<'a> {
         args: &'a [Arg],
     },
     /// Remove a module.
-    Discard { name: &'a str },
+    Discard {
+        name: &'a str,
+    },
     /// Look at a global of a module.
-    Global { module: &'a str, name: &'a str },
+    Global {
+        module: &'a str,
+        name: &'a str,
+    },
     /// Look at the object of a number.
     Object(u64),
     /// How many requests have been answered?

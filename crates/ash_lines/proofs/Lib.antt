@@ -9,3 +9,4 @@ pub mod PrefixLemmas
 pub mod ItemLemmas
 pub mod TextLemmas
 pub mod RefusalLemmas
+pub mod HeaderLemmas

@@ -4,6 +4,7 @@ use Rattle.ash_requests.specs.declared.argument.Arg.{Arg}
 use Rattle.ash_requests.specs.Requests.{Call}
 use Rattle.ash_requests.specs.RequestViews.{request_seen}
 use Rattle.ash_lines.specs.Lines.{HostRequest, Quit, BadRequest, ParsedLine, Complete, LoadHeader}
+use Rattle.ash_lines.specs.Lines.{BatchHeader}
 use Rattle.ash_lines.specs.declared.request_line.ParsedLine as code
 use Rattle.ash_lines.specs.declared.request_line.ParsedLine.TheVariants as lines
 
@@ -12,6 +13,7 @@ abbrev pub parsed_of : List Arg → code.ParsedLine → ParsedLine
 parsed_of arguments (lines.Request request) = Complete (HostRequest (request_seen request))
 parsed_of arguments (lines.Call header) = Complete (HostRequest (Call header.module.now header.function.now arguments))
 parsed_of arguments (lines.Load header) = LoadHeader header.name.now header.length
+parsed_of arguments (lines.Batch count) = BatchHeader count
 parsed_of arguments lines.Quit = Complete Quit
 parsed_of arguments lines.BadRequest = Complete BadRequest
 

@@ -23,4 +23,4 @@ pub mod source;
 mod words;
 pub mod writer;
 
-pub use number::MAX_DIGITS;
+pub use number::{MAX_BATCH, MAX_DIGITS};

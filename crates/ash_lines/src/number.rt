@@ -4,12 +4,18 @@ ghost use Rattle.std.specs.Prelude.{◌≡◌, ◌<◌, ◌^◌, IfSome};
 ghost use Rattle.std.specs.List.{list_all};
 ghost use Rattle.std.specs.Str.{bytes_eq};
 ghost use Rattle.ash_lines.specs.Lines.{is_digit, is_number, number_of, length_of};
-ghost use Rattle.ash_lines.specs.Lines.{object_number_of, signed_of, argument_of};
+ghost use Rattle.ash_lines.specs.Lines.{object_number_of, batch_length_of, signed_of, argument_of};
 
 use ash_requests::Arg;
 
 /// The most digits of a number below 2^64.
 pub const MAX_DIGITS: usize = 20;
+
+/// The most lines of a batch.
+pub const MAX_BATCH: usize = 16;
+
+/// The most digits of the number of lines of a batch.
+const MAX_BATCH_DIGITS: usize = 2;
 
 /// Whether two words are the same.
 pub(crate) fn is_same(word: &[u8], text: &[u8]) -> bool
@@ -39,6 +45,22 @@ pub(crate) fn parse_object_number(word: &[u8]) -> Option<u64>
     let number = parse_number(word)?;
     if number < 1 << 64 {
         Some(number as u64)
+    } else {
+        None
+    }
+}
+
+/// How many lines a batch has: one or two digits, from 1 to 16.
+#[tactic(auto, unfolding(crate::specs::Lines::batch_length_of))]
+pub(crate) fn parse_batch_length(word: &[u8]) -> Option<usize>
+    ensures value { result ≡ batch_length_of word.now }
+{
+    if word.len() > MAX_BATCH_DIGITS {
+        return None;
+    }
+    let number = parse_number(word)?;
+    if number >= 1 && number <= MAX_BATCH as u128 {
+        Some(number as usize)
     } else {
         None
     }

@@ -7,12 +7,14 @@ ghost use Rattle.ash_requests.specs.declared.argument.Arg.{Arg};
 ghost use Rattle.ash_lines.specs.Lines.{Line, Complete, is_word, arguments_of, max_line_bytes};
 ghost use Rattle.ash_lines.specs.Lines.{max_arguments, parse_line, parse_verb, parse_load};
 ghost use Rattle.ash_lines.specs.Lines.{parse_call, parse_discard, parse_get, parse_object};
-ghost use Rattle.ash_lines.specs.Lines.{parse_lone};
+ghost use Rattle.ash_lines.specs.Lines.{parse_batch, parse_lone};
 ghost use Rattle.ash_lines.specs.LineWords.{words_left};
 ghost use Rattle.ash_lines.specs.ParsedLines.{parsed_of, IsNotOneWord, IsNotTwoWords};
 
 use crate::line::MAX_LINE_BYTES;
-use crate::number::{is_same, parse_argument, parse_length, parse_object_number};
+use crate::number::{
+    is_same, parse_argument, parse_batch_length, parse_length, parse_object_number,
+};
 use crate::words::{Words, is_all_words};
 use ash_requests::{Arg, Request};
 use std::str;
@@ -29,6 +31,8 @@ pub enum ParsedLine<'a> {
     Call(CallHeader<'a>),
     /// A load of the source that follows the line.
     Load(LoadHeader<'a>),
+    /// A batch of so many lines, which follow the line.
+    Batch(usize),
     Quit,
     BadRequest,
 }
@@ -89,6 +93,8 @@ fn parse_verb<'a>(verb: &[u8], words: Words<'a>, arguments: &mut Vec<Arg>) -> Pa
         parse_lone(ParsedLine::Request(Request::Snapshot), words)
     } else if is_same(verb, b"quit") {
         parse_lone(ParsedLine::Quit, words)
+    } else if is_same(verb, b"batch") {
+        parse_batch(words)
     } else {
         ParsedLine::BadRequest
     }
@@ -176,6 +182,20 @@ fn parse_object<'a>(words: Words<'a>) -> ParsedLine<'a>
         Some(word) => match parse_object_number(word.as_bytes()) {
             None => ParsedLine::BadRequest,
             Some(number) => ParsedLine::Request(Request::Object { number }),
+        },
+    }
+}
+
+fn parse_batch<'a>(words: Words<'a>) -> ParsedLine<'a>
+    requires words { list_all is_word (words_left words.rest) ≡ true }
+    ensures parsed { (arguments : List Arg)
+        → parsed_of arguments result ≡ parse_batch (words_left words.entry.rest) }
+{
+    match one_word(words) {
+        None => ParsedLine::BadRequest,
+        Some(word) => match parse_batch_length(word.as_bytes()) {
+            None => ParsedLine::BadRequest,
+            Some(count) => ParsedLine::Batch(count),
         },
     }
 }

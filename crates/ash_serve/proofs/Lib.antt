@@ -5,3 +5,7 @@ pub mod RunningLemmas
 pub mod DefinedLemmas
 pub mod ServiceLemmas
 pub mod CheckRunLemmas
+pub mod CommandLemmas
+pub mod BatchLemmas
+pub mod HandlingLemmas
+pub mod ReplyLemmas

@@ -1,5 +1,9 @@
 pub mod Session
+pub mod InputItems
+pub mod BatchLines
+pub mod CommandReplies
 pub mod Serving
+pub mod HostCalls
 pub mod LongSources
 pub mod StreamRuns
 pub mod Program

@@ -2,13 +2,14 @@
 use Rattle.std.specs.Prelude.{◌≡◌, ℕ, List, Option, Result, Ok, Err}
 use Rattle.ash_disk.specs.Device.{Device}
 use Rattle.ash_host.specs.declared.host_object.HostObject.{Ghosts}
-use Rattle.ash_durable.specs.Hosting.{Hosted, first, second, IsSaved, RunsSound, Handles}
+use Rattle.ash_durable.specs.Hosting.{Hosted, first, second, IsSaved, RunsSound}
 use Rattle.ash_durable.specs.Lives.{LivesOn}
 use Rattle.ash_durable.specs.RequestRuns.{RunsToFailure}
 use Rattle.ash_durable.specs.declared.fault.OpenRefused.{OpenRefused}
-use Rattle.ash_lines.specs.Lines.{Line}
-use Rattle.ash_lines.specs.ReplyText.{LineReply}
-use Rattle.ash_serve.specs.StreamRuns.{KnownState, RunEnds, host_requests, host_replies}
+use Rattle.ash_lines.specs.Lines.{Command}
+use Rattle.ash_serve.specs.CommandReplies.{CommandReply}
+use Rattle.ash_serve.specs.HostCalls.{hosting, host_calls, host_results}
+use Rattle.ash_serve.specs.StreamRuns.{KnownState, RunEnds}
 use Rattle.ash_serve.specs.Serving.{RepliesToAll, run_state}
 use Rattle.ash_serve.specs.declared.fault.RunFault.{RunFault}
 use Rattle.ash_serve.specs.declared.program.fault.ProgramFault.{ProgramFault}
@@ -37,20 +38,20 @@ abbrev pub service_remains : {D : Type 0} → D → D → Option (List ℕ) → 
 service_remains a b output = record { a = a; b = b; output = output }
 
 -- A host ran. If its files held its state, they do so afterwards, and if its boxes were those of its state, they are.
--- Its replies are those of the written steps, up to the first request by which it must be reopened, and every life of
+-- Its replies are those of the written steps, up to the first call by which it must be reopened, and every life of
 -- its store goes on with what was answered. Then it was closed: its disks are handed back as the run left them.
 pub record HostRun {D B : Type 0} (device : Device D) (G : Ghosts B) (budget : ℕ) (before : KnownState (Hosted D B))
     (result : Result (Unit {0}) RunFault) (after : ServiceRemains D) : Type 0 where
   pub last : Hosted D B
-  pub ends : RunEnds (Handles device G budget) before result after.output last
+  pub ends : RunEnds (hosting device G budget) before result after.output last
   pub saved : IsSaved device before.host → IsSaved device last
   pub sound : RunsSound G before.host → RunsSound G last
-  pub defined : (lines : List Line) (replies : List LineReply)
-      → RepliesToAll (Handles device G budget) before.host lines replies last
-      → RunsToFailure device G budget before.host (host_requests lines) (host_replies replies) last
-  pub lives : (lines : List Line) (replies : List LineReply)
-      → RepliesToAll (Handles device G budget) before.host lines replies last
-      → LivesOn device G budget before.host (host_requests lines) (host_replies replies) last
+  pub defined : (commands : List Command) (replies : List CommandReply)
+      → RepliesToAll (hosting device G budget) before.host commands replies last
+      → RunsToFailure device G budget before.host (host_calls commands) (host_results replies) last
+  pub lives : (commands : List Command) (replies : List CommandReply)
+      → RepliesToAll (hosting device G budget) before.host commands replies last
+      → LivesOn device G budget before.host (host_calls commands) (host_results replies) last
   pub first_is : after.a ≡ first last
   pub second_is : after.b ≡ second last
 

@@ -1,17 +1,22 @@
--- A run: requests are read and handled, and the replies are written, one after another.
-use Rattle.std.specs.Prelude.{◌≡◌, ◌⊎◌, ℕ, Bool, true, false, List, [], ◌∷◌, ◌++◌, Result, Ok, Err, Option, Some, None}
+-- A run: commands are read and handled, and the replies are written, one after another.
+use Rattle.std.specs.Prelude.{◌≡◌, ◌⊎◌, ℕ, Bool, true, false, List, [], ◌∷◌, ◌++◌, length, map, Result, Ok, Err}
+use Rattle.std.specs.Prelude.{Option, Some, None}
 use Rattle.std.specs.List.{AllByRecursion}
 use Rattle.ash_requests.specs.Requests.{Request, Load, Reply}
 use Rattle.ash_sources.specs.SourceFaults.{SourceFault}
+use Rattle.ash_durable.specs.Batches.{BatchRequest, BatchResult}
 use Rattle.ash_lines.specs.Source.{Feed, Faults}
 use Rattle.ash_lines.specs.Reading.{source_prefix}
 use Rattle.ash_lines.specs.Sink.{Outlet, Accepts, WritesAll, FailsPartway}
-use Rattle.ash_lines.specs.Lines.{Line, HostRequest, Quit, BadRequest, LineTooLong, ContinuesRun, Cut, Whole, next}
-use Rattle.ash_lines.specs.Lines.{ConsistsOf, is_unfinished}
-use Rattle.ash_lines.specs.ReplyText.{LineReply, HostReply, QuitReply, BadRequestReply, LineTooLongReply, line_reply_of}
-use Rattle.ash_lines.specs.ReplyText.{reply_line, text_of}
-use Rattle.ash_lines.specs.declared.reply.LineReply as code
+use Rattle.ash_lines.specs.Lines.{Line, HostRequest, Quit, BadRequest, LineTooLong, Command, Single, Batch, ContinuesRun}
+use Rattle.ash_lines.specs.Lines.{Cut, next, ConsistsOf, is_unfinished}
+use Rattle.ash_lines.specs.ReplyText.{LineReply, HostReply, QuitReply, BadRequestReply, LineTooLongReply}
 use Rattle.ash_lines.specs.declared.source.ReadFault.{ReadFault}
+use Rattle.ash_serve.specs.BatchLines.{batch_request, prefix_of}
+use Rattle.ash_serve.specs.CommandReplies.{CommandReply, SingleReply, BatchReplied, command_reply_of, command_text}
+use Rattle.ash_serve.specs.CommandReplies.{replies_text}
+use Rattle.ash_serve.specs.InputItems.{StopsInside, BeginsWith, BeginsBatch}
+use Rattle.ash_serve.specs.declared.reply.CommandReply as code
 use Rattle.ash_serve.specs.declared.fault.RunFault.{RunFault}
 use Rattle.ash_serve.specs.declared.fault.RunFault.TheVariants as faults
 
@@ -28,116 +33,136 @@ DependsOnPrefix {H} handles =
     → handles (Load name (source_prefix source)) old reply new
     → handles (Load name source) old reply new
 
+-- What a host of one type may do with a batch of requests, within a budget for each.
+abbrev pub BatchRelation : Type 0 → Type 1
+BatchRelation H = List BatchRequest → H → BatchResult → H → Type 0
+
+-- So it is in a batch.
+abbrev pub BatchDependsOnPrefix : {H : Type 0} → BatchRelation H → Type 0
+BatchDependsOnPrefix {H} handles_batch =
+    (requests : List BatchRequest) (old new : H) (result : BatchResult)
+    → handles_batch (map prefix_of requests) old result new
+    → handles_batch requests old result new
+
+-- what a host may do with a request, and with a batch
+pub record HostRelation (H : Type 0) : Type 1 where
+  pub handles : RequestRelation H
+  pub handles_batch : BatchRelation H
+
+-- by these relations, with this budget
+abbrev pub relations : {H : Type 0} → (ℕ → RequestRelation H) → (ℕ → BatchRelation H) → ℕ → HostRelation H
+relations handles handles_batch budget = record { handles = handles budget; handles_batch = handles_batch budget }
+
 -- The reply to a line: what the host replies to its request, or one that leaves the host as it is.
-abbrev pub RepliesTo : {H : Type 0} → RequestRelation H → H → Line → LineReply → H → Type 0
-RepliesTo handles old (HostRequest request) (HostReply reply) new = handles request old reply new
-RepliesTo handles old Quit QuitReply new = new ≡ old
-RepliesTo handles old BadRequest BadRequestReply new = new ≡ old
-RepliesTo handles old LineTooLong LineTooLongReply new = new ≡ old
-RepliesTo handles old _ _ new = ⊥
+abbrev pub RepliesToLine : {H : Type 0} → RequestRelation H → H → Line → LineReply → H → Type 0
+RepliesToLine handles old (HostRequest request) (HostReply reply) new = handles request old reply new
+RepliesToLine handles old Quit QuitReply new = new ≡ old
+RepliesToLine handles old BadRequest BadRequestReply new = new ≡ old
+RepliesToLine handles old LineTooLong LineTooLongReply new = new ≡ old
+RepliesToLine handles old _ _ new = ⊥
+
+-- The reply to a command: that to its line, or what the host replies to the requests of all lines of a batch.
+abbrev pub RepliesTo : {H : Type 0} → HostRelation H → H → Command → CommandReply → H → Type 0
+RepliesTo host old (Single line) (SingleReply reply) new = RepliesToLine host.handles old line reply new
+RepliesTo host old (Batch lines) (BatchReplied count result) new =
+    (count ≡ length lines) × host.handles_batch (map batch_request lines) old result new
+RepliesTo host old _ _ new = ⊥
 
 -- whether the run ends with this reply: with that to `quit`
-abbrev pub ends_run : LineReply → Bool
-ends_run QuitReply = true
+abbrev pub ends_run : CommandReply → Bool
+ends_run (SingleReply QuitReply) = true
 ends_run _ = false
 
--- The replies to lines, each from the host that the one before it left.
-abbrev pub RepliesToAll : {H : Type 0} → RequestRelation H → H → List Line → List LineReply → H
-    → Type 0
-RepliesToAll handles old [] [] new = new ≡ old
-RepliesToAll {H} handles old (line ∷ lines) (reply ∷ replies) new =
-    (between : H) × RepliesTo handles old line reply between
-    × RepliesToAll handles between lines replies new
-RepliesToAll handles old _ _ new = ⊥
+-- The replies to commands, each from the host that the one before it left.
+abbrev pub RepliesToAll : {H : Type 0} → HostRelation H → H → List Command → List CommandReply → H → Type 0
+RepliesToAll host old [] [] new = new ≡ old
+RepliesToAll {H} host old (command ∷ commands) (reply ∷ replies) new =
+    (between : H) × RepliesTo host old command reply between
+    × RepliesToAll host between commands replies new
+RepliesToAll host old _ _ new = ⊥
 
--- The input begins with this request, however it goes on after these bytes.
-abbrev pub BeginsWithLine : List ℕ → Line → Type 0
-BeginsWithLine bytes line = (more : List ℕ) → next (bytes ++ more) ≡ Whole line more
+-- ---- one command
 
--- ---- one request
-
--- how requests are read and handled: what the source gives, and what the host may do with each
+-- how commands are read and handled: what the source gives, and what the host may do
 pub record Handling (S H : Type 0) : Type 1 where
   pub feed : Feed S
-  pub handles : RequestRelation H
+  pub host : HostRelation H
 
--- what requests are read from and the host that handles them, at one moment
+-- what commands are read from and the host that handles them, at one moment
 pub record RequestState (S H : Type 0) : Type 0 where
   pub input : S
   pub host : H
 
 -- by these relations of a source and of a host
-abbrev pub handling_with : {S H : Type 0} → Feed S → RequestRelation H → Handling S H
-handling_with feed handles = record { feed = feed; handles = handles }
+abbrev pub handling_with : {S H : Type 0} → Feed S → HostRelation H → Handling S H
+handling_with feed host = record { feed = feed; host = host }
 
 -- this input and this host
 abbrev pub request_state : {S H : Type 0} → S → H → RequestState S H
 request_state input host = record { input = input; host = host }
 
--- One request was read and handled, and this is the reply to it.
-pub record HandlesLine {S H : Type 0} (handling : Handling S H) (before : RequestState S H)
-    (line : Line) (reply : LineReply) (after : RequestState S H) : Type 0 where
+-- One command was read and handled, and this is the reply to it.
+pub record HandledCommand {S H : Type 0} (handling : Handling S H) (before : RequestState S H)
+    (command : Command) (reply : CommandReply) (after : RequestState S H) : Type 0 where
   pub bytes : List ℕ
-  pub spells : BeginsWithLine bytes line
+  pub spells : BeginsWith next bytes command
   pub took : handling.feed.reads before.input bytes after.input
-  pub handled : RepliesTo handling.handles before.host line reply after.host
+  pub handled : RepliesTo handling.host before.host command reply after.host
 
--- What reading a request and handling it did, by its outcome: the reply to it, or a fault.
-abbrev pub HandlesRequest : {S H : Type 0} → Handling S H → RequestState S H
-    → Result code.LineReply RunFault → RequestState S H → Type 0
-HandlesRequest handling before (Ok reply) after =
-    (line : Line) × HandlesLine handling before line (line_reply_of reply) after
-HandlesRequest handling before (Err faults.Truncated) after =
-    (rest : List ℕ) × handling.feed.reads before.input rest after.input
-    × handling.feed.ended after.input × (next rest ≡ Cut) × (after.host ≡ before.host)
-HandlesRequest handling before (Err (faults.Read fault)) after =
-    (rest : List ℕ) × Faults handling.feed before.input rest fault after.input
-    × (is_unfinished (next rest) ≡ true) × (after.host ≡ before.host)
-HandlesRequest handling before (Err faults.Write) after = ⊥
-HandlesRequest handling before (Err faults.NoMemory) after = ⊥
+-- What reading a command and handling it did, by its outcome: the reply to it, or a fault, after which nothing of it is
+-- handled. Memory is refused only inside a batch.
+abbrev pub HandlesCommand : {S H : Type 0} → Handling S H → RequestState S H
+    → Result code.CommandReply RunFault → RequestState S H → Type 0
+HandlesCommand handling before (Ok reply) after =
+    (command : Command) × HandledCommand handling before command (command_reply_of reply) after
+HandlesCommand handling before (Err faults.NoMemory) after =
+    (rest : List ℕ) × handling.feed.reads before.input rest after.input × BeginsBatch rest
+    × (after.host ≡ before.host)
+HandlesCommand handling before (Err fault) after =
+    StopsInside next handling.feed before.input fault after.input × (after.host ≡ before.host)
 
--- The same, where the input may end before the request.
+-- The same, where the input may end before the command.
 abbrev pub HandlesNext : {S H : Type 0} → Handling S H → RequestState S H
-    → Result (Option code.LineReply) RunFault → RequestState S H → Type 0
+    → Result (Option code.CommandReply) RunFault → RequestState S H → Type 0
 HandlesNext handling before (Ok None) after =
     handling.feed.reads before.input [] after.input × handling.feed.ended after.input
     × (after.host ≡ before.host)
 HandlesNext handling before (Ok (Some reply)) after =
-    HandlesRequest handling before (Ok reply) after
-HandlesNext handling before (Err fault) after = HandlesRequest handling before (Err fault) after
+    HandlesCommand handling before (Ok reply) after
+HandlesNext handling before (Err fault) after = HandlesCommand handling before (Err fault) after
 
 -- ---- a run
 
 -- how a run is served: what the source gives, what the sink does with what is written, and what the
--- host may do with each request
+-- host may do
 pub record Serving (S K H : Type 0) : Type 1 where
   pub feed : Feed S
   pub outlet : Outlet K
-  pub handles : RequestRelation H
+  pub host : HostRelation H
 
--- what a run reads from, what it writes to and the host that handles its requests, at one moment
+-- what a run reads from, what it writes to and the host that handles its commands, at one moment
 pub record RunState (S K H : Type 0) : Type 0 where
   pub input : S
   pub output : K
   pub host : H
 
 -- by these relations of a source, of a sink and of a host
-abbrev pub serving_with : {S K H : Type 0} → Feed S → Outlet K → RequestRelation H → Serving S K H
-serving_with feed outlet handles = record { feed = feed; outlet = outlet; handles = handles }
+abbrev pub serving_with : {S K H : Type 0} → Feed S → Outlet K → HostRelation H → Serving S K H
+serving_with feed outlet host = record { feed = feed; outlet = outlet; host = host }
 
 -- this input, this output and this host
 abbrev pub run_state : {S K H : Type 0} → S → K → H → RunState S K H
 run_state input output host = record { input = input; output = output; host = host }
 
--- how a run reads and handles its requests
+-- how a run reads and handles its commands
 abbrev pub handling_of : {S K H : Type 0} → Serving S K H → Handling S H
-handling_of serving = handling_with serving.feed serving.handles
+handling_of serving = handling_with serving.feed serving.host
 
--- a moment of a run but for what it writes to
+-- a moment of a run, except for what it writes to
 abbrev pub without_output : {S K H : Type 0} → RunState S K H → RequestState S H
 without_output state = request_state state.input state.host
 
--- The input ended, and no request began. What was buffered went out.
+-- The input ended, and no command began. What was buffered went out.
 pub record EndsBetweenRequests {S K H : Type 0} (serving : Serving S K H) (before after : RunState S K H)
     : Type 0 where
   pub took : serving.feed.reads before.input [] after.input
@@ -145,7 +170,7 @@ pub record EndsBetweenRequests {S K H : Type 0} (serving : Serving S K H) (befor
   pub flushed : WritesAll serving.outlet before.output [] after.output
   pub host_same : after.host ≡ before.host
 
--- The input ended inside a request. What was buffered went out.
+-- The input ended inside a command. What was buffered went out.
 pub record EndsInsideRequest {S K H : Type 0} (serving : Serving S K H) (before after : RunState S K H)
     : Type 0 where
   pub rest : List ℕ
@@ -155,7 +180,7 @@ pub record EndsInsideRequest {S K H : Type 0} (serving : Serving S K H) (before 
   pub flushed : WritesAll serving.outlet before.output [] after.output
   pub host_same : after.host ≡ before.host
 
--- The source failed inside a request, or before it. What was buffered went out.
+-- The source failed inside a command, or before it. What was buffered went out.
 pub record InputFails {S K H : Type 0} (serving : Serving S K H) (fault : ReadFault)
     (before after : RunState S K H) : Type 0 where
   pub rest : List ℕ
@@ -164,31 +189,44 @@ pub record InputFails {S K H : Type 0} (serving : Serving S K H) (fault : ReadFa
   pub flushed : WritesAll serving.outlet before.output [] after.output
   pub host_same : after.host ≡ before.host
 
--- One more request was handled, and then a write failed.
+-- Memory was refused while a batch was read, and nothing of it was handled. What was buffered went out.
+pub record LacksMemory {S K H : Type 0} (serving : Serving S K H) (before after : RunState S K H) : Type 0 where
+  pub rest : List ℕ
+  pub batch : BeginsBatch rest
+  pub took : serving.feed.reads before.input rest after.input
+  pub flushed : WritesAll serving.outlet before.output [] after.output
+  pub host_same : after.host ≡ before.host
+
+-- One more command was handled, and then a write failed.
 pub record ReplyFails {S K H : Type 0} (serving : Serving S K H) (before after : RunState S K H)
     : Type 0 where
-  pub line : Line
-  pub reply : LineReply
-  pub handled : HandlesLine (handling_of serving) (without_output before) line reply (without_output after)
-  pub failed : FailsPartway serving.outlet before.output (reply_line reply) after.output
+  pub command : Command
+  pub reply : CommandReply
+  pub handled :
+      HandledCommand (handling_of serving) (without_output before) command reply (without_output after)
+  pub failed : FailsPartway serving.outlet before.output (command_text reply) after.output
 
--- More bytes were read, which are no request, and then a write of what was buffered failed.
+-- These bytes are no whole command, or they are a batch that was not handled.
+abbrev pub IsUnhandled : List ℕ → Type 0
+IsUnhandled rest = (is_unfinished (next rest) ≡ true) ⊎ BeginsBatch rest
+
+-- More bytes were read, of which nothing was handled, and then a write of what was buffered failed.
 pub record FlushFails {S K H : Type 0} (serving : Serving S K H) (before after : RunState S K H)
     : Type 0 where
   pub rest : List ℕ
-  pub unfinished : is_unfinished (next rest) ≡ true
+  pub unhandled : IsUnhandled rest
   pub reached : S
   pub took : serving.feed.reads before.input rest reached
   pub failed : FailsPartway serving.outlet before.output [] after.output
   pub host_same : after.host ≡ before.host
 
--- How a fault ended a run: the input ended inside a request or failed, or a write failed.
+-- How a fault ended a run: the input ended inside a command or failed, memory was refused, or a write failed.
 abbrev pub EndsByFault : {S K H : Type 0} → Serving S K H → RunState S K H → RunFault
     → RunState S K H → Type 0
 EndsByFault serving before faults.Truncated after = EndsInsideRequest serving before after
 EndsByFault serving before (faults.Read fault) after = InputFails serving fault before after
 EndsByFault serving before faults.Write after = ReplyFails serving before after ⊎ FlushFails serving before after
-EndsByFault serving before faults.NoMemory after = ⊥
+EndsByFault serving before faults.NoMemory after = LacksMemory serving before after
 
 -- The end of a run: what was buffered went out, and the run ends so; or a write failed.
 abbrev pub Closes : {K : Type 0} → Outlet K → K → Result (Unit {0}) RunFault → Result (Unit {0}) RunFault → K
@@ -196,41 +234,47 @@ abbrev pub Closes : {K : Type 0} → Outlet K → K → Result (Unit {0}) RunFau
 Closes outlet old end result new =
     (WritesAll outlet old [] new × (result ≡ end)) ⊎ (FailsPartway outlet old [] new × (result ≡ Err faults.Write))
 
--- A run so far: the bytes that were read, the requests of which they consist, and the replies to
+-- A run so far: the bytes that were read, the commands of which they consist, and the replies to
 -- these, which went out or are buffered.
 pub record Log {S K H : Type 0} (serving : Serving S K H) (before after : RunState S K H)
     : Type 0 where
   pub read : List ℕ
-  pub lines : List Line
-  pub replies : List LineReply
+  pub commands : List Command
+  pub replies : List CommandReply
   pub took : serving.feed.reads before.input read after.input
-  pub consists : (more : List ℕ) → ConsistsOf (read ++ more) lines more
-  pub handled : RepliesToAll serving.handles before.host lines replies after.host
-  pub written : Accepts serving.outlet before.output (text_of replies) after.output
+  pub consists : (more : List ℕ) → ConsistsOf (read ++ more) commands more
+  pub handled : RepliesToAll serving.host before.host commands replies after.host
+  pub written : Accepts serving.outlet before.output (replies_text replies) after.output
 
--- A run so far in which no request was `quit`.
+-- A run so far in which no command was `quit`.
 pub record OngoingLog {S K H : Type 0} (serving : Serving S K H) (before after : RunState S K H)
     : Type 0 where
   pub log : Log serving before after
-  pub on : AllByRecursion ContinuesRun log.lines
+  pub on : AllByRecursion ContinuesRun log.commands
 
 -- `quit` was read, and the reply to it was written.
 pub record Quits {S K H : Type 0} (serving : Serving S K H) (before after : RunState S K H)
     : Type 0 where
   pub handled :
-      HandlesLine (handling_of serving) (without_output before) Quit QuitReply
+      HandledCommand (handling_of serving) (without_output before) (Single Quit) (SingleReply QuitReply)
       (without_output after)
-  pub written : WritesAll serving.outlet before.output (reply_line QuitReply) after.output
+  pub written : WritesAll serving.outlet before.output (command_text (SingleReply QuitReply)) after.output
 
--- A run: the requests before its end, and how it ended. Without memory nothing was read, handled or
--- written.
+-- Nothing was read, handled or written.
+pub record IsUntouched {S K H : Type 0} (before after : RunState S K H) : Type 0 where
+  pub input_same : after.input ≡ before.input
+  pub output_same : after.output ≡ before.output
+  pub host_same : after.host ≡ before.host
+
+-- A run: the commands before its end, and how it ended. Memory is refused before it, or while a batch is read.
 abbrev pub Serves : {S K H : Type 0} → Serving S K H → RunState S K H
     → Result (Unit {0}) RunFault → RunState S K H → Type 0
 Serves {S} {K} {H} serving before (Ok _) after =
     (last : RunState S K H) × OngoingLog serving before last
     × (EndsBetweenRequests serving last after ⊎ Quits serving last after)
-Serves serving before (Err faults.NoMemory) after =
-    (after.input ≡ before.input) × (after.output ≡ before.output) × (after.host ≡ before.host)
+Serves {S} {K} {H} serving before (Err faults.NoMemory) after =
+    IsUntouched before after
+    ⊎ ((last : RunState S K H) × OngoingLog serving before last × EndsByFault serving last faults.NoMemory after)
 Serves {S} {K} {H} serving before (Err fault) after =
     (last : RunState S K H) × OngoingLog serving before last
     × EndsByFault serving last fault after

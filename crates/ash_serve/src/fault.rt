@@ -20,8 +20,9 @@ pub enum RunFault {
     /// The writer failed, or took no byte.
     #[error("the output could not be written")]
     Write,
-    /// There was no memory for the buffers; nothing was read, handled or written.
-    #[error("memory was refused before the run")]
+    /// There was no memory: for the buffers, and nothing was read, handled or written; or for the requests of a batch, and
+    /// nothing of it was handled.
+    #[error("memory was refused for what is read")]
     NoMemory,
 }
 

@@ -3,14 +3,18 @@
 //! requests of which the input consists, which are a run of the written steps up to the first by which the host must be
 //! reopened, each written before the next request is read.
 //!
-//! `handler` is what handles requests: the host. `serve` is the loop: a `session` reads a request into its buffers and
-//! has the host handle it, and `ash_lines` writes the reply. `run` is that loop over std's traits. `program` has what
+//! `handler` is what handles requests: the host. `serve` is the loop: a `session` reads a command, which is a request or
+//! a batch of them, into its `buffers`, and has the host handle it; the requests of a batch are `owned` until all are
+//! read. `reply` is what a command is replied, which `ash_lines` writes. `run` is that loop over std's traits. `program` has what
 //! `ashd` does with its words; there `check` reads a script, has it checked, and writes the verdict.
 #![tactic(auto)]
 
+pub mod buffers;
 pub mod fault;
 pub mod handler;
+pub mod owned;
 pub mod program;
+pub mod reply;
 pub mod run;
 pub mod serve;
 mod session;

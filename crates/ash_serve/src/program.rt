@@ -14,8 +14,8 @@ pub mod store;
 pub mod task;
 
 use crate::fault::RunFault;
-use ash_disk::MemoryDisk;
-use ash_durable::Host;
+use ash_disk::{FileDisk, MemoryDisk};
+use ash_durable::{CreateFault, Host, OpenRefused, StoreFault};
 use ash_host::HostObject;
 use check::run_check;
 use ending::{Ending, ProgramEnd};
@@ -23,10 +23,10 @@ use fault::ProgramFault;
 use preparing::HostTask;
 use registrations::registrations;
 use service::{Service, ServiceEnd, serve_new, serve_stored};
-use std::fs::File;
+use std::fs::{File, Files};
 use std::io;
 use std::process::ExitCode;
-use store::Store;
+use store::{MadeFiles, NewStore, Store};
 use task::Limits;
 
 /// Ends the program. The status to end with. A fault is written on standard error.
@@ -39,7 +39,7 @@ pub fn exit<R: Eprint>(rt: &R, end: &ProgramEnd) -> ExitCode {
 
 /// Makes or opens a host with these free boxes and these services, and does with it what was asked for. Faults come in
 /// this order: of what is registered, of the host or of memory, of the run.
-pub fn run_host<R: Input + Print + AllocGlobal, B: HostObject>(
+pub fn run_host<R: Files<File = File> + Input + Print + AllocGlobal, B: HostObject>(
     rt: &R,
     task: HostTask,
     pool: Vec<B>,
@@ -100,20 +100,39 @@ fn serve<R: Input + Print + AllocGlobal, B: HostObject>(
 }
 
 /// Creates a store in these files, and reports it. A store that is there stays as it is.
-fn create<R: Print + AllocGlobal, B: HostObject>(
+fn create<R: Files<File = File> + Print + AllocGlobal, B: HostObject>(
     rt: &R,
-    store: Store,
+    store: NewStore,
     pool: Vec<B>,
     services: Vec<B>,
 ) -> Result<(), ProgramFault> {
-    let Store { a, b, lock } = store;
+    let NewStore {
+        files: Store { a, b, lock },
+        made,
+    } = store;
     let registry = registrations(rt.alloc())?;
-    drop(Host::create(rt.alloc(), a, b, registry, pool, services)?);
+    match Host::create(rt.alloc(), a, b, registry, pool, services) {
+        Ok(host) => drop(host),
+        Err(refused) => return Err(not_created(rt, refused, made)),
+    }
     drop(lock);
     match println!(rt; "created") {
         Ok(()) => Ok(()),
         Err(_) => Err(ProgramFault::Run(RunFault::Write)),
     }
+}
+
+/// Why no store is created. If one is there, the files that were made beside it are removed.
+fn not_created<R: Files<File = File>>(
+    rt: &R,
+    refused: OpenRefused<FileDisk>,
+    made: MadeFiles,
+) -> ProgramFault {
+    let OpenRefused { fault, a, b } = refused;
+    if matches!(&fault, StoreFault::Create(CreateFault::AlreadyThere)) {
+        made.remove_empty(rt, a, b);
+    }
+    ProgramFault::Store(fault)
 }
 
 /// Checks the script in a file, writes the verdict, and returns how the program ends by it.

@@ -1,12 +1,13 @@
 //! The loop over a reader and a writer.
 
 ghost use Rattle.std.specs.Prelude.{List};
-ghost use Rattle.ash_durable.specs.Hosting.{Handles, IsSaved, RunsSound};
+ghost use Rattle.ash_durable.specs.Hosting.{IsSaved, RunsSound};
 ghost use Rattle.ash_durable.specs.Lives.{LivesOn};
 ghost use Rattle.ash_durable.specs.RequestRuns.{RunsToFailure};
-ghost use Rattle.ash_lines.specs.Lines.{Line};
-ghost use Rattle.ash_lines.specs.ReplyText.{LineReply};
-ghost use Rattle.ash_serve.specs.StreamRuns.{RunEnds, host_requests, host_replies};
+ghost use Rattle.ash_lines.specs.Lines.{Command};
+ghost use Rattle.ash_serve.specs.CommandReplies.{CommandReply};
+ghost use Rattle.ash_serve.specs.HostCalls.{hosting, host_calls, host_results};
+ghost use Rattle.ash_serve.specs.StreamRuns.{RunEnds};
 ghost use Rattle.ash_serve.specs.Serving.{RepliesToAll, run_state};
 
 use crate::fault::RunFault;
@@ -22,12 +23,14 @@ use std::io::{Read, Write};
 /// The most bytes of replies that are buffered.
 pub(crate) const MAX_BUFFERED_BYTES: usize = 8192;
 
-/// Reads requests, has the host handle each with this budget in ticks, and writes the replies in order. They are flushed
-/// before anything is read that may have to be waited for, and at the end: at most 8,192 bytes of replies wait for that.
-/// Ends at the end of the input between two requests, or when the reply to `quit` is written.
+/// Reads requests, has the host handle each with this budget in ticks, and writes the replies in order. A batch is read
+/// whole before its requests are handled, in one call. Replies are flushed before anything is read that may have to be
+/// waited for, and at the end: at most 8,192 bytes of replies wait for that. Ends at the end of the input between two
+/// commands, or when the reply to `quit` is written.
 ///
-/// `Truncated` where the input ends inside a request, `Read(TooLong)` past 2^40 bytes, `Read(Failed)` and `Write` where
-/// the reader or the writer fails, `NoMemory` where there is none for the buffers; no other memory is taken. However it
+/// `Truncated` if the input ends inside a request or a batch, `Read(TooLong)` past 2^40 bytes, `Read(Failed)` and `Write`
+/// if the reader or the writer fails, `NoMemory` if there is none for the buffers, or for the requests of a batch while
+/// it is read; no other memory is taken. After any of these nothing of an unfinished batch is handled. However it
 /// ends, the files of a host that runs hold its state afterwards, if they did before, and every life of its store goes
 /// on: each request of which a byte of the answer was written is in every image that a crash may leave.
 #[tactic(auto, using(crate::proofs::DefinedLemmas::replies_run, crate::proofs::DefinedLemmas::replies_live))]
@@ -38,18 +41,21 @@ pub fn run<D: Disk, B: HostObject, R: Read + Drop, W: Write>(
     host: &mut Host<D, B>,
     budget: u64,
 ) -> Result<(), RunFault>
-    ensures ends { RunEnds (Handles D.Disk B.HostObject budget)
+    ensures ends { RunEnds (hosting D.Disk B.HostObject budget)
         (run_state (R.remaining reader) (W.contents writer.old) host.old) result
         (W.contents writer.new) host.new }
-    // The requests that the host answered are a run of the written steps, up to the first by which it must be reopened.
-    ensures defined { (lines : List Line) (replies : List LineReply)
-        → RepliesToAll (Handles D.Disk B.HostObject budget) host.old lines replies host.new
-        → RunsToFailure D.Disk B.HostObject budget host.old (host_requests lines) (host_replies replies) host.new }
+    // What the host was asked, and what it answered, is a run of the written steps, up to the first call by which it must
+    // be reopened.
+    ensures defined { (commands : List Command) (replies : List CommandReply)
+        → RepliesToAll (hosting D.Disk B.HostObject budget) host.old commands replies host.new
+        → RunsToFailure D.Disk B.HostObject budget host.old (host_calls commands)
+        (host_results replies) host.new }
     // Every life of the store goes on with the requests that were answered, however the run ends: each of them, written
     // or not, is acknowledged in it.
-    ensures lives { (lines : List Line) (replies : List LineReply)
-        → RepliesToAll (Handles D.Disk B.HostObject budget) host.old lines replies host.new
-        → LivesOn D.Disk B.HostObject budget host.old (host_requests lines) (host_replies replies) host.new }
+    ensures lives { (commands : List Command) (replies : List CommandReply)
+        → RepliesToAll (hosting D.Disk B.HostObject budget) host.old commands replies host.new
+        → LivesOn D.Disk B.HostObject budget host.old (host_calls commands) (host_results replies)
+        host.new }
     ensures saved { IsSaved D.Disk host.old → IsSaved D.Disk host.new }
     // So do the boxes stay those of the state.
     ensures sound { RunsSound B.HostObject host.old → RunsSound B.HostObject host.new }

@@ -1,21 +1,22 @@
 //! The loop over a source and a sink.
 
 ghost use Rattle.std.specs.Prelude.{◌≡◌, []};
-ghost use Rattle.ash_lines.specs.ReplyText.{line_reply_of, reply_line};
 ghost use Rattle.ash_lines.specs.Sink.{Writes};
-ghost use Rattle.ash_serve.specs.Serving.{Closes, Serves, ends_run, run_state, serving_with};
+ghost use Rattle.ash_serve.specs.CommandReplies.{command_reply_of, command_text};
+ghost use Rattle.ash_serve.specs.Serving.{Closes, Serves, ends_run, relations, run_state, serving_with};
 
 use crate::fault::RunFault;
 use crate::handler::RequestHandler;
+use crate::reply::{CommandReply, write_command_reply};
 use crate::session::Session;
-use ash_lines::reply::{LineReply, write_line_reply};
+use ash_lines::reply::LineReply;
 use ash_lines::sink::{Sink, WriteFault};
 use ash_lines::source::Source;
 use std::alloc::Global;
 
-/// Reads requests, has the host handle each with this budget in ticks, and writes the replies in order. They are flushed
-/// before anything is read that may have to be waited for, and at the end. Ends at the end of the input between two
-/// requests, or when the reply to `quit` is written.
+/// Reads requests, has the host handle each with this budget in ticks, and writes the replies in order. A batch is read
+/// whole before its requests are handled. Replies are flushed before anything is read that may have to be waited for,
+/// and at the end. Ends at the end of the input between two commands, or when the reply to `quit` is written.
 pub fn serve<S: Source, K: Sink, H: RequestHandler>(
     alloc: Global,
     input: &mut S,
@@ -24,7 +25,8 @@ pub fn serve<S: Source, K: Sink, H: RequestHandler>(
     budget: u64,
 ) -> Result<(), RunFault>
     requires nothing_buffered { K.outlet.buffered output.old ≡ [] }
-    ensures serves { Serves (serving_with S.feed K.outlet (H.handles budget))
+    ensures serves { Serves
+        (serving_with S.feed K.outlet (relations H.handles H.handles_batch budget))
         (run_state input.old output.old host.old) result
         (run_state input.new output.new host.new) }
 {
@@ -35,9 +37,8 @@ pub fn serve<S: Source, K: Sink, H: RequestHandler>(
             Ok(None) => return close(output, Ok(())),
             Err(fault) => return close(output, Err(fault)),
         };
-        write_reply(input, output, &reply)?;
         let ends = ends_run(&reply);
-        drop(reply);
+        write_reply(input, output, reply)?;
         if ends {
             return close(output, Ok(()));
         }
@@ -48,12 +49,12 @@ pub fn serve<S: Source, K: Sink, H: RequestHandler>(
 fn write_reply<S: Source, K: Sink>(
     input: &S,
     output: &mut K,
-    reply: &LineReply,
+    reply: CommandReply,
 ) -> Result<(), WriteFault>
-    ensures written { Writes K.outlet output.old (reply_line (line_reply_of reply.now)) result
+    ensures written { Writes K.outlet output.old (command_text (command_reply_of reply)) result
         output.new }
 {
-    write_line_reply(output, reply)?;
+    write_command_reply(output, reply)?;
     if is_request(input.ready()) {
         Ok(())
     } else {
@@ -61,10 +62,10 @@ fn write_reply<S: Source, K: Sink>(
     }
 }
 
-/// Whether these bytes begin with a whole request. Of a load they may have no more than the first line, so it counts
-/// as none.
+/// Whether these bytes begin with a whole request. Of a load or a batch they may have no more than the first line, so it
+/// counts as none.
 fn is_request(bytes: &[u8]) -> bool {
-    bytes.contains(&b'\n') && !bytes.starts_with(b"load ")
+    bytes.contains(&b'\n') && !bytes.starts_with(b"load ") && !bytes.starts_with(b"batch ")
 }
 
 /// Ends a run: what is buffered is written out.
@@ -78,8 +79,8 @@ fn close<K: Sink>(output: &mut K, end: Result<(), RunFault>) -> Result<(), RunFa
 }
 
 /// Whether the run ends with this reply.
-fn ends_run(reply: &LineReply) -> bool
-    ensures quit { result ≡ ends_run (line_reply_of reply.now) }
+fn ends_run(reply: &CommandReply) -> bool
+    ensures quit { result ≡ ends_run (command_reply_of reply.now) }
 {
-    matches!(reply, LineReply::Quit)
+    matches!(reply, CommandReply::Single(LineReply::Quit))
 }

@@ -46,10 +46,7 @@ fn line_of_one(alloc: Global, reply: BatchReply) -> Result<String, Fail> {
 }
 
 /// The replies to a batch as lines, or the one of its refusal.
-fn lines_of(
-    alloc: Global,
-    replies: Result<Vec<BatchReply>, HostRefusal>,
-) -> Result<String, Fail> {
+fn lines_of(alloc: Global, replies: Result<Vec<BatchReply>, HostRefusal>) -> Result<String, Fail> {
     let mut lines = String::new(alloc);
     match replies {
         Ok(replies) => {
@@ -120,7 +117,11 @@ static ROWS: [Row; 3] = [
     (&[], ""),
     (CALLED, REPLIES),
     (
-        &[BatchRequest::Bad(601), BatchRequest::Seq, BatchRequest::Bad(602)],
+        &[
+            BatchRequest::Bad(601),
+            BatchRequest::Seq,
+            BatchRequest::Bad(602),
+        ],
         "refused 601\nok 2\nrefused 602\n",
     ),
 ];
@@ -164,8 +165,17 @@ fn check_left(
     is_stopped: bool,
 ) -> Result<(), Fail> {
     let found = found_state(alloc, disks.0, disks.1)??;
-    let is_right = if is_stopped { is_either(found) } else { found == (2, Some(7)) };
-    check(rt, &(found, is_right), &(found, true), "what a crash leaves");
+    let is_right = if is_stopped {
+        is_either(found)
+    } else {
+        found == (2, Some(7))
+    };
+    check(
+        rt,
+        &(found, is_right),
+        &(found, true),
+        "what a crash leaves",
+    );
     Ok(())
 }
 
@@ -174,8 +184,22 @@ fn check_stop(rt: &impl Abort, alloc: Global, calls: u64) -> Result<(), Fail> {
     let mut host = fused_host(alloc, (CALLS_BEFORE.saturating_add(calls), u64::MAX))??;
     let (replies, nothing) = stopped(alloc, &mut host)?;
     let is_stopped = calls < 4;
-    check_text(rt, &replies, if is_stopped { FAILED } else { REPLIES }, "the replies");
-    check_text(rt, &nothing, if is_stopped { "refused 508 Reopen\n" } else { "" }, "of none");
+    check_text(
+        rt,
+        &replies,
+        if is_stopped { FAILED } else { REPLIES },
+        "the replies",
+    );
+    check_text(
+        rt,
+        &nothing,
+        if is_stopped {
+            "refused 508 Reopen\n"
+        } else {
+            ""
+        },
+        "of none",
+    );
     let disks = inner_disks(alloc, close_host(alloc, host)?)?;
     for number in 0..20 {
         let crash = crash_of(number);

@@ -1,9 +1,10 @@
 //! The program is prepared: its words are read, and the files that they name are opened.
 
 use super::fault::ProgramFault;
-use super::store::Store;
+use super::store::{NewStore, Store};
 use super::task::{Limits, ProgramTask};
 use crate::fault::RunFault;
+use ash_disk::take_closed_streams;
 use ash_lines::source::ReadFault;
 use std::fs::File;
 use std::rt::{Env, Files};
@@ -24,7 +25,7 @@ pub enum HostTask {
     /// Serve standard input and output, with the store in memory.
     Try { limits: Limits },
     /// Make a store in these files.
-    Create { store: Store },
+    Create { store: NewStore },
     /// Serve standard input and output, with the store in these files.
     Serve { store: Store, limits: Limits },
 }
@@ -40,16 +41,18 @@ impl HostTask {
     }
 }
 
-/// Reads the words of the process, and opens the files that they name. Faults come in this order: of the words, of the
-/// files.
+/// Reads the words of the process, and opens the files that they name. The descriptors of standard streams that are
+/// closed are taken first: an input that was closed is empty, and a write to an output that was closed fails. Faults
+/// come in this order: of the words, of the files.
 pub fn prepare<R: Env + Files<File = File> + AllocGlobal>(
     rt: &R,
 ) -> Result<Prepared, ProgramFault> {
+    take_closed_streams(rt);
     let words = words_of(rt)?;
     match ProgramTask::read(rt.alloc(), &words)? {
         ProgramTask::Try { limits } => Ok(Prepared::Host(HostTask::Try { limits })),
         ProgramTask::Create { folder } => Ok(Prepared::Host(HostTask::Create {
-            store: Store::make(rt, folder)?,
+            store: NewStore::make(rt, folder)?,
         })),
         ProgramTask::Serve { folder, limits } => Ok(Prepared::Host(HostTask::Serve {
             store: Store::open(rt, folder)?,

@@ -28,8 +28,14 @@ handle-requires-clause-few g c =
     let xs = c.args.requests.now in
     let few = run_few g.B.HostObject c.args.budget (map batch_request_seen (take i xs)) some.0 c.loop-request.run
     c.loop-request.engine (c.loop-request.invariant.runs some.0 some.1) in
-    omega (arith, few, length-map (take i xs) batch_request_seen, length-take i xs, c.loop-request-test.true,
-    c.requires.few)
+    omega (
+      arith,
+      few,
+      length-map (take i xs) batch_request_seen,
+      length-take i xs,
+      c.loop-request-test.true,
+      c.requires.few,
+    )
 
 pub loop-request-preserved : goal.loop-request-preserved
 loop-request-preserved g c =
