@@ -1,4 +1,4 @@
-use Rattle.std.proofs.Common.{◌+◌, ◌≤◌, length, map, take, drop, refl, ◌∙◌, arith}
+use Rattle.std.proofs.Common.{ℕ, ◌+◌, List, length, map, take, drop, slice_set, refl, ◌∙◌, ap, arith}
 use Rattle.std.proofs.lemmas.List.{length-map, length-take}
 use Rattle.std.proofs.lemmas.Result.{err_from_is_err_and}
 use Rattle.ash_durable.specs.BatchViews.{batch_request_seen}
@@ -65,4 +65,11 @@ returns-in_err-handle g c =
     }
 
 pub returns-clause-runs : goal.returns-clause-runs
-returns-clause-runs g c live is = ?
+returns-clause-runs g c live is =
+    let i = c.loop-request.request-index in
+    let xs = c.args.requests.now in
+    run_whole g.B.HostObject c.args.budget (map batch_request_seen xs) live c.loop-request.engine c.loop-request.run _
+    (omega (arith, length-map xs batch_request_seen, c.requires.few))
+    (run_all g.B.HostObject c.args.budget batch_request_seen live xs i c.loop-request.run c.loop-request.engine
+    c.loop-request-test.false (c.loop-request.invariant.runs live is)) refl refl
+    (λ bs same. ap (λ (ys : List ℕ). slice_set ys 1 c.loop-request.run.answered) same)
