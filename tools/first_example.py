@@ -12,9 +12,9 @@ from kit import TOP, need_rt, time_to_prove
 # How wide the requests are, beside which the replies are printed.
 WIDTH = 24
 LIMITS = "--budget 1000 --counters 2"
-# About how many times as long as an optimised build the program takes for fib(20), a call of a function within calls, when
-# its time to start is left out. The optimised build was not proved either; it comes near the proved one.
-SLOWER = 1200
+# About how many times as long the program takes to run a script as an optimised build, which was not proved either but comes
+# near the proved one: a call of `fib` took 0.19 milliseconds of the processor, and 0.00009 there.
+SLOWER = "2,000"
 
 
 def write(text):
@@ -61,8 +61,8 @@ def go_on(requests):
         program = f"./{program}"
     print(
         f"""
-This build was not proved. It is {program}, and takes some {SLOWER} times as long as an optimised build to run a script. It
-stays there until the sources change. To go on with it:
+This build was not proved. It is {program}, and stays there until the sources change. It tests itself as it runs, and takes
+some {SLOWER} times as long for a script as an optimised build. To go on with it:
 
     {program} try {LIMITS} < {requests}
     {program} try {LIMITS}                   # requests that you type; quit ends it
