@@ -1,7 +1,6 @@
 """Proves and builds ashd, as crates/ashd/out/ashd, where that is not done for the present sources. It writes to standard
 error how far it is."""
 
-import hashlib
 import os
 import re
 import shutil
@@ -10,12 +9,10 @@ import sys
 import tempfile
 import time
 
-from kit import TOP, need_rt, rt_environment, time_to_prove, uses_of_crates
+from kit import TOP, Program, crates_of_ashd, need_rt, rt_environment, sum_of_sources, time_to_prove
 
 OUT = f"{TOP}/crates/ashd/out"
-PROGRAM = f"{OUT}/ashd"
-# The sum of the sources that the program was built from, and the program's own.
-RECORD = f"{OUT}/built-from"
+PROGRAM = Program(f"{OUT}/ashd", f"{OUT}/built-from")
 LOG = f"{OUT}/build.log"
 # What rt writes of a crate that is proved.
 PROVED = r"^rt: \w+ (?:proved|is kept:)"
@@ -25,53 +22,6 @@ LINES_OF_LOG = 20
 
 def write(text):
     print(f"ashd.sh: {text}", file=sys.stderr, flush=True)
-
-
-def in_order(name, uses, order):
-    """Adds a crate to an order, after those of the repository that it uses."""
-    for used in uses[name]:
-        if used in uses and used not in order:
-            in_order(used, uses, order)
-    order.append(name)
-    return order
-
-
-def files_of(crate):
-    """The files that a proof of the crate reads."""
-    for part in ("src", "specs", "proofs"):
-        for folder, folders, names in os.walk(f"{TOP}/crates/{crate}/{part}"):
-            folders.sort()
-            yield from (f"{folder}/{name}" for name in sorted(names))
-
-
-def sum_of_file(path):
-    with open(path, "rb") as file:
-        return hashlib.sha256(file.read()).hexdigest()
-
-
-def sum_of_sources():
-    """A sum of all that the program is built from: the toolchain, what each crate uses, and the crates' files."""
-    uses = uses_of_crates()
-    sources = [subprocess.check_output(["rt", "version"])]
-    for crate in in_order("ashd", uses, []):
-        sources += [crate, uses[crate]]
-        sources += [(os.path.relpath(it, TOP), sum_of_file(it)) for it in files_of(crate)]
-    return hashlib.sha256(repr(sources).encode()).hexdigest()
-
-
-def is_built(sources):
-    """Whether the program is there and was built from the sources with this sum."""
-    if not (os.path.isfile(PROGRAM) and os.path.isfile(RECORD)):
-        return False
-    with open(RECORD, encoding="utf-8") as file:
-        return file.read() == f"{sources} {sum_of_file(PROGRAM)}\n"
-
-
-def record(sources):
-    """Records that the program was built from the sources with this sum, unless they have changed since."""
-    if sources == sum_of_sources():
-        with open(RECORD, "w", encoding="utf-8") as file:
-            file.write(f"{sources} {sum_of_file(PROGRAM)}\n")
 
 
 def lines_of_log():
@@ -110,11 +60,11 @@ def prove(folder, crates):
 def build():
     """Proves the crates of ashd and builds it, if that is not done for the present sources. Returns the status to end with."""
     sources = sum_of_sources()
-    if is_built(sources):
+    if PROGRAM.is_built_from(sources):
         return 0
     os.makedirs(OUT, exist_ok=True)
     write(f"proving and building ashd. From nothing that takes {time_to_prove()}; rt's own lines go to {LOG}")
-    crates = in_order("ashd", uses_of_crates(), [])
+    crates = crates_of_ashd()
     with tempfile.TemporaryDirectory(prefix="ashd-") as folder:
         # rt runs what it built as another user
         os.chmod(folder, 0o711)
@@ -123,10 +73,7 @@ def build():
             print(*lines_of_log()[-LINES_OF_LOG:], sep="\n", file=sys.stderr)
             write(f"ashd was not proved or not built. Above are the last lines of {LOG}")
             return 1
-        # under another name first, since the program may run
-        shutil.copy(f"{folder}/crates/ashd/out/ashd", f"{PROGRAM}.new")
-        os.replace(f"{PROGRAM}.new", PROGRAM)
-    record(sources)
+        PROGRAM.take(f"{folder}/crates/ashd/out/ashd", sources)
     return 0
 
 

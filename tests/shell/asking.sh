@@ -69,7 +69,7 @@ check_run() {
 all_rows() {
     local file folder=$1
     shift
-    for file in tests/rows/"$folder"/*.rows; do
+    for file in $(chosen tests/rows/"$folder"/*.rows); do
         anew
         rows_of "$file" "$@"
         check_run "$file"

@@ -35,10 +35,10 @@ nest() {
     done
 }
 
-for file in tests/rows/depth/*; do
+for file in $(chosen tests/rows/depth/*); do
     count=${file##*/}
     rows_of "$file" in_blocks "${count%.rows}"
 done
-for file in tests/rows/nests/*; do
+for file in $(chosen tests/rows/nests/*); do
     rows_of "$file" nest
 done

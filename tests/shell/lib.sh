@@ -76,6 +76,14 @@ row() {
     verdict $? "$1: $2 | $3 (status $status: ${found//$'\n'/; })"
 }
 
+# chosen FILE..: the files, or of these the one that ONLY names, if it does
+chosen() {
+    local file
+    for file in "$@"; do
+        [[ -n "${ONLY:-}" && $file != "$ONLY" ]] || echo "$file"
+    done
+}
+
 # rows_of FILE COMMAND..: calls the command with the place of each row, what is before its first bar between two spaces, and
 # what is after that. A line is empty, a comment, which begins with `# `, or a row.
 rows_of() {

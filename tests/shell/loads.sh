@@ -17,7 +17,7 @@ loaded() {
     esac
 }
 
-for file in tests/rows/load/*; do
+for file in $(chosen tests/rows/load/*); do
     rows_of "$file" loaded
 done
 loaded "an empty source" runs ""

@@ -21,7 +21,7 @@ release() {
     ask "$1" ok "discard m"
 }
 
-for file in tests/rows/releases/*.rows; do
+for file in $(chosen tests/rows/releases/*.rows); do
     anew
     rows_of "$file" release
     check_run "$file"

@@ -2,6 +2,6 @@
 # fault, or `read`, a bar between two spaces, and the source. The source is the rest of the line as it is: nothing is
 # escaped, so no line feed can be in it.
 
-for file in tests/rows/check/*; do
+for file in $(chosen tests/rows/check/*); do
     rows_of "$file" row
 done

@@ -67,7 +67,7 @@ integers() {
     ask "$1" ok "discard m"
 }
 
-for file in tests/rows/integers/*.rows; do
+for file in $(chosen tests/rows/integers/*.rows); do
     type=${file##*/}
     type=${type%.rows}
     anew
@@ -210,7 +210,7 @@ run() {
     [ ${#outcomes[@]} -eq 0 ]
     verdict $? "$1: more replies than requests: ${outcomes[*]}"
 }
-for file in tests/rows/run/*.rows; do
+for file in $(chosen tests/rows/run/*.rows); do
     rows_of "$file" run
 done
 printf -v zeros ' 0%.0s' {1..4096}
@@ -221,7 +221,7 @@ run "an array with 4,096 elements" "ok; exception ArrayLimit f 1; object 1 array
 limit() {
     run "$1" "$2" "budget 5000; ${3%% | *} | $holding${3#* | }"
 }
-for file in tests/rows/limits/*.rows; do
+for file in $(chosen tests/rows/limits/*.rows); do
     rows_of "$file" limit
 done
 
@@ -251,7 +251,7 @@ tick() {
         *) ask "$1, budget $budget" ok "discard m" ;;
     esac
 }
-for file in tests/rows/ticks/*.rows; do
+for file in $(chosen tests/rows/ticks/*.rows); do
     most=1
     for ((budget = 0; budget <= most; budget++)); do
         anew

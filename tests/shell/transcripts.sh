@@ -56,6 +56,6 @@ transcript() {
     finish
 }
 
-for file in tests/transcripts/*; do
+for file in $(chosen tests/transcripts/*); do
     transcript "$file"
 done

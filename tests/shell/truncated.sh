@@ -52,6 +52,6 @@ cuts() {
     row "$1" read "$script"
 }
 
-for file in tests/rows/truncated/*.as; do
+for file in $(chosen tests/rows/truncated/*.as); do
     cuts "$file"
 done
