@@ -6,8 +6,8 @@
 //!
 //! `handler` is what handles requests: the host. `serve` is the loop: a `session` reads a command, which is a request or
 //! a batch of them, into its `buffers`, and has the host handle it; the requests of a batch are `owned` until all are
-//! read. `reply` is what a command is replied, which `ash_lines` writes. `run` is that loop over std's traits. `program` has what
-//! `ashd` does with its words; there `check` reads a script, has it checked, and writes the verdict.
+//! read. `reply` is what a command is replied, which `ash_lines` writes. `run` is that loop over std's traits. `program`
+//! has what `ashd` does with its words; there `check` reads a script, has it checked, and writes the verdict.
 #![tactic(auto)]
 
 pub mod buffers;
