@@ -146,9 +146,10 @@ module _ {B : Type 0} (G : Ghosts B) (budget : ℕ) where
   answered_may_add _ _ _ _ (NoneLeft live) some = absurd (some refl)
   answered_may_add _ _ _ _ (Bad number requests live replies after steps) some =
       answered_may_add requests live replies after steps some
-  answered_may_add _ _ _ _ (Step (Load name source) requests live reply next replies after stepped boxes steps) some = tt
-  answered_may_add _ _ _ _ (Step (Call name function args) requests live reply next replies after stepped boxes steps) some =
+  answered_may_add _ _ _ _ (Step (Load name source) requests live reply next replies after stepped boxes steps) some =
       tt
+  answered_may_add _ _ _ _ (Step (Call name function args) requests live reply next replies after stepped boxes steps)
+      some = tt
   answered_may_add _ _ _ _ (Step (Discard name) requests live reply next replies after stepped boxes steps) some = tt
   answered_may_add _ _ _ _ (Step (Get name global) requests live reply next replies after stepped boxes steps) some =
       answered_may_add requests next replies after steps

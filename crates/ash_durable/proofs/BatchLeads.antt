@@ -42,8 +42,8 @@ module _ {B : Type 0} (G : Ghosts B) (budget : ℕ) where
   chain _ _ _ _ (NoneLeft live) stored was fits = refl
   chain _ _ _ _ (Bad number requests live replies after steps) stored was fits =
       chain requests live replies after steps stored was fits
-  chain _ _ _ _ (Step request requests live (Answered end seq happened) next replies after stepped boxes steps) stored was
-      fits =
+  chain _ _ _ _ (Step request requests live (Answered end seq happened) next replies after stepped boxes steps) stored
+      was fits =
       let leads = one_leads request live (Answered end seq happened) next stepped (λ no. no) stored.0 was fits in (
         next.durable,
         record { registered = stepped.taken.registered; leads = leads; admitted = stored.0.admitted },

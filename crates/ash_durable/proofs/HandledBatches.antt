@@ -197,7 +197,8 @@ module _ {D B : Type 0} (device : Device D) (G : Ghosts B) (budget : ℕ) (reque
                   after = after;
                   steps = steps;
                   live_is = refl;
-                  running = subst (λ (l : LiveState B). IsRunning l.durable (host_in l journal)) (sym same) room.running;
+                  running = subst (λ (l : LiveState B). IsRunning l.durable (host_in l journal)) (sym same)
+                      room.running;
                   added = λ some. absurd (some none);
                   untouched = λ _. seen;
                   settles = subst (λ (l : LiveState B). Settles device live.durable l.durable old (host_in l journal))

@@ -18,8 +18,8 @@
 //! states), `specs/Saving`, `specs/HandedBoxes` (the boxes that are handed over), `specs/Store` (making a store),
 //! `specs/OpenedStore`, `specs/Hosting` (a host and its requests), `specs/HostReplies` (what the code replies),
 //! `specs/HostRequests` (the parts of a request), `specs/Batches` and `specs/BatchViews` (a batch, and what the code's
-//! is), `specs/BatchRuns` (the parts of a batch), `specs/RequestRuns` (a list of requests as a run of the written steps)
-//! and `specs/Lives` (everything that can happen to a store).
+//! is), `specs/BatchRuns` (the parts of a batch), `specs/RequestRuns` (a list of requests as a run of the written
+//! steps) and `specs/Lives` (everything that can happen to a store).
 #![tactic(auto)]
 
 pub mod batch;

@@ -83,10 +83,10 @@ impl Session {
     {
         let line = self.buffers.line.as_slice();
         match parse_line(line, &mut self.buffers.arguments) {
-            ParsedLine::Request(request) => {
-                let reply = host.handle(&request, self.budget);
-                Ok(CommandReply::Single(LineReply::Host(reply)))
-            }
+            ParsedLine::Request(request) => Ok(CommandReply::Single(LineReply::Host(host.handle(
+                &request,
+                self.budget,
+            )))),
             ParsedLine::Call(header) => {
                 let request = Request::Call {
                     module: header.module,

@@ -1,4 +1,4 @@
-use Rattle.std.proofs.Common.{◌+◌, ◌≤◌, length, map, take, drop, refl, ◌∙◌, arith}
+use Rattle.std.proofs.Common.{ℕ, ◌+◌, List, length, map, take, drop, slice_set, refl, ◌∙◌, ap, arith}
 use Rattle.std.proofs.lemmas.List.{length-map, length-take}
 use Rattle.std.proofs.lemmas.Result.{err_from_is_err_and}
 use Rattle.ash_durable.specs.BatchViews.{batch_request_seen}
@@ -19,14 +19,14 @@ handle-requires-clause-live g c =
     let some = some_live c.args.engine.now.live c.requires.live in
     let i = c.loop-request.request-index in
     run_has g.B.HostObject c.args.budget (map batch_request_seen (take i c.args.requests.now)) some.0
-    c.loop-request.run' c.loop-request.engine (c.loop-request.invariant.runs some.0 some.1)
+    c.loop-request.run c.loop-request.engine (c.loop-request.invariant.runs some.0 some.1)
 
 pub handle-requires-clause-few : goal.handle-requires-clause-few
 handle-requires-clause-few g c =
     let some = some_live c.args.engine.now.live c.requires.live in
     let i = c.loop-request.request-index in
     let xs = c.args.requests.now in
-    let few = run_few g.B.HostObject c.args.budget (map batch_request_seen (take i xs)) some.0 c.loop-request.run'
+    let few = run_few g.B.HostObject c.args.budget (map batch_request_seen (take i xs)) some.0 c.loop-request.run
     c.loop-request.engine (c.loop-request.invariant.runs some.0 some.1) in
     omega (
       arith,
@@ -63,3 +63,13 @@ returns-in_err-handle g c =
           (c.in_err-handle.ensures.runs live (map batch_request_seen (take i xs))
           (c.loop-request.invariant.runs live is) (map batch_request_seen (drop (i + 1) xs))));
     }
+
+pub returns-clause-runs : goal.returns-clause-runs
+returns-clause-runs g c live is =
+    let i = c.loop-request.request-index in
+    let xs = c.args.requests.now in
+    run_whole g.B.HostObject c.args.budget (map batch_request_seen xs) live c.loop-request.engine c.loop-request.run _
+    (omega (arith, length-map xs batch_request_seen, c.requires.few))
+    (run_all g.B.HostObject c.args.budget batch_request_seen live xs i c.loop-request.run c.loop-request.engine
+    c.loop-request-test.false (c.loop-request.invariant.runs live is)) refl refl
+    (λ bs same. ap (λ (ys : List ℕ). slice_set ys 1 c.loop-request.run.answered) same)

@@ -22,5 +22,6 @@ returns-then-is_empty g c = record {
       none_seen g.D.Disk g.B.HostObject c.args.budget batch_request_seen batch_reply_seen c.args.requests.now
       c.new.result.items some.0 c.args.self.now
       (nil_from_length c.args.requests.now
-      (eqb-true (length c.args.requests.now) 0 (sym c.is_empty.ensures ∙ c.if-is_empty.true))) c.new.ensures.items some.2 (c.facts.ensures.runs some.0 some.2);
+      (eqb-true (length c.args.requests.now) 0 (sym c.is_empty.ensures ∙ c.if-is_empty.true))) c.new.ensures.items
+      some.2 (c.facts.ensures.runs some.0 some.2);
 }

@@ -12,20 +12,20 @@ use Rattle.ash_serve.proofs.session.Session.handle_line.Goals as goal
 
 pub returns-in-Request-clause-handled : goal.returns-in-Request-clause-handled
 returns-in-Request-clause-handled g c start w =
-    line_replied (handling_with g.S.Source.feed (relations g.H.RequestHandler.handles g.H.RequestHandler.handles_batch c.args.self.now.budget)) start c.args.input.now c.args.host.now c.handle-reply.new.self (HostRequest (request_seen c.in-Request.request)) (line_replies.Host c.handle-reply.result)
+    line_replied (handling_with g.S.Source.feed (relations g.H.RequestHandler.handles g.H.RequestHandler.handles_batch c.args.self.now.budget)) start c.args.input.now c.args.host.now c.handle.new.self (HostRequest (request_seen c.in-Request.request)) (line_replies.Host c.handle.result)
     (line_whole g.S.Source.feed start c.args.input.now c.args.self.now.buffers.line.items (HostRequest (request_seen c.in-Request.request)) w c.requires.short (c.in-Request.ensures.parsed ∙ ap parse_line c.as_slice-line.ensures.value))
-    c.handle-reply.ensures.handled
+    c.handle.ensures.handled
 
 pub returns-in-Call-clause-handled : goal.returns-in-Call-clause-handled
 returns-in-Call-clause-handled g c start w =
     let module_name = c.in-Call.header.module.now in
     let function = c.in-Call.header.function.now in
-    line_replied (handling_with g.S.Source.feed (relations g.H.RequestHandler.handles g.H.RequestHandler.handles_batch c.args.self.now.budget)) start c.args.input.now c.args.host.now c.handle-reply-in-Call.new.self
-    (HostRequest (Call module_name function c.as_slice.result.now)) (line_replies.Host c.handle-reply-in-Call.result)
+    line_replied (handling_with g.S.Source.feed (relations g.H.RequestHandler.handles g.H.RequestHandler.handles_batch c.args.self.now.budget)) start c.args.input.now c.args.host.now c.handle-reply.new.self
+    (HostRequest (Call module_name function c.as_slice.result.now)) (line_replies.Host c.handle-reply.result)
     (line_whole g.S.Source.feed start c.args.input.now c.args.self.now.buffers.line.items (HostRequest (Call module_name function c.as_slice.result.now)) w c.requires.short
     (ap (λ (arguments : List Arg). Complete (HostRequest (Call module_name function arguments))) c.as_slice.ensures.value
     ∙ c.in-Call.ensures.parsed ∙ ap parse_line c.as_slice-line.ensures.value))
-    c.handle-reply-in-Call.ensures.handled
+    c.handle-reply.ensures.handled
 
 pub returns-in-Load-clause-handled : goal.returns-in-Load-clause-handled
 returns-in-Load-clause-handled g c start w =
