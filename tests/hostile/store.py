@@ -115,9 +115,10 @@ class Reader:
         return self.number("<H"), self.bytes("<H", 1024)
 
     def class_of(self, names):
+        """The name of a class's module and the index of the class. A module that is not there has no name: that breaks a
+        rule of the state."""
         index, of = self.number("<B"), self.number("<H")
-        need(index < len(names))
-        return names[index], of
+        return names[index] if index < len(names) else b"", of
 
     def object(self, version, names):
         """An object by its number, where modules have these names."""
