@@ -1,9 +1,10 @@
 """What is run: the project's own scripts, as they stand in examples, in docs/LANGUAGE.md and in tests."""
 
+import collections
 import glob
 import re
 
-INTEGERS = {"int": 32, "uint": 32, "int64": 64, "uint64": 64}
+COMPARISONS = ("<", "<=", ">", ">=", "==", "!=")
 HOLDING = "array<int>() is null || " * 32
 HOLD = f"bool hold(int n) {{ return n >= 32 ? {HOLDING}hold(n - 32) : n > 0 ? array<int>() is null || hold(n - 1) : last(); }} "
 
@@ -13,6 +14,8 @@ class Case:
 
     def __init__(self, place, steps, budget=100_000, counters=2, rule=None):
         self.place, self.steps, self.budget, self.counters, self.rule = place, steps, budget, counters, rule
+        # how many loads and calls both have replied to in the same way, by what they replied
+        self.same = collections.Counter()
 
     def changed(self, change):
         """The same with its sources changed."""
@@ -59,7 +62,8 @@ def examples():
     text = open("docs/LANGUAGE.md", encoding="utf-8").read()
     for number, block in enumerate(re.findall(r"^```\n(.*?)^```", text, re.M | re.S)):
         if "{" in block:
-            yield Case(f"docs/LANGUAGE.md, block {number + 1}", [load(block.encode()), call("won", 3, 10), call("buy", 30), call("first")])
+            steps = [load(block.encode()), call("won", 3, 10), call("buy", 30), call("first")]
+            yield Case(f"docs/LANGUAGE.md, block {number + 1}", steps)
 
 
 def transcripts():
@@ -159,7 +163,8 @@ T added(F a) { array<T> k; k.insertLast(a); return k[0]; }"""
 
 
 def functions(source):
-    return re.findall(r"^\S+ (\w+)\(|[;}] \S+ (\w+)\(", source, re.M)
+    """The names of a source's functions."""
+    return re.findall(r"\b(?:bool|u?int(?:64)?|[TF]) (\w+)\(\w+ \w", source)
 
 
 def written(form, kind, operator=""):
@@ -177,21 +182,20 @@ def numbers():
             result = kind.removeprefix("u") if operator == "-" else kind
             form = STEPPING if operator in ("++", "--") else f"{result} value(T a) {{ return O a; }}"
         else:
-            form = "bool value(T a, T b) { return a O b; }" if operator[0] in "<>=!" and operator not in ("<<", ">>", ">>>") else COMPUTING
+            form = "bool value(T a, T b) { return a O b; }" if operator in COMPARISONS else COMPUTING
         source = written(form, kind, operator)
-        names = [one or other for one, other in functions(source)]
+        names = functions(source)
         yield Case(place, [load(source.encode()), *(call(name, *left, word) for name in names for word in words)])
     for place, wanted, rest in rows("mixed"):
         kind, (left, operand, operator, right, *words) = wanted.split()[0], rest.split()
         wide = kind if kind in ("bool", "uint64") else "int64"
-        source = f"{kind} f({left} a, {right} b) {{ return a {operator} b; }} {wide} w({left} a, {right} b) {{ return a {operator} b; }}"
+        rest = f"({left} a, {right} b) {{ return a {operator} b; }}"
+        source = f"{kind} f{rest} {wide} w{rest}"
         yield Case(place, [load(source.encode()), *(call(name, operand, word) for word in words for name in "fw")])
     for place, _, rest in rows("conversions"):
         start, end, *words = rest.split()
         source = re.sub(r"\bF\b", start, written(CONVERTING, end))
-        names = [one or other for one, other in functions(source)]
-        words = [it for it in words if it]
-        yield Case(place, [load(source.encode()), *(call(name, word) for name in names if name != "same" for word in words)])
+        yield Case(place, [load(source.encode()), *(call(name, word) for name in functions(source) for word in words if name != "same")])
     for place, value, text in rows("expressions"):
         kind = "bool" if value in ("true", "false") else "int"
         yield Case(place, [load(f"{kind} f() {{ return {text}; }}".encode()), call("f")])

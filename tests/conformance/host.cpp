@@ -61,11 +61,15 @@ void count_line(asIScriptContext *context, void *) {
     if (--lines_left <= 0) context->Abort();
 }
 
+bool behaves(asIScriptEngine *engine, asEBehaviours what, const char *head, const asSFuncPtr &function, int how) {
+    return engine->RegisterObjectBehaviour("Counter", what, head, function, how) >= 0;
+}
+
 bool register_all(asIScriptEngine *engine) {
     return engine->RegisterObjectType("Counter", 0, asOBJ_REF) >= 0 &&
-        engine->RegisterObjectBehaviour("Counter", asBEHAVE_ADDREF, "void f()", asMETHOD(Counter, add_ref), asCALL_THISCALL) >= 0 &&
-        engine->RegisterObjectBehaviour("Counter", asBEHAVE_RELEASE, "void f()", asMETHOD(Counter, release), asCALL_THISCALL) >= 0 &&
-        engine->RegisterObjectBehaviour("Counter", asBEHAVE_FACTORY, "Counter@ f(int)", asFUNCTION(Counter::make), asCALL_CDECL) >= 0 &&
+        behaves(engine, asBEHAVE_ADDREF, "void f()", asMETHOD(Counter, add_ref), asCALL_THISCALL) &&
+        behaves(engine, asBEHAVE_RELEASE, "void f()", asMETHOD(Counter, release), asCALL_THISCALL) &&
+        behaves(engine, asBEHAVE_FACTORY, "Counter@ f(int)", asFUNCTION(Counter::make), asCALL_CDECL) &&
         engine->RegisterObjectMethod("Counter", "int add(int)", asMETHOD(Counter, add), asCALL_THISCALL) >= 0 &&
         engine->RegisterObjectMethod("Counter", "void fail(int)", asMETHOD(Counter, fail), asCALL_THISCALL) >= 0 &&
         engine->RegisterObjectProperty("Counter", "int value", asOFFSET(Counter, value)) >= 0 &&
@@ -73,7 +77,9 @@ bool register_all(asIScriptEngine *engine) {
         engine->RegisterGlobalFunction("int total()", asFUNCTION(total), asCALL_CDECL) >= 0;
 }
 
-bool is_integer(int type) { return type == asTYPEID_INT32 || type == asTYPEID_UINT32 || type == asTYPEID_INT64 || type == asTYPEID_UINT64; }
+bool is_wide(int type) { return type == asTYPEID_INT64 || type == asTYPEID_UINT64; }
+bool is_signed(int type) { return type == asTYPEID_INT32 || type == asTYPEID_INT64; }
+bool is_integer(int type) { return is_wide(type) || is_signed(type) || type == asTYPEID_UINT32; }
 
 // The value of a primitive type at an address.
 std::string primitive(const void *at, int type) {
@@ -117,8 +123,12 @@ std::string whole(asIScriptEngine *engine, void *at, int type, std::map<void *, 
 
 std::string exception_name(const char *text) {
     static const std::map<std::string, std::string> names = {
-        {"Null pointer access", "NullPointerAccess"}, {"Divide by zero", "DivideByZero"}, {"Overflow in integer division", "DivideOverflow"},
-        {"Stack overflow", "StackOverflow"}, {"Index out of bounds", "IndexOutOfBounds"}, {"Too large array size", "ArrayLimit"},
+        {"Null pointer access", "NullPointerAccess"},
+        {"Divide by zero", "DivideByZero"},
+        {"Overflow in integer division", "DivideOverflow"},
+        {"Stack overflow", "StackOverflow"},
+        {"Index out of bounds", "IndexOutOfBounds"},
+        {"Too large array size", "ArrayLimit"},
     };
     auto found = names.find(text);
     return found == names.end() ? text : found->second;
@@ -130,7 +140,8 @@ std::string frame_name(asIScriptContext *context) {
         const asIScriptFunction *function = context->GetFunction(level);
         if (!function || !*function->GetName()) return "(init)";
         if (*function->GetName() == '$' || function->GetFuncType() == asFUNC_SYSTEM) continue;
-        return function->GetObjectName() ? std::string(function->GetObjectName()) + "." + function->GetName() : function->GetName();
+        const char *of = function->GetObjectName();
+        return of ? std::string(of) + "." + function->GetName() : function->GetName();
     }
     return "(init)";
 }
@@ -174,14 +185,14 @@ std::string load(asIScriptEngine *engine, asIScriptContext *context, const std::
 bool hand_over(asIScriptContext *context, asUINT place, int type, const std::string &word) {
     if (type == asTYPEID_BOOL) return (word == "true" || word == "false") && context->SetArgByte(place, word == "true") >= 0;
     if (word == "true" || word == "false") return false;
-    bool is_signed = type == asTYPEID_INT32 || type == asTYPEID_INT64, is_wide = type == asTYPEID_INT64 || type == asTYPEID_UINT64;
     bool is_negative = word[0] == '-';
     __int128 number = 0;
     for (char digit : word.substr(is_negative)) number = number * 10 + (digit - '0');
     if (is_negative) number = -number;
-    __int128 least = is_signed ? -(__int128(1) << (is_wide ? 63 : 31)) : 0, past = __int128(1) << ((is_wide ? 64 : 32) - is_signed);
+    int width = is_wide(type) ? 64 : 32;
+    __int128 least = is_signed(type) ? -(__int128(1) << (width - 1)) : 0, past = __int128(1) << (width - is_signed(type));
     if (number < least || number >= past) return false;
-    if (is_wide) context->SetArgQWord(place, asQWORD(number));
+    if (is_wide(type)) context->SetArgQWord(place, asQWORD(number));
     else context->SetArgDWord(place, asDWORD(number));
     return true;
 }

@@ -6,7 +6,6 @@ import re
 
 OBJECT = r"(?:array ?< ?[\w@]+ ?>|[A-Z]\w*)"
 PRIMITIVE = r"(?:bool|u?int(?:32|64)?)"
-EFFECT = r"(?:[-+*/%&|^<>]=|(?<![=!<>])=(?!=)|\+\+|--|\w\()"
 
 
 class Rule:
@@ -21,27 +20,34 @@ class Rule:
         return all(re.search(part, text, re.S) for part, text in zip(self.parts, texts))
 
 
+# shapes of sources
+ASSIGNED = rf"{OBJECT} \w+(?:, \w+)* = |[;{{] \w+ = \w+; |\w == \w"
+ORDERED = r"\w\(\w\(\d\), \w\(\d\)|h\(n = 1, 1 / z, |\bh\(\)(?:\.m\(g|\[g)"
+LARGE = "(?:2147483648|2147483649|429496729[0-5])"
+FIELDS = r"class \w+ \{[^}]* = [^;]*;(?: \w+ \w+;)* [A-Z]\w* \w+;"
+# messages of the engine
+NAMES = "Illegal variable name|Invalid operation on method|non-function type|named with the class name"
 REFUSED = "^refused "
 TAKEN = r"^(?:ok|exception|aborted)"
 RULES = [
     # limits and ticks
     Rule("a run has a budget of ticks", "^aborted", TAKEN),
-    Rule("limits of this profile", r"^refused (?:103|106|107|311|408|409) |^exception (?:ObjectLimit|ArrayLimit|NumbersSpent) ", ""),
+    Rule("limits of this profile", r"^refused (?:10[367]|311|40[89]) |^exception (?:ObjectLimit|ArrayLimit|NumbersSpent) ", ""),
     Rule("256 frames are the most, and 4,096 living objects", "^exception StackOverflow", TAKEN),
     # what the profile leaves out
     Rule("left out: a word or a sign of AngelScript", "^refused 105 ", TAKEN),
     Rule("classes whose objects could form a cycle are refused", "^refused 309 ", TAKEN),
     Rule("left out: arrays of arrays", "^refused 104 ", TAKEN, r"array ?<\s*array"),
-    Rule("left out: parameters of an interface without names, `f(void)`", "^refused 104 ", TAKEN, rf"\((?:void|{PRIMITIVE})\)"),
+    Rule("left out: parameters without names, `f(void)`", "^refused 104 ", TAKEN, rf"\((?:void|{PRIMITIVE})\)"),
     Rule("left out: `shared`, a `;` in an interface", "^refused 104 ", TAKEN, r"^shared|interface \w+ \{ ;"),
     Rule("left out: value passing of objects", "^refused 308 ", TAKEN, rf"[(,] ?{OBJECT} \w+|{OBJECT} \w+\("),
     Rule("left out: inheritance", "^refused 308 ", TAKEN, r"class \w+ : "),
-    Rule("left out: value assignment of objects, operators on them", "^refused (?:306|304) ", TAKEN, rf"{OBJECT} \w+(?:, \w+)* = |[;{{] \w+ = \w+; |\w == \w"),
+    Rule("left out: value assignment of objects, operators on them", "^refused 30[46] ", TAKEN, ASSIGNED),
     Rule("left out: overloading of functions and operators", "^refused 303 ", TAKEN, r"(\b\w+)\(.*\b\1\("),
     Rule("left out: overloading of functions and operators", "^refused 303 ", TAKEN, r"(?:tally|total|Counter)\("),
     Rule("an array is made with one length at most", "^refused 305 ", TAKEN, r"array<\w+>(?: \w+)?\(\d, \d\)"),
     # what else the profile refuses
-    Rule("an interface is listed once, and a parameter's name stands once", "^refused 303 ", TAKEN, r"(\b\w+)[^;{]*, (?:bool )?\1\b"),
+    Rule("an interface is listed once, and a parameter's name is", "^refused 303 ", TAKEN, r"(\b\w+)[^;{]*, (?:bool )?\1\b"),
     Rule("a `switch` compares its value in all its bits", "^refused 312 ", TAKEN, "switch"),
     Rule("the value of an assignment is no place", "^refused 306 ", TAKEN, r"\((?:\w+ = \w+|@\w+)\) = "),
     Rule("a local is seen from the end of its declaration on", "^refused 30[14] ", TAKEN, r"(\b\w+) = \1;"),
@@ -56,22 +62,22 @@ RULES = [
     Rule("`cast` takes any object, also one that can't be of the type", "^ok", "^refused .*No conversion from", r"cast<"),
     Rule("empty statements, and a `switch` without a `case`", "^ok", "^refused .*(?:with empty statement|Empty switch statement)"),
     Rule("a `switch` with a `default` may be the last statement", "^ok", "^refused .*Not all paths return", "switch"),
-    Rule("a variable of a primitive type takes one argument in brackets", "^ok", "^refused .*Only objects have constructors", r"\w+\("),
-    Rule("names are looked up as what they are used for", "^ok", "^refused .*(?:Illegal variable name|Invalid operation on method|non-function type|named with the class name)"),
+    Rule("a variable of a primitive type takes one argument in brackets", "^ok", "^refused .*Only objects have constructors"),
+    Rule("names are looked up as what they are used for", "^ok", f"^refused .*(?:{NAMES})"),
     Rule("the branches of `? :` meet as operands do", "", "^refused .*unambiguous implicit conversion", r"\?"),
     Rule("a property of a new object is a place", "^ok", "^refused .*not an l-value", r"\w\(\d*\)\.\w+ = "),
     # what runs in another way
-    Rule("operands and arguments are computed from left to right", TAKEN, TAKEN, r"\w\(\w\(\d\), \w\(\d\)|h\(n = 1, 1 / z, |\bh\(\)(?:\.m\(g|\[g)"),
+    Rule("operands and arguments are computed from left to right", TAKEN, TAKEN, ORDERED),
     Rule("a local is read when its operand's turn comes", TAKEN, TAKEN, r"x \+ \(x = 5\)"),
-    Rule("a number from 2147483648 to 4294967295 is a `uint`", TAKEN, TAKEN, r"(?:return|[=<>+-]|\() ?-?(?:2147483648|2147483649|429496729[0-5])\b"),
+    Rule("a number from 2147483648 to 4294967295 is a `uint`", TAKEN, TAKEN, rf"(?:return|[=<>+-]|\() ?-?{LARGE}\b"),
     Rule("of constants only a number by itself adapts", TAKEN, TAKEN, r"uint x = .*\((?:1|2|5)\)"),
-    Rule("`&`, `|` and `^` give a type with a sign if either operand has one", "^ok", "^ok", r"uint a, int b\) \{ return a [&|^] b"),
+    Rule("`&`, `|` and `^` give a type with a sign if either has one", "^ok", "^ok", r"uint a, int b\) \{ return a [&|^] b"),
     Rule("`~` and `+` before an operand keep its type", "^ok", "^ok", r"int64 i\(\) \{ return ~k; \}"),
-    Rule("a constant division that overflows is an exception when it is reached", "^exception DivideOverflow", "^ok", r"-\d+ % -1"),
+    Rule("a division of constants that overflows is an exception", "^exception DivideOverflow", "^ok", r"-\d+ % -1"),
     Rule("a `switch` compares its value in all its bits", "^ok", "^ok", r"int64 k\) \{ switch \(k - 1\)"),
     Rule("a `switch` with the least and the greatest `int` finds both", "^ok", "^ok", r"case -2147483648:.*case 2147483647:"),
     Rule("globals are initialized in source order", TAKEN, TAKEN, r"= (\w+)\b[^;]*; \w+ \1(?: =|;)"),
-    Rule("fields are initialized in the order of declaration", TAKEN, TAKEN, r"class \w+ \{[^}]* = [^;]*;(?: \w+ \w+;)* [A-Z]\w* \w+;"),
+    Rule("fields are initialized in the order of declaration", TAKEN, TAKEN, FIELDS),
     Rule("a handle that is assigned to itself keeps its object", "^ok", "^ok", r"@(\w+) = @\1"),
     Rule("an object goes at the next release point after its last handle", r"^dropped \[", r"^dropped \["),
     Rule("the engine stops itself at a source that is refused", REFUSED, "^ended"),

@@ -1,8 +1,8 @@
-"""Scripts at random, by a seed: expressions, locals, loops, switches, functions, classes with handles, arrays, interfaces, casts.
+"""Scripts at random, by a seed: expressions, locals, loops, switches, functions, classes, handles, arrays, interfaces, casts.
 
-A script keeps to what the profile shares with AngelScript, so that both must agree on it: of the operands of one expression at most
-one has an effect, each local has an initializer, numbers are below 2^31. One in four also has a function with a phrase that a
-rule of docs/LANGUAGE.md makes differ, and its case names that rule."""
+A script keeps to what the profile shares with AngelScript, so that both must agree on it: operands have no effect, each local has
+an initializer, and numbers are below 2^31. One in four also has a function with a phrase that a rule of docs/LANGUAGE.md makes
+differ, and its case names that rule."""
 
 import random
 
@@ -25,12 +25,12 @@ PHRASES = {
     "a local is read when its operand's turn comes": ["s += x + (x = 5);", "s += two(x++, x);"],
     "a number from 2147483648 to 4294967295 is a `uint`": ["if (3000000000 > 0) s++;", "s += int(int64(4294967295 + 1) >> 8);"],
     "of constants only a number by itself adapts": ["if (u > (1)) s++;", "if (u > -1) s += 3;"],
-    "`&`, `|` and `^` give a type with a sign if either operand has one": ["if ((u & x) > -1) s++;", "s += int((int64(u | x)) >> 33);"],
+    "`&`, `|` and `^` give a type with a sign if either has one": ["if ((u & x) > -1) s++;", "s += int((int64(u | x)) >> 33);"],
     "`~` and `+` before an operand keep its type": ["s += int(int64(~x) >> 33);", "if (~x < 0) s++;"],
     "a constant divisor of zero is an exception when it is reached": ["if (x == 12345) s += 1 / 0;", "if (x == 1) s %= 0;"],
-    "a `switch` compares its value in all its bits": ["int64 w = 4294967296 + x; switch (w) { case 1: s++; break; case 4294967297: s += 2; }"],
+    "a `switch` compares its value in all its bits": ["int64 w = 4294967296 + x; switch (w) { case 1: s++; case 9: s--; }"],
     "empty statements, and a `switch` without a `case`": ["if (x > 1) ; else s++;", "switch (x) { default: s++; }"],
-    "an object goes at the next release point after its last handle": ["Counter k1(1); Counter k2(2); @c0 = k1; s += k2.add(1);"],
+    "an object goes at the next release point after its last handle": ["Counter k(1); Counter l(2); s += k.value + l.value;"],
 }
 HELPERS = """int trace = 1;
 int bump(int k) { trace = trace * 10 + k; return trace; }
@@ -75,7 +75,7 @@ class Script:
         if roll < 0.61:
             return f"({self.number(kind, depth - 1)} {self.pick('&|^')} {self.number(kind, depth - 1)})"
         if roll < 0.69:
-            count = self.chance.randint(0, 31) if self.chance.random() < 0.5 else f"({self.number(self.pick(INTEGERS), depth - 1)} & 15)"
+            count = self.number(self.pick(INTEGERS), depth - 1) if self.chance.random() < 0.5 else self.chance.randint(0, 31)
             return f"({self.number(kind, depth - 1)} {self.pick(['<<', '>>', '>>>'])} {count})"
         if roll < 0.74 and kind in SIGNED:
             return f"(-{self.number(kind, depth - 1)})"
@@ -117,11 +117,15 @@ class Script:
         if roll < 0.85:
             return f"({self.truth(depth - 1)} {self.pick(['&&', '||', '^^', '==', '!='])} {self.truth(depth - 1)})"
         if roll < 0.92 and self.has_objects:
-            return self.pick(["(h0 is h1)", "(h1 !is null)", "(cast<B>(i0) is null)", "(cast<A>(i0) is h0)", "r0.isEmpty()", "q0.isEmpty()"])
+            same = ["(h0 is h1)", "(h1 !is null)", "(cast<B>(i0) is null)", "(cast<A>(i0) is h0)"]
+            return self.pick([*same, "r0.isEmpty()", "q0.isEmpty()"])
         return f"!{self.truth(depth - 1)}"
 
     def value(self, kind, depth):
-        return self.truth(depth) if kind == "bool" else self.number(kind, depth)
+        """What a place of this type takes: of an integer type it may be a value of another."""
+        if kind == "bool":
+            return self.truth(depth)
+        return self.number(self.pick(INTEGERS) if self.chance.random() < 0.3 else kind, depth)
 
     def name(self):
         self.named += 1
@@ -162,13 +166,15 @@ class Script:
                 lambda: f"r0[{self.chance.randint(0, 4)}] = {number()};", lambda: f"r0[uint({number()}) % 5] += 2;",
                 lambda: f"r0.resize(uint({number()}) % 7);", lambda: f"r0.insertLast({number()});", lambda: "r0.removeLast();",
                 lambda: "q0.insertLast(h1);", lambda: f"q0.insertLast(A({number()}));", lambda: "q0.removeLast();",
-                lambda: f"if (q0.length() > 1) {{ q0[1].put({number()}); @q0[0] = h1; }}", lambda: "g = int(r0.length());",
+                lambda: f"if (q0.length() > 1) {{ q0[1].put({number()}); @q0[0] = h1; }}",
+                lambda: "g = int(r0.length());",
                 lambda: "{ A@ a = cast<A>(i0); if (a !is null) a.v++; }", lambda: "g = i0.get();", lambda: "@h1 = null;",
-                lambda: f"{{ A a({number()}); a.put({number()}); @h1 = a; }}", lambda: "for (uint k = 0; k < q0.length(); k++) q0[k].v++;",
+                lambda: f"{{ A a({number()}); a.put({number()}); @h1 = a; }}",
+                lambda: "for (uint k = 0; k < q0.length(); k++) q0[k].v++;",
             ]
         if self.has_counter:
-            choices += [lambda: f"@c0 = Counter({number()});", lambda: f"g = c0.add({number()});", lambda: f"c0.value = {number()};"]
-            choices += [lambda: f"tally({number()});", lambda: "if (c0.value > 1000) c0.fail(7);"]
+            choices += [lambda: f"@c0 = Counter({number()});", lambda: f"g = c0.add({number()});", lambda: f"tally({number()});"]
+            choices += [lambda: f"c0.value = {number()};", lambda: "if (c0.value > 1000) c0.fail(7);"]
         return self.pick(choices)() if choices else self.assigned(False)
 
     def statement(self, depth, is_pure):
@@ -193,8 +199,8 @@ class Script:
             self.locals.append((name, "int"))
             self.fixed.add(name)
             turns = self.chance.randint(1, 5)
-            loop = self.pick([f"while ({name} < {turns}) {{ {name}++; @ }}", f"do {{ {name}++; @ }} while ({name} < {turns});"])
-            text = f"{{ int {name} = 0; {loop.replace('@', inner())} }}"
+            before, after = self.pick([(f"while ({name} < {turns})", ""), ("do", f" while ({name} < {turns});")])
+            text = f"{{ int {name} = 0; {before} {{ {name}++; {inner()} }}{after} }}"
             self.fixed.discard(name)
         else:
             kind = self.pick(["int", "uint"])
