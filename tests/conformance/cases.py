@@ -10,7 +10,8 @@ HOLD = f"bool hold(int n) {{ return n >= 32 ? {HOLDING}hold(n - 32) : n > 0 ? ar
 
 
 class Case:
-    """A run of requests on its own: where it stands, and loads and lines; of a seeded script the rule that it may differ by."""
+    """A run of requests on its own: where it stands, and loads and lines. A seeded script has the rule that it may differ by,
+    or ''."""
 
     def __init__(self, place, steps, budget=100_000, counters=2, rule=None):
         self.place, self.steps, self.budget, self.counters, self.rule = place, steps, budget, counters, rule
@@ -195,7 +196,8 @@ def numbers():
     for place, _, rest in rows("conversions"):
         start, end, *words = rest.split()
         source = re.sub(r"\bF\b", start, written(CONVERTING, end))
-        yield Case(place, [load(source.encode()), *(call(name, word) for name in functions(source) for word in words if name != "same")])
+        names = [it for it in functions(source) if it != "same"]
+        yield Case(place, [load(source.encode()), *(call(name, word) for name in names for word in words)])
     for place, value, text in rows("expressions"):
         kind = "bool" if value in ("true", "false") else "int"
         yield Case(place, [load(f"{kind} f() {{ return {text}; }}".encode()), call("f")])

@@ -25,6 +25,7 @@ ASSIGNED = rf"{OBJECT} \w+(?:, \w+)* = |[;{{] \w+ = \w+; |\w == \w"
 ORDERED = r"\w\(\w\(\d\), \w\(\d\)|h\(n = 1, 1 / z, |\bh\(\)(?:\.m\(g|\[g)"
 LARGE = "(?:2147483648|2147483649|429496729[0-5])"
 FIELDS = r"class \w+ \{[^}]* = [^;]*;(?: \w+ \w+;)* [A-Z]\w* \w+;"
+TWICE = r"(\b\w+)[^;{]*, (?:bool )?\1\b"
 # messages of the engine
 NAMES = "Illegal variable name|Invalid operation on method|non-function type|named with the class name"
 REFUSED = "^refused "
@@ -47,7 +48,7 @@ RULES = [
     Rule("left out: overloading of functions and operators", "^refused 303 ", TAKEN, r"(?:tally|total|Counter)\("),
     Rule("an array is made with one length at most", "^refused 305 ", TAKEN, r"array<\w+>(?: \w+)?\(\d, \d\)"),
     # what else the profile refuses
-    Rule("an interface is listed once, and a parameter's name is", "^refused 303 ", TAKEN, r"(\b\w+)[^;{]*, (?:bool )?\1\b"),
+    Rule("an interface is listed once, and a parameter's name is", "^refused 303 ", TAKEN, TWICE),
     Rule("a `switch` compares its value in all its bits", "^refused 312 ", TAKEN, "switch"),
     Rule("the value of an assignment is no place", "^refused 306 ", TAKEN, r"\((?:\w+ = \w+|@\w+)\) = "),
     Rule("a local is seen from the end of its declaration on", "^refused 30[14] ", TAKEN, r"(\b\w+) = \1;"),
@@ -90,10 +91,10 @@ UNINITIALIZED = "a local without an initializer is zero, `false` or null"
 
 def rule_of(difference):
     """The name of the rule, or None."""
-    if difference.case.rule:
+    if difference.case.rule is not None:
         # the function `ruled` has its phrase, and changes no global but these
         is_there = re.match(r"load |call m ruled |discard |whole m (?:trace|c0)", difference.step)
-        return difference.case.rule if is_there else None
+        return difference.case.rule if is_there and difference.case.rule else None
     ashd, engine = (str(it).split(" ") for it in (difference.ashd, difference.engine))
     if ashd[0] == "exception" and ashd[:3] == engine[:3] and len(ashd) > 3 and ashd[4:] == engine[4:]:
         return LINE

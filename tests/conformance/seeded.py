@@ -47,7 +47,7 @@ class Script:
         self.pure, self.acting, self.locals, self.fixed, self.named = [], [], [], set(), 0
         self.has_objects = [], [], [], set(), self.chance.random() < 0.6
         self.has_counter = self.chance.random() < 0.25
-        self.rule = self.pick(sorted(PHRASES)) if self.chance.random() < 0.25 else None
+        self.rule = self.pick(sorted(PHRASES)) if self.chance.random() < 0.25 else ""
 
     def pick(self, choices):
         return self.chance.choice(list(choices))
