@@ -3,6 +3,7 @@
 ghost use Rattle.std.specs.Prelude.{IsSome};
 
 use anyhow::Result;
+use ash_durable::batch::{BatchReply, BatchRequest};
 use ash_engine::engine::Engine;
 use ash_host::HostObject;
 use ash_lines::reader::Reader;
@@ -53,7 +54,11 @@ impl<B: HostObject> RequestHandler for Unstored<B> {
     // What is replied is not told of.
     ghost handles = { λ budget request old reply new. Unit {0} };
 
+    ghost handles_batch = { λ budget requests old result new. Unit {0} };
+
     ghost depends_on_prefix = { λ budget name source old new reply handled. handled };
+
+    ghost batch_depends_on_prefix = { λ budget requests old new result handled. handled };
 
     #[tactic(auto, using(crate::proofs::Lives::live_after))]
     fn handle(&mut self, request: &Request, budget: u64) -> Reply<SourceFault> {
@@ -67,6 +72,15 @@ impl<B: HostObject> RequestHandler for Unstored<B> {
             }
             Err(_) => Reply::Refused(Refusal::NoMemory),
         }
+    }
+
+    // What a batch gains is two syncs, and here is none: it is refused.
+    fn batch(
+        &mut self,
+        _: &[BatchRequest<'_>],
+        _: u64,
+    ) -> Result<Vec<BatchReply>, Refusal<SourceFault>> {
+        Err(Refusal::NoMemory)
     }
 }
 
