@@ -63,7 +63,7 @@ cut_off 'seq\nbatch 1\nload m 4\nabc' "ok 0"
 cut_off 'seq\nbatch 1\nload m 3\nabc' "ok 0"
 
 # A batch that the end of the input cuts is not carried out: the store is as it was.
-"$ashd" create "$scratch/cut" > /dev/null
+empty_store "$scratch/cut"
 asks 'load m 45\nint n = 2; int f(int k) { n += k; return n; }\ncall m f 5\nbatch 2\ncall m f 1\n'
 ends "a batch cut by the end, over a store" 1 "ashd: 603 Truncated" serve "$scratch/cut" --budget 1000 --counters 0
 holds "the replies before it" $'ok seq 1\nok 7 seq 2'
