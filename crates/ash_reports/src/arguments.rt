@@ -1,9 +1,9 @@
 //! Sentences on calls with too many or too few arguments.
 
 use crate::members::registered_parameters;
-use crate::outline::is_called;
-use crate::source::Source;
 use ash_lex::Sign;
+use ash_outline::outline::is_called;
+use ash_outline::source::Source;
 use std::alloc::{AllocError, Global};
 
 /// How many arguments the call at a token has, and how many it should have.
@@ -60,7 +60,7 @@ fn wanted_count(
 
 /// How many parameters the method of a type has.
 fn count_of_method(source: &Source, registered: &str, of: &str, name: &str) -> Option<usize> {
-    match source.class(crate::types::object_of(of)) {
+    match source.class(ash_outline::types::object_of(of)) {
         Some(class) => {
             let method = source.member(class, name)?;
             Some(source.count_parameters(method.name))

@@ -3,11 +3,12 @@
 use crate::arguments::wrong_count;
 use crate::finding::{Finding, hint};
 use crate::members::{is_registered, members_text};
-use crate::mismatch::mismatch;
-use crate::outline::is_called;
-use crate::source::Source;
+use crate::mismatch::{mismatch, null_comparison};
+use crate::nearest::help_by_nearest;
 use ash_check::ScriptFault;
 use ash_lex::{ReservedWord, Sign, TokenKind};
+use ash_outline::outline::is_called;
+use ash_outline::source::Source;
 use ash_type_rules::{Fault, Rule};
 use std::alloc::{AllocError, Global};
 
@@ -145,10 +146,19 @@ fn help_on_unknown(
     let Some(of) = source.type_before(alloc, index.saturating_sub(1))? else {
         return Ok(None);
     };
+    let name = source.token_text(index);
     match members_text(alloc, source, registered, of.as_str())? {
+        Some(names) if !is_called(&source.tokens, index) && lists(names.as_str(), name) => {
+            Ok(Some(format!(in alloc; "it is a method: write '{name}(..)'")?))
+        }
         Some(names) => Ok(Some(format!(in alloc; "it has: {names}")?)),
         None => Ok(None),
     }
+}
+
+/// Whether a name is in a list of names.
+fn lists(names: &str, name: &str) -> bool {
+    names.split(", ").any(|listed| listed == name)
 }
 
 /// What helps on a name that is known as something else.
@@ -165,11 +175,11 @@ fn help_on_kind(
                 "scripts print nothing: return a value, or keep it in a global",
             );
         }
-        return Ok(None);
+        return help_by_nearest(alloc, source, name);
     }
     match source.function(name) {
         Some(_) => Ok(Some(format!(in alloc; "'{name}' is a function: write '{name}(..)'")?)),
-        None => Ok(None),
+        None => help_by_nearest(alloc, source, name),
     }
 }
 
@@ -192,7 +202,7 @@ fn help_on_type(
             if source.function(name).is_some() {
                 return Ok(Some(format!(in alloc; "'{name}' is a function")?));
             }
-            Ok(None)
+            help_by_nearest(alloc, source, name)
         }
     }
 }
@@ -223,26 +233,11 @@ fn help_on_mismatch(
     source: &Source,
     index: usize,
 ) -> Result<Option<String>, AllocError> {
-    let mut last = index;
-    for next in index..source.tokens.len() {
-        match source.kind(next) {
-            Some(TokenKind::Reserved(ReservedWord::Null)) => match source.kind(last) {
-                Some(TokenKind::Sign(Sign::Equal)) => {
-                    return hint(alloc, "use 'is': a handle is compared as 'h is null'");
-                }
-                Some(TokenKind::Sign(Sign::NotEqual)) => {
-                    return hint(alloc, "use '!is': a handle is compared as 'h !is null'");
-                }
-                _ => (),
-            },
-            Some(TokenKind::Sign(Sign::Semicolon | Sign::OpenBrace | Sign::CloseBrace)) => {
-                return Ok(None);
-            }
-            _ => (),
-        }
-        last = next;
+    match null_comparison(source, index) {
+        Some(Sign::Equal) => hint(alloc, "use 'is': a handle is compared as 'h is null'"),
+        Some(_) => hint(alloc, "use '!is': a handle is compared as 'h !is null'"),
+        None => Ok(None),
     }
-    Ok(None)
 }
 
 /// What helps on a name that can't be set.
@@ -258,7 +253,7 @@ fn help_on_assignment(
     let Some(of) = source.type_before(alloc, index.saturating_add(1))? else {
         return Ok(None);
     };
-    let class = crate::types::object_of(of.as_str());
+    let class = ash_outline::types::object_of(of.as_str());
     if of.as_str() != class {
         return Ok(Some(format!(in alloc; "'{name}' is a handle: it is set by '@{name} = ..'")?));
     }

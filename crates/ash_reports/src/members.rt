@@ -1,8 +1,8 @@
 //! The members of types, by what a source declares and by what is registered.
 
-use crate::outline::{Declaration, Declared};
-use crate::source::Source;
-use crate::types::{element_of, object_of};
+use ash_outline::outline::{Declaration, Declared};
+use ash_outline::source::Source;
+use ash_outline::types::{element_of, object_of};
 use std::alloc::{AllocError, Global};
 
 /// The methods of arrays.

@@ -1,9 +1,9 @@
 //! Sentences on types that do not fit.
 
 use crate::members::lacking_methods;
-use crate::outline::{Declaration, Declared};
-use crate::source::Source;
 use ash_lex::{ReservedWord, Sign, TokenKind};
+use ash_outline::outline::{Declaration, Declared};
+use ash_outline::source::Source;
 use std::alloc::{AllocError, Global};
 
 /// Which type is found at a token, and which is wanted there, as far as that can be seen.
@@ -14,6 +14,12 @@ pub fn mismatch(alloc: Global, source: &Source, index: usize) -> Result<String, 
     if let Some(sentence) = lacking(alloc, source, index)? {
         return Ok(sentence);
     }
+    if null_comparison(source, index).is_some() {
+        return String::from_str(alloc, "a handle is not compared by '==' or '!='");
+    }
+    if let Some(sentence) = member_of_number(alloc, source, index)? {
+        return Ok(sentence);
+    }
     let found = found_type(alloc, source, index)?;
     let wanted = wanted_type(alloc, source, index)?;
     match (found, wanted) {
@@ -21,6 +27,42 @@ pub fn mismatch(alloc: Global, source: &Source, index: usize) -> Result<String, 
         (Some(found), None) => format!(in alloc; "{found} does not fit here"),
         (None, Some(wanted)) => format!(in alloc; "the type does not fit: {wanted} is wanted"),
         (None, None) => String::from_str(alloc, "the type of this does not fit"),
+    }
+}
+
+/// The sign by which something is compared with null from a token on, if it is.
+pub fn null_comparison(source: &Source, index: usize) -> Option<Sign> {
+    let mut last = index;
+    for next in index..source.tokens.len() {
+        match source.kind(next) {
+            Some(TokenKind::Reserved(ReservedWord::Null)) => match source.kind(last) {
+                Some(TokenKind::Sign(Sign::Equal)) => return Some(Sign::Equal),
+                Some(TokenKind::Sign(Sign::NotEqual)) => return Some(Sign::NotEqual),
+                _ => (),
+            },
+            Some(TokenKind::Sign(Sign::Semicolon | Sign::OpenBrace | Sign::CloseBrace)) => {
+                return None;
+            }
+            _ => (),
+        }
+        last = next;
+    }
+    None
+}
+
+/// A variable that is no object, and whose member is asked for.
+fn member_of_number(
+    alloc: Global,
+    source: &Source,
+    index: usize,
+) -> Result<Option<String>, AllocError> {
+    if !source.is_sign(index.saturating_add(1), Sign::Dot) {
+        return Ok(None);
+    }
+    let name = source.token_text(index);
+    match source.type_before(alloc, index.saturating_add(1))? {
+        Some(of) => Ok(Some(format!(in alloc; "{of} '{name}' has no members")?)),
+        None => Ok(None),
     }
 }
 
@@ -60,7 +102,7 @@ fn lacking(alloc: Global, source: &Source, index: usize) -> Result<Option<String
     if methods.is_empty() {
         return Ok(Some(format!(in alloc; "'{of}' has a method of '{name}' with other types")?));
     }
-    Ok(Some(format!(in alloc; "'{of}' lists '{name}', and lacks its {methods}")?))
+    Ok(Some(format!(in alloc; "'{of}' lists '{name}', and lacks of it: {methods}")?))
 }
 
 /// The class in whose list of interfaces a token is.
@@ -112,6 +154,9 @@ fn wanted_type(alloc: Global, source: &Source, index: usize) -> Result<Option<St
     let Some(before) = index.checked_sub(1) else {
         return Ok(None);
     };
+    if source.is_sign(index.saturating_add(1), Sign::Question) {
+        return Ok(Some(String::from_str(alloc, "bool")?));
+    }
     match source.kind(before) {
         Some(TokenKind::Reserved(ReservedWord::Return)) => match source.routine_of(index) {
             Some(routine) => {

@@ -38,11 +38,15 @@ pub fn render(
     Ok(lines)
 }
 
-/// Adds the line of a text on which a fault is, and a mark under it. A text without such a line adds nothing.
+/// The most bytes of a line that is printed.
+const MAX_SHOWN_BYTES: usize = 1000;
+
+/// Adds the line of a text on which a fault is, and a mark under it. A text without such a line adds nothing, and so
+/// does a line of more than 1,000 bytes.
 fn add_marked_line(lines: &mut String, text: &str, finding: &Finding) -> Result<(), AllocError> {
     let start = line_start(text, finding.at);
     let line = first_line(text.get(start..).unwrap_or(""));
-    if line.is_empty() {
+    if line.is_empty() || line.len() > MAX_SHOWN_BYTES {
         return Ok(());
     }
     add_printable(lines, line)?;

@@ -1,8 +1,8 @@
 //! Sentences on sources whose tokens are no script.
 
 use crate::finding::{Finding, hint};
-use crate::source::Source;
 use ash_lex::{ReservedWord, Sign, TokenKind};
+use ash_outline::source::Source;
 use ash_parse::ParseFault;
 use std::alloc::{AllocError, Global};
 
@@ -99,12 +99,17 @@ fn help_on_form(source: &Source, index: usize) -> Option<&'static str> {
         TokenKind::Sign(Sign::Colon) => {
             Some("there is no loop over elements: count an index up to 'length()'")
         }
-        TokenKind::Sign(Sign::Less) => help_on_element(source, before),
+        TokenKind::Sign(Sign::Assign) if is_in_parentheses(source, index) => {
+            Some("a parameter has no default value: each call gives all arguments")
+        }
         TokenKind::Sign(Sign::Greater) => {
             Some("an array holds bool, integers or handles: write 'array<NAME@>'")
         }
         TokenKind::Number(_) if is_fraction(source, before) => {
             Some("numbers are whole: there are no fractions")
+        }
+        _ if source.is_sign(before, Sign::Less) => {
+            help_on_element(source, before.saturating_sub(1))
         }
         _ if source.token_text(before) == "new" => Some(
             "an object is made without 'new', as 'P()'",
@@ -113,7 +118,15 @@ fn help_on_form(source: &Source, index: usize) -> Option<&'static str> {
     }
 }
 
-/// What to do about a `<` that may not be where it is.
+/// Whether the innermost bracket that is open before a token is a parenthesis.
+fn is_in_parentheses(source: &Source, index: usize) -> bool {
+    match source.innermost_open(index) {
+        Some(open) => source.is_sign(open, Sign::OpenParenthesis),
+        None => false,
+    }
+}
+
+/// What to do about a type that may not be in the angle brackets after a word.
 fn help_on_element(source: &Source, before: usize) -> Option<&'static str> {
     match source.kind(before)? {
         TokenKind::Reserved(ReservedWord::Array) => {
