@@ -5,6 +5,7 @@
 
 mod check;
 mod ending;
+mod opening;
 mod run;
 mod shell;
 mod show;
@@ -12,10 +13,11 @@ mod verify;
 mod words;
 
 use ash_disk::take_closed_streams;
-use ending::Ending;
+use ash_host::{Counter, HostObject, Tally};
+use ending::{Ending, ending_of_words};
 use std::env;
 use std::process::ExitCode;
-use words::{Task, read_task};
+use words::{Limits, RunTask, Task, read_task};
 
 fn main(rt: HostRuntime) -> ExitCode {
     match perform(&rt) {
@@ -35,12 +37,35 @@ fn perform(rt: &HostRuntime) -> anyhow::Result<Ending> {
     match read_task(alloc, &words) {
         Err(error) => {
             error.print(rt)?;
-            Ok(Ending::of_words(&error))
+            Ok(ending_of_words(&error))
         }
         Ok(Task::Check { files }) => check::check(rt, &files),
-        Ok(Task::Run(task)) => run::run(rt, &task),
+        Ok(Task::Run(task)) => run_script(rt, &task),
         Ok(Task::Show { folder, json }) => show::show(rt, folder, json),
         Ok(Task::Verify { folder }) => verify::verify(rt, folder),
-        Ok(Task::Shell { folder, limits }) => shell::shell(rt, folder, limits),
+        Ok(Task::Shell { folder, limits }) => run_shell(rt, folder, limits),
     }
+}
+
+/// Loads a script and calls a function of it. The host is handed Tally, as the service that is registered, and as many
+/// free Counters as the words say.
+fn run_script(rt: &HostRuntime, task: &RunTask<'_>) -> anyhow::Result<Ending> {
+    let mut pool: Vec<Box<dyn HostObject>> = Vec::new(rt.alloc());
+    for _ in 0..task.limits.counters {
+        pool.push(Box::new(rt.alloc(), Counter::new())?)?;
+    }
+    let mut services: Vec<Box<dyn HostObject>> = Vec::new(rt.alloc());
+    services.push(Box::new(rt.alloc(), Tally::new())?)?;
+    run::run(rt, task, pool, services)
+}
+
+/// Reads commands. The host is handed what it is for `run`.
+fn run_shell(rt: &HostRuntime, folder: Option<&str>, limits: Limits) -> anyhow::Result<Ending> {
+    let mut pool: Vec<Box<dyn HostObject>> = Vec::new(rt.alloc());
+    for _ in 0..limits.counters {
+        pool.push(Box::new(rt.alloc(), Counter::new())?)?;
+    }
+    let mut services: Vec<Box<dyn HostObject>> = Vec::new(rt.alloc());
+    services.push(Box::new(rt.alloc(), Tally::new())?)?;
+    shell::shell(rt, folder, limits, pool, services)
 }

@@ -1,0 +1,2 @@
+int gold = 100;
+int buy(int price) { gold -= price; return gold; }
