@@ -75,6 +75,15 @@ rising_rise ns h =
     ap do_rise (sym (numbers_alone ns))
     ∙ order_rises (with_nothing ns) (subst (λ (l : List ℕ). IsStrictlyIncreasing l) (sym (numbers_alone ns)) h)
 
+-- a number that an object can have
+abbrev CanHave : ℕ → Type 0
+CanHave n = (0 < n) × (n < 2 ^ 64)
+
+above_none : (ns : List ℕ) → do_rise ns ≡ true → AllByRecursion CanHave ns → do_rise (0 ∷ ns) ≡ true
+above_none [] rise has = refl
+above_none (zero ∷ ns) rise has = absurd (omega (arith, (has.0).0))
+above_none (suc n ∷ ns) rise has = rise
+
 -- the numbers of what is listed
 
 module _ {A : Type 0} (at : ℕ → Option A) where
@@ -253,7 +262,11 @@ module _ (s : HostState) (h : IsAdmitted s) where
     last = omega (arith, (h.formed).last);
     services = services_fit c.services l.services;
     change = change_fits c.modules l.modules;
-    gone = record { few = omega (arith, l.few); each = l.given; order = rising_rise c.gone l.gone };
+    gone = record {
+      few = omega (arith, l.few);
+      each = all_more CanHave (λ (n : ℕ). n < 2 ^ 64) (λ n has. has.1) c.gone l.given;
+      order = above_none c.gone (rising_rise c.gone l.gone) l.given;
+    };
     put = put_fits c.living l.living kinds;
     apart = none_both c.gone c.living l.apart c.gone (λ n among. is_among_says n c.gone among);
   }
@@ -270,7 +283,9 @@ names_listable c happened before after was h services change living gone =
       living = living;
       gone = gone;
       few = omega (arith, few, (was.formed).few);
-      given = rec_from (λ (n : ℕ). n < 2 ^ 64) c.gone (λ n went. omega (arith, ((was.formed).numbered.given n (h.went n went).0).1, (was.formed).last));
+      given = rec_from CanHave c.gone (λ n went.
+          let had = (was.formed).numbered.given n (h.went n went).0 in
+          (had.0, omega (arith, had.1, (was.formed).last)));
       apart = λ n g l. by (object_at n (after.state).objects) (h.live n l) (h.went n g).1;
     }
   where
