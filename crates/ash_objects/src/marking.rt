@@ -7,7 +7,7 @@ ghost use Rattle.ash_host.specs.Objects.{object_at, IsInOrder};
 ghost use Rattle.ash_slots.specs.Store.{change_at};
 ghost use Rattle.ash_objects.specs.Listing.{AreListed};
 ghost use Rattle.ash_objects.specs.Marking.{marked_of, marked_in, unmarked};
-ghost use Rattle.ash_objects.specs.Marking.{unmark_all, without_gone, without_marks};
+ghost use Rattle.ash_objects.specs.Marking.{unmark_all, without_marks};
 
 use crate::marked_slots::MarkedSlots;
 use crate::objects::Objects;
@@ -96,16 +96,5 @@ impl<B: HostObject> Objects<B> {
         self.settled = self.last;
         let gone = mem::replace(&mut self.gone, Vec::new(alloc));
         Ok(Changes { living, gone })
-    }
-
-    /// The numbers of the objects that went since the last such call, or since the marks were cleared, except those
-    /// that were made and taken away since. The marks stay. It takes no memory.
-    pub fn take_gone(&mut self) -> Vec<u64>
-        ensures gone { result.items ≡ self.old.gone }
-        ensures taken { self.new ≡ without_gone self.old }
-    {
-        let alloc = *self.gone.allocator();
-        self.settled = self.last;
-        mem::replace(&mut self.gone, Vec::new(alloc))
     }
 }
