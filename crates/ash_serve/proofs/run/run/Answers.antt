@@ -10,7 +10,7 @@ pub returns-clause-ends : goal.returns-clause-ends
 returns-clause-ends g c =
     run_writes g.R.Read.remaining g.W.Write.contents (hosting g.D.Disk g.B.HostObject c.args.budget)
     (run_state c.in_ok-input.input c.new-output.result c.args.host.now) (run_state c.serve-result.new.input c.serve-result.new.output c.serve-result.new.host) _ c.serve-result.result _ _
-    c.in_ok-input.ensures.left c.in_ok-input.ensures.allowance c.new-output.ensures.buffered (ap (λ y. y.now) c.new-output.ensures.writer) (λ e. let n = ap (λ y. y.ghost_name) c.into_writer-lent.ensures.same_writer in let v = ap (λ y. y.now) c.into_writer-lent.ensures.same_writer in let b = ap (λ y. y.ghost_name) c.new-output.ensures.writer in search rules) c.serve-result.ensures.serves
+    c.in_ok-input.ensures.left c.in_ok-input.ensures.allowance c.new-output.ensures.buffered (c.new-output.ensures.room ∙ c.in_ok-buffer.ensures.exact) (ap (λ y. y.now) c.new-output.ensures.writer) (λ e. let n = ap (λ y. y.ghost_name) c.into_writer-lent.ensures.same_writer in let v = ap (λ y. y.now) c.into_writer-lent.ensures.same_writer in let b = ap (λ y. y.ghost_name) c.new-output.ensures.writer in search rules) c.serve-result.ensures.serves
 
 pub returns-clause-saved : goal.returns-clause-saved
 returns-clause-saved g c h =
