@@ -26,7 +26,8 @@ pub(crate) const MAX_BUFFERED_BYTES: usize = 8192;
 
 /// Reads requests, has the host handle each with this budget in ticks, and writes the replies in order. A batch is read
 /// whole before its requests are handled, in one call. Replies are flushed before anything is read that may have to be
-/// waited for, and at the end: at most 8,192 bytes of replies wait for that. Ends at the end of the input between two
+/// waited for, and at the end: at most 8,192 bytes of replies wait for that. std's traits cannot say when a byte is
+/// written, so that is promised by `serve`, the loop, of every source and sink. Ends at the end of the input between two
 /// commands, or when the reply to `quit` is written.
 ///
 /// `Truncated` if the input ends inside a request or a batch, `Read(TooLong)` past 2^40 bytes, `Read(Failed)` and `Write`
