@@ -3,7 +3,7 @@ use Rattle.ash_durable.specs.Hosting.{IsSaved, RunsSound}
 use Rattle.ash_serve.specs.HostCalls.{hosting}
 use Rattle.ash_serve.specs.Serving.{run_state}
 use Rattle.ash_serve.proofs.RunningLemmas.{run_writes, run_keeps}
-use Rattle.ash_serve.proofs.DefinedLemmas.{replies_run, replies_live}
+use Rattle.ash_serve.proofs.DefinedLemmas.{replies_run, replies_live, replies_kept}
 use Rattle.ash_serve.proofs.run.run.Goals as goal
 
 pub returns-clause-ends : goal.returns-clause-ends
@@ -27,3 +27,6 @@ returns-clause-defined g c = λ commands replies answered. replies_run g.D.Disk 
 
 pub returns-clause-lives : goal.returns-clause-lives
 returns-clause-lives g c = λ commands replies answered. replies_live g.D.Disk g.B.HostObject c.args.budget c.args.host.now commands replies c.serve-result.new.host answered
+
+pub returns-clause-kept : goal.returns-clause-kept
+returns-clause-kept g c = λ commands replies answered. replies_kept g.D.Disk g.B.HostObject g.met.D.Disk.seen_may_stay c.args.budget c.args.host.now commands replies c.serve-result.new.host answered
