@@ -1,16 +1,16 @@
 -- What is read of one file.
 use Rattle.std.proofs.Common.{◌≡◌, ◌≢◌, ◌⊎◌, inl, inr, ℕ, ◌<◌, ◌≤◌, ◌^◌, Bool, true, false, List, [], ◌∷◌, ◌++◌, length, take, drop}
-use Rattle.std.proofs.Common.{get_or, sym, ◌∙◌, ap, arith, length-append, take-append-drop}
-use Rattle.std.proofs.lemmas.List.{take_at}
+use Rattle.std.proofs.Common.{get_or, refl, sym, ◌∙◌, ap, arith, length-append, take-append-drop}
+use Rattle.std.proofs.lemmas.List.{length-take-le, take_at, take-append-le, take-take}
 use Rattle.ash_disk.specs.Device.{Device}
 use Rattle.ash_journal.specs.OtherState.{first_of, second_of}
 use Rattle.ash_journal.specs.declared.error.OpenFault.TheVariants.{Damaged}
-use Rattle.ash_journal.specs.Layout.{mark, IsFile, IsClosed, HasMark, LacksMark, IsCutAt}
+use Rattle.ash_journal.specs.Layout.{mark, committed_bytes, IsFile, IsClosed, HasMark, LacksMark, IsCutAt}
 use Rattle.ash_journal.specs.Opening.{FaultIs}
 use Rattle.ash_journal.specs.Journal.{HoldsBeforeRepair, first_disk, second_disk}
 use Rattle.ash_journal.specs.declared.journal.Journal.{Journal}
-use Rattle.ash_journal.proofs.LayoutLaws.{solid_split, length-mark, mark_open}
-use Rattle.ash_inspect.specs.Files.{IsMarkedBehind}
+use Rattle.ash_journal.proofs.LayoutLaws.{solid_mark, solid_split, length-mark, mark_open}
+use Rattle.ash_inspect.specs.Files.{IsMarkedBehind, BeginsWith}
 
 -- ---- a mark
 
@@ -83,3 +83,32 @@ damage_alone at file (inl (inr (inl lacks), zero_at)) = absurd lacks.0
 damage_alone at file (inl (inr (inr both), zero_at)) = absurd (no_mark both.0 both.2)
 damage_alone at file (inr (inl cut)) = inr cut.3
 damage_alone at file (inr (inr cut)) = absurd (no_mark cut.0 cut.1)
+
+-- ---- a file that is cut short
+
+pub whole_begins : (g : ℕ) (image : List ℕ) (bodies : List (List ℕ)) (file : List ℕ) → IsFile g image bodies file
+    → BeginsWith g image bodies file
+whole_begins g image bodies file is = record { fits = is.fits; rest = is.gate ∷ is.after; bytes = is.bytes }
+
+-- what is read of the bytes before an offset, with a shut gate after them, is what the file begins with
+pub front_begins : (at g : ℕ) (image : List ℕ) (bodies : List (List ℕ)) (file : List ℕ)
+    → at ≤ length file → IsFile g image bodies (take at file ++ 0 ∷ []) → BeginsWith g image bodies file
+front_begins at g image bodies file within is =
+    let solid = committed_bytes g image bodies in
+    let n = length solid in
+    let front = take at file in
+    let short : n ≤ length front =
+    omega (arith, ap length is.bytes, length-append front (0 ∷ []), length-append solid (is.gate ∷ is.after)) in
+    let parts : solid ≡ take n file =
+    sym (take_at solid (is.gate ∷ is.after) n refl) ∙ ap (λ (l : List ℕ). take n l) (sym is.bytes)
+    ∙ take-append-le n front (0 ∷ []) short ∙ take-take n at file (omega (arith, short, length-take-le at file within)) in
+    record {
+      fits = is.fits;
+      rest = drop n file;
+      bytes = sym (take-append-drop n file) ∙ ap (λ (l : List ℕ). l ++ drop n file) (sym parts);
+    }
+
+-- what begins as a generation has its mark
+pub begins_marked : (g : ℕ) (image : List ℕ) (bodies : List (List ℕ)) (file : List ℕ) → BeginsWith g image bodies file
+    → HasMark g file
+begins_marked g image bodies file is = solid_mark g image bodies is.rest file is.fits.numbered is.bytes

@@ -1,6 +1,6 @@
 -- What is said of a file.
 use Rattle.std.specs.Prelude.{◌≡◌, ◌⊎◌, ℕ, List, ◌∷◌, ◌++◌}
-use Rattle.ash_journal.specs.Layout.{mark, committed_bytes, IsClosed, HasMark, LacksMark, IsCutAt}
+use Rattle.ash_journal.specs.Layout.{mark, committed_bytes, FieldsFit, IsClosed, HasMark, LacksMark, IsCutAt}
 use Rattle.ash_inspect.specs.declared.header.Header.{Header}
 use Rattle.ash_inspect.specs.declared.header.Header.TheVariants.{Closed, Unmarked, Marked}
 use Rattle.ash_inspect.specs.declared.file_fault.FileFault.{FileFault}
@@ -22,6 +22,8 @@ FileFaultIs faults.Closed file = IsClosed file
 FileFaultIs (faults.Damaged at) file = (LacksMark file × (at ≡ 0)) ⊎ IsCutAt at file
 FileFaultIs faults.NoMemory file = Unit {0}
 
--- the file begins with this image and these records of a generation
-abbrev pub BeginsWith : ℕ → List ℕ → List (List ℕ) → List ℕ → Type 0
-BeginsWith generation image bodies file = (rest : List ℕ) × (file ≡ committed_bytes generation image bodies ++ rest)
+-- The file begins with a generation's image and these records.
+pub record BeginsWith (generation : ℕ) (image : List ℕ) (bodies : List (List ℕ)) (file : List ℕ) : Type 0 where
+  pub fits : FieldsFit generation image bodies
+  pub rest : List ℕ
+  pub bytes : file ≡ committed_bytes generation image bodies ++ rest

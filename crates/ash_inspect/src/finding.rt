@@ -166,3 +166,14 @@ pub fn findings(alloc: Global, report: &StoreReport) -> Result<Vec<Finding>, All
     }
     Ok(found)
 }
+
+/// Whether one of the findings is damage.
+pub fn any_is_damage(found: &[Finding]) -> bool {
+    found.iter().any(|finding| finding.is_damage())
+}
+
+/// Whether a store is damaged.
+pub fn is_damaged(alloc: Global, report: &StoreReport) -> Result<bool, AllocError> {
+    let found = findings(alloc, report)?;
+    Ok(any_is_damage(&found))
+}

@@ -19,6 +19,7 @@ pub struct Reading {
 }
 
 /// What is read before an offset, at which a record is cut short.
+#[tactic(auto, using(crate::proofs::FileLaws::front_begins))]
 fn read_front(alloc: Global, file: &[u8], at: u64) -> Result<Reading, FileFault>
     ensures begins { IfOk result (λ r.
         BeginsWith r.generation.number r.generation.image.items (bodies_of r.generation.records.items) file.now) }
@@ -38,6 +39,7 @@ fn read_front(alloc: Global, file: &[u8], at: u64) -> Result<Reading, FileFault>
 
 /// What is read of an open file, up to the first record that is cut short. A fault has 0 for its offset if no image is
 /// there.
+#[tactic(auto, using(crate::proofs::FileLaws::whole_begins))]
 pub fn read_open(alloc: Global, file: &[u8]) -> Result<Reading, FileFault>
     ensures begins { IfOk result (λ r.
         BeginsWith r.generation.number r.generation.image.items (bodies_of r.generation.records.items) file.now) }

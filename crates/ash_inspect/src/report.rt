@@ -66,8 +66,9 @@ fn damage_of(reading: &Reading, known: &Option<KnownState>) -> Option<Damage>
     let Some(state) = known else {
         return Some(Damage::NoImage);
     };
-    if let Some(record) = reading.generation.records.get(state.records) {
-        return Some(Damage::LeadsNowhere(record.gate));
+    let records = &reading.generation.records;
+    if state.records < records.len() {
+        return Some(Damage::LeadsNowhere(records[state.records].gate));
     }
     match reading.cut {
         Some(at) => Some(Damage::CutShort(at)),
@@ -91,6 +92,7 @@ fn open_file(alloc: Global, reading: Reading) -> Result<OpenFile, AllocError>
 }
 
 /// What an open file holds, if its image is whole.
+#[tactic(auto, using(crate::proofs::ReportLaws::open_is))]
 pub(crate) fn open_file_of(alloc: Global, file: &[u8]) -> Result<Option<OpenFile>, AllocError>
     ensures open { IfOk result (λ found. IfSome found (λ o. IsOpenFile o file.now)) }
 {
@@ -116,6 +118,7 @@ fn closed_file(alloc: Global, file: &[u8]) -> Result<FileReport, AllocError>
 }
 
 /// What a file holds.
+#[tactic(auto, using(crate::proofs::FileLaws::begins_marked))]
 pub fn report_of(alloc: Global, file: &[u8]) -> Result<FileReport, AllocError>
     ensures report { IfOk result (λ r. IsReport r file.now) }
 {

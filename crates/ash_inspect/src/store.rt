@@ -100,6 +100,7 @@ fn known_in(side: Side, report: &FileReport) -> Option<(Side, &OpenFile, &KnownS
 }
 
 /// Which file is current: the open one with the greater generation.
+#[tactic(auto, using(crate::proofs::ReportLaws::newer_closed, crate::proofs::ReportLaws::newer_older, crate::proofs::ReportLaws::first_lacks, crate::proofs::ReportLaws::second_lacks, crate::proofs::ReportLaws::both_same))]
 pub fn current_of(first: &[u8], second: &[u8]) -> Current
     ensures current { IsCurrentSide result first.now second.now }
 {

@@ -1,11 +1,8 @@
 //! What is found when a store is looked over, as sentences.
 
-use crate::files_text::{push_files, push_head};
-use crate::finding::{Finding, findings};
-use crate::hidden::{Hidden, answers_of};
-use crate::report::FileReport;
-use crate::store::{Side, StoreReport};
+use crate::files_text::push_files;
 use crate::wording::counted;
+use ash_inspect::{FileReport, Finding, Hidden, Side, StoreReport, answers_of, any_is_damage, findings};
 use std::alloc::{AllocError, Global};
 
 /// What is found when a store is looked over.
@@ -158,10 +155,10 @@ pub fn verify_text(
     missing: Option<Side>,
 ) -> Result<Verdict, AllocError> {
     let found = findings(alloc, report)?;
-    let is_sound = missing.is_none() && !found.iter().any(|finding| finding.is_damage());
+    let is_sound = missing.is_none() && !any_is_damage(&found);
     let mut text = String::new(alloc);
-    text.push_str(if is_sound { "sound\n" } else { "damaged\n" })?;
-    push_head(alloc, &mut text, name, report)?;
+    let state = if is_sound { "sound" } else { "damaged" };
+    writeln!(text, "{name}: {state}")?;
     push_files(alloc, &mut text, report)?;
     push_missing(&mut text, missing)?;
     push_findings(alloc, &mut text, report, &found)?;

@@ -1,11 +1,9 @@
 //! What a store holds, as JSON.
 
-use crate::hidden::answers_of;
-use crate::report::{FileReport, OpenFile};
-use crate::store::{Current, Side, StoreReport};
 use crate::view::{ContentsView, ModuleView, NamedValue, ObjectView, ServiceView, StateView, view_of};
 use crate::wording::hex_text;
 use ash_host::Word;
+use ash_inspect::{Current, FileReport, OpenFile, Side, StoreReport, answers_of};
 use serde_json::{Value, json};
 use std::alloc::{AllocError, Global};
 
@@ -145,7 +143,7 @@ fn view_json(
     })
 }
 
-/// What a store holds, as the text of JSON.
+/// What a store holds, as the text of JSON, with a line feed at its end.
 pub fn show_json(alloc: Global, report: &StoreReport) -> Result<String, AllocError> {
     let first = file_json(alloc, report, Side::First)?;
     let second = file_json(alloc, report, Side::Second)?;
@@ -157,5 +155,7 @@ pub fn show_json(alloc: Global, report: &StoreReport) -> Result<String, AllocErr
         }
         None => json!(in alloc; {"files": files})?,
     };
-    value.to_string_pretty(alloc)
+    let mut text = value.to_string_pretty(alloc)?;
+    text.push_str("\n")?;
+    Ok(text)
 }

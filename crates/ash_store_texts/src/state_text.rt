@@ -1,10 +1,10 @@
 //! What a store holds, as text.
 
 use crate::files_text::{push_files, push_head};
-use crate::store::StoreReport;
 use crate::view::{ContentsView, ModuleView, NamedValue, ObjectView, ServiceView, StateView, view_of};
 use crate::wording::{Value, counted, grouped, hex_text};
 use ash_host::Word;
+use ash_inspect::StoreReport;
 use std::alloc::{AllocError, Global};
 
 /// How many elements or fields of an object are shown.

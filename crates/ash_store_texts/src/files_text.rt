@@ -1,10 +1,8 @@
 //! What the files of a store hold, a line for each.
 
-use crate::hidden::answers_of;
-use crate::report::{FileReport, OpenFile};
-use crate::store::{Current, Side, StoreReport};
 use crate::wording::counted;
 use ash_image::version::Version;
+use ash_inspect::{Current, FileReport, OpenFile, Side, StoreReport, answers_of};
 use std::alloc::{AllocError, Global};
 
 fn version_number(version: Version) -> u8 {
