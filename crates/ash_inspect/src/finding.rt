@@ -17,15 +17,26 @@ pub enum Finding {
     /// The image of the current file is cut short, or that of no state.
     NoImage(Side),
     /// The current file has a record that is damaged, after the gate at an offset.
-    BadRecord { side: Side, at: u64, is_cut: bool },
+    BadRecord {
+        side: Side,
+        at: u64,
+        is_cut: bool,
+    },
     /// Behind the last gate are several records that lead on.
     HiddenRecords(Side, Hidden),
     /// Behind the last gate is one record that leads on.
     UnfinishedRecord(Side, Hidden),
     /// Behind the first gate of a closed file is a newer generation, of more answers or with records.
-    HiddenGeneration { side: Side, generation: u64, answers: u64 },
+    HiddenGeneration {
+        side: Side,
+        generation: u64,
+        answers: u64,
+    },
     /// Behind the first gate of a closed file is the mark of the generation that is next.
-    UnfinishedGeneration { side: Side, generation: u64 },
+    UnfinishedGeneration {
+        side: Side,
+        generation: u64,
+    },
 }
 
 impl Finding {
@@ -122,13 +133,20 @@ fn add(findings: &mut Vec<Finding>, found: Option<Finding>) -> Result<(), AllocE
 }
 
 /// What is to be said of a store with a current file.
-fn add_current(findings: &mut Vec<Finding>, report: &StoreReport, side: Side) -> Result<(), AllocError> {
+fn add_current(
+    findings: &mut Vec<Finding>,
+    report: &StoreReport,
+    side: Side,
+) -> Result<(), AllocError> {
     add(findings, finding_in(side, report.file(side)))?;
     if let Some(hidden) = report.hidden {
         findings.push(hidden_finding(side, hidden))?;
     }
     if let FileReport::Open(open) = report.file(side) {
-        add(findings, closed_finding(side.other(), report.file(side.other()), open))?;
+        add(
+            findings,
+            closed_finding(side.other(), report.file(side.other()), open),
+        )?;
     }
     Ok(())
 }

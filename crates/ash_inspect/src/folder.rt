@@ -52,7 +52,9 @@ impl fmt::Display for FolderFault {
         match self {
             FolderFault::NoFolder => f.write_str("there is no such folder"),
             FolderFault::NotFolder => f.write_str("it is no folder"),
-            FolderFault::NoStore => f.write_str("the folder has neither ash.a nor ash.b: no store is in it"),
+            FolderFault::NoStore => f.write_str(
+                "the folder has neither ash.a nor ash.b: no store is in it",
+            ),
             FolderFault::NotRegular(side) => write!(f, "{side} is no regular file"),
             FolderFault::TooLong(side) => write!(f, "{side} is longer than any file of a store"),
             FolderFault::FolderFailed(error) => write!(f, "the folder can't be read: {error}"),

@@ -42,11 +42,13 @@ pub fn read_generation(alloc: Global, file: &[u8]) -> Result<Generation, FileFau
     let first = MemoryDisk::with_bytes(alloc, file)?;
     let second = MemoryDisk::new(alloc);
     match Journal::open(alloc, first, second) {
-        Ok(OpenedJournal {
-            journal,
-            image,
-            records,
-        }) => Ok(Generation {
+        Ok(
+            OpenedJournal {
+                journal,
+                image,
+                records,
+            },
+        ) => Ok(Generation {
             number: journal.generation(),
             image,
             records,

@@ -33,7 +33,11 @@ fn leading(open: &OpenFile) -> usize {
 }
 
 /// Whole records behind the gate after the last record of a file that is not damaged, if they lead on to more answers.
-pub fn hidden_in(alloc: Global, file: &[u8], open: &OpenFile) -> Result<Option<Hidden>, AllocError> {
+pub fn hidden_in(
+    alloc: Global,
+    file: &[u8],
+    open: &OpenFile,
+) -> Result<Option<Hidden>, AllocError> {
     let Some(gate) = file.get(open.end) else {
         return Ok(None);
     };

@@ -54,7 +54,9 @@ pub enum FileReport {
 /// The offset of the gate after the last record, or after the image if there is no record.
 fn end_of(generation: &Generation) -> usize {
     match generation.records.last() {
-        Some(last) => (last.gate as usize).saturating_add(5).saturating_add(last.body.len()),
+        Some(last) => (last.gate as usize)
+            .saturating_add(5)
+            .saturating_add(last.body.len()),
         None => generation.image.len().saturating_add(21),
     }
 }
@@ -80,7 +82,11 @@ fn damage_of(reading: &Reading, known: &Option<KnownState>) -> Option<Damage>
 fn open_file(alloc: Global, reading: Reading) -> Result<OpenFile, AllocError>
     ensures reported { IfOk result (λ o. IsReported o reading) }
 {
-    let known = last_known(alloc, &reading.generation.image, &reading.generation.records)?;
+    let known = last_known(
+        alloc,
+        &reading.generation.image,
+        &reading.generation.records,
+    )?;
     let damage = damage_of(&reading, &known);
     Ok(OpenFile {
         generation: reading.generation.number,

@@ -122,7 +122,11 @@ pub fn current_of(first: &[u8], second: &[u8]) -> Current
 }
 
 /// What lies behind the last gate of a file that is open and not damaged.
-fn hidden_behind(alloc: Global, file: &[u8], report: &FileReport) -> Result<Option<Hidden>, AllocError> {
+fn hidden_behind(
+    alloc: Global,
+    file: &[u8],
+    report: &FileReport,
+) -> Result<Option<Hidden>, AllocError> {
     match report {
         FileReport::Open(open) => match open.damage {
             None => hidden_in(alloc, file, open),

@@ -13,7 +13,12 @@ fn version_number(version: Version) -> u8 {
 }
 
 /// How many of a file's records lead to the state that is known, if not all do.
-fn push_records(alloc: Global, text: &mut String, open: &OpenFile, leading: usize) -> Result<(), AllocError> {
+fn push_records(
+    alloc: Global,
+    text: &mut String,
+    open: &OpenFile,
+    leading: usize,
+) -> Result<(), AllocError> {
     let records = counted(alloc, open.records as u64, "record")?;
     if leading < open.records {
         write!(text, "{leading} of {records}")?;
@@ -44,24 +49,51 @@ pub(crate) fn push_head(
     Ok(())
 }
 
+/// What an open file is to the store.
+fn role_of(current: Current, side: Side) -> &'static str {
+    match current {
+        Current::Is(of) if of == side => "current",
+        Current::Is(_) => "older, and not read",
+        Current::None | Current::Unclear => "open",
+    }
+}
+
 /// What an open file holds.
-fn push_open(alloc: Global, text: &mut String, open: &OpenFile, is_current: bool) -> Result<(), AllocError> {
+fn push_open(
+    alloc: Global,
+    text: &mut String,
+    open: &OpenFile,
+    role: &str,
+) -> Result<(), AllocError> {
     let generation = open.generation;
-    let role = if is_current { "current" } else { "older, and not read" };
     let answers = counted(alloc, answers_of(open), "answer")?;
     let records = counted(alloc, open.records as u64, "record")?;
-    let ending = if open.damage.is_some() { ", damaged" } else { "" };
-    write!(text, "generation {generation}, {role}, {records}, {answers}{ending}")?;
+    let ending = if open.damage.is_some() {
+        ", damaged"
+    } else {
+        ""
+    };
+    write!(
+        text,
+        "generation {generation}, {role}, {records}, {answers}{ending}"
+    )?;
     Ok(())
 }
 
 /// What a closed file holds.
-fn push_closed(alloc: Global, text: &mut String, behind: &Option<OpenFile>) -> Result<(), AllocError> {
+fn push_closed(
+    alloc: Global,
+    text: &mut String,
+    behind: &Option<OpenFile>,
+) -> Result<(), AllocError> {
     match behind {
         Some(open) => {
             let generation = open.generation;
             let answers = counted(alloc, answers_of(open), "answer")?;
-            write!(text, "closed; behind its first byte is generation {generation}, {answers}")?;
+            write!(
+                text,
+                "closed; behind its first byte is generation {generation}, {answers}"
+            )?;
         }
         None => text.push_str("closed")?,
     }
@@ -72,7 +104,7 @@ fn push_report(
     alloc: Global,
     text: &mut String,
     report: &FileReport,
-    is_current: bool,
+    role: &str,
 ) -> Result<(), AllocError> {
     match report {
         FileReport::Closed { behind } => push_closed(alloc, text, behind),
@@ -81,21 +113,35 @@ fn push_report(
             write!(text, "generation {generation}, its image is cut short")?;
             Ok(())
         }
-        FileReport::Open(open) => push_open(alloc, text, open, is_current),
+        FileReport::Open(open) => push_open(alloc, text, open, role),
     }
 }
 
 /// The line of one file.
-fn push_file(alloc: Global, text: &mut String, report: &StoreReport, side: Side) -> Result<(), AllocError> {
+fn push_file(
+    alloc: Global,
+    text: &mut String,
+    report: &StoreReport,
+    side: Side,
+) -> Result<(), AllocError> {
     write!(text, "  {side}: ")?;
-    push_report(alloc, text, report.file(side), report.current == Current::Is(side))?;
+    push_report(
+        alloc,
+        text,
+        report.file(side),
+        role_of(report.current, side),
+    )?;
     let bytes = counted(alloc, report.len(side) as u64, "byte")?;
     writeln!(text, ", {bytes}")?;
     Ok(())
 }
 
 /// A line for each file.
-pub(crate) fn push_files(alloc: Global, text: &mut String, report: &StoreReport) -> Result<(), AllocError> {
+pub(crate) fn push_files(
+    alloc: Global,
+    text: &mut String,
+    report: &StoreReport,
+) -> Result<(), AllocError> {
     push_file(alloc, text, report, Side::First)?;
     push_file(alloc, text, report, Side::Second)
 }

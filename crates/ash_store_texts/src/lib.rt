@@ -17,4 +17,4 @@ mod wording;
 
 pub use state_json::show_json;
 pub use state_text::show_text;
-pub use verdict::{Verdict, verify_text};
+pub use verdict::{Condition, Verdict, verify_text};

@@ -2,7 +2,9 @@
 
 use ash_lex::{LexFault, Token, lex};
 use ash_parse::{ParseFault, parse_module};
-use ash_tree::{Class, Element, ElementKind, Function, Item, Member, Module, Primitive, Type, TypeKind, Vars};
+use ash_tree::{
+    Class, Element, ElementKind, Function, Item, Member, Module, Primitive, Type, TypeKind, Vars,
+};
 use std::alloc::{AllocError, Global};
 use std::str;
 
@@ -161,6 +163,11 @@ pub fn declared_in(alloc: Global, source: &[u8]) -> Result<Declared, AllocError>
     match parse_module(alloc, &tokens) {
         Ok(module) => declared_by(alloc, &module),
         Err(ParseFault::NoMemory) => Err(AllocError),
-        Err(_) => declared_by(alloc, &Module { items: Vec::new(alloc) }),
+        Err(_) => declared_by(
+            alloc,
+            &Module {
+                items: Vec::new(alloc),
+            },
+        ),
     }
 }

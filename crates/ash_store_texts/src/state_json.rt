@@ -1,6 +1,8 @@
 //! What a store holds, as JSON.
 
-use crate::view::{ContentsView, ModuleView, NamedValue, ObjectView, ServiceView, StateView, view_of};
+use crate::view::{
+    ContentsView, ModuleView, NamedValue, ObjectView, ServiceView, StateView, view_of,
+};
 use crate::wording::hex_text;
 use ash_host::Word;
 use ash_inspect::{Current, FileReport, OpenFile, Side, StoreReport, answers_of};
@@ -116,7 +118,12 @@ fn file_json(alloc: Global, report: &StoreReport, side: Side) -> Result<Value, A
     let bytes = report.len(side) as u64;
     let is_current = report.current == Current::Is(side);
     match report.file(side) {
-        FileReport::Open(open) => open_json(alloc, open, if is_current { "current" } else { "older" }, bytes),
+        FileReport::Open(open) => open_json(
+            alloc,
+            open,
+            if is_current { "current" } else { "older" },
+            bytes,
+        ),
         FileReport::Closed { behind: Some(open) } => open_json(alloc, open, "closed", bytes),
         FileReport::Closed { behind: None } => json!(in alloc; {"is": "closed", "bytes": bytes}),
         FileReport::NoImage(generation) => {

@@ -1,7 +1,9 @@
 //! What a store holds, as text.
 
 use crate::files_text::{push_files, push_head};
-use crate::view::{ContentsView, ModuleView, NamedValue, ObjectView, ServiceView, StateView, view_of};
+use crate::view::{
+    ContentsView, ModuleView, NamedValue, ObjectView, ServiceView, StateView, view_of,
+};
 use crate::wording::{Value, counted, grouped, hex_text};
 use ash_host::Word;
 use ash_inspect::StoreReport;
@@ -50,8 +52,16 @@ fn push_module(alloc: Global, text: &mut String, module: &ModuleView) -> Result<
     push_functions(text, &module.functions)
 }
 
-fn push_modules(alloc: Global, text: &mut String, modules: &[ModuleView]) -> Result<(), AllocError> {
-    text.push_str(if modules.is_empty() { "modules: none\n" } else { "modules\n" })?;
+fn push_modules(
+    alloc: Global,
+    text: &mut String,
+    modules: &[ModuleView],
+) -> Result<(), AllocError> {
+    text.push_str(if modules.is_empty() {
+        "modules: none\n"
+    } else {
+        "modules\n"
+    })?;
     for module in modules {
         push_module(alloc, text, module)?;
     }
@@ -59,7 +69,12 @@ fn push_modules(alloc: Global, text: &mut String, modules: &[ModuleView]) -> Res
 }
 
 /// What is left out of a list of which some are shown.
-fn push_left_out(alloc: Global, text: &mut String, all: usize, shown: usize) -> Result<(), AllocError> {
+fn push_left_out(
+    alloc: Global,
+    text: &mut String,
+    all: usize,
+    shown: usize,
+) -> Result<(), AllocError> {
     if all > shown {
         let more = grouped(alloc, (all - shown) as u64)?;
         write!(text, " and {more} more")?;
@@ -97,7 +112,11 @@ fn push_state(alloc: Global, text: &mut String, state: &[u8]) -> Result<(), Allo
     Ok(())
 }
 
-fn push_contents(alloc: Global, text: &mut String, contents: &ContentsView) -> Result<(), AllocError> {
+fn push_contents(
+    alloc: Global,
+    text: &mut String,
+    contents: &ContentsView,
+) -> Result<(), AllocError> {
     match contents {
         ContentsView::Fields(fields) => {
             text.push_str(&counted(alloc, fields.len() as u64, "field")?)?;
@@ -120,16 +139,32 @@ fn push_object(alloc: Global, text: &mut String, object: &ObjectView) -> Result<
     text.push_str("\n")
 }
 
-fn push_objects(alloc: Global, text: &mut String, objects: &[ObjectView]) -> Result<(), AllocError> {
-    text.push_str(if objects.is_empty() { "objects: none\n" } else { "objects\n" })?;
+fn push_objects(
+    alloc: Global,
+    text: &mut String,
+    objects: &[ObjectView],
+) -> Result<(), AllocError> {
+    text.push_str(if objects.is_empty() {
+        "objects: none\n"
+    } else {
+        "objects\n"
+    })?;
     for object in objects {
         push_object(alloc, text, object)?;
     }
     Ok(())
 }
 
-fn push_services(alloc: Global, text: &mut String, services: &[ServiceView]) -> Result<(), AllocError> {
-    text.push_str(if services.is_empty() { "services: none\n" } else { "services\n" })?;
+fn push_services(
+    alloc: Global,
+    text: &mut String,
+    services: &[ServiceView],
+) -> Result<(), AllocError> {
+    text.push_str(if services.is_empty() {
+        "services: none\n"
+    } else {
+        "services\n"
+    })?;
     for service in services {
         let kind = service.kind;
         write!(text, "  kind {kind}, ")?;

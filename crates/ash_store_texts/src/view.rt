@@ -3,7 +3,9 @@
 use crate::handles::Handles;
 use crate::names::{Declared, Variable, declared_in};
 use ash_host::{ElementTag, Word};
-use ash_image::stored::{StoredArray, StoredBody, StoredHost, StoredModule, StoredObject, StoredScript, StoredState};
+use ash_image::stored::{
+    StoredArray, StoredBody, StoredHost, StoredModule, StoredObject, StoredScript, StoredState,
+};
 use std::alloc::{AllocError, Global};
 
 /// A value, with the name and the type of what holds it.
@@ -60,7 +62,11 @@ pub struct StateView {
 
 /// Words with the variables that hold them, in the same order. A word that no variable is known for has a number for
 /// its name.
-fn named_values(alloc: Global, variables: &[Variable], words: &[Word]) -> Result<Vec<NamedValue>, AllocError> {
+fn named_values(
+    alloc: Global,
+    variables: &[Variable],
+    words: &[Word],
+) -> Result<Vec<NamedValue>, AllocError> {
     let mut values = Vec::with_capacity(alloc, words.len())?;
     for (index, word) in words.iter().enumerate() {
         values.push(named_value(alloc, variables.get(index), index, *word)?)?;
@@ -108,7 +114,12 @@ fn name_in_line(line: &str, kind: u16) -> Option<&str> {
 }
 
 /// The name of a class or an interface, by its index in the source of a module.
-fn class_name(alloc: Global, declared: &[Declared], owner: u8, class: u16) -> Result<String, AllocError> {
+fn class_name(
+    alloc: Global,
+    declared: &[Declared],
+    owner: u8,
+    class: u16,
+) -> Result<String, AllocError> {
     match declared.get(owner as usize) {
         Some(module) => match module.types.get(class as usize) {
             Some(of) => of.name.clone(),
@@ -161,14 +172,22 @@ fn object_type(
     body: &StoredBody,
 ) -> Result<String, AllocError> {
     match body {
-        StoredBody::Script(StoredScript { owner, class, .. }) => class_name(alloc, declared, *owner, *class),
+        StoredBody::Script(StoredScript { owner, class, .. }) => class_name(
+            alloc, declared, *owner, *class,
+        ),
         StoredBody::Host(StoredHost { kind, .. }) => kind_name(alloc, registered, *kind),
-        StoredBody::Array(StoredArray { element, .. }) => array_name(alloc, registered, declared, *element),
+        StoredBody::Array(StoredArray { element, .. }) => array_name(
+            alloc, registered, declared, *element,
+        ),
     }
 }
 
 /// What an object holds, by its body.
-fn contents_view(alloc: Global, declared: &[Declared], body: &StoredBody) -> Result<ContentsView, AllocError> {
+fn contents_view(
+    alloc: Global,
+    declared: &[Declared],
+    body: &StoredBody,
+) -> Result<ContentsView, AllocError> {
     match body {
         StoredBody::Script(script) => {
             let fields = fields_of(declared, script.owner, script.class);
@@ -208,7 +227,11 @@ fn object_views(
 }
 
 /// A module, with what its source declares.
-fn module_view(alloc: Global, module: &StoredModule, declared: &Declared) -> Result<ModuleView, AllocError> {
+fn module_view(
+    alloc: Global,
+    module: &StoredModule,
+    declared: &Declared,
+) -> Result<ModuleView, AllocError> {
     let mut functions = Vec::with_capacity(alloc, declared.functions.len())?;
     for function in &declared.functions {
         functions.push(function.clone()?)?;

@@ -50,6 +50,8 @@ fn end<R: AllocGlobal + Eprint>(
     if files.missing.is_none() && !is_damaged(rt.alloc(), report)? {
         return Ok(Ending::Done);
     }
-    eprintln!(rt; "sibreult: {folder}: the store is damaged; `sibreult verify {folder}` prints where")?;
+    eprintln!(rt;
+        "sibreult: {folder}: the store is damaged; `sibreult verify {folder}` prints where"
+    )?;
     Ok(Ending::AtFault)
 }

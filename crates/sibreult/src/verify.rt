@@ -2,7 +2,7 @@
 
 use crate::ending::Ending;
 use ash_inspect::{inspect, read_store};
-use ash_store_texts::verify_text;
+use ash_store_texts::{Condition, verify_text};
 use std::fs::{File, Files};
 
 /// Looks for damage in the store in a folder, and prints what is found. It only reads, and takes no lock.
@@ -22,9 +22,9 @@ pub fn verify<R: Files<File = File> + AllocGlobal + Print + Eprint>(
     let verdict = verify_text(alloc, folder, &report, files.missing)?;
     let text = &verdict.text;
     print!(rt; "{text}")?;
-    if verdict.is_sound {
-        Ok(Ending::Done)
-    } else {
-        Ok(Ending::AtFault)
+    match verdict.condition {
+        Condition::Sound => Ok(Ending::Done),
+        Condition::Damaged => Ok(Ending::AtFault),
+        Condition::Empty => Ok(Ending::Impossible),
     }
 }
