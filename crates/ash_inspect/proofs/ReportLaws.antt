@@ -7,10 +7,12 @@ use Rattle.ash_journal.specs.Reading.{bodies_of}
 use Rattle.ash_journal.specs.declared.record.Record.{Record}
 use Rattle.ash_inspect.specs.declared.reading.Reading.{Reading}
 use Rattle.ash_inspect.specs.declared.report.OpenFile.{OpenFile}
+use Rattle.ash_inspect.specs.declared.report.FileReport.TheVariants as reports
 use Rattle.ash_inspect.specs.declared.known.KnownState.{KnownState}
 use Rattle.ash_inspect.specs.Files.{BeginsWith}
 use Rattle.ash_inspect.specs.Known.{IsKnown}
-use Rattle.ash_inspect.specs.Reports.{IsReported, IsSound, IsOpenFile, IsNewer}
+use Rattle.ash_inspect.specs.Reports.{IsReport, IsReported, IsSound, IsOpenFile, IsNewer}
+use Rattle.ash_inspect.proofs.FileLaws.{begins_marked}
 
 -- ---- an open file
 
@@ -43,6 +45,9 @@ open_is o r file begins whole is = record {
 
     counted : length bodies ≡ length r.generation.records.items
     counted = length-map r.generation.records.items (λ (q : Record). q.body.items)
+
+pub open_report : (o : OpenFile) (file : List ℕ) → IsOpenFile o file → IsReport (reports.Open o) file
+open_report o file is = (begins_marked o.generation is.image is.bodies file is.begins, is)
 
 -- ---- which file is current
 

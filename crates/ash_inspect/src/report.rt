@@ -124,7 +124,7 @@ fn closed_file(alloc: Global, file: &[u8]) -> Result<FileReport, AllocError>
 }
 
 /// What a file holds.
-#[tactic(auto, using(crate::proofs::FileLaws::begins_marked))]
+#[tactic(auto, using(crate::proofs::ReportLaws::open_report))]
 pub fn report_of(alloc: Global, file: &[u8]) -> Result<FileReport, AllocError>
     ensures report { IfOk result (λ r. IsReport r file.now) }
 {

@@ -243,7 +243,7 @@ fn push_last_good(
             )?;
             Ok(())
         }
-        None => text.push_str("  no good state is left\n"),
+        None => text.push_str("  as the files are, no state can be read\n"),
     }
 }
 
