@@ -82,22 +82,24 @@ fn push_left_out(
     Ok(())
 }
 
+/// What is written before an item of a list.
+fn separator(index: usize) -> &'static str {
+    if index == 0 { ": " } else { ", " }
+}
+
 fn push_fields(alloc: Global, text: &mut String, fields: &[NamedValue]) -> Result<(), AllocError> {
-    let mut separator = ": ";
-    for field in fields.iter().take(SHOWN_WORDS) {
-        text.push_str(separator)?;
+    for (index, field) in fields.iter().take(SHOWN_WORDS).enumerate() {
+        text.push_str(separator(index))?;
         push_value(text, field)?;
-        separator = ", ";
     }
     push_left_out(alloc, text, fields.len(), SHOWN_WORDS)
 }
 
 fn push_elements(alloc: Global, text: &mut String, elements: &[Word]) -> Result<(), AllocError> {
-    let mut separator = ": ";
-    for element in elements.iter().take(SHOWN_WORDS) {
+    for (index, element) in elements.iter().take(SHOWN_WORDS).enumerate() {
         let value = Value(*element);
-        write!(text, "{separator}{value}")?;
-        separator = ", ";
+        text.push_str(separator(index))?;
+        write!(text, "{value}")?;
     }
     push_left_out(alloc, text, elements.len(), SHOWN_WORDS)
 }
