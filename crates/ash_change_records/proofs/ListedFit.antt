@@ -1,5 +1,5 @@
 -- What is listed of a state that a host may be in has a spelling, if the names ascend.
-use Rattle.std.proofs.Common.{◌≡◌, ◌<◌, ◌≤◌, ◌^◌, ℕ, zero, suc, Bool, true, false, cond, not, List, [], ◌∷◌, length, map, filter, nat_eq, slice_get, refl, sym, ap, ◌∙◌, subst, arith, if◌then◌else◌}
+use Rattle.std.proofs.Common.{◌≡◌, ◌<◌, ◌≤◌, ◌^◌, ℕ, Bool, true, false, cond, not, List, [], ◌∷◌, length, map, filter, nat_eq, nat_lt, slice_get, refl, sym, ap, ◌∙◌, subst, arith, if◌then◌else◌}
 use Rattle.std.specs.Prelude.{Option, Some, None, IsSome, is_some, Ok, Contains, ◌||◌, ◌&&◌}
 use Rattle.std.specs.List.{AllByRecursion, IsDistinct, cons_option, list_all}
 use Rattle.std.specs.List.Sorted.{IsStrictlyIncreasing, IsStrictlySortedBy}
@@ -79,10 +79,12 @@ rising_rise ns h =
 abbrev CanHave : ℕ → Type 0
 CanHave n = (0 < n) × (n < 2 ^ 64)
 
+above_first : (n : ℕ) → 0 < n → nat_lt 0 n ≡ true
+above_first n h = grind (arith, nat_tests)
+
 above_none : (ns : List ℕ) → do_rise ns ≡ true → AllByRecursion CanHave ns → do_rise (0 ∷ ns) ≡ true
 above_none [] rise has = refl
-above_none (zero ∷ ns) rise has = absurd (omega (arith, (has.0).0))
-above_none (suc n ∷ ns) rise has = rise
+above_none (n ∷ ns) rise has = ap (λ (b : Bool). b && do_rise (n ∷ ns)) (above_first n (has.0).0) ∙ rise
 
 -- the numbers of what is listed
 
