@@ -81,7 +81,7 @@ module _ {B : Type 0} where
 
   -- an object that is listed has a mark, if each entry is what is found by its number
   pub marked_at : (table : Table B) (l : List (ℕ × Living B)) → AllByRecursion (λ (e : ℕ × Living B). object_at e.0 table.objects ≡ Some e.1) l
-      → (n : ℕ) → Contains (flagged l) n → IsMarked table n
+      → (n : ℕ) → Contains (keys_of (filter (λ (e : ℕ × Living B). (e.1).touched) l)) n → IsMarked table n
   marked_at table [] each n is = absurd (none_in n is)
   marked_at table (e ∷ l) each n is = go (e.1).touched refl (subst (λ (ns : List ℕ). Contains ns n) (cons_flagged e l) is) (marked_at table l each.1 n)
     where
