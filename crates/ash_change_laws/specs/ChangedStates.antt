@@ -1,10 +1,11 @@
 -- What a request changed, by names: the services that it called, what became of the modules, and the objects that it
 -- made, changed or took away. The names are all that the states before and after it differ in.
-use Rattle.std.specs.Prelude.{◌≡◌, ◌≢◌, ◌↔◌, ℕ, List, [], Contains, Some, None, length, slice_get}
+use Rattle.std.specs.Prelude.{◌≡◌, ◌≢◌, ◌↔◌, ◌⊎◌, ◌<◌, ℕ, List, [], Contains, Some, None, length, slice_get}
 use Rattle.ash_host.specs.declared.event.Event.{Event}
 use Rattle.ash_host.specs.declared.host_object.HostObject.{Ghosts}
 use Rattle.ash_host.specs.declared.word.Word.{Word}
-use Rattle.ash_host.specs.Objects.{object_at, Lives, AreNumbered}
+use Rattle.ash_host.specs.Objects.{Host, object_at, Lives, AreNumbered}
+use Rattle.ash_host.specs.Records.{HostRecord}
 use Rattle.ash_requests.specs.States.{LoadedModule, State, Hosts, Embedding, with_module, without_module, update_globals}
 use Rattle.ash_requests.specs.Requests.{Request}
 use Rattle.ash_requests.specs.Steps.{Step, step}
@@ -12,7 +13,7 @@ use Rattle.ash_requests.specs.StepLaws.{events_of_reply}
 use Rattle.ash_objects.specs.Table.{Table}
 use Rattle.ash_objects.specs.Marking.{marked_of}
 use Rattle.ash_object_ranks.specs.ShownTables.{SlotNames, objects_shown}
-use Rattle.ash_run_steps.specs.Following.{KeepsMarks}
+use Rattle.ash_run_steps.specs.Following.{HasAnswered, KeepsMarks}
 use Rattle.ash_change_laws.specs.UncalledServices.{IsCalled}
 use Rattle.ash_change_laws.specs.MarkedObjects.{IsSettled, KeepNames}
 
@@ -72,6 +73,14 @@ pub record Names (c : Changes) (happened : List Event) (before after : State) : 
   pub live : (number : ℕ) → Contains c.living number → Lives after.objects number
   pub went : (number : ℕ) → Contains c.gone number
       → Lives before.objects number × (object_at number after.objects ≡ None)
+
+-- No more is named as living than what changed, if hosts gave these answers: a host object only if it was made in the
+-- request or gave one of the answers, and none if a module was discarded, since no code runs then.
+pub record NamesNoMore (answers : List HostRecord) (before after : State) (c : Changes) : Type 0 where
+  pub hosts : (number kind : ℕ) (state : List ℕ) → Contains c.living number
+      → object_at number after.objects ≡ Some (Host kind state)
+      → (before.last < number) ⊎ HasAnswered answers number
+  pub discards : (name : List ℕ) → c.modules ≡ Discarded name → c.living ≡ []
 
 module _ {B : Type 0} where
   -- What a host has of a request besides its reply: tables before and after, whose marks were clear before, and which

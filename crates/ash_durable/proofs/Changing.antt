@@ -146,6 +146,7 @@ takes_at G b c request old reply new takes step = record {
   gave = step.gave;
   unchanged = step.unchanged;
   named = step.named;
+  no_more = step.no_more;
 }
 
 replies_at : {D B : Type 0} (device : Device D) (G : Ghosts B) (b c : ℕ) (request : Request)

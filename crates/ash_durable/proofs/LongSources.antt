@@ -96,6 +96,7 @@ takes_of_prefix G budget name prefix source old reply new e step = record {
   gave = step.gave;
   unchanged = step.unchanged;
   named = step.named;
+  no_more = step.no_more;
 }
 
 replies_of_prefix : {D B : Type 0} (device : Device D) (G : Ghosts B) (budget : ℕ) (name prefix source : List ℕ)

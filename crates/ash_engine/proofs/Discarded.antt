@@ -17,7 +17,10 @@ use Rattle.ash_object_ranks.specs.ShownTables.{objects_shown}
 use Rattle.ash_run_steps.specs.Becoming.{Gave}
 use Rattle.ash_run_steps.specs.Ranks.{rank_test}
 use Rattle.ash_run_steps.specs.RunStates.{Names, HoldsRoots, times}
+use Rattle.ash_run_steps.proofs.Bare.{marked_bare}
 use Rattle.ash_run_steps.proofs.Roots.{times_append}
+use Rattle.ash_run_steps.proofs.Swept.{marked_swept}
+use Rattle.ash_change_laws.proofs.MarkedObjects.{none_marked}
 use Rattle.ash_requests.specs.declared.step_error.StepError.{StepError}
 use Rattle.ash_requests.specs.declared.step_error.StepError.TheVariants as errors
 use Rattle.ash_requests.specs.RequestViews.{reply_seen}
@@ -244,6 +247,9 @@ module _ {B : Type 0} (G : Ghosts B) (registered : List Registration) (live : Li
             left = refl {A = List LoadedModule};
           };
           listable = one_name (loaded_seen m).name ∙ rec_at HasValidName seen place (loaded_seen m) ((is_live.admitted).formed).valid seen_at;
+          discards = λ name is number marked. none_marked live.table is_live.settled number
+              (marked_bare live.table (gone.released).unheld (gone.released).less.same number
+              (marked_swept (gone.released).unheld before.table ((gone.released).swept).collected number marked));
           names = names_of live;
           shown_before = refl;
           same_names = same_names;

@@ -290,12 +290,20 @@ module _ {B : Type 0} (G : Ghosts B) (live : Live B) (call : Invocation) (asked 
         modules_change (changes.Loaded place) never = absurd never
         modules_change (changes.Discarded name) never = absurd never
 
+        none_discarded : (change : ModuleChange) → IsChangeOf call.module m.globals.items left.parts.globals.items change
+            → (name : List ℕ) → change_seen change ≡ named.Discarded name → ⊥
+        none_discarded changes.Unchanged none name is = cc
+        none_discarded (changes.Globals globals) are name is = cc
+        none_discarded (changes.Loaded place) never name is = never
+        none_discarded (changes.Discarded other) never name is = never
+
         has : HasNames G live new left.parts.events.items changed_modules slots left.parts.table
         has = record {
           change = after.change;
           taken_so = after.taken_so;
           change_is = (modules_change after.change after.is_change).0;
           listable = (modules_change after.change after.is_change).1;
+          discards = λ name is number marked. none_discarded after.change after.is_change name is;
           names = names_of live;
           shown_before = refl;
           same_names = λ number. ap (λ (names : SlotNames). object_at number (objects_shown G names left.parts.table.objects))

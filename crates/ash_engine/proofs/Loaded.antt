@@ -249,6 +249,7 @@ module _ {B : Type 0} (G : Ghosts B) (registered : List Registration) (request :
         kept_has = record {
           change = changed.Loaded place;
           listable = tt;
+          discards = λ name is number marked. cc;
           taken_so = subst (λ (t : Table B). AreTaken left.parts.events.items (changed.Loaded place) t one.live.changes)
               kept.table answered.taken;
           change_is = (loaded_seen kept_module, sym kept_at, refl {A = List LoadedModule});
@@ -339,6 +340,7 @@ module _ {B : Type 0} (G : Ghosts B) (registered : List Registration) (request :
           taken_so = answered.taken;
           change_is = refl {A = List LoadedModule};
           listable = tt;
+          discards = λ name is number marked. cc;
           names = names_in seen slots;
           shown_before = refl;
           same_names = λ number. refl;
