@@ -11,11 +11,12 @@ use Rattle.ash_requests.specs.declared.step_error.StepError.{StepError}
 use Rattle.ash_requests.specs.declared.step_error.StepError.TheVariants as errors
 use Rattle.ash_requests.specs.RequestViews.{refusal_seen, reply_seen}
 use Rattle.ash_requests.specs.TaskResults.{TaskChangesState}
+use Rattle.ash_requests.specs.Tasks.{Initialize, Invoke, Remove, Read, Show, Count, Rewrite, TaskResult}
 use Rattle.ash_sources.specs.declared.fault.SourceFault as code_fault
 use Rattle.ash_sources.specs.SourceFaults.{SourceFault, fault_of}
 use Rattle.ash_registry.specs.AcceptedRegistrations.{Registration}
 use Rattle.ash_states.specs.HostStates.{HostState}
-use Rattle.ash_states.specs.StateSteps.{task_of, FailsInChange}
+use Rattle.ash_states.specs.StateSteps.{task_of, FailsInChange, TaskRunsCode}
 use Rattle.ash_engine.specs.LiveStates.{LiveState, EngineState}
 use Rattle.ash_engine.specs.LiveSteps.{LiveSteps, Handled}
 use Rattle.ash_durable.specs.Saving.{HostRefusal}
@@ -99,10 +100,21 @@ found_live {D} {B} found = subst (λ (l : Option (LiveState B)). IsSome l) (sym 
 
 -- ---- a request that is handled once room was made
 
+-- what runs code changes the state
+runs_changes : (d : TaskResult SourceFault) → TaskRunsCode d → TaskChangesState d
+runs_changes (Ok (Initialize name source tree)) runs = tt
+runs_changes (Ok (Invoke loaded tree function args)) runs = tt
+runs_changes (Ok (Remove name)) runs = tt
+runs_changes (Ok (Read word)) runs = runs
+runs_changes (Ok (Show shown)) runs = runs
+runs_changes (Ok Count) runs = runs
+runs_changes (Ok Rewrite) runs = runs
+runs_changes (Err refusal) runs = runs
+
 -- a request that has no end changes the state
 pub no_end_changes : (request : Request) (state : HostState) (error : StepError)
     → FailsInChange request state error → TaskChangesState (task_of request state)
-no_end_changes request state errors.NoMemory no_end = no_end
+no_end_changes request state errors.NoMemory no_end = runs_changes (task_of request state) no_end
 no_end_changes request state errors.NoStep no_end = absurd no_end
 
 -- where there is a reply, there is a live state after it

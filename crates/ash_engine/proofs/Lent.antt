@@ -28,7 +28,6 @@ use Rattle.ash_requests.specs.declared.step_error.StepError.TheVariants as error
 use Rattle.ash_requests.specs.Requests.{Reply, Answered, Refused, NoMemory}
 use Rattle.ash_requests.specs.RequestViews.{reply_seen}
 use Rattle.ash_requests.specs.States.{LoadedModule, Embedding, globals_of, without_module, update_globals}
-use Rattle.ash_requests.specs.TaskResults.{TaskChangesState}
 use Rattle.ash_requests.specs.Tasks.{Task, TaskResult, Invoke, max_seq}
 use Rattle.ash_soundness.specs.WellFormedStates.{IsLoaded}
 use Rattle.ash_soundness.proofs.Asked.{IsTask, calls, task_is}
@@ -44,7 +43,7 @@ use Rattle.ash_plain_steps.specs.StateViews.{loaded_seen, modules_seen}
 use Rattle.ash_plain_steps.specs.Consistency.{AreConsistent}
 use Rattle.ash_plain_steps.proofs.Changed.{removed_there, seen_set, consistent_set, set_again, got_set}
 use Rattle.ash_states.specs.HostStates.{HostState, IsAdmitted, embedding_for}
-use Rattle.ash_states.specs.StateSteps.{task_of, FailsInChange}
+use Rattle.ash_states.specs.StateSteps.{task_of, FailsInChange, TaskRunsCode}
 use Rattle.ash_table_states.specs.TableStates.{state_shown}
 use Rattle.ash_engine.specs.declared.live.Compiled.{Compiled}
 use Rattle.ash_engine.specs.declared.live.Live.{Live}
@@ -116,8 +115,8 @@ module _ {B : Type 0} (G : Ghosts B) (live : Live B) (call : Invocation)
     task_found : task_of asked.request durable ≡ Ok the_task
     task_found = asked.is ∙ ap (λ (t : Task). Ok t) (sym one)
 
-    changes : TaskChangesState (task_of asked.request durable)
-    changes = subst (λ (d : TaskResult SourceFault). TaskChangesState d) (sym task_found) tt
+    runs : TaskRunsCode (task_of asked.request durable)
+    runs = subst (λ (d : TaskResult SourceFault). TaskRunsCode d) (sym task_found) tt
 
     -- what the code needs before the run
 
@@ -385,7 +384,7 @@ module _ {B : Type 0} (G : Ghosts B) (live : Live B) (call : Invocation)
             → IfErr result (λ error. error ≡ errors.NoMemory)
             → IsStepOf G registered budget asked.request live result
         call_stepped (Err error) o is answered refused lost never memory =
-            subst (FailsInChange asked.request durable) (sym memory) changes
+            subst (FailsInChange asked.request durable) (sym memory) runs
         call_stepped (Ok step) (Ok outcome) is answered refused lost never memory =
             let found = answered outcome is in
             answers found.0 found.2 outcome step found.1 is found.3 found.4

@@ -101,7 +101,7 @@ module _ {B : Type 0} where
       → IsReached (reached_by new)
 
   -- What the code gives for a request. Where it gives an error, the live state is lost: the request is not refused, it
-  -- changes the state, and memory was refused while it did.
+  -- runs code, and memory was refused while it ran or after that.
   abbrev pub Handled : Ghosts B → ℕ → Request → LiveState B
       → Result (code_reply.Reply code_fault.SourceFault) StepError → Option (LiveState B) → Type 0
   Handled G budget request old (Ok reply) (Some new) =

@@ -93,8 +93,8 @@ fn sort_places(places: &mut Vec<u16>)
     places.dedup();
 }
 
-// Sorts numbers, and keeps each once.
-fn sort_numbers(numbers: &mut Vec<u64>)
+/// Sorts numbers, and keeps each once.
+pub(crate) fn sort_numbers(numbers: &mut Vec<u64>)
     ensures rise { IsStrictlyIncreasing numbers.new.items }
     ensures same { (number : ℕ) → Contains numbers.new.items number ↔ Contains numbers.old.items number }
 {

@@ -1,7 +1,7 @@
 //! Runs of functions that are called from outside.
 
 ghost use Rattle.std.specs.Prelude.{◌≡◌, ◌<◌, ◌≤◌, ◌+◌, ◌++◌, ℕ, List, [], All, IsTrue, set, length, map, slice_get};
-ghost use Rattle.std.specs.Prelude.{Some, Ok, Err, IfOk, IfErr, OnOk};
+ghost use Rattle.std.specs.Prelude.{Some, Ok, Err, IfOk, IfErr, OnErr, OnOk};
 ghost use Rattle.std.specs.List.{remove};
 ghost use Rattle.ash_host.specs.Objects.{handles};
 ghost use Rattle.ash_typed.specs.Modules.{module_of};
@@ -247,6 +247,8 @@ fn finish_call<B: HostObject>(
         → left.outcome ≡ Err faults.NotBegun
         → IfOk result (λ one. (reply_seen fault_of one.reply ≡ Refused NoMemoryRefusal)
         × IsGivenBack rest place m left.parts one.live) }
+    // The state is lost only if the run had begun.
+    ensures begun { OnErr result (left.outcome ≡ Err faults.NotBegun → ⊥) }
     ensures lost { left.outcome ≡ Err faults.NoMemory → IfOk result (λ one. ⊥) }
     ensures never { left.outcome ≡ Err faults.Unsound → IfOk result (λ one. ⊥) }
     ensures memory { IfErr result (λ error. error ≡ StepError.NoMemory) }
@@ -264,8 +266,9 @@ fn finish_call<B: HostObject>(
             let (live, _) = give_back(rest, place, parts);
             Ok(without_memory(live))
         }
+        Err(RunFault::NoMemory) => Err(StepError::NoMemory),
         // The code of a module that is loaded is never unsound.
-        Err(RunFault::NoMemory) | Err(RunFault::Unsound) => Err(StepError::NoMemory),
+        Err(RunFault::Unsound) => Err(StepError::NoMemory),
     }
 }
 
