@@ -69,11 +69,11 @@ batch_leads device G budget requests live replies after steps stored body is_bod
       registered = batch_registered G budget requests live replies after steps;
       leads = elim is_body [
         | inl changed ↦ inr (inr (record {
-            in_two = refl;
-            changes = map delta_named (answered_in steps);
-            is_body = changed.1;
-            lead = chained;
-          }))
+          in_two = refl;
+          changes = map delta_named (answered_in steps);
+          is_body = changed.1;
+          lead = chained;
+        }))
         | inr whole ↦ inl whole.1
       ];
     }

@@ -18,6 +18,7 @@ use Rattle.ash_image.specs.declared.version.Version.TheVariants.{Two}
 use Rattle.ash_image.specs.Delta.{Delta, delta, FitsDelta}
 use Rattle.ash_image.specs.Deltas.{deltas_tag, FitDeltas}
 use Rattle.ash_states.specs.HostStates.{HostState, IsAdmitted}
+use Rattle.ash_states.specs.Images.{IsBodyIn}
 use Rattle.ash_states.specs.StateSteps.{FailsInChange}
 use Rattle.ash_engine.specs.LiveStates.{LiveState, EngineState, AreOf}
 use Rattle.ash_engine.specs.LiveSteps.{LiveSteps, Handled, TakesStep, IsNoAnswer, IsReached, reached_by}
@@ -261,6 +262,17 @@ module _ {B : Type 0} (G : Ghosts B) (budget : ℕ) (request : Request) (known l
       let some = some_live known has in
       let after = handled_ok G budget request some.0 given later (handled some.0 some.1) in
       not_done G budget request some.0 after.0 (reply_seen fault_of given) other after.2
+
+-- ---- the body of the record
+
+-- the changes, if they are not too long for a record
+pub fitted_kept : (state : HostState) (body : List ℕ) → length body < length_limit → IsFitted state body body
+fitted_kept state body short = inl (short, refl)
+
+-- else the image of the state
+pub fitted_whole : (state : HostState) (old new : List ℕ) → length_limit ≤ length old → IsBodyIn Two new state
+    → length new < length_limit → IsFitted state old new
+fitted_whole state old new long is_body short = inr (long, is_body, short)
 
 -- ---- the whole batch
 

@@ -1,5 +1,5 @@
 -- The answers of calls of a host are kept, whenever a crash comes.
-use Rattle.std.proofs.Common.{◌≡◌, inl, inr, ℕ, List, [], ◌∷◌, Some, None, refl, sym, ◌∙◌, subst}
+use Rattle.std.proofs.Common.{◌≡◌, inl, inr, ℕ, List, [], ◌∷◌, ◌++◌, Some, None, refl, sym, ◌∙◌, subst}
 use Rattle.std.specs.Bool.{IsTrue}
 use Rattle.ash_disk.specs.Device.{Device}
 use Rattle.ash_host.specs.declared.host_object.HostObject.{Ghosts}
@@ -22,7 +22,7 @@ module _ {D B : Type 0} (device : Device D) (G : Ghosts B) (stays : (disk : D) �
     -- nothing is in doubt where the call did nothing
     crashed_between : (call : HostCall) (new : Hosted D B) → new ≡ old
         → OutlivesCrashes device G budget start events call old new
-    crashed_between call new same a b crash =
+    crashed_between call new same = λ a b crash.
         let there = subst (λ (host : Hosted D B). Crashed device (device.clock (first old)) (device.clock (second old))
         (first host) (second host) a b) same crash in
         let on = CrashedBetween events (UnderHost old) a b life there in
@@ -59,9 +59,9 @@ module _ {D B : Type 0} (device : Device D) (G : Ghosts B) (stays : (disk : D) �
 
   pub keeps_answers : (old : Hosted D B) (calls : List HostCall) (results : List HostResult) (new : Hosted D B)
       → HandlesCalls device G budget old calls results new → KeepsAnswers device G budget old calls results new
-  keeps_answers old [] [] new all start events life =
+  keeps_answers old [] [] new all = λ start events life.
       (all, outlives device G stays start events (UnderHost old) life)
-  keeps_answers old (call ∷ calls) (result ∷ results) new all start events life =
+  keeps_answers old (call ∷ calls) (result ∷ results) new all = λ start events life.
       let one = call_once device G budget start call events old result all.0 life all.1 in (
         outlives device G stays start events (UnderHost old) life,
         (
@@ -69,8 +69,8 @@ module _ {D B : Type 0} (device : Device D) (G : Ghosts B) (stays : (disk : D) �
           one.0,
           one.2,
           crashes start events old life call result all.0 all.1,
-          keeps_answers all.0 calls results new all.2 start _ one.1,
+          keeps_answers all.0 calls results new all.2 start (one.0 ++ events) one.1,
         ),
       )
-  keeps_answers old [] (result ∷ results) new all start events life = absurd all
-  keeps_answers old (call ∷ calls) [] new all start events life = absurd all
+  keeps_answers old [] (result ∷ results) new all = absurd all
+  keeps_answers old (call ∷ calls) [] new all = absurd all

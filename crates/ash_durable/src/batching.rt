@@ -197,6 +197,7 @@ impl BatchRun {
     }
 
     /// If what was changed is too long for a record, the body has the image of the state in its place.
+    #[tactic(auto, using(crate::proofs::BatchRunLaws::fitted_kept, crate::proofs::BatchRunLaws::fitted_whole))]
     fn fit<B: HostObject>(&mut self, engine: &Engine<B>) -> Result<(), BatchStop>
         requires live { IsSome engine.now.live }
         ensures replies { self.new.replies ≡ self.old.replies }

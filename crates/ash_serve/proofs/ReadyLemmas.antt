@@ -1,19 +1,19 @@
 -- A whole command lies at the front of bytes with a line feed that begin neither with a load nor with a batch.
 use Rattle.std.proofs.Common.{◌≡◌, ℕ, ◌==◌, Bool, true, false, if◌then◌else◌, List, [], ◌∷◌, ◌++◌, length, codes, refl, sym}
-use Rattle.std.proofs.Common.{ap, ◌∙◌, subst, Option, Some, None, option_map, nat_lt, append_assoc, not}
+use Rattle.std.proofs.Common.{ap, ◌∙◌, subst, Option, Some, None, nat_eq, nat_lt, append_assoc, not, ◌||◌, arith}
+use Rattle.std.specs.Prelude.{option_map}
 use Rattle.std.proofs.lemmas.Bool.Decides.{nat_tests}
 use Rattle.std.proofs.lemmas.Slice.Eq.{bytes_eq-Decides}
-use Rattle.std.proofs.lemmas.Grind.{common_steps}
 use Rattle.std.specs.List.{list_all, list_any, starts_with}
-use Rattle.std.specs.Prelude.{nat_eq}
 use Rattle.std.specs.Str.{bytes_eq}
 use Rattle.ash_lines.specs.Lines.{ParsedLine, Complete, LoadHeader, BatchHeader, Command, Single, Whole, RequestLine, LineTooLong}
-use Rattle.ash_lines.specs.Lines.{Line, HostRequest, Quit, pieces, onto, is_word, cut_line, on_line, after_line, next_line, next}
+use Rattle.ash_lines.specs.Lines.{Line, HostRequest, Quit, pieces, onto, is_word, cut_line, on_line, after_line, next_line, command_at, next}
 use Rattle.ash_lines.specs.Lines.{parse_load, parse_call, parse_discard, parse_get, parse_object, parse_lone, parse_batch}
 use Rattle.ash_lines.specs.Lines.{parse_verb, parse_words, parse_line, call_request, object_request, arguments_of}
 use Rattle.ash_lines.specs.Lines.{object_number_of, max_line_bytes}
 use Rattle.ash_lines.proofs.LineLemmas.{pieces-space, pieces-other}
-use Rattle.ash_lines.proofs.WordLemmas.{is_none_left, pieces-left}
+use Rattle.ash_lines.specs.LineWords.{is_none_left}
+use Rattle.ash_lines.proofs.WordLemmas.{pieces-left}
 use Rattle.ash_requests.specs.Requests.{Seq, Snapshot}
 use Rattle.ash_requests.specs.declared.argument.Arg.{Arg}
 use Rattle.ash_serve.specs.Serving.{HasCommand}
@@ -38,12 +38,12 @@ joined-blank (part ∷ parts) e = refl
 
 joined-at : (byte : ℕ) (more : List ℕ) (test : Bool) → (byte == 32) ≡ test → joined (pieces more) ≡ more → joined (pieces (byte ∷ more)) ≡ byte ∷ more
 joined-at byte more true e h =
-    let space : byte ≡ 32 = grind (nat_tests, e) in
+    let space : byte ≡ 32 = grind (arith, nat_tests, e) in
     ap joined (pieces-space byte more e) ∙ (joined-blank (pieces more) (pieces-left more) ∙ (ap (λ (x : List ℕ). 32 ∷ x) h ∙ ap (λ (x : ℕ). x ∷ more) (sym space)))
 joined-at byte more false e h = ap joined (pieces-other byte more e) ∙ (joined-onto byte (pieces more) ∙ ap (λ (x : List ℕ). byte ∷ x) h)
 
 joined-pieces : (line : List ℕ) → joined (pieces line) ≡ line
-unfolding pieces, joined
+unfolding pieces joined
 joined-pieces [] = refl
 joined-pieces (byte ∷ more) = joined-at byte more (byte == 32) refl (joined-pieces more)
 
@@ -101,7 +101,7 @@ unfolding joined
 begins-blank bytes verb word words w = (joined (word ∷ words) ++ 10 ∷ w.0, w.1 ∙ append_assoc verb (32 ∷ joined (word ∷ words)) (10 ∷ w.0))
 
 same-verb : (verb name : List ℕ) → bytes_eq verb name ≡ true → verb ≡ name
-same-verb verb name e = grind (bytes_eq-Decides, e)
+same-verb verb name e = (bytes_eq-Decides verb name).0 e
 
 starts-load : (bytes more : List ℕ) → bytes ≡ codes "load" ++ 32 ∷ more → starts_with nat_eq bytes (codes "load ") ≡ true
 starts-load bytes more e = rw e refl
@@ -153,14 +153,18 @@ IsCut bytes (Some (line, more)) = bytes ≡ line ++ 10 ∷ more
 
 cut-onto : (byte : ℕ) (bytes : List ℕ) (cut : Option (List ℕ × List ℕ)) → IsCut bytes cut → IsCut (byte ∷ bytes) (option_map (λ cut. (byte ∷ cut.0, cut.1)) cut)
 cut-onto byte bytes None h = absurd h
-cut-onto byte bytes (Some cut) h = ap (λ (x : List ℕ). byte ∷ x) h
+cut-onto byte bytes (Some (line, more)) h = ap (λ (x : List ℕ). byte ∷ x) h
 
 cut-at : (byte : ℕ) (more : List ℕ) (test : Bool) → (byte == 10) ≡ test → (test ≡ false → IsCut more (cut_line more)) → IsCut (byte ∷ more) (if test then Some ([], more) else option_map (λ cut. (byte ∷ cut.0, cut.1)) (cut_line more))
-cut-at byte more true e h = let f : byte ≡ 10 = grind (nat_tests, e) in rw f refl
+cut-at byte more true e h = let f : byte ≡ 10 = grind (arith, nat_tests, e) in rw f refl
 cut-at byte more false e h = cut-onto byte more (cut_line more) (h refl)
 
+any-other : (first other : Bool) → (first || other) ≡ true → first ≡ false → other ≡ true
+any-other true other h e = absurd (let q : true ≡ false = e in cc)
+any-other false other h e = h
+
 any-rest : (byte : ℕ) (more : List ℕ) → list_any (λ y. nat_eq y 10) (byte ∷ more) ≡ true → (byte == 10) ≡ false → list_any (λ y. nat_eq y 10) more ≡ true
-any-rest byte more h e = grind (common_steps, h, e)
+any-rest byte more h e = any-other (byte == 10) (list_any (λ y. nat_eq y 10) more) h e
 
 cut-line : (bytes : List ℕ) → list_any (λ y. nat_eq y 10) bytes ≡ true → IsCut bytes (cut_line bytes)
 unfolding cut_line
@@ -169,13 +173,13 @@ cut-line (byte ∷ more) h = cut-at byte more (byte == 10) refl (λ e. cut-line 
 
 has-complete : (parsed : ParsedLine) (more : List ℕ) (bytes : List ℕ) → IsComplete parsed → next_line bytes ≡ after_line parsed more → HasCommand bytes
 unfolding next
-has-complete (Complete line) more bytes c e = (Single line, more, rw e refl)
+has-complete (Complete line) more bytes c e = (Single line, more, ap command_at e)
 has-complete (LoadHeader name length) more bytes c e = absurd c
 has-complete (BatchHeader count) more bytes c e = absurd c
 
 has-line : (bytes line more : List ℕ) (long : Bool) → IsComplete (parse_line line) → next_line bytes ≡ (if long then Whole (RequestLine LineTooLong) more else after_line (parse_line line) more) → HasCommand bytes
 unfolding next
-has-line bytes line more true c e = (Single LineTooLong, more, rw e refl)
+has-line bytes line more true c e = (Single LineTooLong, more, ap command_at e)
 has-line bytes line more false c e = has-complete (parse_line line) more bytes c e
 
 has-cut : (bytes : List ℕ) (cut : Option (List ℕ × List ℕ)) → starts_with nat_eq bytes (codes "load ") ≡ false → starts_with nat_eq bytes (codes "batch ") ≡ false → IsCut bytes cut → next_line bytes ≡ on_line cut → HasCommand bytes

@@ -181,7 +181,7 @@ run_ends remaining contents host before after input (Err faults.Write) e a n roo
       part.0,
       part.1,
       text-more log.replies f.reply ∙ part.2,
-      rw (last-more log.replies f.reply) part.3,
+      subst (λ (text : List ℕ). length part.1 ≤ max_buffered_bytes + length text) (sym (last-more log.replies f.reply)) part.3,
       part.4,
       inr (log.commands, f.command, refl, gone.on),
     )

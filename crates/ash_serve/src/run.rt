@@ -35,7 +35,7 @@ pub(crate) const MAX_BUFFERED_BYTES: usize = 8192;
 /// it is read; no other memory is taken. After any of these nothing of an unfinished batch is handled. However it
 /// ends, the files of a host that runs hold its state afterwards, if they did before, and every life of its store goes
 /// on: each request of which a byte of the answer was written is in every image that a crash may leave.
-#[tactic(auto, using(crate::proofs::DefinedLemmas::replies_run, crate::proofs::DefinedLemmas::replies_live, crate::proofs::DefinedLemmas::replies_kept))]
+#[tactic(auto, using(crate::proofs::DefinedLemmas::replies_run, crate::proofs::DefinedLemmas::replies_live))]
 pub fn run<D: Disk, B: HostObject, R: Read + Drop, W: Write>(
     alloc: Global,
     reader: R,

@@ -77,12 +77,14 @@ returns-clause-runs g c live is =
     c.in_ok-fit.ensures.answered _ (λ bs same. ap (λ (ys : List ℕ). slice_set ys 1 c.loop-request.run.answered) same)
     c.in_ok-fit.ensures.fitted
 
-pub fit-requires-clause-live : goal.fit-requires-clause-live
-fit-requires-clause-live g c =
+pub fit-requires : goal.fit-requires
+fit-requires g c =
     let some = some_live c.args.engine.now.live c.requires.live in
     let i = c.loop-request.request-index in
-    run_has g.B.HostObject c.args.budget (map batch_request_seen (take i c.args.requests.now)) some.0
-    c.loop-request.run c.loop-request.engine (c.loop-request.invariant.runs some.0 some.1)
+    record {
+      live = run_has g.B.HostObject c.args.budget (map batch_request_seen (take i c.args.requests.now)) some.0
+          c.loop-request.run c.loop-request.engine (c.loop-request.invariant.runs some.0 some.1);
+    }
 
 pub returns-in_err-fit-clause-runs : goal.returns-in_err-fit-clause-runs
 returns-in_err-fit-clause-runs g c live is =

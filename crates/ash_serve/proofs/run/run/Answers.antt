@@ -30,3 +30,9 @@ returns-clause-lives g c = λ commands replies answered. replies_live g.D.Disk g
 
 pub returns-clause-kept : goal.returns-clause-kept
 returns-clause-kept g c = λ commands replies answered. replies_kept g.D.Disk g.B.HostObject g.met.D.Disk.seen_may_stay c.args.budget c.args.host.now commands replies c.serve-result.new.host answered
+
+pub returns-in_err-input-clause-kept : goal.returns-in_err-input-clause-kept
+returns-in_err-input-clause-kept g c = λ commands replies answered. replies_kept g.D.Disk g.B.HostObject g.met.D.Disk.seen_may_stay c.args.budget c.args.host.now commands replies c.args.host.now answered
+
+pub returns-in_err-buffer-clause-kept : goal.returns-in_err-buffer-clause-kept
+returns-in_err-buffer-clause-kept g c = λ commands replies answered. replies_kept g.D.Disk g.B.HostObject g.met.D.Disk.seen_may_stay c.args.budget c.args.host.now commands replies c.args.host.now answered
