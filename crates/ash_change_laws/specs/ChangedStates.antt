@@ -36,20 +36,28 @@ pub record Changes : Type 0 where
 abbrev pub nothing : Changes
 nothing = record { services = []; modules = Unchanged; living = []; gone = [] }
 
--- The globals of a module hold other words at these places, and at no others.
+-- The globals of a module hold other words at these places, of which there are some, and at no others.
 pub record HoldOthers (name places : List ℕ) (before after : List LoadedModule) : Type 0 where
   pub was : LoadedModule
   pub words : List Word
   pub named : was.name ≡ name
   pub many : length words ≡ length was.globals
+  pub some : places ≢ []
   pub others : (place : ℕ) → Contains places place ↔ (slice_get words place ≢ slice_get was.globals place)
   pub there : Contains before was
   pub changed : after ≡ update_globals name words before
 
+-- A module was there, and the others are left.
+pub record IsDiscarded (name : List ℕ) (before after : List LoadedModule) : Type 0 where
+  pub was : LoadedModule
+  pub named : was.name ≡ name
+  pub there : Contains before was
+  pub left : after ≡ without_module name before
+
 abbrev pub IsModuleChange : ModuleChange → List LoadedModule → List LoadedModule → Type 0
 IsModuleChange Unchanged before after = after ≡ before
 IsModuleChange (Loaded name) before after = (m : LoadedModule) × (m.name ≡ name) × (after ≡ with_module m before)
-IsModuleChange (Discarded name) before after = after ≡ without_module name before
+IsModuleChange (Discarded name) before after = IsDiscarded name before after
 IsModuleChange (Globals name places) before after = HoldOthers name places before after
 
 -- The names are all that differs between two states, and no more than these events, this change of the modules and the

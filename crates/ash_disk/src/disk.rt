@@ -6,9 +6,9 @@ ghost use Rattle.ash_disk.specs.Moments.{HoldsDuring};
 
 use crate::DeviceFailed;
 
-/// A file of bytes on a device. A caller reads within the length, and begins a write at most at the end: other
-/// calls are safe, and nothing is promised of them. What is promised of bytes and images holds of honest disks
-/// alone, and no disk becomes honest or ceases to be.
+/// A file of bytes on a device. A caller reads within the length of an honest disk, and must show it. It begins a write
+/// at most at the end: other writes are safe, and nothing is promised of them. What is promised of bytes and images
+/// holds of honest disks alone, and no disk becomes honest or ceases to be.
 ///
 /// Between two syncs each range that was written and the part past the old end may hold any bytes after a crash,
 /// and the bytes outside stay. A write that fails may be done in part, and a sync that fails counts as none.
@@ -39,10 +39,11 @@ pub trait Disk {
         ensures honesty { honest self.new ≡ honest self.old }
         ensures cause { CountsFailure result (failures self.old) (failures self.new) };
 
-    /// Fills `into` from an offset in bytes.
+    /// Fills `into` from an offset in bytes. An honest disk is asked only for bytes that it has.
     fn read(&mut self, at: u64, into: &mut [u8]) -> Result<(), DeviceFailed>
+        requires within { IsTrue (honest self.old)
+            → at + length into.old ≤ length (seen self.old) }
         ensures answer { OnOk result (IsTrue (honest self.old)
-            → at + length into.old ≤ length (seen self.old)
             → into.new ≡ bytes_at (seen self.old) at (length into.old)) }
         ensures unchanged { IsTrue (honest self.old) → seen self.new ≡ seen self.old }
         ensures moments { IsTrue (honest self.old)

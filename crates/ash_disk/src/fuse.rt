@@ -88,8 +88,9 @@ impl<D: Disk> Disk for FuseDisk<D> {
     }
 
     fn read(&mut self, at: u64, into: &mut [u8]) -> Result<(), DeviceFailed>
+        requires within { IsTrue (D.honest (inner self.old))
+            → at + length into.old ≤ length (D.seen (inner self.old)) }
         ensures answer { OnOk result (IsTrue (D.honest (inner self.old))
-            → at + length into.old ≤ length (D.seen (inner self.old))
             → into.new ≡ bytes_at (D.seen (inner self.old)) at (length into.old)) }
         ensures unchanged { IsTrue (D.honest (inner self.old))
             → D.seen (inner self.new) ≡ D.seen (inner self.old) }

@@ -22,6 +22,7 @@ pub mod Handling
 pub mod LifeEvents
 pub mod LifeLaws
 pub mod LivesOn
+pub mod KeptAnswers
 pub mod LongSources
 pub mod Making
 pub mod Mishaps

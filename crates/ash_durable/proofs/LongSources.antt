@@ -320,7 +320,7 @@ batch_of_prefixes {D} {B} device G budget requests (Some live) old (Ok replies) 
       live_is = took.live_is;
       running = took.running;
       added = subst (λ (answered : List (LiveState B)). (answered ≡ [] → ⊥)
-          → HasRecord device (IsBodyOfBatch answered) took.between.journal new.journal
+          → HasRecord device (IsBodyOfBatch took.after.durable answered) took.between.journal new.journal
           × LeavesOther took.between.journal new.journal) (sym whole.same) took.added;
       untouched = λ none. took.untouched (sym whole.same ∙ none);
       settles = took.settles;

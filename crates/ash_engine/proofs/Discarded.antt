@@ -63,6 +63,7 @@ use Rattle.ash_engine.proofs.CallEnds.{numbered_from}
 use Rattle.ash_engine.proofs.ChangedModules.{held_before}
 use Rattle.ash_engine.proofs.KnownRanks.{class_ranks, known_sound, known_ranked}
 use Rattle.ash_engine.proofs.LoadEnds.{answered_with}
+use Rattle.ash_engine.proofs.NamedSlots.{contains_at}
 use Rattle.ash_engine.proofs.ReadRanks.{read_ranked}
 use Rattle.ash_engine.proofs.ReleasedGlobals.{released_gave}
 use Rattle.ash_engine.proofs.RemovedModules.{zip_at, zip_remove, distinct_remove, set_own, names_kept}
@@ -236,7 +237,12 @@ module _ {B : Type 0} (G : Ghosts B) (registered : List Registration) (live : Li
         has = record {
           change = changed.Discarded m.name;
           taken_so = answered.taken;
-          change_is = refl {A = List LoadedModule};
+          change_is = record {
+            was = loaded_seen m;
+            named = refl;
+            there = contains_at seen place (loaded_seen m) seen_at;
+            left = refl {A = List LoadedModule};
+          };
           listable = one_name (loaded_seen m).name ∙ rec_at HasValidName seen place (loaded_seen m) ((is_live.admitted).formed).valid seen_at;
           names = names_of live;
           shown_before = refl;

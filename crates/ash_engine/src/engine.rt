@@ -172,7 +172,7 @@ impl<B: HostObject> Engine<B> {
         ensures image { (live : LiveState B) → self.now.live ≡ Some live
             → IfOk result (λ image. IsImageIn Two image.items live.durable) }
         // It fits into a record.
-        ensures short { IfOk result (λ image. length image.items < 2 ^ 32) }
+        ensures short { IfOk result (λ image. length image.items < 2 ^ 28) }
     {
         let Some(live) = &self.live else {
             unreachable!()
@@ -186,7 +186,7 @@ impl<B: HostObject> Engine<B> {
         ensures body { (live : LiveState B) → self.now.live ≡ Some live
             → IfOk result (λ body. IsBodyIn Two body.items live.durable) }
         // It fits into a record.
-        ensures short { IfOk result (λ body. length body.items < 2 ^ 32) }
+        ensures short { IfOk result (λ body. length body.items < 2 ^ 28) }
     {
         let Some(live) = &self.live else {
             unreachable!()
@@ -215,7 +215,7 @@ impl<B: HostObject> Engine<B> {
         requires live { IsSome self.now.live }
         ensures delta { (live : LiveState B) → self.now.live ≡ Some live
             → OnOk result (AppendsChanges live body.old.items body.new.items) }
-        // Sixteen of them fit into a record.
+        // A record has room for one.
         ensures short { OnOk result (length body.new.items ≤ length body.old.items + (2 ^ 28 - 2)) }
     {
         let Some(live) = &self.live else {

@@ -4,7 +4,7 @@ ghost use Rattle.std.specs.Prelude.{length, drop, IsTrue, IfErr, OnOk, IsErr, Is
 ghost use Rattle.ash_disk.specs.Failures.{CountsFailure};
 ghost use Rattle.ash_disk.specs.Device.{IsOnlyRead, HoldsThroughout};
 ghost use Rattle.ash_journal.specs.JournalFailures.{CountsFailuresOf};
-ghost use Rattle.ash_journal.specs.Layout.{mark, block, IsClosed};
+ghost use Rattle.ash_journal.specs.Layout.{mark, block, length_limit, IsClosed};
 ghost use Rattle.ash_journal.specs.Opening.{CreateFaultIs};
 ghost use Rattle.ash_journal.specs.Reading.{ShutIs};
 ghost use Rattle.ash_journal.specs.Writes.{IsOn, IsUnused, AreUnused, WhileStarted, WhileCreated};
@@ -74,7 +74,7 @@ pub(crate) fn create_both<D: Disk>(
     second: &mut D,
     image: &[u8],
 ) -> Result<(), CreateFault>
-    requires within { length image.now < 2 ^ 32 }
+    requires within { length image.now < length_limit }
     ensures created { OnOk result (IsTrue (D.honest first.old) → IsTrue (D.honest second.old)
         → IsOn D.Disk first.new (1 ∷ ((mark 1 ++ (block image.now ++ 0 ∷ []))
         ++ drop (length (mark 1 ++ (block image.now ++ 0 ∷ []))) (drop 1 (D.seen first.old))))) }

@@ -67,7 +67,7 @@ impl<D: Disk> Journal<D> {
     ghost use Rattle.ash_journal.specs.Journal.{LeavesOther, LeavesRepaired, WritesGates};
     ghost use Rattle.ash_journal.specs.Current.{IsContents, Represent};
     ghost use Rattle.ash_disk.specs.Device.{IsOnlyRead, EveryMomentSince};
-    ghost use Rattle.ash_journal.specs.Layout.{IsClosed, header_size};
+    ghost use Rattle.ash_journal.specs.Layout.{IsClosed, header_size, length_limit};
     ghost use Rattle.ash_journal.specs.Opening.{FaultIs, CreateFaultIs, IsCreatedOrClosed};
     ghost use Rattle.ash_journal.specs.Writes.{WasUnused};
     ghost use Rattle.ash_journal.specs.Reading.{AreAt, bodies_of};
@@ -89,7 +89,7 @@ impl<D: Disk> Journal<D> {
         second: D,
         image: &[u8],
     ) -> Result<Journal<D>, CreateRefused<D>>
-        requires short { length image.now < 2 ^ 32 }
+        requires short { length image.now < length_limit }
         ensures created { IfOk result (λ j. IsTrue (D.honest first) → IsTrue (D.honest second)
             → Holds D.Disk j image.now []) }
         ensures ready { IfOk result IsReady }
@@ -146,8 +146,9 @@ impl<D: Disk> Journal<D> {
     /// record or image.
     ///
     /// Refusals: `NoGeneration` where no file is open; `Damaged` where an open file has no magic and generation, two
-    /// open files have one number, or the current file is cut short, with the offset of the gate before the record that
-    /// is, else 0; `DeviceFailed`; `NoMemory`. They hand the disks back as they were read.
+    /// open files have one number, or an image or a record of the current file is cut short or has a length of
+    /// `LENGTH_LIMIT` or more, with the offset of the gate before that record, else 0; `DeviceFailed`; `NoMemory`. They
+    /// hand the disks back as they were read. Nothing is read, and no memory is taken, for a length that is damage.
     pub fn open(alloc: Global, first: D, second: D) -> Result<OpenedJournal<D>, OpenRefused<D>>
         ensures found { IfOk result (λ o. IsTrue (D.honest first) → IsTrue (D.honest second)
             → HoldsBeforeRepair D.Disk o.journal o.image.items (bodies_of o.records.items)) }
@@ -227,13 +228,13 @@ impl<D: Disk> Journal<D> {
     /// Adds a record to the current generation, on a journal that is ready. At `Ok` the record is acknowledged, and
     /// every crash leaves it.
     ///
-    /// The open records take fewer than `RECORD_BYTES_LIMIT` bytes, and the body is shorter than 2^32.
+    /// The open records take fewer than `RECORD_BYTES_LIMIT` bytes, and the body is shorter than `LENGTH_LIMIT`.
     ///
     /// `NoMemory` comes before any call of a device, and changes nothing. After `DeviceFailed` the record is there or
     /// not, and the journal is ready no more: it is to be opened again. A record is one write and a sync, twice;
     /// nothing is read.
     pub fn append(&mut self, body: &[u8]) -> Result<(), AppendError>
-        requires short { length body.now < 2 ^ 32 }
+        requires short { length body.now < length_limit }
         requires room { record_bytes self.old < record_bytes_limit }
         requires ready { IsReady self.old }
         ensures acknowledged { OnOk result ((image : List ℕ) (bodies : List (List ℕ))

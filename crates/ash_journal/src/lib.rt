@@ -10,10 +10,10 @@
 //! | 1 | gate: 1 is open, any other value closed |
 //! | 8 | `ASHOST01` |
 //! | 8 | the number of the generation |
-//! | 4 | the length of the image |
+//! | 4 | the length of the image, less than 2^28 |
 //! | | the image |
 //! | 1 | gate |
-//! | 4 | for each record, the length of its body |
+//! | 4 | for each record, the length of its body, less than 2^28 |
 //! | | its body |
 //! | 1 | gate |
 //!
@@ -48,6 +48,7 @@ mod record;
 mod refusal;
 mod two_files;
 
+pub use bytes::LENGTH_LIMIT;
 pub use error::{AppendError, CreateFault, InstallError, OpenFault};
 pub use first_append::append_first;
 pub use journal::{Journal, NextGeneration, OpenedJournal, RECORD_BYTES_LIMIT};

@@ -4,7 +4,7 @@ ghost use Rattle.std.specs.Prelude.{ℕ, List, length, IsTrue, IfOk, OnOk, IsErr
 ghost use Rattle.std.specs.Prelude.{MatchOption, MatchResult, ◌⊎◌, if◌then◌else◌};
 ghost use Rattle.ash_disk.specs.Device.{IsDurable, IsOnlyRead};
 ghost use Rattle.ash_journal.specs.JournalFailures.{CountsFailuresOf};
-ghost use Rattle.ash_journal.specs.Layout.{IsOpen, IsClosed, HasMark, header_size};
+ghost use Rattle.ash_journal.specs.Layout.{IsOpen, IsClosed, HasMark, header_size, length_limit};
 ghost use Rattle.ash_journal.specs.Opening.{HeadersAre, ChoiceIs, ContentsAre, FaultIs};
 ghost use Rattle.ash_journal.specs.Reading.{HeaderIs, ShutIs};
 
@@ -115,6 +115,10 @@ pub(crate) struct Headers {
 pub(crate) fn read_headers<D: Disk>(first: &mut D, second: &mut D) -> Result<Headers, DeviceFailed>
     ensures answer { IfOk result (λ x. IsTrue (D.honest first.old) → IsTrue (D.honest second.old)
         → HeadersAre x (D.seen first.old) (D.seen second.old)) }
+    ensures first_whole { IfOk result (λ x. IsTrue (D.honest first.old)
+        → x.first_len ≡ length (D.seen first.old)) }
+    ensures second_whole { IfOk result (λ x. IsTrue (D.honest second.old)
+        → x.second_len ≡ length (D.seen second.old)) }
     ensures first_read { IsOnlyRead D.Disk first.old first.new }
     ensures second_read { IsOnlyRead D.Disk second.old second.new }
     ensures cause { CountsFailuresOf D.Disk (IsErr result)
@@ -154,6 +158,10 @@ fn read_chosen<D: Disk>(
     headers: &Headers,
     choice: Choice,
 ) -> Result<CurrentFile, OpenFault>
+    requires first_whole { IsTrue (D.honest first.old)
+        → headers.now.first_len ≡ length (D.seen first.old) }
+    requires second_whole { IsTrue (D.honest second.old)
+        → headers.now.second_len ≡ length (D.seen second.old) }
     ensures answer { IsTrue (D.honest first.old) → IsTrue (D.honest second.old)
         → HeadersAre headers.now (D.seen first.old) (D.seen second.old)
         → ChoiceIs choice (D.seen first.old) (D.seen second.old)
@@ -161,7 +169,7 @@ fn read_chosen<D: Disk>(
         (λ r. ContentsAre choice r (D.seen first.old) (D.seen second.old))
         (λ fault. FaultIs fault (D.seen first.old) (D.seen second.old)) }
     ensures within { IfOk result (λ r. header_size + length r.image.items ≤ r.tail.end) }
-    ensures short { IfOk result (λ r. length r.image.items < 2 ^ 32) }
+    ensures short { IfOk result (λ r. length r.image.items < length_limit) }
     ensures first_read { IsOnlyRead D.Disk first.old first.new }
     ensures second_read { IsOnlyRead D.Disk second.old second.new }
     ensures cause { CountsFailuresOf D.Disk (IsErrOf result OpenFault.DeviceFailed)
@@ -189,7 +197,7 @@ pub(crate) fn read_both<D: Disk>(
     ensures durable_second { OnOk result (IsTrue (D.honest second.old)
         → IsDurable D.Disk second.new) }
     ensures within { IfOk result (λ c. header_size + length c.file.image.items ≤ c.file.tail.end) }
-    ensures short { IfOk result (λ c. length c.file.image.items < 2 ^ 32) }
+    ensures short { IfOk result (λ c. length c.file.image.items < length_limit) }
     ensures first_read { IsOnlyRead D.Disk first.old first.new }
     ensures second_read { IsOnlyRead D.Disk second.old second.new }
     ensures cause { CountsFailuresOf D.Disk (IsErrOf result OpenFault.DeviceFailed)

@@ -1,0 +1,10 @@
+-- A state that is known of a generation.
+use Rattle.std.specs.Prelude.{ℕ, ◌≤◌, List, length, take}
+use Rattle.ash_image.specs.SnapshotViews.{snapshot_of}
+use Rattle.ash_replay.specs.Replay.{IsStateIn}
+use Rattle.ash_inspect.specs.declared.known.KnownState.{KnownState}
+
+-- The state is the one to which the first records after the image lead.
+pub record IsKnown (known : KnownState) (image : List ℕ) (bodies : List (List ℕ)) : Type 0 where
+  pub within : known.records ≤ length bodies
+  pub leads : IsStateIn known.stored.version (image, take known.records bodies) (snapshot_of known.stored.state)
