@@ -1,5 +1,5 @@
 use Rattle.std.proofs.Common.{◌≡◌, ◌∙◌, ◌+◌, ◌∷◌, ◌++◌, [], IsTrue, List, ℕ, length, drop, not, false}
-use Rattle.std.proofs.Common.{sym, ap, subst, arith, length-append}
+use Rattle.std.proofs.Common.{sym, ap, subst, arith}
 use Rattle.ash_disk.specs.Device.{HoldsThroughout}
 use Rattle.ash_journal.specs.declared.other_state.OtherState.TheVariants.{Older}
 use Rattle.ash_journal.specs.Layout.{mark, block}
