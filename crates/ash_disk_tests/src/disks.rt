@@ -53,15 +53,27 @@ fn is_read<D: Disk>(disk: &mut D, at: u64, like: &[u8]) -> Option<bool> {
     }
 }
 
+// Whether these bytes are written from a place on, or nothing where the disk ends before it.
+fn is_written<D: Disk>(disk: &mut D, at: u64, bytes: &[u8]) -> Option<bool> {
+    if !has_range(disk, at, 0)? {
+        return None;
+    }
+    Some(disk.write_at(at, bytes).is_ok())
+}
+
+fn is_written_durably<D: Disk>(disk: &mut D, at: u64, bytes: &[u8]) -> bool {
+    has_range(disk, at, 0) == Some(true) && write_durably(disk, at, bytes).is_ok()
+}
+
 // Makes a call, and returns whether it came to what it must.
 fn make_call<D: Disk>(disk: &mut D, step: Step) -> bool {
     match step {
         Step::Length(length) => disk.len() == Ok(length),
         Step::Read(at, bytes) => is_read(disk, at, bytes) == Some(true),
-        Step::Write(at, bytes) => disk.write_at(at, bytes).is_ok(),
-        Step::Refuses(at, bytes) => disk.write_at(at, bytes).is_err(),
+        Step::Write(at, bytes) => is_written(disk, at, bytes) == Some(true),
+        Step::Refuses(at, bytes) => is_written(disk, at, bytes) == Some(false),
         Step::Sync => disk.sync().is_ok(),
-        Step::WriteDurably(at, bytes) => write_durably(disk, at, bytes).is_ok(),
+        Step::WriteDurably(at, bytes) => is_written_durably(disk, at, bytes),
     }
 }
 
@@ -153,7 +165,6 @@ static BEYOND: [MemoryRow; 1] = [MemoryRow {
     before: b"seven",
     steps: &[
         Step::Read(2, b"ven"),
-        Step::Refuses(6, b"s"),
         Step::Read(5, b""),
         Step::Write(5, b"s"),
     ],
@@ -170,6 +181,8 @@ fn beyond_the_file_is_a_failure(rt: HostRuntime) -> Result<(), Fail> {
         let is_refused = disk.read(at, &mut [0; 3]).is_err();
         assert!(rt; is_refused, "three bytes from {at} on");
     }
+    let is_refused = disk.write_at(6, b"s").is_err();
+    assert!(rt; is_refused, "a write that leaves a gap");
     Ok(())
 }
 
@@ -186,17 +199,19 @@ static COMMIT: [Step; 5] = [
 // syncs, and how many steps succeeded.
 type FuseRow = (&'static str, &'static [u8], u64, u64);
 
-static FUSES: [FuseRow; 9] = [
+static FUSES: [FuseRow; 11] = [
+    // A range is read or written in a call more, as the length is asked for before.
     ("0 calls", b"0", 0, 0),
-    ("1 call", b"0ab", 1, 1),
-    ("2 calls", b"0ab", 2, 2),
-    ("3 calls", b"1ab", 3, 2),
-    ("4 calls", b"1ab", 4, 3),
-    // A range is read in two calls, as the length is asked for before.
-    ("5 calls", b"1ab", 4, 3),
-    ("6 calls", b"1ab", 4, 4),
-    ("7 calls", b"1ab", 4, 5),
-    ("8 calls", b"1ab", 4, 5),
+    ("1 call", b"0", 0, 0),
+    ("2 calls", b"0ab", 1, 1),
+    ("3 calls", b"0ab", 2, 2),
+    ("4 calls", b"0ab", 2, 2),
+    ("5 calls", b"1ab", 3, 2),
+    ("6 calls", b"1ab", 4, 3),
+    ("7 calls", b"1ab", 4, 3),
+    ("8 calls", b"1ab", 4, 4),
+    ("9 calls", b"1ab", 4, 5),
+    ("10 calls", b"1ab", 4, 5),
 ];
 
 // Makes the calls of the commit over a disk that fails after so many calls.

@@ -118,6 +118,18 @@ block_same b c s t b_fits c_fits is =
     ∙ four_read (length c) [] (omega (arith, c_fits)) in
     same_parts b c s t same parts.1
 
+-- a generation has as many bytes after its first gate as its image and 21
+pub length-generation : (generation : ℕ) (image bytes : List ℕ) → bytes ≡ mark generation ++ (block image ++ 0 ∷ [])
+    → length bytes ≡ 21 + length image
+length-generation generation image bytes is =
+    ap length is ∙ omega (
+      arith,
+      length-append (mark generation) (block image ++ 0 ∷ []),
+      length-mark generation,
+      length-append (block image) (0 ∷ []),
+      length-block image,
+    )
+
 -- ---- records
 
 pub records-nil : records [] ≡ []

@@ -1,6 +1,4 @@
 //! The journal.
-ghost use Rattle.std.specs.Prelude.{◌≡◌, ◌≤◌, ◌+◌, ◌^◌};
-
 use crate::bytes::{HEADER_SIZE, record_bytes};
 use crate::creation::create_both;
 use crate::error::{AppendError, CreateFault, OpenFault};
@@ -11,6 +9,7 @@ use crate::refusal::{CreateRefused, OpenRefused};
 use crate::two_files::{ReadFiles, read_both};
 use ash_disk::{DeviceFailed, Disk};
 use std::alloc::Global;
+use std::marker::Model;
 
 mod generations;
 
@@ -19,7 +18,7 @@ pub const RECORD_BYTES_LIMIT: u64 = 1 << 62;
 
 /// A journal over two disks: a generation's image, and records that were added to it.
 #[derive(Drop)]
-pub struct Journal<D> {
+pub struct Journal<D: Disk> {
     alloc: Global,
     current: D,
     other: D,
@@ -34,12 +33,32 @@ pub struct Journal<D> {
     other_state: OtherState,
     /// Whether a device failed in a call: the journal is to be opened again.
     failed: bool,
-    ghost within: { end ≤ record_bytes + 2 ^ 33 },
+}
+
+impl<D: Disk> Model for Journal<D> {
+    ghost use Rattle.ash_journal.specs.JournalFields.{JournalFields, IsPlaced};
+
+    ghost Value = { JournalFields D };
+
+    ghost view = { λ j. record {
+      current = j.current;
+      other = j.other;
+      swapped = j.swapped;
+      generation = j.generation;
+      end = j.end;
+      record_bytes = j.record_bytes;
+      stray = j.stray;
+      other_state = j.other_state;
+      failed = j.failed;
+    } };
+
+    // An honest disk is written to at most at its end.
+    ghost invariant = { λ j. IsPlaced D.Disk j.end j.record_bytes j.other_state j.current j.other };
 }
 
 /// Two disks that were opened: a journal over them, and what they hold.
 #[derive(Drop)]
-pub struct OpenedJournal<D> {
+pub struct OpenedJournal<D: Disk> {
     pub journal: Journal<D>,
     /// The image of the current generation.
     pub image: Vec<u8>,
@@ -56,7 +75,7 @@ pub struct NextGeneration {
 }
 
 impl<D: Disk> Journal<D> {
-    ghost use Rattle.std.specs.Prelude.{◌≡◌, ◌<◌, ◌↔◌, ◌∷◌, ◌++◌, []};
+    ghost use Rattle.std.specs.Prelude.{◌≡◌, ◌<◌, ◌≤◌, ◌+◌, ◌^◌, ◌↔◌, ◌∷◌, ◌++◌, []};
     ghost use Rattle.std.specs.Prelude.{ℕ, List, length, IsTrue, IfOk, IfErr, OnOk};
     ghost use Rattle.std.specs.Prelude.{OnErr, IsErr, IsErrOf, MatchResult};
     ghost use Rattle.ash_journal.specs.JournalFailures.{CountsFailuresOf};

@@ -32,8 +32,8 @@
 //! but that of 0 over the first gate of a new file), `bytes` (what is written), `creation`, `two_files` and `one_file`
 //! (what files are read as), `first_append` (the first record after an opening), `other_state` (the file that is not
 //! current), `record`, `refusal`, `error`. The words of the clauses are in `specs/Layout` (a file), `specs/Current`
-//! (two files, and what they settle on), `specs/SettledSince` (moments), `specs/Journal` (what a journal holds) and
-//! `specs/Opening` (faults).
+//! (two files, and what they settle on), `specs/SettledSince` (moments), `specs/JournalFields` (what a clause sees of a
+//! journal, and where its writes begin), `specs/Journal` (what a journal holds) and `specs/Opening` (faults).
 #![tactic(auto)]
 
 mod bytes;

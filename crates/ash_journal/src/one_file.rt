@@ -201,6 +201,7 @@ fn read_records<D: Disk>(
         IsFileRead generation image tail.records.items tail.end tail.gate (D.seen disk.old))
         (λ fault. IsFileFault fault (D.seen disk.old)) }
     ensures within { IfOk result (λ tail. at ≤ tail.end) }
+    ensures inside { IfOk result (λ tail. tail.end < len) }
     ensures only_read { IsOnlyRead D.Disk disk.old disk.new }
     ensures cause { Counts (IsErrOf result OpenFault.DeviceFailed)
         (D.failures disk.old) (D.failures disk.new) }
@@ -245,6 +246,7 @@ pub(crate) fn read_current<D: Disk>(
         (D.seen disk.old))
         (λ fault. IsFileFault fault (D.seen disk.old)) }
     ensures within { IfOk result (λ r. header_size + length r.image.items ≤ r.tail.end) }
+    ensures inside { IfOk result (λ r. r.tail.end < len) }
     ensures short { IfOk result (λ r. length r.image.items < length_limit) }
     ensures only_read { IsOnlyRead D.Disk disk.old disk.new }
     ensures cause { Counts (IsErrOf result OpenFault.DeviceFailed)
