@@ -125,8 +125,8 @@ fn read_file<R: Files<File = File>>(
     }
 }
 
-/// The files of the store in a folder, if one is there at least. They are opened for reading alone, so a server may have
-/// them.
+/// The files of the store in a folder, if one is there at least. They are opened for reading alone, so a server may
+/// have them.
 pub fn read_store<R: Files<File = File>>(
     rt: &R,
     alloc: Global,

@@ -1,10 +1,13 @@
 //! The last state to which records lead.
 
-ghost use Rattle.std.specs.Prelude.{◌≡◌, ◌≤◌, length, take, IfOk, IfSome};
-ghost use Rattle.ash_journal.specs.Reading.{bodies_of};
+ghost use Rattle.std.specs.Prelude.{◌≡◌, ◌≤◌, length, IfOk, IfSome, IsSome};
+ghost use Rattle.ash_journal.specs.Reading.{AreAt, bodies_of};
+ghost use Rattle.ash_image.specs.declared.version.Version.{Version};
+ghost use Rattle.ash_image.specs.Snapshots.{Snapshot};
+ghost use Rattle.ash_replay.specs.ReplayFaults.{after_image};
 ghost use Rattle.ash_image.specs.SnapshotViews.{snapshot_of};
 ghost use Rattle.ash_replay.specs.Replay.{IsStateIn};
-ghost use Rattle.ash_inspect.specs.Known.{IsKnown};
+ghost use Rattle.ash_inspect.specs.Known.{IsKnown, IsKnownOf};
 
 use ash_image::stored::StoredImage;
 use ash_journal::Record;
@@ -28,11 +31,14 @@ fn state_after(
 ) -> Result<Option<StoredImage>, AllocError>
     ensures leads { IfOk result (λ found. IfSome found (λ stored.
         IsStateIn stored.version (image.now, bodies_of records.now) (snapshot_of stored.state))) }
+    ensures only { (version : Version) (s : Snapshot) → AreAt (after_image image.now) records.now
+        → IsStateIn version (image.now, bodies_of records.now) s → IfOk result (λ found. IsSome found) }
 {
     match replay(alloc, image, records) {
         Ok(stored) => Ok(Some(stored)),
         Err(ReplayFault::NoMemory) => Err(AllocError),
-        Err(ReplayFault::Damaged(_) | ReplayFault::OtherInterface) => Ok(None),
+        Err(ReplayFault::Damaged(_)) => Ok(None),
+        Err(ReplayFault::OtherInterface) => Ok(None),
     }
 }
 
@@ -79,9 +85,8 @@ fn halve(
     Ok(known)
 }
 
-/// The state to which all records lead. If they lead to none, a state of which the next record leads to none; and `None`
-/// if the image has no state.
-pub fn last_known(
+/// A state of which the next record leads to none. `None` if the image has no state.
+fn known_before_damage(
     alloc: Global,
     image: &[u8],
     records: &[Record],
@@ -89,11 +94,33 @@ pub fn last_known(
     ensures known { IfOk result (λ found. IfSome found (λ known.
         IsKnown known image.now (bodies_of records.now))) }
 {
-    if let Some(last) = state_after_first(alloc, image, records, records.len())? {
-        return Ok(Some(last));
-    }
     match state_after_first(alloc, image, records, 0)? {
         Some(first) => Ok(Some(halve(alloc, image, records, first)?)),
         None => Ok(None),
+    }
+}
+
+/// The state to which all records lead. If they lead to none, a state of which the next record leads to none; and
+/// `None` if the image has no state.
+#[tactic(auto, using(crate::proofs::KnownLaws::wholly_known))]
+pub fn last_known(
+    alloc: Global,
+    image: &[u8],
+    records: &[Record],
+) -> Result<Option<KnownState>, AllocError>
+    ensures known { IfOk result (λ found. IfSome found (λ known.
+        IsKnown known image.now (bodies_of records.now))) }
+    // If there is a state to which all records lead, it is this.
+    ensures all { (version : Version) (s : Snapshot) → AreAt (after_image image.now) records.now
+        → IsStateIn version (image.now, bodies_of records.now) s
+        → IfOk result (IsKnownOf (length records.now)) }
+{
+    let found = state_after(alloc, image, records)?;
+    match found {
+        Some(stored) => Ok(Some(KnownState {
+            records: records.len(),
+            stored,
+        })),
+        None => known_before_damage(alloc, image, records),
     }
 }

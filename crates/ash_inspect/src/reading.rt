@@ -1,9 +1,10 @@
 //! What is read of an open file, also of one that is cut short.
 
-ghost use Rattle.std.specs.Prelude.{◌≡◌, ◌++◌, ◌∷◌, [], List, ℕ, None, IfOk, slice_set};
+ghost use Rattle.std.specs.Prelude.{◌≡◌, ◌++◌, ◌∷◌, [], List, ℕ, None, Some, IfOk, IfSome, slice_set};
 ghost use Rattle.ash_journal.specs.Layout.{IsFile};
-ghost use Rattle.ash_journal.specs.Reading.{bodies_of};
-ghost use Rattle.ash_inspect.specs.Files.{BeginsWith};
+ghost use Rattle.ash_journal.specs.Reading.{AreAt, bodies_of};
+ghost use Rattle.ash_replay.specs.ReplayFaults.{after_image};
+ghost use Rattle.ash_inspect.specs.Files.{BeginsWith, FileFaultIs};
 
 use crate::file_fault::FileFault;
 use crate::generation::{Generation, read_generation};
@@ -23,7 +24,9 @@ pub struct Reading {
 fn read_front(alloc: Global, file: &[u8], at: u64) -> Result<Reading, FileFault>
     ensures begins { IfOk result (λ r.
         BeginsWith r.generation.number r.generation.image.items (bodies_of r.generation.records.items) file.now) }
-    ensures cut { IfOk result (λ r. r.cut ≡ None → ⊥) }
+    ensures placed { IfOk result (λ r.
+        AreAt (after_image r.generation.image.items) r.generation.records.items) }
+    ensures cut { IfOk result (λ r. r.cut ≡ Some at) }
 {
     if at >= file.len() as u64 {
         return Err(FileFault::Damaged(at));
@@ -43,6 +46,9 @@ fn read_front(alloc: Global, file: &[u8], at: u64) -> Result<Reading, FileFault>
 pub fn read_open(alloc: Global, file: &[u8]) -> Result<Reading, FileFault>
     ensures begins { IfOk result (λ r.
         BeginsWith r.generation.number r.generation.image.items (bodies_of r.generation.records.items) file.now) }
+    ensures placed { IfOk result (λ r.
+        AreAt (after_image r.generation.image.items) r.generation.records.items) }
+    ensures damaged { IfOk result (λ r. IfSome r.cut (λ at. FileFaultIs (FileFault.Damaged at) file.now)) }
     ensures whole { IfOk result (λ r. r.cut ≡ None
         → IsFile r.generation.number r.generation.image.items (bodies_of r.generation.records.items) file.now) }
 {

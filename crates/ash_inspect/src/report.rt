@@ -2,7 +2,7 @@
 
 ghost use Rattle.std.specs.Prelude.{◌≡◌, None, IfOk, IfSome};
 ghost use Rattle.ash_journal.specs.Layout.{IsClosed};
-ghost use Rattle.ash_inspect.specs.Reports.{IsOpenFile, IsReport, IsReported, IsSound};
+ghost use Rattle.ash_inspect.specs.Reports.{IsFound, IsOpenFile, IsReport, IsReported, IsSound};
 
 use crate::file_fault::FileFault;
 use crate::generation::Generation;
@@ -64,6 +64,7 @@ fn end_of(generation: &Generation) -> usize {
 /// What is wrong with a generation of which this state is known.
 fn damage_of(reading: &Reading, known: &Option<KnownState>) -> Option<Damage>
     ensures sound { result ≡ None → IsSound reading.now known.now }
+    ensures found { IfSome result (λ d. IsFound d reading.now known.now) }
 {
     let Some(state) = known else {
         return Some(Damage::NoImage);

@@ -155,7 +155,7 @@ fn push_closing(
 fn push_opening(text: &mut String, at: usize, side: Side) -> Result<(), AllocError> {
     writeln!(
         text,
-        "    to have that back, keep a copy, and write 1 over byte {at} of {side}; what is answered first is written over it"
+        "    to have that back, keep a copy, and write 1 over byte {at} of {side}; the next answer is written over it"
     )?;
     Ok(())
 }
