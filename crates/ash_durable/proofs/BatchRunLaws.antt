@@ -37,7 +37,7 @@ use Rattle.ash_durable.specs.BatchRuns.{HasRunWhole, IsStopAfter, StopsBatch, Ru
 use Rattle.ash_durable.specs.BatchRuns.{TriesReply, IsFitted}
 use Rattle.ash_journal.specs.Layout.{length_limit}
 use Rattle.ash_durable.proofs.BatchLaws.{steps_then, answered_then, one_step, no_step, none_answered, few_answered}
-use Rattle.ash_durable.proofs.Handling.{no_end_changes, handled_ok}
+use Rattle.ash_durable.proofs.Handling.{no_end_runs, handled_ok}
 use Rattle.ash_durable.proofs.NotDone.{not_done}
 use Rattle.ash_durable.proofs.Requesting.{some_live}
 
@@ -209,7 +209,7 @@ module _ {B : Type 0} (G : Ghosts B) (budget : ℕ) (done : List BatchRequest) (
     replies = map batch_reply_seen old.replies.items;
     reached = was.stepped.after;
     steps = was.stepped.steps;
-    changes = inr (no_end_changes request (was.stepped.after).durable error fails);
+    changes = inr (no_end_runs request (was.stepped.after).durable error fails);
   }
 
   module _ (given : code_reply.Reply code_fault.SourceFault)

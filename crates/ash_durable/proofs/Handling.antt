@@ -10,8 +10,6 @@ use Rattle.ash_requests.specs.declared.reply.Reply as code_reply
 use Rattle.ash_requests.specs.declared.step_error.StepError.{StepError}
 use Rattle.ash_requests.specs.declared.step_error.StepError.TheVariants as errors
 use Rattle.ash_requests.specs.RequestViews.{refusal_seen, reply_seen}
-use Rattle.ash_requests.specs.TaskResults.{TaskChangesState}
-use Rattle.ash_requests.specs.Tasks.{Initialize, Invoke, Remove, Read, Show, Count, Rewrite, TaskResult}
 use Rattle.ash_sources.specs.declared.fault.SourceFault as code_fault
 use Rattle.ash_sources.specs.SourceFaults.{SourceFault, fault_of}
 use Rattle.ash_registry.specs.AcceptedRegistrations.{Registration}
@@ -100,22 +98,11 @@ found_live {D} {B} found = subst (λ (l : Option (LiveState B)). IsSome l) (sym 
 
 -- ---- a request that is handled once room was made
 
--- what runs code changes the state
-runs_changes : (d : TaskResult SourceFault) → TaskRunsCode d → TaskChangesState d
-runs_changes (Ok (Initialize name source tree)) runs = tt
-runs_changes (Ok (Invoke loaded tree function args)) runs = tt
-runs_changes (Ok (Remove name)) runs = tt
-runs_changes (Ok (Read word)) runs = runs
-runs_changes (Ok (Show shown)) runs = runs
-runs_changes (Ok Count) runs = runs
-runs_changes (Ok Rewrite) runs = runs
-runs_changes (Err refusal) runs = runs
-
--- a request that has no end changes the state
-pub no_end_changes : (request : Request) (state : HostState) (error : StepError)
-    → FailsInChange request state error → TaskChangesState (task_of request state)
-no_end_changes request state errors.NoMemory no_end = runs_changes (task_of request state) no_end
-no_end_changes request state errors.NoStep no_end = absurd no_end
+-- a request that has no end runs code
+pub no_end_runs : (request : Request) (state : HostState) (error : StepError)
+    → FailsInChange request state error → TaskRunsCode (task_of request state)
+no_end_runs request state errors.NoMemory no_end = no_end
+no_end_runs request state errors.NoStep no_end = absurd no_end
 
 -- where there is a reply, there is a live state after it
 pub handled_ok : {B : Type 0} (G : Ghosts B) (budget : ℕ) (request : Request) (live : LiveState B)
@@ -184,7 +171,7 @@ module _ {D B : Type 0} (device : Device D) (G : Ghosts B) (budget : ℕ) (reque
       → Handles device G budget request old (Refused NoMemory) (seen_host (Some seq) later journal)
   handled_lost seq error handled seq_is =
       let lost = handles_lost_state device G budget request found.live journal old found.room
-      (no_end_changes request found.live.durable error handled.0) in
+      (no_end_runs request found.live.durable error handled.0) in
       let registered : found.live.durable.registered ≡ later.registered = sym (same ∙ found.registered_is) in
       subst (λ (n : ℕ). Handles device G budget request old (Refused NoMemory)
       (host_stopped B later.registered n journal)) (sym seq_is)

@@ -38,4 +38,5 @@ pub mod Refusing
 pub mod RequestOutcomes
 pub mod Requesting
 pub mod Running
+pub mod RunningCode
 pub mod Settling

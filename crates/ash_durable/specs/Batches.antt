@@ -8,7 +8,6 @@ use Rattle.ash_journal.specs.Journal.{LeavesOther}
 use Rattle.ash_host.specs.declared.host_object.HostObject.{Ghosts}
 use Rattle.ash_requests.specs.Requests.{Request, Load, Call, Discard, Seq, Refusal, Reply, Answered, Refused}
 use Rattle.ash_requests.specs.Requests.{NoMemory, Reopen}
-use Rattle.ash_requests.specs.TaskResults.{TaskChangesState}
 use Rattle.ash_sources.specs.SourceFaults.{SourceFault}
 use Rattle.ash_image.specs.Delta.{Delta}
 use Rattle.ash_image.specs.Deltas.{deltas_tag, deltas, IsDeltasBody}
@@ -16,7 +15,7 @@ use Rattle.ash_image.specs.declared.version.Version.TheVariants.{Two}
 use Rattle.ash_states.specs.Images.{IsBodyIn}
 use Rattle.ash_journal.specs.Layout.{length_limit}
 use Rattle.ash_states.specs.HostStates.{HostState}
-use Rattle.ash_states.specs.StateSteps.{task_of}
+use Rattle.ash_states.specs.StateSteps.{task_of, TaskRunsCode}
 use Rattle.ash_engine.specs.LiveStates.{LiveState, AreOf}
 use Rattle.ash_engine.specs.LiveSteps.{TakesStep}
 use Rattle.ash_engine.specs.RecordedChanges.{delta_named}
@@ -140,13 +139,12 @@ pub record BatchNotCommitted {D B : Type 0} (device : Device D) (G : Ghosts B) (
   pub stopped : HasStopped old new
   pub settles : Settles device live.durable after.durable old new
 
--- the next of these requests changes the state
-abbrev pub NextChanges : List BatchRequest → HostState → Type 0
-NextChanges (Asked request ∷ requests) state = TaskChangesState (task_of request state)
-NextChanges _ state = ⊥
+-- the next of these requests runs code
+abbrev pub NextRunsCode : List BatchRequest → HostState → Type 0
+NextRunsCode (Asked request ∷ requests) state = TaskRunsCode (task_of request state)
+NextRunsCode _ state = ⊥
 
--- The first requests of a batch stepped from a live state, and some of them were answered, or the next one changes the
--- state.
+-- The first requests of a batch stepped from a live state, and some of them were answered, or the next one runs code.
 pub record HasBegunToChange {B : Type 0} (G : Ghosts B) (budget : ℕ) (requests : List BatchRequest)
     (live : LiveState B) : Type 0 where
   pub done : List BatchRequest
@@ -155,9 +153,9 @@ pub record HasBegunToChange {B : Type 0} (G : Ghosts B) (budget : ℕ) (requests
   pub replies : List BatchReply
   pub reached : LiveState B
   pub steps : BatchSteps G budget done live replies reached
-  pub changes : (answered_in steps ≡ [] → ⊥) ⊎ NextChanges left reached.durable
+  pub changes : (answered_in steps ≡ [] → ⊥) ⊎ NextRunsCode left reached.durable
 
--- Memory was refused after a request of a batch was answered, or while one changed the state: the state is lost. The
+-- Memory was refused after a request of a batch was answered, or while code of one ran: the state is lost. The
 -- host has to be reopened, and is then in the state before the batch, on which alone the files settle.
 pub record BatchLostItsState {D B : Type 0} (device : Device D) (G : Ghosts B) (budget : ℕ)
     (requests : List BatchRequest) (live : LiveState B) (old : Hosted D B) (refusal : Refusal SourceFault)
