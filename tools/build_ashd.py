@@ -9,10 +9,10 @@ import sys
 import tempfile
 import time
 
-from kit import TOP, Program, crates_of_ashd, need_rt, rt_environment, sum_of_sources, time_to_prove
+from kit import TOP, Program, crates_of, need_rt, rt_environment, time_to_prove
 
 OUT = f"{TOP}/crates/ashd/out"
-PROGRAM = Program(f"{OUT}/ashd", f"{OUT}/built-from")
+PROGRAM = Program("ashd", f"{OUT}/ashd", f"{OUT}/built-from")
 LOG = f"{OUT}/build.log"
 # What rt writes of a crate that is proved.
 PROVED = r"^rt: \w+ (?:proved|is kept:)"
@@ -59,12 +59,12 @@ def prove(folder, crates):
 
 def build():
     """Proves the crates of ashd and builds it, if that is not done for the present sources. Returns the status to end with."""
-    sources = sum_of_sources()
+    sources = PROGRAM.sum_of_sources()
     if PROGRAM.is_built_from(sources):
         return 0
     os.makedirs(OUT, exist_ok=True)
     write(f"proving and building ashd. From nothing that takes {time_to_prove()}; rt's own lines go to {LOG}")
-    crates = crates_of_ashd()
+    crates = crates_of("ashd")
     with tempfile.TemporaryDirectory(prefix="ashd-") as folder:
         # rt runs what it built as another user
         os.chmod(folder, 0o711)

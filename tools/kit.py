@@ -47,9 +47,9 @@ def in_order(name, uses, order):
     return order
 
 
-def crates_of_ashd():
-    """The crates that ashd is built of, each after those that it uses."""
-    return in_order("ashd", uses_of_crates(), [])
+def crates_of(program):
+    """The crates that a program is built of, each after those that it uses."""
+    return in_order(program, uses_of_crates(), [])
 
 
 def files_of(crate):
@@ -65,11 +65,11 @@ def sum_of_file(path):
         return hashlib.sha256(file.read()).hexdigest()
 
 
-def sum_of_sources():
-    """A sum of all that ashd is built from: the toolchain, what each crate uses, and the crates' files."""
+def sum_of_sources(program):
+    """A sum of all that a program is built from: the toolchain, what each crate uses, and the crates' files."""
     uses = uses_of_crates()
     sources = [subprocess.check_output(["rt", "version"])]
-    for crate in crates_of_ashd():
+    for crate in crates_of(program):
         sources += [crate, uses[crate]]
         sources += [(os.path.relpath(it, TOP), sum_of_file(it)) for it in files_of(crate)]
     return hashlib.sha256(repr(sources).encode()).hexdigest()
@@ -78,8 +78,11 @@ def sum_of_sources():
 class Program:
     """A program that a command builds, and a file that records the sum of the sources that it was built from, and its own."""
 
-    def __init__(self, path, record):
-        self.path, self.record = path, record
+    def __init__(self, name, path, record):
+        self.name, self.path, self.record = name, path, record
+
+    def sum_of_sources(self):
+        return sum_of_sources(self.name)
 
     def is_built_from(self, sources):
         """Whether the program is there and was built from the sources with this sum."""
@@ -94,7 +97,7 @@ class Program:
         shutil.copyfile(built, f"{self.path}.new")
         os.chmod(f"{self.path}.new", 0o755)
         os.replace(f"{self.path}.new", self.path)
-        if sources == sum_of_sources():
+        if sources == self.sum_of_sources():
             with open(self.record, "w", encoding="utf-8") as file:
                 file.write(f"{sources} {sum_of_file(self.path)}\n")
 

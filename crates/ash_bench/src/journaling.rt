@@ -39,7 +39,7 @@ fn append_round<D: Disk>(journal: &mut Journal<D>) -> Result<(), AppendError> {
 }
 
 /// The device calls that a round's records cost, after those of so many rounds before.
-fn bare_round<D: Disk>(disk: &mut D, rounds: u64) -> Result<(), DeviceFailed> {
+fn bare_round(disk: &mut FileDisk, rounds: u64) -> Result<(), DeviceFailed> {
     let bytes = [7; RECORD];
     let start = rounds.wrapping_mul(RECORDS.wrapping_mul(RECORD as u64));
     for record in 0..RECORDS {

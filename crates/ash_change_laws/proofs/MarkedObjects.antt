@@ -3,6 +3,7 @@ use Rattle.std.proofs.Common.{◌≡◌, ◌<◌, ◌≤◌, ◌⊎◌, ℕ, zer
 use Rattle.std.specs.Prelude.{Option, Some, None, Contains, IfSome, IsSome}
 use Rattle.std.specs.Option.{option_map}
 use Rattle.std.specs.Map.{keys_of}
+use Rattle.std.specs.List.{AllByRecursion}
 use Rattle.std.proofs.lemmas.Bool.{eqb-true, eq-eqb}
 use Rattle.ash_host.specs.declared.host_object.HostObject.{Ghosts}
 use Rattle.ash_host.specs.Objects.{object_at, Lives, AreNumbered}
@@ -13,7 +14,7 @@ use Rattle.ash_objects.proofs.Marks.{object_at-mapped}
 use Rattle.ash_soundness.proofs.Values.{none_in}
 use Rattle.ash_object_ranks.specs.ShownTables.{SlotNames, body_shown, objects_shown}
 use Rattle.ash_object_ranks.proofs.ShownTables.{living_shown, shown_at}
-use Rattle.ash_run_steps.specs.Following.{KeepsMarks, HasGone}
+use Rattle.ash_run_steps.specs.Following.{KeepsMarks, HasGone, IsMarked}
 use Rattle.ash_run_steps.specs.RunStates.{bare_living}
 use Rattle.ash_change_laws.specs.MarkedObjects.{IsSettled, MarksName, MarksNameChanges, ClearsMarks, SettledIsClear, MarksNameObjects}
 
@@ -77,6 +78,28 @@ module _ {B : Type 0} where
           → IsSome (cond b (Some e.1) (object_at n l))
       go true same there later = refl
       go false apart there later = later (further apart (e.1).touched there)
+
+  -- an object that is listed has a mark, if each entry is what is found by its number
+  pub marked_at : (table : Table B) (l : List (ℕ × Living B)) → AllByRecursion (λ (e : ℕ × Living B). object_at e.0 table.objects ≡ Some e.1) l
+      → (n : ℕ) → Contains (keys_of (filter (λ (e : ℕ × Living B). (e.1).touched) l)) n → IsMarked table n
+  marked_at table [] each n is = absurd (none_in n is)
+  marked_at table (e ∷ l) each n is = go (e.1).touched refl (subst (λ (ns : List ℕ). Contains ns n) (cons_flagged e l) is) (marked_at table l each.1 n)
+    where
+      go : (t : Bool) → (e.1).touched ≡ t → Contains (cond t (e.0 ∷ flagged l) (flagged l)) n → (Contains (flagged l) n → IsMarked table n) → IsMarked table n
+      go true flag there later =
+          elim (in_either n e.0 (flagged l) there.0 there.1 there.2) [
+            | inl same ↦ record { object = e.1; there = subst (λ (k : ℕ). object_at k table.objects ≡ Some e.1) same each.0; marked = flag }
+            | inr further ↦ later further
+          ]
+      go false flag there later = later there
+
+  -- nothing has a mark before a request
+  pub none_marked : (table : Table B) → IsSettled table → (n : ℕ) → IsMarked table n → ⊥
+  none_marked table settled n is =
+      let not : (is.object).touched ≡ false =
+      subst (λ (o : Option (Living B)). IfSome o (λ object. object.touched ≡ false)) is.there (settled.unmarked n) in
+      let marked = is.marked in
+      cc
 
   -- what an object is, whoever holds it
   bare_body : (o p : Living B) → bare_living o ≡ bare_living p → p.body ≡ o.body

@@ -1,5 +1,5 @@
 -- What is listed of a state that a host may be in has a spelling, if the names ascend.
-use Rattle.std.proofs.Common.{◌≡◌, ◌<◌, ◌≤◌, ◌^◌, ℕ, zero, suc, Bool, true, false, cond, not, List, [], ◌∷◌, length, map, filter, nat_eq, slice_get, refl, sym, ap, ◌∙◌, subst, arith, if◌then◌else◌}
+use Rattle.std.proofs.Common.{◌≡◌, ◌<◌, ◌≤◌, ◌^◌, ℕ, Bool, true, false, cond, not, List, [], ◌∷◌, length, map, filter, nat_eq, nat_lt, slice_get, refl, sym, ap, ◌∙◌, subst, arith, if◌then◌else◌}
 use Rattle.std.specs.Prelude.{Option, Some, None, IsSome, is_some, Ok, Contains, ◌||◌, ◌&&◌}
 use Rattle.std.specs.List.{AllByRecursion, IsDistinct, cons_option, list_all}
 use Rattle.std.specs.List.Sorted.{IsStrictlyIncreasing, IsStrictlySortedBy}
@@ -74,6 +74,17 @@ pub rising_rise : (ns : List ℕ) → IsStrictlyIncreasing ns → do_rise ns ≡
 rising_rise ns h =
     ap do_rise (sym (numbers_alone ns))
     ∙ order_rises (with_nothing ns) (subst (λ (l : List ℕ). IsStrictlyIncreasing l) (sym (numbers_alone ns)) h)
+
+-- a number that an object can have
+abbrev CanHave : ℕ → Type 0
+CanHave n = (0 < n) × (n < 2 ^ 64)
+
+above_first : (n : ℕ) → 0 < n → nat_lt 0 n ≡ true
+above_first n h = grind (arith, nat_tests)
+
+above_none : (ns : List ℕ) → do_rise ns ≡ true → AllByRecursion CanHave ns → do_rise (0 ∷ ns) ≡ true
+above_none [] rise has = refl
+above_none (n ∷ ns) rise has = ap (λ (b : Bool). b && do_rise (n ∷ ns)) (above_first n (has.0).0) ∙ rise
 
 -- the numbers of what is listed
 
@@ -253,7 +264,11 @@ module _ (s : HostState) (h : IsAdmitted s) where
     last = omega (arith, (h.formed).last);
     services = services_fit c.services l.services;
     change = change_fits c.modules l.modules;
-    gone = record { few = omega (arith, l.few); each = l.given; order = rising_rise c.gone l.gone };
+    gone = record {
+      few = omega (arith, l.few);
+      each = all_more CanHave (λ (n : ℕ). n < 2 ^ 64) (λ n has. has.1) c.gone l.given;
+      order = above_none c.gone (rising_rise c.gone l.gone) l.given;
+    };
     put = put_fits c.living l.living kinds;
     apart = none_both c.gone c.living l.apart c.gone (λ n among. is_among_says n c.gone among);
   }
@@ -270,7 +285,9 @@ names_listable c happened before after was h services change living gone =
       living = living;
       gone = gone;
       few = omega (arith, few, (was.formed).few);
-      given = rec_from (λ (n : ℕ). n < 2 ^ 64) c.gone (λ n went. omega (arith, ((was.formed).numbered.given n (h.went n went).0).1, (was.formed).last));
+      given = rec_from CanHave c.gone (λ n went.
+          let had = (was.formed).numbered.given n (h.went n went).0 in
+          (had.0, omega (arith, had.1, (was.formed).last)));
       apart = λ n g l. by (object_at n (after.state).objects) (h.live n l) (h.went n g).1;
     }
   where

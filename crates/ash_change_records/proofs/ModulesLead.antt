@@ -137,7 +137,7 @@ discarded_leads name before after is = record {
   there = tt;
   modules = λ q.
       named_is q after
-      ∙ ap (λ (ms : List LoadedModule). option_map stored_of (find (has_name q) ms)) is
+      ∙ ap (λ (ms : List LoadedModule). option_map stored_of (find (has_name q) ms)) is.left
       ∙ ap (option_map stored_of) (found_without name before q)
       ∙ mapped_none (bytes_eq name q) (find (has_name q) before)
       ∙ ap (cond (bytes_eq name q) None) (sym (named_is q before))

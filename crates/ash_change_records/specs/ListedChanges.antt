@@ -69,7 +69,7 @@ pub record AreListable (c : Changes) : Type 0 where
   pub living : IsStrictlyIncreasing c.living
   pub gone : IsStrictlyIncreasing c.gone
   pub few : length c.gone ≤ max_objects
-  pub given : AllByRecursion (λ number. number < 2 ^ 64) c.gone
+  pub given : AllByRecursion (λ number. (0 < number) × (number < 2 ^ 64)) c.gone
   pub apart : (number : ℕ) → Contains c.gone number → Contains c.living number → ⊥
 
 -- the laws

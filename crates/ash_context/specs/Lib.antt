@@ -9,4 +9,5 @@ pub mod ObjectClasses
 pub mod Outcomes
 pub mod PlainSteps
 pub mod Positions
+pub mod RanOut
 pub mod Turns

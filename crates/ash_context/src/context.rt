@@ -1,5 +1,5 @@
 //! The machine, with the memory that its runs use.
-ghost use Rattle.std.specs.Prelude.{◌≡◌, ◌≤◌, ◌++◌, ◌+◌, [], List, All, IsTrue, length, map, slice_get};
+ghost use Rattle.std.specs.Prelude.{◌≡◌, ◌<◌, ◌≤◌, ◌++◌, ◌+◌, ◌↔◌, [], List, All, IsTrue, length, map, slice_get};
 ghost use Rattle.std.specs.Prelude.{Option, Some, Err, IfOk, IfSome, OnOk};
 ghost use Rattle.ash_code.specs.CompiledCode as compiled;
 ghost use Rattle.ash_code.specs.CompiledCode.{IsCodeOf, IsSetFor, env_of};
@@ -10,6 +10,7 @@ ghost use Rattle.ash_code.specs.Validity.{is_valid};
 ghost use Rattle.ash_context.specs.Bounds as bounds;
 ghost use Rattle.ash_context.specs.Outcomes.{Compiles, Says, Takes, TakesFromEntry, world_in};
 ghost use Rattle.ash_context.specs.Positions.{control_of};
+ghost use Rattle.ash_context.specs.RanOut.{CallRanOut, IsShort, LoadRanOut, RanOut};
 ghost use Rattle.ash_host.specs.Objects.{handles};
 ghost use Rattle.ash_host.specs.declared.word.Word.{Word};
 ghost use Rattle.ash_host.specs.declared.word.Word.TheVariants as words;
@@ -112,6 +113,13 @@ fn run_on<B: HostObject>(code: &Code, parts: Parts<B>, stack: Stack, budget: u64
         (result.ended.parts.outside.items ++ handles result.ended.parts.globals.items) }
     ensures begun { result.ended.outcome ≡ Err RunFault.NotBegun → ⊥ }
     ensures bounded { result.steps ≤ bounds.bound code.now budget }
+    ensures some { 0 < result.steps }
+    ensures ran_out { (s : Setting) (run : Run (Option Word)) → s.code ≡ code.now
+        → Compiles B.HostObject s (control_of 0 stack)
+        (λ (world : World). begun world budget (frame_shown s.names stack.frame)) run parts
+        → result.ended.outcome ≡ Err RunFault.NoMemory
+        → RanOut B.HostObject s.names (λ (world : World). IsShort s (control_of 0 stack)
+        (begun world budget (frame_shown s.names stack.frame)) result.steps) parts }
 {
     let mut state = RunState::begin(parts, stack, budget);
     let ran = looping::run(code.parts(), &mut state, 0, bound(code, budget));
@@ -157,7 +165,8 @@ impl Context {
 
     /// Runs a function of the code with these arguments and so many ticks; the place behind the last function is that
     /// of the initializers. If the code is that of a sound module, the outcome is the one that its meaning says, and so
-    /// is the world that is left, and the code comes to them in as many instructions as are counted.
+    /// is the world that is left, and the code comes to them in as many instructions as are counted. If memory ran out
+    /// after the first was begun, the one in which it ran out is counted too.
     pub fn run<B: HostObject>(
         &mut self,
         code: &Code,
@@ -191,6 +200,13 @@ impl Context {
         ensures held { HoldsRoots result.parts.table
             (result.parts.outside.items ++ handles result.parts.globals.items) }
         ensures bounded { self.new ≤ bounds.bound code.now budget }
+        // A run that began did an instruction, or began one in which memory ran out.
+        ensures begun { result.outcome ≡ Err RunFault.NotBegun ↔ self.new ≡ 0 }
+        // If memory ran out, the run means no fewer instructions than are counted.
+        ensures call_ran_out { result.outcome ≡ Err RunFault.NoMemory
+            → CallRanOut B.HostObject code.now parts function args.now budget self.new }
+        ensures load_ran_out { result.outcome ≡ Err RunFault.NoMemory
+            → LoadRanOut B.HostObject code.now parts function args.now budget self.new }
     {
         self.steps = 0;
         match begin_on(&mut self.stack, code, function, args) {

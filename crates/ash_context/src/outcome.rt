@@ -30,7 +30,8 @@ pub enum Outcome {
 pub enum RunFault {
     /// Memory ran out before the run began. What it found is as it was.
     NotBegun,
-    /// Memory ran out while it ran, a host answered that it had none, or a service was called that the table lacks.
+    /// Memory ran out once an instruction was begun, a host answered that it had none, or a service was called that the
+    /// table lacks.
     /// What it leaves is of no use.
     NoMemory,
     /// The code is not that of a sound module. Compiled code never ends so, if the premises of the contract hold.

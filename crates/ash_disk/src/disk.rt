@@ -6,9 +6,9 @@ ghost use Rattle.ash_disk.specs.Moments.{HoldsDuring};
 
 use crate::DeviceFailed;
 
-/// A file of bytes on a device. A caller reads within the length, and begins a write at most at the end: other
-/// calls are safe, and nothing is promised of them. What is promised of bytes and images holds of honest disks
-/// alone, and no disk becomes honest or ceases to be.
+/// A file of bytes on a device. A caller reads within the length of an honest disk and begins a write at most at its
+/// end, and must show both. What is promised of bytes and images holds of honest disks alone, and no disk becomes honest
+/// or ceases to be.
 ///
 /// Between two syncs each range that was written and the part past the old end may hold any bytes after a crash,
 /// and the bytes outside stay. A write that fails may be done in part, and a sync that fails counts as none.
@@ -39,10 +39,11 @@ pub trait Disk {
         ensures honesty { honest self.new ≡ honest self.old }
         ensures cause { CountsFailure result (failures self.old) (failures self.new) };
 
-    /// Fills `into` from an offset in bytes.
+    /// Fills `into` from an offset in bytes. An honest disk is asked only for bytes that it has.
     fn read(&mut self, at: u64, into: &mut [u8]) -> Result<(), DeviceFailed>
+        requires within { IsTrue (honest self.old)
+            → at + length into.old ≤ length (seen self.old) }
         ensures answer { OnOk result (IsTrue (honest self.old)
-            → at + length into.old ≤ length (seen self.old)
             → into.new ≡ bytes_at (seen self.old) at (length into.old)) }
         ensures unchanged { IsTrue (honest self.old) → seen self.new ≡ seen self.old }
         ensures moments { IsTrue (honest self.old)
@@ -51,13 +52,15 @@ pub trait Disk {
         ensures honesty { honest self.new ≡ honest self.old }
         ensures cause { CountsFailure result (failures self.old) (failures self.new) };
 
-    /// Writes at an offset in bytes, over what is there and past the end.
+    /// Writes at an offset in bytes, over what is there and past the end. A write to an honest disk begins at most at
+    /// its end.
     fn write_at(&mut self, at: u64, bytes: &[u8]) -> Result<(), DeviceFailed>
-        ensures written { OnOk result (IsTrue (honest self.old) → at ≤ length (seen self.old)
+        requires within { IsTrue (honest self.old) → at ≤ length (seen self.old) }
+        ensures written { OnOk result (IsTrue (honest self.old)
             → seen self.new ≡ after_write (seen self.old) at bytes.now) }
-        ensures in_part { IsTrue (honest self.old) → at ≤ length (seen self.old)
+        ensures in_part { IsTrue (honest self.old)
             → Torn at (length bytes.now) (seen self.old) (seen self.new) }
-        ensures moments { IsTrue (honest self.old) → at ≤ length (seen self.old)
+        ensures moments { IsTrue (honest self.old)
             → HoldsDuring (clock self.old) (clock self.new) (leaves self.old) (leaves self.new)
             (TornFrom at (length bytes.now) (leaves self.old (clock self.old))) }
         ensures honesty { honest self.new ≡ honest self.old }

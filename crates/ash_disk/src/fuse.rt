@@ -88,8 +88,9 @@ impl<D: Disk> Disk for FuseDisk<D> {
     }
 
     fn read(&mut self, at: u64, into: &mut [u8]) -> Result<(), DeviceFailed>
+        requires within { IsTrue (D.honest (inner self.old))
+            → at + length into.old ≤ length (D.seen (inner self.old)) }
         ensures answer { OnOk result (IsTrue (D.honest (inner self.old))
-            → at + length into.old ≤ length (D.seen (inner self.old))
             → into.new ≡ bytes_at (D.seen (inner self.old)) at (length into.old)) }
         ensures unchanged { IsTrue (D.honest (inner self.old))
             → D.seen (inner self.new) ≡ D.seen (inner self.old) }
@@ -107,12 +108,13 @@ impl<D: Disk> Disk for FuseDisk<D> {
     }
 
     fn write_at(&mut self, at: u64, bytes: &[u8]) -> Result<(), DeviceFailed>
+        requires within { IsTrue (D.honest (inner self.old))
+            → at ≤ length (D.seen (inner self.old)) }
         ensures written { OnOk result (IsTrue (D.honest (inner self.old))
-            → at ≤ length (D.seen (inner self.old))
             → D.seen (inner self.new) ≡ after_write (D.seen (inner self.old)) at bytes.now) }
-        ensures in_part { IsTrue (D.honest (inner self.old)) → at ≤ length (D.seen (inner self.old))
+        ensures in_part { IsTrue (D.honest (inner self.old))
             → Torn at (length bytes.now) (D.seen (inner self.old)) (D.seen (inner self.new)) }
-        ensures moments { IsTrue (D.honest (inner self.old)) → at ≤ length (D.seen (inner self.old))
+        ensures moments { IsTrue (D.honest (inner self.old))
             → HoldsDuring (D.clock (inner self.old)) (D.clock (inner self.new))
             (D.leaves (inner self.old)) (D.leaves (inner self.new))
             (TornFrom at (length bytes.now)

@@ -1,6 +1,7 @@
 //! Disks as the store sees them: files of bytes that are read, written over and synced, any call of which may fail.
 //! It uses no other crate. It promises, of every disk that is honest, what a read gives and which images a crash at
-//! any moment may leave, and of every disk that `DeviceFailed` is reported only where the device has failed.
+//! any moment may leave, and of every disk that `DeviceFailed` is reported only where the device has failed. It
+//! requires that an honest disk is asked only for bytes that it has, and written to at most at its end.
 //!
 //! In reading order: `failure` (the one error and its count), `disk` (the trait), `durably` (a write and its sync),
 //! `standard` (the descriptors of the standard streams), `file` (a file of the system), `fuse` (a disk that fails from

@@ -1,6 +1,8 @@
 //! Disks: that calls succeed, what a real file holds, and how much the crash images differ. No clause states these. The
 //! calls are data, so that each is proved once and not in each test.
 
+ghost use Rattle.std.specs.Prelude.{◌≡◌, ◌+◌, ◌≤◌, length, IsTrue, IfSome};
+
 use crate::compare::{check_bytes, check_number};
 use ash_disk::{Disk, FileDisk, FuseDisk, MemoryDisk, Survives, write_durably};
 use std::alloc::{AllocError, Global};
@@ -16,8 +18,6 @@ enum Step {
     Length(u64),
     /// These bytes are there from a place on, eight at the most.
     Read(u64, &'static [u8]),
-    /// From a place on there are fewer bytes than these, so they are not read.
-    Lacks(u64, &'static [u8]),
     /// These bytes are written from a place on.
     Write(u64, &'static [u8]),
     /// A write of these bytes from a place on fails.
@@ -28,14 +28,41 @@ enum Step {
     WriteDurably(u64, &'static [u8]),
 }
 
+// Whether the disk has so many bytes from a place on, as it is asked for no others.
+fn has_range<D: Disk>(disk: &mut D, at: u64, count: usize) -> Option<bool>
+    ensures within { IfSome result (λ answer. IsTrue answer → IsTrue (D.honest disk.old)
+        → at + count ≤ length (D.seen disk.new)) }
+    ensures honesty { D.honest disk.new ≡ D.honest disk.old }
+{
+    match disk.len() {
+        Ok(length) => Some(at <= length && count as u64 <= length - at),
+        Err(_) => None,
+    }
+}
+
 // The bytes from a place on, as many as there are of the others, or nothing where they are not read.
 fn is_read<D: Disk>(disk: &mut D, at: u64, like: &[u8]) -> Option<bool> {
     let mut part = [9_u8; 8];
     let part = part.get_mut(..like.len())?;
+    if !has_range(disk, at, part.len())? {
+        return None;
+    }
     match disk.read(at, part) {
         Ok(()) => Some(*part == *like),
         Err(_) => None,
     }
+}
+
+// Whether these bytes are written from a place on, or nothing where the disk ends before it.
+fn is_written<D: Disk>(disk: &mut D, at: u64, bytes: &[u8]) -> Option<bool> {
+    if !has_range(disk, at, 0)? {
+        return None;
+    }
+    Some(disk.write_at(at, bytes).is_ok())
+}
+
+fn is_written_durably<D: Disk>(disk: &mut D, at: u64, bytes: &[u8]) -> bool {
+    has_range(disk, at, 0) == Some(true) && write_durably(disk, at, bytes).is_ok()
 }
 
 // Makes a call, and returns whether it came to what it must.
@@ -43,11 +70,10 @@ fn make_call<D: Disk>(disk: &mut D, step: Step) -> bool {
     match step {
         Step::Length(length) => disk.len() == Ok(length),
         Step::Read(at, bytes) => is_read(disk, at, bytes) == Some(true),
-        Step::Lacks(at, bytes) => is_read(disk, at, bytes).is_none(),
-        Step::Write(at, bytes) => disk.write_at(at, bytes).is_ok(),
-        Step::Refuses(at, bytes) => disk.write_at(at, bytes).is_err(),
+        Step::Write(at, bytes) => is_written(disk, at, bytes) == Some(true),
+        Step::Refuses(at, bytes) => is_written(disk, at, bytes) == Some(false),
         Step::Sync => disk.sync().is_ok(),
-        Step::WriteDurably(at, bytes) => write_durably(disk, at, bytes).is_ok(),
+        Step::WriteDurably(at, bytes) => is_written_durably(disk, at, bytes),
     }
 }
 
@@ -139,10 +165,6 @@ static BEYOND: [MemoryRow; 1] = [MemoryRow {
     before: b"seven",
     steps: &[
         Step::Read(2, b"ven"),
-        // A byte beyond, and then far beyond.
-        Step::Lacks(3, b"en?"),
-        Step::Lacks(u64::MAX, b"???"),
-        Step::Refuses(6, b"s"),
         Step::Read(5, b""),
         Step::Write(5, b"s"),
     ],
@@ -152,7 +174,16 @@ static BEYOND: [MemoryRow; 1] = [MemoryRow {
 
 #[test]
 fn beyond_the_file_is_a_failure(rt: HostRuntime) -> Result<(), Fail> {
-    check_memories(&rt, rt.alloc(), &BEYOND)
+    check_memories(&rt, rt.alloc(), &BEYOND)?;
+    let mut disk = MemoryDisk::with_bytes(rt.alloc(), b"seven")?;
+    // A byte beyond, and then far beyond.
+    for at in [3, u64::MAX] {
+        let is_refused = disk.read(at, &mut [0; 3]).is_err();
+        assert!(rt; is_refused, "three bytes from {at} on");
+    }
+    let is_refused = disk.write_at(6, b"s").is_err();
+    assert!(rt; is_refused, "a write that leaves a gap");
+    Ok(())
 }
 
 // A small commit over the byte `0`.
@@ -168,15 +199,19 @@ static COMMIT: [Step; 5] = [
 // syncs, and how many steps succeeded.
 type FuseRow = (&'static str, &'static [u8], u64, u64);
 
-static FUSES: [FuseRow; 8] = [
+static FUSES: [FuseRow; 11] = [
+    // A range is read or written in a call more, as the length is asked for before.
     ("0 calls", b"0", 0, 0),
-    ("1 call", b"0ab", 1, 1),
-    ("2 calls", b"0ab", 2, 2),
-    ("3 calls", b"1ab", 3, 2),
-    ("4 calls", b"1ab", 4, 3),
-    ("5 calls", b"1ab", 4, 4),
-    ("6 calls", b"1ab", 4, 5),
-    ("7 calls", b"1ab", 4, 5),
+    ("1 call", b"0", 0, 0),
+    ("2 calls", b"0ab", 1, 1),
+    ("3 calls", b"0ab", 2, 2),
+    ("4 calls", b"0ab", 2, 2),
+    ("5 calls", b"1ab", 3, 2),
+    ("6 calls", b"1ab", 4, 3),
+    ("7 calls", b"1ab", 4, 3),
+    ("8 calls", b"1ab", 4, 4),
+    ("9 calls", b"1ab", 4, 5),
+    ("10 calls", b"1ab", 4, 5),
 ];
 
 // Makes the calls of the commit over a disk that fails after so many calls.
@@ -322,7 +357,6 @@ static USES: [FileUse; 4] = [
         &[
             Step::Length(13),
             Step::Read(7, b"d body"),
-            Step::Lacks(8, b" body?"),
             Step::WriteDurably(0, b"G"),
         ],
     ),
@@ -355,6 +389,9 @@ fn a_file_is_read_after_it_is_opened_again(rt: HostRuntime) -> Result<(), Fail> 
         let mut disk = open_file(&rt, path.as_str(), *mode)?;
         check_steps(&rt, &mut disk, steps, what);
     }
+    let mut disk = open_file(&rt, path.as_str(), OpenMode::Existing)?;
+    let is_refused = disk.read(8, &mut [0; 6]).is_err();
+    assert!(rt; is_refused, "six bytes, of which the last is past the end");
     fs::remove_file(&rt, path.as_str())?;
     Ok(())
 }

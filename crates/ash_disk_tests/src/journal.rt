@@ -1,14 +1,15 @@
 //! A journal: that its calls succeed, the bytes that they leave, and how many calls of a device they make. No clause
 //! states these. Runs over two disks are data, so that each call is proved once and not in each test. `files` has runs
 //! with the bytes that they leave, `refusals` what a journal is not created over and how faults are written,
-//! `composed` a caller, proved, that makes every call, `crashes` stops a run at each call of a disk, and `faults`
-//! compares damaged files with a reading of the layout by hand.
+//! `composed` a caller, proved, that makes every call, `crashes` stops a run at each call of a disk, `faults` compares
+//! damaged files with a reading of the layout by hand, and `lengths` has lengths that no journal writes.
 
 use crate::compare::check_number;
 use crate::disks::check_disk;
 use ash_disk::{Disk, MemoryDisk};
 use ash_journal::{
-    AppendError, InstallError, Journal, OpenFault, OpenedJournal, RECORD_BYTES_LIMIT, Record,
+    AppendError, InstallError, Journal, LENGTH_LIMIT, OpenFault, OpenedJournal, RECORD_BYTES_LIMIT,
+    Record,
 };
 use std::alloc::{AllocError, Global};
 use std::process::Abort;
@@ -18,6 +19,7 @@ mod composed;
 mod crashes;
 mod faults;
 mod files;
+mod lengths;
 mod refusals;
 
 /// A call of a journal, with what it must come to.
@@ -42,7 +44,7 @@ fn append<D: Disk>(journal: &mut Journal<D>, body: &[u8]) -> Result<(), AppendEr
     if !journal.is_ready() {
         return Err(AppendError::DeviceFailed);
     }
-    if journal.record_bytes() >= RECORD_BYTES_LIMIT || body.len() >= 1 << 32 {
+    if journal.record_bytes() >= RECORD_BYTES_LIMIT || body.len() >= LENGTH_LIMIT {
         return Err(AppendError::NoMemory);
     }
     journal.append(body)
@@ -53,7 +55,7 @@ fn install<D: Disk>(journal: &mut Journal<D>, image: &[u8]) -> Result<(), Instal
     if !journal.is_ready() {
         return Err(InstallError::DeviceFailed);
     }
-    if image.len() >= 1 << 32 {
+    if image.len() >= LENGTH_LIMIT {
         return Err(InstallError::NoMemory);
     }
     journal.install(image)
@@ -128,7 +130,7 @@ fn create(
     second: MemoryDisk,
     image: &[u8],
 ) -> Result<Journal<MemoryDisk>, Fail> {
-    if image.len() >= 1 << 32 {
+    if image.len() >= LENGTH_LIMIT {
         return Err(Fail::from(AllocError));
     }
     match Journal::create(alloc, first, second, image) {

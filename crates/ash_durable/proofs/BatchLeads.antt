@@ -60,17 +60,20 @@ module _ {B : Type 0} (G : Ghosts B) (budget : ℕ) where
 pub batch_leads : {D B : Type 0} (device : Device D) (G : Ghosts B) (budget : ℕ) (requests : List BatchRequest)
     (live : LiveState B) (replies : List BatchReply) (after : LiveState B)
     (steps : BatchSteps G budget requests live replies after) → AllByRecursion MayBeStored (answered_in steps)
-    → (body : List ℕ) → IsBodyOfBatch (answered_in steps) body → (journal : Journal D)
+    → (body : List ℕ) → IsBodyOfBatch after.durable (answered_in steps) body → (journal : Journal D)
     → HoldsState device live.durable journal → IsBodyBetween Two body live.durable after.durable
 batch_leads device G budget requests live replies after steps stored body is_body journal holds =
     let fits = fits_in Two live.durable holds.contents holds.is_state holds.in_two in
     let chained = chain G budget requests live replies after steps stored holds.is_state.depicts.admitted fits in
     record {
       registered = batch_registered G budget requests live replies after steps;
-      leads = inr (inr (record {
-        in_two = refl;
-        changes = map delta_named (answered_in steps);
-        is_body = is_body;
-        lead = chained;
-      }));
+      leads = elim is_body [
+        | inl changed ↦ inr (inr (record {
+          in_two = refl;
+          changes = map delta_named (answered_in steps);
+          is_body = changed.1;
+          lead = chained;
+        }))
+        | inr whole ↦ inl whole.1
+      ];
     }

@@ -4,7 +4,7 @@ use Rattle.std.proofs.Common.{Some, None, IsSome, Result, Ok, Err, refl, sym, �
 use Rattle.std.proofs.Common.{get_or, take, drop, drop-cons, add-one}
 use Rattle.std.specs.List.{flat_map, AllByRecursion}
 use Rattle.std.proofs.lemmas.List.{length-append, length-map, map-append, append_assoc, nil_from_length}
-use Rattle.std.proofs.lemmas.List.{take_all, take_more, take-append-drop}
+use Rattle.std.proofs.lemmas.List.{take_all, take_more, take-append-drop, append-nil}
 use Rattle.std.proofs.lemmas.Grind.{flat_map-append}
 use Rattle.ash_host.specs.declared.host_object.HostObject.{Ghosts}
 use Rattle.ash_requests.specs.Requests.{Request, Snapshot, Reply, Answered, Value, ShownAs, Number, Done, Refused}
@@ -18,6 +18,7 @@ use Rattle.ash_image.specs.declared.version.Version.TheVariants.{Two}
 use Rattle.ash_image.specs.Delta.{Delta, delta, FitsDelta}
 use Rattle.ash_image.specs.Deltas.{deltas_tag, FitDeltas}
 use Rattle.ash_states.specs.HostStates.{HostState, IsAdmitted}
+use Rattle.ash_states.specs.Images.{IsBodyIn}
 use Rattle.ash_states.specs.StateSteps.{FailsInChange}
 use Rattle.ash_engine.specs.LiveStates.{LiveState, EngineState, AreOf}
 use Rattle.ash_engine.specs.LiveSteps.{LiveSteps, Handled, TakesStep, IsNoAnswer, IsReached, reached_by}
@@ -29,13 +30,14 @@ use Rattle.ash_durable.specs.declared.batching.BatchRun.{BatchRun}
 use Rattle.ash_durable.specs.declared.batching.BatchStop.{BatchStop}
 use Rattle.ash_durable.specs.declared.batching.BatchStop.TheVariants as stops
 use Rattle.ash_durable.specs.Batches.{BatchRequest, Asked, BatchReply, Replied, RefusedBad, BatchSteps, answered_in}
-use Rattle.ash_durable.specs.Batches.{HasBegunToChange, max_batch}
+use Rattle.ash_durable.specs.Batches.{HasBegunToChange, IsBodyOfBatch, deltas_body, max_batch}
 use Rattle.ash_durable.specs.BatchViews.{batch_reply_seen}
 use Rattle.ash_durable.specs.BatchRuns.{answered_by, IsReplyOfBatch, MayBeStored, HaveStepped, max_delta_bytes, HasRun}
 use Rattle.ash_durable.specs.BatchRuns.{HasRunWhole, IsStopAfter, StopsBatch, RunsRequest, RunsBatch, AddsReply}
-use Rattle.ash_durable.specs.BatchRuns.{TriesReply}
+use Rattle.ash_durable.specs.BatchRuns.{TriesReply, IsFitted}
+use Rattle.ash_journal.specs.Layout.{length_limit}
 use Rattle.ash_durable.proofs.BatchLaws.{steps_then, answered_then, one_step, no_step, none_answered, few_answered}
-use Rattle.ash_durable.proofs.Handling.{no_end_changes, handled_ok}
+use Rattle.ash_durable.proofs.Handling.{no_end_runs, handled_ok}
 use Rattle.ash_durable.proofs.NotDone.{not_done}
 use Rattle.ash_durable.proofs.Requesting.{some_live}
 
@@ -207,7 +209,7 @@ module _ {B : Type 0} (G : Ghosts B) (budget : ℕ) (done : List BatchRequest) (
     replies = map batch_reply_seen old.replies.items;
     reached = was.stepped.after;
     steps = was.stepped.steps;
-    changes = inr (no_end_changes request (was.stepped.after).durable error fails);
+    changes = inr (no_end_runs request (was.stepped.after).durable error fails);
   }
 
   module _ (given : code_reply.Reply code_fault.SourceFault)
@@ -261,6 +263,17 @@ module _ {B : Type 0} (G : Ghosts B) (budget : ℕ) (request : Request) (known l
       let after = handled_ok G budget request some.0 given later (handled some.0 some.1) in
       not_done G budget request some.0 after.0 (reply_seen fault_of given) other after.2
 
+-- ---- the body of the record
+
+-- the changes, if they are not too long for a record
+pub fitted_kept : (state : HostState) (body : List ℕ) → length body < length_limit → IsFitted state body body
+fitted_kept state body short = inl (short, refl)
+
+-- else the image of the state
+pub fitted_whole : (state : HostState) (old new : List ℕ) → length_limit ≤ length old → IsBodyIn Two new state
+    → length new < length_limit → IsFitted state old new
+fitted_whole state old new long is_body short = inr (long, is_body, short)
+
 -- ---- the whole batch
 
 -- the count of what was answered, in its place
@@ -270,20 +283,38 @@ module _ {B : Type 0} (G : Ghosts B) (budget : ℕ) (requests : List BatchReques
   answered_some [] some = absurd (some refl)
   answered_some (l ∷ ls) some = omega arith
 
+  -- what memory was refused for stopped it
+  pub fit_stops : (run : BatchRun) → HasRun G budget requests live run engine → (stop : BatchStop)
+      → IsStopAfter run.answered stop → StopsBatch G budget requests live stop engine
+  fit_stops run was stop stopped =
+      stops_after G budget requests live (map batch_reply_seen run.replies.items) was.answered engine was.stepped
+      run.answered was.count stop stopped requests [] (sym (append-nil requests))
+
+  fitted_body : (state : HostState) (answered : List (LiveState B)) (old new : List ℕ)
+      → FitDeltas (map delta_named answered) → old ≡ deltas_body answered → IsFitted state old new
+      → IsBodyOfBatch state answered new
+  fitted_body state answered old new fits is (inl kept) =
+      inl (subst (λ (bs : List ℕ). length bs < length_limit) is kept.0, (fits, kept.1 ∙ is))
+  fitted_body state answered old new fits is (inr whole) =
+      inr (subst (λ (bs : List ℕ). length_limit ≤ length bs) is whole.0, whole.1)
+
+  fitted_short : (state : HostState) (old new : List ℕ) → IsFitted state old new → length new < length_limit
+  fitted_short state old new (inl kept) = subst (λ (bs : List ℕ). length bs < length_limit) (sym kept.1) kept.0
+  fitted_short state old new (inr whole) = whole.2
+
   pub run_whole : (old new : BatchRun) → length requests ≤ max_batch → HasRun G budget requests live old engine
-      → new.replies ≡ old.replies → new.answered ≡ old.answered
-      → ((bs : List ℕ) → old.body.items ≡ deltas_tag ∷ 0 ∷ bs → new.body.items ≡ deltas_tag ∷ old.answered ∷ bs)
+      → new.replies ≡ old.replies → new.answered ≡ old.answered → (counted : List ℕ)
+      → ((bs : List ℕ) → old.body.items ≡ deltas_tag ∷ 0 ∷ bs → counted ≡ deltas_tag ∷ old.answered ∷ bs)
+      → ((l : LiveState B) → engine.live ≡ Some l → IsFitted l.durable counted new.body.items)
       → HasRunWhole G budget requests live new engine
-  run_whole old new few was replies_same answered_same counted =
-      let body = counted (flat_map delta (map delta_named was.answered)) was.body_is in
+  run_whole old new few was replies_same answered_same counted counts fitted =
+      let body = counts (flat_map delta (map delta_named was.answered)) was.body_is in
       let ds = map delta_named was.answered in
       let many : length ds ≡ length was.answered = length-map was.answered delta_named in
       let fewer : length was.answered ≤ length requests =
       subst (λ (ls : List (LiveState B)). length ls ≤ length requests) was.stepped.answered_are
       (few_answered G budget requests live (map batch_reply_seen old.replies.items) was.stepped.after
       was.stepped.steps) in
-      let longs : length new.body.items ≡ length old.body.items =
-      ap (λ (bs : List ℕ). length bs) body ∙ sym (ap (λ (bs : List ℕ). length bs) was.body_is) in
       record {
         answered = was.answered;
         stepped = subst (λ (rs : List BatchReply). HaveStepped G budget requests live rs was.answered engine)
@@ -291,15 +322,17 @@ module _ {B : Type 0} (G : Ghosts B) (budget : ℕ) (requests : List BatchReques
             was.stepped;
         stored = was.stored;
         count = answered_same ∙ was.count;
-        is_body = λ some. (
-          record {
-            some = let one = answered_some was.answered some in omega (arith, one, many);
-            few = omega (arith, many, fewer, few);
-            each = fits_each was.answered was.stored;
-          },
-          body ∙ ap (λ (n : ℕ). deltas_tag ∷ n ∷ flat_map delta ds) (was.count ∙ sym many),
-        );
-        short = omega (arith, longs, was.short, was.count, fewer, few);
+        is_body = λ after is some.
+            fitted_body after.durable was.answered counted new.body.items
+            (record {
+              some = let one = answered_some was.answered some in omega (arith, one, many);
+              few = omega (arith, many, fewer, few);
+              each = fits_each was.answered was.stored;
+            })
+            (body ∙ ap (λ (n : ℕ). deltas_tag ∷ n ∷ flat_map delta ds) (was.count ∙ sym many))
+            (fitted after is);
+        short = fitted_short (was.stepped.after).durable counted new.body.items
+            (fitted was.stepped.after was.stepped.live_is);
       }
 
 -- ---- the requests of a batch, one by one

@@ -140,9 +140,9 @@ module _ {D B : Type 0} (device : Device D) (G : Ghosts B) (budget : ℕ) (reque
           let steps = ran.stepped.steps in
           let there : CommitsRecord device seq run.body.items (host_in after journal) result new =
           subst (λ (host : Hosted D B). CommitsRecord device seq run.body.items host result new) seen_after committed in
-          let is_body : IsBodyOfBatch (answered_in steps) run.body.items =
-          subst (λ (ls : List (LiveState B)). IsBodyOfBatch ls run.body.items) (sym ran.stepped.answered_are)
-          (ran.is_body answered_some) in
+          let is_body : IsBodyOfBatch after.durable (answered_in steps) run.body.items =
+          subst (λ (ls : List (LiveState B)). IsBodyOfBatch after.durable ls run.body.items) (sym ran.stepped.answered_are)
+          (ran.is_body after ran.stepped.live_is answered_some) in
           batch_committed device G budget requests found.live journal old found.room
           (map batch_reply_seen run.replies.items) after steps steps_some (sound after ran.stepped.live_is)
           run.body.items is_body

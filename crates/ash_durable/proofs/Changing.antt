@@ -19,6 +19,7 @@ use Rattle.ash_states.specs.StateSteps.{task_of}
 use Rattle.ash_engine.specs.LiveStates.{LiveState}
 use Rattle.ash_engine.specs.LiveSteps.{LiveSteps, TakesStep}
 use Rattle.ash_durable.specs.Hosting.{Hosted, IsAnswer, MayAdd, WantsInstall, MakesRoomFor, HostReplies, Handles}
+use Rattle.ash_durable.proofs.RunningCode.{runs_changes}
 use Rattle.ash_durable.proofs.Answering.{required, required_some, answer_changes}
 
 -- ---- requests that change the state
@@ -88,7 +89,7 @@ reads_only {D} {B} device G budget request old reply new adds not handled = by o
               ∙ as_it_is device request live.durable old took.between not took.room
           | inr (inl out) ↦ as_it_is device request live.durable old new not out.room
           | inr (inr (inl lost)) ↦ absurd (none live.durable lost.changes)
-          | inr (inr (inr (inl lost))) ↦ absurd (none live.durable lost.changes)
+          | inr (inr (inr (inl lost))) ↦ absurd (none live.durable (runs_changes (task_of request live.durable) lost.runs))
           | inr (inr (inr (inr refused))) ↦ absurd (not refused.wanted)
         ]
 
@@ -146,6 +147,7 @@ takes_at G b c request old reply new takes step = record {
   gave = step.gave;
   unchanged = step.unchanged;
   named = step.named;
+  no_more = step.no_more;
 }
 
 replies_at : {D B : Type 0} (device : Device D) (G : Ghosts B) (b c : ℕ) (request : Request)

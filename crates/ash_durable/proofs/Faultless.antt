@@ -1,11 +1,11 @@
 -- Files that represent contents have none of a journal's faults.
 use Rattle.std.proofs.Common.{◌≡◌, ◌≢◌, ◌⊎◌, inl, inr, ℕ, ◌<◌, ◌^◌, List, [], ◌∷◌, ◌++◌, length, sym, ◌∙◌, ap, arith}
-use Rattle.std.proofs.Common.{append_assoc, length-append}
+use Rattle.std.proofs.Common.{⊎_elim, append_assoc, length-append}
 use Rattle.ash_journal.specs.Current.{Contents, IsOlder, IsCurrent, Represent}
 use Rattle.ash_journal.specs.Layout.{four_bytes, mark, block, records, committed_bytes, AreShort, IsFile, IsClosed}
-use Rattle.ash_journal.specs.Layout.{IsCutShort}
-use Rattle.ash_journal.specs.Layout.{LacksMark, IsCutAt}
-use Rattle.ash_journal.specs.Opening.{IsUnsound, IsCutCurrent, HasCurrent}
+use Rattle.ash_journal.specs.Layout.{length_limit, IsDamaged}
+use Rattle.ash_journal.specs.Layout.{LacksMark, IsDamagedAt}
+use Rattle.ash_journal.specs.Opening.{IsUnsound, IsDamagedCurrent, HasCurrent}
 use Rattle.ash_journal.proofs.LayoutLaws.{length-four, four_read, same_parts, length-mark, block_same, records-nil}
 use Rattle.ash_journal.proofs.LayoutLaws.{records-cons, same_mark, file_mark, open_closed, mark_closed}
 use Rattle.ash_journal.proofs.SettleLaws.{mark_less}
@@ -37,9 +37,9 @@ solid_split generation image bodies rest =
 gate_left : (before following : List ℕ) (gate : ℕ) → 0 < length (before ++ gate ∷ following)
 gate_left before following gate = omega (arith, length-append before (gate ∷ following))
 
--- a length, what it is of, and something after that are not cut short
-not_cut : (body more rest : List ℕ) → length body < 2 ^ 32 → 0 < length more → rest ≡ block body ++ more
-    → IsCutShort rest
+-- a length below the limit, what it is of, and something after that are not damaged
+not_cut : (body more rest : List ℕ) → length body < length_limit → 0 < length more → rest ≡ block body ++ more
+    → IsDamaged rest
     → ⊥
 unfolding block
 not_cut body more rest short some is (inl tiny) =
@@ -51,18 +51,19 @@ not_cut body more rest short some is (inl tiny) =
       length-four (length body),
       tiny,
     )
-not_cut body more rest short some is (inr (n, left, fits, rest_is, few)) =
+not_cut body more rest short some is (inr (n, left, fits, rest_is, bad)) =
     let plain : four_bytes n ++ left ≡ four_bytes (length body) ++ (body ++ more) = sym rest_is ∙ is
     ∙ append_assoc (four_bytes (length body)) body more in
     let parts = same_parts (four_bytes n) (four_bytes (length body)) left (body ++ more)
     (length-four n ∙ sym (length-four (length body))) plain in
     let read_back = rw parts.0 at (four_read n [] fits) in
-    let same : n ≡ length body = sym read_back ∙ four_read (length body) [] short in
-    omega (arith, ap length parts.1, length-append body more, few, same, some)
+    let same : n ≡ length body = sym read_back ∙ four_read (length body) [] (omega (arith, short)) in
+    ⊎_elim (λ long. omega (arith, same, short, long))
+    (λ few. omega (arith, ap length parts.1, length-append body more, few, same, some)) bad
 
--- Records up to a gate that is not open are no records up to one that is, with something cut short after it.
+-- Records up to a gate that is not open are no records up to one that is, with something damaged after it.
 records_not_cut : (bodies others : List (List ℕ)) (gate : ℕ) (rest following : List ℕ) → AreShort bodies
-    → AreShort others → gate ≢ 1 → records bodies ++ 1 ∷ rest ≡ records others ++ gate ∷ following → IsCutShort rest → ⊥
+    → AreShort others → gate ≢ 1 → records bodies ++ 1 ∷ rest ≡ records others ++ gate ∷ following → IsDamaged rest → ⊥
 records_not_cut [] [] gate rest following short_b short_o shut is cut =
     let plain : 1 ∷ rest ≡ gate ∷ following = sym (ap (λ (r : List ℕ). r ++ 1 ∷ rest) records-nil) ∙ is
     ∙ ap (λ (r : List ℕ). r ++ gate ∷ following) records-nil in
@@ -84,9 +85,9 @@ records_not_cut (body ∷ bodies) (other ∷ others) gate rest following short_b
     short_b.0 short_o.0 (ap tail_of plain) in
     records_not_cut bodies others gate rest following short_b.1 short_o.1 shut one.1 cut
 
--- a whole file is not cut short
+-- a whole file is not damaged
 file_not_cut : (g : ℕ) (image : List ℕ) (bodies : List (List ℕ)) (file : List ℕ) (at : ℕ) → IsFile g image bodies file
-    → IsCutAt at file → ⊥
+    → IsDamagedAt at file → ⊥
 file_not_cut g image bodies file at whole (inl (h, rest, bytes, cut, at_is)) =
     let more = records bodies ++ whole.gate ∷ whole.after in
     let plain : 1 ∷ (mark h ++ rest) ≡ 1 ∷ (mark g ++ (block image ++ more)) = sym bytes ∙ whole.bytes
@@ -121,7 +122,7 @@ current_sound g image bodies x y current (inr (inr both)) =
     omega (arith, same, under)
 
 current_whole : (g : ℕ) (image : List ℕ) (bodies : List (List ℕ)) (x y : List ℕ) (at : ℕ) → IsCurrent g image bodies x y
-    → IsCutCurrent at x y ⊎ IsCutCurrent at y x → ⊥
+    → IsDamagedCurrent at x y ⊎ IsDamagedCurrent at y x → ⊥
 current_whole g image bodies x y at current (inl cut) = file_not_cut g image bodies x at current.file cut.3
 current_whole g image bodies x y at current (inr cut) =
     let above : g < cut.0 = mark_less g cut.0 x (file_mark g image bodies x current.file) cut.2 in
@@ -135,8 +136,8 @@ unsound_turned x y (inl lacks) = inr (inl lacks)
 unsound_turned x y (inr (inl lacks)) = inl lacks
 unsound_turned x y (inr (inr both)) = inr (inr (both.0, both.2, both.1))
 
-cut_turned : (x y : List ℕ) (at : ℕ) → IsCutCurrent at x y ⊎ IsCutCurrent at y x → IsCutCurrent at y x
-    ⊎ IsCutCurrent at x y
+cut_turned : (x y : List ℕ) (at : ℕ) → IsDamagedCurrent at x y ⊎ IsDamagedCurrent at y x → IsDamagedCurrent at y x
+    ⊎ IsDamagedCurrent at x y
 cut_turned x y at (inl cut) = inr cut
 cut_turned x y at (inr cut) = inl cut
 
@@ -151,8 +152,8 @@ represent_sound contents x y (inl one) unsound = current_sound one.0 contents.0 
 represent_sound contents x y (inr one) unsound =
     current_sound one.0 contents.0 contents.1 y x one.1 (unsound_turned x y unsound)
 
-pub represent_whole : (contents : Contents) (x y : List ℕ) (at : ℕ) → Represent contents x y → IsCutCurrent at x y
-    ⊎ IsCutCurrent at y x → ⊥
+pub represent_whole : (contents : Contents) (x y : List ℕ) (at : ℕ) → Represent contents x y → IsDamagedCurrent at x y
+    ⊎ IsDamagedCurrent at y x → ⊥
 represent_whole contents x y at (inl one) cut = current_whole one.0 contents.0 contents.1 x y at one.1 cut
 represent_whole contents x y at (inr one) cut =
     current_whole one.0 contents.0 contents.1 y x at one.1 (cut_turned x y at cut)

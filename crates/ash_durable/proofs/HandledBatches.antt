@@ -215,7 +215,7 @@ module _ {D B : Type 0} (device : Device D) (G : Ghosts B) (budget : ℕ) (reque
 
       -- some were, and what they changed is a record
       module _ (some : answered_in steps ≡ [] → ⊥) (sound : IsSound G after) (body : List ℕ)
-          (is_body : IsBodyOfBatch (answered_in steps) body)
+          (is_body : IsBodyOfBatch after.durable (answered_in steps) body)
           (leads : HoldsState device live.durable journal → IsBodyBetween Two body live.durable after.durable) where
         registered_same : live.durable.registered ≡ after.durable.registered
         registered_same = sym (batch_registered G budget requests live replies after steps)
@@ -248,8 +248,8 @@ module _ {D B : Type 0} (device : Device D) (G : Ghosts B) (budget : ℕ) (reque
                       record {
                         same = outcome.2.same;
                         body = outcome.2.body;
-                        is_body = subst (λ (bs : List ℕ). IsBodyOfBatch (answered_in steps) bs) (sym outcome.2.is_body)
-                            is_body;
+                        is_body = subst (λ (bs : List ℕ). IsBodyOfBatch after.durable (answered_in steps) bs)
+                            (sym outcome.2.is_body) is_body;
                         added = outcome.2.added;
                         longer = outcome.2.longer;
                       },

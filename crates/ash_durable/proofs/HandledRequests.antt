@@ -11,10 +11,9 @@ use Rattle.ash_registry.specs.AcceptedRegistrations.{Registration}
 use Rattle.ash_requests.specs.Requests.{Request, Seq, Reply, Answered, Refused, NoMemory}
 use Rattle.ash_requests.specs.StepLaws.{events_of_reply}
 use Rattle.ash_requests.specs.declared.refusal.Refusal.TheVariants as the
-use Rattle.ash_requests.specs.TaskResults.{TaskChangesState}
 use Rattle.ash_sources.specs.SourceFaults.{SourceFault}
 use Rattle.ash_states.specs.HostStates.{HostState}
-use Rattle.ash_states.specs.StateSteps.{task_of}
+use Rattle.ash_states.specs.StateSteps.{task_of, TaskRunsCode}
 use Rattle.ash_engine.specs.LiveStates.{LiveState, EngineState}
 use Rattle.ash_engine.specs.LiveSteps.{LiveSteps, IsNoAnswer}
 use Rattle.ash_durable.specs.StoredStates.{HoldsState}
@@ -344,16 +343,16 @@ handles_answer device G budget request live after journal old reply (Err refusal
 
 pub handles_lost_state : {D B : Type 0} (device : Device D) (G : Ghosts B) (budget : ℕ) (request : Request)
     (live : LiveState B) (journal : Journal D) (old : Hosted D B)
-    → HadRoom device request live.durable old (host_in live journal) → TaskChangesState (task_of request live.durable)
+    → HadRoom device request live.durable old (host_in live journal) → TaskRunsCode (task_of request live.durable)
     → Handles device G budget request old (Refused NoMemory)
     (host_stopped B live.durable.registered live.durable.state.seq journal)
-handles_lost_state {D} {B} device G budget request live journal old room changes = record {
+handles_lost_state {D} {B} device G budget request live journal old room runs = record {
   replies = subst (λ (known : Option (LiveState B)). HostReplies device G budget request known old (Refused NoMemory)
       (host_stopped B live.durable.registered live.durable.state.seq journal)) room.live_same
       (inr (inr (inr (inl (record {
         between = host_in live journal;
         room = room.room;
-        changes = changes;
+        runs = runs;
         reply_is = refl;
         journal_same = refl;
         stopped = record { stopped = refl; seq_same = sym room.began.seq_is };

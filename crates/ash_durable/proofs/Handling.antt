@@ -10,12 +10,11 @@ use Rattle.ash_requests.specs.declared.reply.Reply as code_reply
 use Rattle.ash_requests.specs.declared.step_error.StepError.{StepError}
 use Rattle.ash_requests.specs.declared.step_error.StepError.TheVariants as errors
 use Rattle.ash_requests.specs.RequestViews.{refusal_seen, reply_seen}
-use Rattle.ash_requests.specs.TaskResults.{TaskChangesState}
 use Rattle.ash_sources.specs.declared.fault.SourceFault as code_fault
 use Rattle.ash_sources.specs.SourceFaults.{SourceFault, fault_of}
 use Rattle.ash_registry.specs.AcceptedRegistrations.{Registration}
 use Rattle.ash_states.specs.HostStates.{HostState}
-use Rattle.ash_states.specs.StateSteps.{task_of, FailsInChange}
+use Rattle.ash_states.specs.StateSteps.{task_of, FailsInChange, TaskRunsCode}
 use Rattle.ash_engine.specs.LiveStates.{LiveState, EngineState}
 use Rattle.ash_engine.specs.LiveSteps.{LiveSteps, Handled}
 use Rattle.ash_durable.specs.Saving.{HostRefusal}
@@ -99,11 +98,11 @@ found_live {D} {B} found = subst (λ (l : Option (LiveState B)). IsSome l) (sym 
 
 -- ---- a request that is handled once room was made
 
--- a request that has no end changes the state
-pub no_end_changes : (request : Request) (state : HostState) (error : StepError)
-    → FailsInChange request state error → TaskChangesState (task_of request state)
-no_end_changes request state errors.NoMemory no_end = no_end
-no_end_changes request state errors.NoStep no_end = absurd no_end
+-- a request that has no end runs code
+pub no_end_runs : (request : Request) (state : HostState) (error : StepError)
+    → FailsInChange request state error → TaskRunsCode (task_of request state)
+no_end_runs request state errors.NoMemory no_end = no_end
+no_end_runs request state errors.NoStep no_end = absurd no_end
 
 -- where there is a reply, there is a live state after it
 pub handled_ok : {B : Type 0} (G : Ghosts B) (budget : ℕ) (request : Request) (live : LiveState B)
@@ -172,7 +171,7 @@ module _ {D B : Type 0} (device : Device D) (G : Ghosts B) (budget : ℕ) (reque
       → Handles device G budget request old (Refused NoMemory) (seen_host (Some seq) later journal)
   handled_lost seq error handled seq_is =
       let lost = handles_lost_state device G budget request found.live journal old found.room
-      (no_end_changes request found.live.durable error handled.0) in
+      (no_end_runs request found.live.durable error handled.0) in
       let registered : found.live.durable.registered ≡ later.registered = sym (same ∙ found.registered_is) in
       subst (λ (n : ℕ). Handles device G budget request old (Refused NoMemory)
       (host_stopped B later.registered n journal)) (sym seq_is)

@@ -22,6 +22,7 @@ pub mod Handling
 pub mod LifeEvents
 pub mod LifeLaws
 pub mod LivesOn
+pub mod KeptAnswers
 pub mod LongSources
 pub mod Making
 pub mod Mishaps
@@ -37,4 +38,5 @@ pub mod Refusing
 pub mod RequestOutcomes
 pub mod Requesting
 pub mod Running
+pub mod RunningCode
 pub mod Settling

@@ -168,7 +168,7 @@ module _ {D B : Type 0} (device : Device D) (G : Ghosts B) (budget : ℕ) where
               inr (refused_by requests old refusal new live before none handled, refl),
             )
 
-    call_once : (call : HostCall) (events : List StoreEvent) (old : Hosted D B) (result : HostResult)
+    pub call_once : (call : HostCall) (events : List StoreEvent) (old : Hosted D B) (result : HostResult)
         (new : Hosted D B) → Life device G start events (UnderHost old) → HandlesCall device G budget call old result new
         → LivesOnceBy call events result new
     call_once (SingleCall request) events old (SingleResult reply) new life handled =

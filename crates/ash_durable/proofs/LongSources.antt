@@ -20,14 +20,14 @@ use Rattle.ash_sources.specs.SourceFaults as sources
 use Rattle.ash_sources.specs.TypedSource.{typed_if_checked, typed_source}
 use Rattle.ash_sources.proofs.CheckedSourceLaws.{of_no_tokens}
 use Rattle.ash_states.specs.HostStates.{HostState, embedding_for}
-use Rattle.ash_states.specs.StateSteps.{task_of}
+use Rattle.ash_states.specs.StateSteps.{task_of, TaskRunsCode}
 use Rattle.ash_engine.specs.LiveStates.{LiveState, AreOf}
 use Rattle.ash_engine.specs.LiveSteps.{TakesStep}
 use Rattle.ash_journal.specs.Journal.{LeavesOther}
 use Rattle.ash_durable.specs.Saving.{HasRecord}
 use Rattle.ash_durable.specs.Hosting.{Hosted, HostReplies, Handles, WantsInstall, MakesRoomFor}
 use Rattle.ash_durable.specs.Batches.{BatchRequest, Asked, BadRequest, BatchReply, Replied, BatchResult, BatchSteps}
-use Rattle.ash_durable.specs.Batches.{NoneLeft, Bad, Step, after_answer, answered_in, IsBodyOfBatch, adding_request, NextChanges}
+use Rattle.ash_durable.specs.Batches.{NoneLeft, Bad, Step, after_answer, answered_in, IsBodyOfBatch, adding_request, NextRunsCode}
 use Rattle.ash_durable.specs.Batches.{HasBegunToChange, BatchOutcome, HandlesBatch, prefixed}
 
 take-all : (n : ℕ) (xs : List ℕ) → length xs ≤ n → take n xs ≡ xs
@@ -96,6 +96,7 @@ takes_of_prefix G budget name prefix source old reply new e step = record {
   gave = step.gave;
   unchanged = step.unchanged;
   named = step.named;
+  no_more = step.no_more;
 }
 
 replies_of_prefix : {D B : Type 0} (device : Device D) (G : Ghosts B) (budget : ℕ) (name prefix source : List ℕ)
@@ -145,7 +146,7 @@ replies_of_prefix device G budget name prefix source (Some live) old reply new e
     inr (inr (inr (inl (record {
       between = lost.between;
       room = lost.room;
-      changes = subst TaskChangesState (task_of_prefix name prefix source live.durable e) lost.changes;
+      runs = subst TaskRunsCode (task_of_prefix name prefix source live.durable e) lost.runs;
       reply_is = lost.reply_is;
       journal_same = lost.journal_same;
       stopped = lost.stopped;
@@ -272,13 +273,13 @@ steps_of_prefixes G budget (Asked Snapshot ∷ requests) _ _ _
     step_before G budget Snapshot requests live reply next replies after (answered_in more) stepped boxes
     (steps_of_prefixes G budget requests next replies after more)
 
-next_of_prefixes : (requests : List BatchRequest) (state : HostState) → NextChanges (map prefixed requests) state
-    → NextChanges requests state
-next_of_prefixes [] state changes = changes
-next_of_prefixes (BadRequest number ∷ requests) state changes = changes
-next_of_prefixes (Asked (Load name source) ∷ requests) state changes =
-    subst TaskChangesState (task_of_prefix name (take 65537 source) source state refl) changes
-next_of_prefixes (Asked _ ∷ requests) state changes = changes
+next_of_prefixes : (requests : List BatchRequest) (state : HostState) → NextRunsCode (map prefixed requests) state
+    → NextRunsCode requests state
+next_of_prefixes [] state runs = runs
+next_of_prefixes (BadRequest number ∷ requests) state runs = runs
+next_of_prefixes (Asked (Load name source) ∷ requests) state runs =
+    subst TaskRunsCode (task_of_prefix name (take 65537 source) source state refl) runs
+next_of_prefixes (Asked _ ∷ requests) state runs = runs
 
 begun_of_prefixes : {B : Type 0} (G : Ghosts B) (budget : ℕ) (requests : List BatchRequest) (live : LiveState B)
     → HasBegunToChange G budget (map prefixed requests) live → HasBegunToChange G budget requests live
@@ -300,7 +301,7 @@ begun_of_prefixes {B} G budget requests live begun =
       changes = elim begun.changes [
         | inl some ↦ inl (λ none. some (sym whole.same ∙ none))
         | inr next ↦ inr (next_of_prefixes split.back_of begun.reached.durable
-            (subst (λ (left : List BatchRequest). NextChanges left begun.reached.durable) split.back_is next))
+            (subst (λ (left : List BatchRequest). NextRunsCode left begun.reached.durable) split.back_is next))
       ];
     }
 
@@ -320,7 +321,7 @@ batch_of_prefixes {D} {B} device G budget requests (Some live) old (Ok replies) 
       live_is = took.live_is;
       running = took.running;
       added = subst (λ (answered : List (LiveState B)). (answered ≡ [] → ⊥)
-          → HasRecord device (IsBodyOfBatch answered) took.between.journal new.journal
+          → HasRecord device (IsBodyOfBatch took.after.durable answered) took.between.journal new.journal
           × LeavesOther took.between.journal new.journal) (sym whole.same) took.added;
       untouched = λ none. took.untouched (sym whole.same ∙ none);
       settles = took.settles;

@@ -38,6 +38,7 @@ module _ {B : Type 0} (G : Ghosts B) where
     gave = unasked live.boxes;
     unchanged = λ no. refl;
     named = λ answered. absurd (answered tt);
+    no_more = λ answered. absurd (answered tt);
   }
 
   pub snapshot_step : (budget : ℕ) (live : LiveState B) → TakesStep G budget Snapshot live Done live
@@ -47,4 +48,5 @@ module _ {B : Type 0} (G : Ghosts B) where
     gave = unasked live.boxes;
     unchanged = λ no. refl;
     named = λ answered. absurd (answered tt);
+    no_more = λ answered. absurd (answered tt);
   }

@@ -12,7 +12,7 @@ use Rattle.ash_requests.specs.TaskResults.{TakesMemoryToFind, TaskChangesState}
 use Rattle.ash_sources.specs.SourceFaults.{SourceFault}
 use Rattle.ash_sources.specs.SourceFaults as sources
 use Rattle.ash_states.specs.HostStates.{HostState}
-use Rattle.ash_states.specs.StateSteps.{task_of, first_refusal}
+use Rattle.ash_states.specs.StateSteps.{task_of, first_refusal, TaskRunsCode}
 use Rattle.ash_engine.specs.LiveStates.{LiveState}
 use Rattle.ash_durable.specs.Hosting.{Hosted, WantsInstall, TookStep, HostReplies, Handles, IsAnswer, Refuses}
 use Rattle.ash_durable.specs.Hosting.{RefusesFirst}
@@ -78,6 +78,6 @@ refuses_first {D} {B} device G budget request old reply new handled state cause 
         unchanged = as_it_is device request live.durable old new not out.room;
       }
       | inr (inr (inl lost)) ↦ absurd (subst TaskChangesState is lost.changes)
-      | inr (inr (inr (inl lost))) ↦ absurd (subst TaskChangesState is lost.changes)
+      | inr (inr (inr (inl lost))) ↦ absurd (subst TaskRunsCode is lost.runs)
       | inr (inr (inr (inr none))) ↦ absurd (not none.wanted)
     ]

@@ -5,6 +5,7 @@ use Rattle.ash_disk.specs.Device.{Device}
 use Rattle.ash_host.specs.declared.host_object.HostObject.{Ghosts}
 use Rattle.ash_requests.specs.Requests.{Request, Refusal, Reply, Refused, DeviceFailed, NoMemory, GenerationSpent}
 use Rattle.ash_sources.specs.SourceFaults.{SourceFault}
+use Rattle.ash_states.specs.StateSteps.{task_of}
 use Rattle.ash_engine.specs.LiveStates.{LiveState}
 use Rattle.ash_durable.specs.Hosting.{Hosted, IsRunning, WantsInstall, InstallRefused, HasStopped}
 use Rattle.ash_durable.specs.Hosting.{HostReplies, reply_stopped}
@@ -18,6 +19,7 @@ use Rattle.ash_durable.specs.RequestRuns.{RunsToFailure}
 use Rattle.ash_durable.proofs.BatchOutcomes.{stopped_batch}
 use Rattle.ash_durable.proofs.Composing.{room_same}
 use Rattle.ash_durable.proofs.RequestOutcomes.{was_lost}
+use Rattle.ash_durable.proofs.RunningCode.{runs_changes}
 
 -- What came of a new generation that was wanted before a call: there is none, and nothing has changed; or a device failed
 -- while it was installed.
@@ -128,7 +130,7 @@ module _ {D B : Type 0} (device : Device D) (G : Ghosts B) (budget : ℕ) where
   })
   single request live old reply next is runs (inr (inr (inr (inl lost)))) = inr (record {
     stops = lost.stopped;
-    cause = inl lost.changes;
+    cause = inl (runs_changes (task_of request live.durable) lost.runs);
     loses = subst LosesAnswer (sym lost.reply_is) tt;
   })
   single request live old reply next is runs (inr (inr (inr (inr none)))) =

@@ -1,5 +1,5 @@
 -- How the requests of a batch run over an engine, before anything is stored.
-use Rattle.std.specs.Prelude.{◌≡◌, ℕ, ◌+◌, ◌-◌, ◌*◌, ◌^◌, ◌≤◌, ◌<◌, List, [], ◌∷◌, ◌++◌, length, map}
+use Rattle.std.specs.Prelude.{◌≡◌, ◌⊎◌, ℕ, ◌+◌, ◌-◌, ◌*◌, ◌^◌, ◌≤◌, ◌<◌, List, [], ◌∷◌, ◌++◌, length, map}
 use Rattle.std.specs.Prelude.{Option, Some, None, Result, Ok, Err}
 use Rattle.std.specs.List.{flat_map, AllByRecursion}
 use Rattle.ash_host.specs.declared.host_object.HostObject.{Ghosts}
@@ -10,7 +10,9 @@ use Rattle.ash_sources.specs.SourceFaults.{SourceFault}
 use Rattle.ash_image.specs.declared.version.Version.TheVariants.{Two}
 use Rattle.ash_image.specs.Delta.{delta, FitsDelta}
 use Rattle.ash_image.specs.Deltas.{deltas_tag}
-use Rattle.ash_states.specs.HostStates.{IsAdmitted}
+use Rattle.ash_journal.specs.Layout.{length_limit}
+use Rattle.ash_states.specs.HostStates.{HostState, IsAdmitted}
+use Rattle.ash_states.specs.Images.{IsBodyIn}
 use Rattle.ash_engine.specs.LiveStates.{LiveState, EngineState}
 use Rattle.ash_engine.specs.RecordedChanges.{delta_named}
 use Rattle.ash_durable.specs.declared.batching.BatchRun.{BatchRun}
@@ -83,6 +85,12 @@ pub record HasRun {B : Type 0} (G : Ghosts B) (budget : ℕ) (requests : List Ba
   pub body_is : run.body.items ≡ deltas_tag ∷ 0 ∷ flat_map delta (map delta_named answered)
   pub short : length run.body.items ≤ 2 + run.answered * max_delta_bytes
 
+-- A body is as it was, or it was too long for a record and has the image of a state in place of what it had.
+abbrev pub IsFitted : HostState → List ℕ → List ℕ → Type 0
+IsFitted state old new =
+    ((length old < length_limit) × (new ≡ old))
+    ⊎ ((length_limit ≤ length old) × IsBodyIn Two new state × (length new < length_limit))
+
 -- All requests of a batch have run, and the body of the record is whole if some were answered.
 pub record HasRunWhole {B : Type 0} (G : Ghosts B) (budget : ℕ) (requests : List BatchRequest) (live : LiveState B)
     (run : BatchRun) (engine : EngineState B) : Type 0 where
@@ -90,8 +98,9 @@ pub record HasRunWhole {B : Type 0} (G : Ghosts B) (budget : ℕ) (requests : Li
   pub stepped : HaveStepped G budget requests live (map batch_reply_seen run.replies.items) answered engine
   pub stored : AllByRecursion MayBeStored answered
   pub count : run.answered ≡ length answered
-  pub is_body : (answered ≡ [] → ⊥) → IsBodyOfBatch answered run.body.items
-  pub short : length run.body.items < 2 ^ 32
+  pub is_body : (after : LiveState B) → engine.live ≡ Some after → (answered ≡ [] → ⊥)
+      → IsBodyOfBatch after.durable answered run.body.items
+  pub short : length run.body.items < length_limit
 
 -- a batch of which so many requests were answered ends so if memory is refused
 abbrev pub IsStopAfter : ℕ → BatchStop → Type 0

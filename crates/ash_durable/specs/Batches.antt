@@ -1,5 +1,5 @@
 -- A batch of requests: its steps, what it stores, what a host replies to it and what it leaves.
-use Rattle.std.specs.Prelude.{◌≡◌, ◌⊎◌, ℕ, List, [], ◌∷◌, ◌++◌, map, take, Option, Some, None, Result}
+use Rattle.std.specs.Prelude.{◌≡◌, ◌⊎◌, ◌<◌, ◌≤◌, ℕ, List, [], ◌∷◌, ◌++◌, length, map, take, Option, Some, None, Result}
 use Rattle.std.specs.Prelude.{Ok, Err}
 use Rattle.ash_disk.specs.Device.{Device}
 use Rattle.ash_journal.specs.declared.journal.Journal.{Journal}
@@ -8,12 +8,14 @@ use Rattle.ash_journal.specs.Journal.{LeavesOther}
 use Rattle.ash_host.specs.declared.host_object.HostObject.{Ghosts}
 use Rattle.ash_requests.specs.Requests.{Request, Load, Call, Discard, Seq, Refusal, Reply, Answered, Refused}
 use Rattle.ash_requests.specs.Requests.{NoMemory, Reopen}
-use Rattle.ash_requests.specs.TaskResults.{TaskChangesState}
 use Rattle.ash_sources.specs.SourceFaults.{SourceFault}
 use Rattle.ash_image.specs.Delta.{Delta}
-use Rattle.ash_image.specs.Deltas.{IsDeltasBody}
+use Rattle.ash_image.specs.Deltas.{deltas_tag, deltas, IsDeltasBody}
+use Rattle.ash_image.specs.declared.version.Version.TheVariants.{Two}
+use Rattle.ash_states.specs.Images.{IsBodyIn}
+use Rattle.ash_journal.specs.Layout.{length_limit}
 use Rattle.ash_states.specs.HostStates.{HostState}
-use Rattle.ash_states.specs.StateSteps.{task_of}
+use Rattle.ash_states.specs.StateSteps.{task_of, TaskRunsCode}
 use Rattle.ash_engine.specs.LiveStates.{LiveState, AreOf}
 use Rattle.ash_engine.specs.LiveSteps.{TakesStep}
 use Rattle.ash_engine.specs.RecordedChanges.{delta_named}
@@ -73,9 +75,16 @@ answered_in (Step request requests live reply next replies after stepped boxes m
 
 -- ---- what a batch stores
 
--- The body of a record has what each of these live states names as changed, in order.
-abbrev pub IsBodyOfBatch : {B : Type 0} → List (LiveState B) → List ℕ → Type 0
-IsBodyOfBatch answered body = IsDeltasBody body (map delta_named answered)
+-- the body of a record with what each of these live states names as changed, in order
+abbrev pub deltas_body : {B : Type 0} → List (LiveState B) → List ℕ
+deltas_body answered = deltas_tag ∷ deltas (map delta_named answered)
+
+-- The body of the record of a batch has what each of these live states names as changed, in order. If that is too long
+-- for a record, it has the image of the state after the batch.
+abbrev pub IsBodyOfBatch : {B : Type 0} → HostState → List (LiveState B) → List ℕ → Type 0
+IsBodyOfBatch after answered body =
+    ((length (deltas_body answered) < length_limit) × IsDeltasBody body (map delta_named answered))
+    ⊎ ((length_limit ≤ length (deltas_body answered)) × IsBodyIn Two body after)
 
 -- a request that may add a record, among those of a batch; else one that adds none
 unfoldable pub adding_request : List BatchRequest → Request
@@ -88,7 +97,7 @@ adding_request (_ ∷ requests) = adding_request requests
 -- ---- what came of a batch
 
 -- A batch was carried out: its requests stepped from a live state, once there was room for a record. If some were
--- answered, one record more of the current file has what these changed, each after the other; if none was, no disk was
+-- answered, one record more of the current file has what these changed, or the state after them; if none was, no disk was
 -- touched. At every moment since the batch began, what a crash may leave settled on the state before all of it or on
 -- the state after all of it.
 pub record TookBatch {D B : Type 0} (device : Device D) (G : Ghosts B) (budget : ℕ) (requests : List BatchRequest)
@@ -100,7 +109,7 @@ pub record TookBatch {D B : Type 0} (device : Device D) (G : Ghosts B) (budget :
   pub live_is : new.live ≡ Some after
   pub running : IsRunning after.durable new
   pub added : (answered_in steps ≡ [] → ⊥)
-      → HasRecord device (IsBodyOfBatch (answered_in steps)) between.journal new.journal
+      → HasRecord device (IsBodyOfBatch after.durable (answered_in steps)) between.journal new.journal
       × LeavesOther between.journal new.journal
   pub untouched : answered_in steps ≡ [] → new ≡ between
   pub settles : Settles device live.durable after.durable old new
@@ -130,13 +139,12 @@ pub record BatchNotCommitted {D B : Type 0} (device : Device D) (G : Ghosts B) (
   pub stopped : HasStopped old new
   pub settles : Settles device live.durable after.durable old new
 
--- the next of these requests changes the state
-abbrev pub NextChanges : List BatchRequest → HostState → Type 0
-NextChanges (Asked request ∷ requests) state = TaskChangesState (task_of request state)
-NextChanges _ state = ⊥
+-- the next of these requests runs code
+abbrev pub NextRunsCode : List BatchRequest → HostState → Type 0
+NextRunsCode (Asked request ∷ requests) state = TaskRunsCode (task_of request state)
+NextRunsCode _ state = ⊥
 
--- The first requests of a batch stepped from a live state, and some of them were answered, or the next one changes the
--- state.
+-- The first requests of a batch stepped from a live state, and some of them were answered, or the next one runs code.
 pub record HasBegunToChange {B : Type 0} (G : Ghosts B) (budget : ℕ) (requests : List BatchRequest)
     (live : LiveState B) : Type 0 where
   pub done : List BatchRequest
@@ -145,9 +153,9 @@ pub record HasBegunToChange {B : Type 0} (G : Ghosts B) (budget : ℕ) (requests
   pub replies : List BatchReply
   pub reached : LiveState B
   pub steps : BatchSteps G budget done live replies reached
-  pub changes : (answered_in steps ≡ [] → ⊥) ⊎ NextChanges left reached.durable
+  pub changes : (answered_in steps ≡ [] → ⊥) ⊎ NextRunsCode left reached.durable
 
--- Memory was refused after a request of a batch was answered, or while one changed the state: the state is lost. The
+-- Memory was refused after a request of a batch was answered, or while code of one ran: the state is lost. The
 -- host has to be reopened, and is then in the state before the batch, on which alone the files settle.
 pub record BatchLostItsState {D B : Type 0} (device : Device D) (G : Ghosts B) (budget : ℕ)
     (requests : List BatchRequest) (live : LiveState B) (old : Hosted D B) (refusal : Refusal SourceFault)

@@ -15,7 +15,7 @@ use Rattle.ash_requests.specs.TaskResults.{TakesMemoryToFind, TaskChangesState}
 use Rattle.ash_sources.specs.SourceFaults.{SourceFault}
 use Rattle.ash_sources.specs.SourceFaults as sources
 use Rattle.ash_states.specs.HostStates.{HostState}
-use Rattle.ash_states.specs.StateSteps.{task_of, first_refusal}
+use Rattle.ash_states.specs.StateSteps.{task_of, first_refusal, TaskRunsCode}
 use Rattle.ash_engine.specs.LiveStates.{LiveState, AreOf}
 use Rattle.ash_engine.specs.LiveSteps.{TakesStep, RanOut, IsReached, reached_by}
 use Rattle.ash_durable.specs.StoredStates.{AreHonest, HoldsState, BeginsAnew}
@@ -196,13 +196,13 @@ pub record WasNotCommitted {D B : Type 0} (device : Device D) (G : Ghosts B) (bu
   pub stopped : HasStopped old new
   pub settles : Settles device live.durable after.durable old new
 
--- Memory was refused while a request changed the state: the state is lost. The host has to be reopened, and is then in
--- the state before the request, on which alone the files settle.
+-- Memory was refused while the code of a request ran, or after that: the state is lost. The host has to be reopened, and
+-- is then in the state before the request, on which alone the files settle.
 pub record LostItsState {D B : Type 0} (device : Device D) (request : Request) (state : HostState)
     (old : Hosted D B) (reply : Reply SourceFault) (new : Hosted D B) : Type 0 where
   pub between : Hosted D B
   pub room : MakesRoomFor device request state old between
-  pub changes : TaskChangesState (task_of request state)
+  pub runs : TaskRunsCode (task_of request state)
   pub reply_is : reply ≡ Refused NoMemory
   pub journal_same : new.journal ≡ between.journal
   pub stopped : HasStopped old new

@@ -12,3 +12,4 @@ pub mod RequestRuns
 pub mod Store
 pub mod OpenedStore
 pub mod Lives
+pub mod KeptAnswers

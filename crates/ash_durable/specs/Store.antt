@@ -162,7 +162,7 @@ PreparesWith device G registered pool services a b (Ok first) a' b' =
     HasServices G registered services
     × (first.engine ≡ record { registered = registered; live = Some (begin G registered pool services) })
     × IsSound G (begin G registered pool services)
-    × IsImageIn Two first.image.items (first_state G registered services) × (length first.image.items < 2 ^ 32)
+    × IsImageIn Two first.image.items (first_state G registered services) × (length first.image.items < 2 ^ 28)
     × (AreHonest device a b → AreClosed device a b)
 PreparesWith device G registered pool services a b (Err fault) a' b' =
     NotMadeFor device (LacksService G registered services) a b fault a' b'

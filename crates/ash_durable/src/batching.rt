@@ -12,11 +12,12 @@ ghost use Rattle.ash_durable.specs.Batches.{Asked, adding_request, max_batch};
 ghost use Rattle.ash_durable.specs.BatchViews.{batch_request_seen, batch_reply_seen};
 ghost use Rattle.ash_durable.specs.BatchRuns.{asked_seen, adding_one, IsAnswered, IsReplyOfBatch};
 ghost use Rattle.ash_durable.specs.BatchRuns.{IsStopAfter, TriesReply, RunsNext, RunsBatch};
-ghost use Rattle.ash_durable.specs.BatchRuns.{max_delta_bytes};
+ghost use Rattle.ash_durable.specs.BatchRuns.{max_delta_bytes, IsFitted};
 
 use crate::batch::{BatchRefusal, BatchReply, BatchRequest};
 use ash_engine::engine::Engine;
 use ash_host::HostObject;
+use ash_journal::LENGTH_LIMIT;
 use ash_requests::{Refusal, Reply, Request};
 use ash_states::state::HostReply;
 use std::alloc::{AllocError, Global};
@@ -195,6 +196,28 @@ impl BatchRun {
         }
     }
 
+    /// If what was changed is too long for a record, the body has the image of the state in its place.
+    #[tactic(auto, using(crate::proofs::BatchRunLaws::fitted_kept, crate::proofs::BatchRunLaws::fitted_whole))]
+    fn fit<B: HostObject>(&mut self, engine: &Engine<B>) -> Result<(), BatchStop>
+        requires live { IsSome engine.now.live }
+        ensures replies { self.new.replies ≡ self.old.replies }
+        ensures answered { self.new.answered ≡ self.old.answered }
+        ensures fitted { (live : LiveState B) → engine.now.live ≡ Some live
+            → OnOk result (IsFitted live.durable self.old.body.items self.new.body.items) }
+        ensures stop { IfErr result (λ stop. IsStopAfter self.old.answered stop) }
+    {
+        if self.body.len() < LENGTH_LIMIT {
+            return Ok(());
+        }
+        match engine.body() {
+            Ok(body) => {
+                self.body = body;
+                Ok(())
+            }
+            Err(_) => Err(self.stop()),
+        }
+    }
+
     /// One reply more, and what the request changed if it was answered.
     fn add<B: HostObject>(&mut self, engine: &Engine<B>, reply: BatchReply) -> Result<(), BatchStop>
         requires live { IsSome engine.now.live }
@@ -279,5 +302,6 @@ pub fn run_batch<B: HostObject>(
         run.handle(engine, request, budget)?;
     }
     run.body[1] = run.answered;
+    run.fit(engine)?;
     Ok(run)
 }

@@ -52,7 +52,7 @@ pub const FULL_RECORD_BYTES: u64 = 16_777_216;
 /// that live, and one for each service that is registered. Write `B: HostObject` on what holds a host; only who makes
 /// the boxes names their type.
 #[derive(Drop)]
-pub struct Host<D, B: HostObject = Box<dyn HostObject>> {
+pub struct Host<D: Disk, B: HostObject = Box<dyn HostObject>> {
     alloc: Global,
     engine: Engine<B>,
     /// Where the host must be reopened, the number after the last request that was answered.
@@ -60,7 +60,7 @@ pub struct Host<D, B: HostObject = Box<dyn HostObject>> {
     journal: Journal<D>,
 }
 
-impl<D, B: HostObject> Model for Host<D, B> {
+impl<D: Disk, B: HostObject> Model for Host<D, B> {
     ghost use Rattle.ash_durable.specs.Hosting.{Hosted, IsReadyUnless, live_unless, seq_in};
     ghost use Rattle.std.specs.Prelude.{unwrap_or};
 

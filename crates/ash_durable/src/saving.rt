@@ -1,7 +1,8 @@
 //! Keeping a state in a journal: what a request changed as one record more, or the whole as a new generation.
 
-ghost use Rattle.std.specs.Prelude.{◌≡◌, ◌<◌, ◌^◌, length, Some, IsSome};
+ghost use Rattle.std.specs.Prelude.{◌≡◌, ◌<◌, length, Some, IsSome};
 ghost use Rattle.ash_journal.specs.Journal.{IsReady, record_bytes, record_bytes_limit};
+ghost use Rattle.ash_journal.specs.Layout.{length_limit};
 ghost use Rattle.ash_engine.specs.LiveStates.{LiveState};
 ghost use Rattle.ash_durable.specs.Saving.{Adds, AddsRecord, Installs};
 
@@ -17,7 +18,7 @@ use ash_states::state::HostRefusal;
 /// `NoMemory` comes before any call of a device, and changes nothing. After `DeviceFailed` the record is there or not,
 /// and the journal is to be opened again.
 pub fn add_record<D: Disk>(body: &[u8], journal: &mut Journal<D>) -> Result<(), HostRefusal>
-    requires short { length body.now < 2 ^ 32 }
+    requires short { length body.now < length_limit }
     requires ready { IsReady journal.old }
     requires room { record_bytes journal.old < record_bytes_limit }
     ensures adds { AddsRecord D.Disk body.now journal.old result journal.new }

@@ -78,7 +78,7 @@ fn prepare_first<D: Disk, B: HostObject>(
 
 /// A store, with the engine whose state its journal holds.
 #[derive(Drop)]
-pub struct Found<D, B: HostObject> {
+pub struct Found<D: Disk, B: HostObject> {
     pub engine: Engine<B>,
     pub journal: Journal<D>,
 }

@@ -12,7 +12,7 @@ use Rattle.ash_soundness.proofs.Values.{first_in, later_in, none_in}
 use Rattle.ash_change_laws.specs.UncalledServices.{IsCalled}
 use Rattle.ash_engine.specs.NamedChanges.{service_called}
 
-one_of : {A : Type 0} (x : A) (xs : List A) (y : A) → Contains (x ∷ xs) y → (x ≡ y) ⊎ Contains xs y
+pub one_of : {A : Type 0} (x : A) (xs : List A) (y : A) → Contains (x ∷ xs) y → (x ≡ y) ⊎ Contains xs y
 one_of x xs y h =
     ⊎_elim (λ one. ⊎_elim (λ none. absurd (none_in y none)) (λ e. inl e) (Contains-push_cases [] x y one)) (λ rest. inr rest)
     (Contains-append_cases (x ∷ []) xs y h)

@@ -1,6 +1,6 @@
 -- A module that the code discarded is gone by a step of the live state.
-use Rattle.std.proofs.Common.{◌≡◌, ◌<◌, ◌≤◌, ◌+◌, ℕ, List, [], ◌++◌, length, map, refl, sym, ap, ◌∙◌, subst, slice_get, nat_eq, inl, arith}
-use Rattle.std.specs.Prelude.{Some, None, Result, Ok, Err, IfOk, IfErr, IsSome, option_map}
+use Rattle.std.proofs.Common.{◌≡◌, ◌<◌, ◌≤◌, ◌+◌, ℕ, List, [], ◌++◌, length, map, refl, sym, ap, ◌∙◌, subst, slice_get, nat_eq, inl, inr, false, arith}
+use Rattle.std.specs.Prelude.{Option, Some, None, Ok, IsSome, IfSome, is_some, option_map}
 use Rattle.std.specs.List.{AllZip, IsDistinct, remove}
 use Rattle.std.proofs.lemmas.List.{append-nil}
 use Rattle.std.proofs.lemmas.Option.{slice_get-map, slice_get_within}
@@ -11,22 +11,23 @@ use Rattle.ash_registry.specs.AcceptedRegistrations.{Registration}
 use Rattle.ash_meaning.specs.Activity.{World}
 use Rattle.ash_meaning.specs.Ends.{Finished}
 use Rattle.ash_meaning.specs.Releases.{roots, sweep}
-use Rattle.ash_objects.specs.Table.{Table, holds_of}
+use Rattle.ash_objects.specs.Sweeping.{gone_from}
+use Rattle.ash_objects.specs.Table.{Living, Table, holds_of}
 use Rattle.ash_object_ranks.specs.ObjectRanks.{ClassRanks}
 use Rattle.ash_object_ranks.specs.ShownTables.{objects_shown}
 use Rattle.ash_run_steps.specs.Becoming.{Gave}
 use Rattle.ash_run_steps.specs.Ranks.{rank_test}
 use Rattle.ash_run_steps.specs.RunStates.{Names, HoldsRoots, times}
+use Rattle.ash_run_steps.proofs.Bare.{marked_bare}
 use Rattle.ash_run_steps.proofs.Roots.{times_append}
-use Rattle.ash_requests.specs.declared.step_error.StepError.{StepError}
-use Rattle.ash_requests.specs.declared.step_error.StepError.TheVariants as errors
+use Rattle.ash_run_steps.proofs.Swept.{marked_swept}
+use Rattle.ash_change_laws.proofs.MarkedObjects.{none_marked}
 use Rattle.ash_requests.specs.RequestViews.{reply_seen}
 use Rattle.ash_requests.specs.States.{LoadedModule, Hosts, Embedding, globals_of, without_module, world_of}
-use Rattle.ash_requests.specs.Requests.{Request}
+use Rattle.ash_requests.specs.Requests.{Request, Refused, NoMemory}
 use Rattle.ash_requests.specs.Requests as replies
 use Rattle.ash_requests.specs.Steps.{Step, after_discard, performed, unless_refused}
 use Rattle.ash_requests.specs.Steps as steps
-use Rattle.ash_requests.specs.TaskResults.{TaskChangesState}
 use Rattle.ash_requests.specs.Tasks.{Task, TaskResult, Remove, max_seq}
 use Rattle.ash_soundness.specs.WellFormed.{AreObjects}
 use Rattle.ash_soundness.specs.WellFormedStates.{AreHosts, IsWellFormedState, known_of}
@@ -42,7 +43,7 @@ use Rattle.ash_plain_steps.specs.Consistency.{AreConsistent}
 use Rattle.ash_plain_steps.proofs.Changed.{globals_set, removed_there, consistent_remove}
 use Rattle.ash_plain_steps.proofs.Places.{map-remove}
 use Rattle.ash_states.specs.HostStates.{HostState, IsAdmitted, embedding_for, offered_to}
-use Rattle.ash_states.specs.StateSteps.{task_of, FailsInChange}
+use Rattle.ash_states.specs.StateSteps.{task_of}
 use Rattle.ash_table_states.specs.TableStates.{names_in}
 use Rattle.ash_change_laws.specs.MarkedObjects.{KeepNames}
 use Rattle.ash_engine.specs.declared.changes.ModuleChange.TheVariants as changed
@@ -63,12 +64,29 @@ use Rattle.ash_engine.proofs.CallEnds.{numbered_from}
 use Rattle.ash_engine.proofs.ChangedModules.{held_before}
 use Rattle.ash_engine.proofs.KnownRanks.{class_ranks, known_sound, known_ranked}
 use Rattle.ash_engine.proofs.LoadEnds.{answered_with}
+use Rattle.ash_engine.proofs.NamedSlots.{contains_at}
 use Rattle.ash_engine.proofs.ReadRanks.{read_ranked}
 use Rattle.ash_engine.proofs.ReleasedGlobals.{released_gave}
 use Rattle.ash_engine.proofs.RemovedModules.{zip_at, zip_remove, distinct_remove, set_own, names_kept}
 use Rattle.ash_engine.proofs.ShownAlike.{shown_alike}
 use Rattle.ash_engine.proofs.TableCalls.{free_box, hosts_of}
 use Rattle.ash_engine.proofs.TableReleases.{ReleasesAs, releases_as}
+use Rattle.std.specs.Prelude.{filter}
+use Rattle.std.specs.Map.{keys_of}
+use Rattle.std.proofs.lemmas.List.{length-map}
+use Rattle.std.proofs.lemmas.List.Elements.{All-from_recursion}
+use Rattle.std.proofs.lemmas.List.Sums.{count_by-le-length}
+use Rattle.ash_host.specs.declared.word.Word.{Word}
+use Rattle.ash_slots.specs.Bodies.{is_boxed}
+use Rattle.ash_run_steps.proofs.Stacking.{handles_few}
+use Rattle.ash_change_laws.specs.UncalledServices.{IsCalled}
+use Rattle.ash_engine.specs.TableRuns.{Released}
+use Rattle.ash_engine.specs.TableStates.{roots_of}
+use Rattle.ash_engine.proofs.HeldGlobals.{all_few, globals_seen}
+use Rattle.ash_engine.proofs.Looked.{ran_out}
+use Rattle.ash_engine.proofs.RestoredLives.{still_unmarked}
+use Rattle.ash_engine.proofs.AtRest.{drops_call_none}
+use Rattle.ash_engine.proofs.StartedGlobals.{all_short}
 
 -- a release point changes objects and events alone
 swept_rest : (w : World) → sweep [] w ≡ record w { objects = (sweep [] w).objects; events = (sweep [] w).events }
@@ -138,12 +156,49 @@ module _ {B : Type 0} (G : Ghosts B) (registered : List Registration) (live : Li
   pub holds_enough : (number : ℕ) → times number (handles m.globals.items) ≤ holds_of number live.table
   holds_enough number = omega (arith, held_apart number, times_append number outside (handles m.globals.items))
 
-  module _ (request : Request) (asked : task_of request durable ≡ Ok (Remove name)) where
-    changes : TaskChangesState (task_of request durable)
-    changes = subst (λ (d : TaskResult SourceFault). TaskChangesState d) (sym asked) tt
+  -- and few times
+  pub holds_few : (number : ℕ) → holds_of number live.table + length m.globals.items ≤ 8192
+  holds_few number =
+      let counts = is_live.held number in
+      let some = count_by-le-length (nat_eq number) (roots_of live) in
+      let fewer = handles_few (globals_of seen) in
+      let all = ap (λ (ws : List Word). length ws) (globals_seen ms) in
+      let short = All-from_recursion (λ (x : code_module.LoadedModule). length x.globals.items ≤ 256) ms
+      (all_short embedding (offered_to registered) (read_sound registered) (durable.state).objects ms formed.loaded) in
+      let each = all_few 256 ms short in
+      let one = rec_at (λ (x : code_module.LoadedModule). length x.globals.items ≤ 256) ms place m
+      (all_short embedding (offered_to registered) (read_sound registered) (durable.state).objects ms formed.loaded) at in
+      omega (arith, counts, some, fewer, all, each, one, formed.few_modules, length-map ms loaded_seen)
 
-    pub fails : IsStepOf G registered 0 request live (Err errors.NoMemory)
-    fails = changes
+  -- What is left is not marked, and drops alone happened.
+  module _ (before : Live B) (events : List Event) (gone : IsRemoved live place m before events) where
+    pub left_unmarked : (number : ℕ) → IfSome (object_at number before.table.objects) (λ object. object.touched ≡ false)
+    left_unmarked number = go (object_at number before.table.objects) refl
+      where
+        r : Released m.globals.items live.table before.table [] events
+        r = gone.released
+
+        was : IfSome (object_at number (r.unheld).objects) (λ object. object.touched ≡ false)
+        was = still_unmarked live.table r.unheld (r.less).same number ((is_live.settled).unmarked number)
+
+        go : (o : Option (Living B)) → object_at number before.table.objects ≡ o → IfSome o (λ object. object.touched ≡ false)
+        go None is = tt
+        go (Some x) is = subst (λ (o : Option (Living B)). IfSome o (λ object. object.touched ≡ false))
+            (sym (((r.swept).collected).unchanged number (ap is_some is)) ∙ is) was
+
+    pub left_uncalled : (service : ℕ) → IsCalled service events → ⊥
+    left_uncalled service called =
+        drops_call_none (keys_of (filter (λ (e : ℕ × Living B). is_boxed (e.1).body) (gone_from ((gone.released).unheld).objects before.table.objects)))
+        service (subst (IsCalled service) (gone.released).dropped called)
+
+  module _ (request : Request) (asked : task_of request durable ≡ Ok (Remove name)) where
+    -- Memory was refused, and nothing changed.
+    pub kept_as_it_is : (budget : ℕ) (one : LiveStep B) → reply_seen fault_of one.reply ≡ Refused NoMemory → one.live ≡ live
+        → IsStepOf G registered budget request live (Ok one)
+    kept_as_it_is budget one refused same = (
+      inr (ran_out G registered live request (Remove name) (reply_seen fault_of one.reply) one.live asked tt refused (ap (live_seen G registered) same)),
+      subst (IsLive G registered) (sym same) is_live,
+    )
 
     numbered_by : IsTask embedding durable.state (Remove name) → live.loaded.seq < max_seq
     numbered_by (removes numbered) = numbered
@@ -236,8 +291,16 @@ module _ {B : Type 0} (G : Ghosts B) (registered : List Registration) (live : Li
         has = record {
           change = changed.Discarded m.name;
           taken_so = answered.taken;
-          change_is = refl {A = List LoadedModule};
+          change_is = record {
+            was = loaded_seen m;
+            named = refl;
+            there = contains_at seen place (loaded_seen m) seen_at;
+            left = refl {A = List LoadedModule};
+          };
           listable = one_name (loaded_seen m).name ∙ rec_at HasValidName seen place (loaded_seen m) ((is_live.admitted).formed).valid seen_at;
+          discards = λ name is number marked. none_marked live.table is_live.settled number
+              (marked_bare live.table (gone.released).unheld (gone.released).less.same number
+              (marked_swept (gone.released).unheld before.table ((gone.released).swept).collected number marked));
           names = names_of live;
           shown_before = refl;
           same_names = same_names;
@@ -270,11 +333,9 @@ module _ {B : Type 0} (G : Ghosts B) (registered : List Registration) (live : Li
         step_of = (inl discard_taken, discard_live)
 
       -- What the code gives for the removal is a step.
-      pub discarded : (result : Result (LiveStep B) StepError)
-          → IfOk result (λ one. IsAnswered before (Finished None) events (changed.Discarded m.name) one)
-          → IfErr result (λ error. error ≡ errors.NoMemory) → IsStepOf G registered budget request live result
-      discarded (Ok one) answered memory = step_of one answered
-      discarded (Err error) answered memory = subst (λ (e : StepError). FailsInChange request durable e) (sym memory) changes
+      pub discarded : (one : LiveStep B) → IsAnswered before (Finished None) events (changed.Discarded m.name) one
+          → IsStepOf G registered budget request live (Ok one)
+      discarded one answered = step_of one answered
 
 -- what is asked for is a module that is there
 module _ {B : Type 0} (G : Ghosts B) (live : Live B) (place : ℕ) (asked : IsAsked G live (tasks.Remove place)) where

@@ -16,10 +16,10 @@ use Rattle.ash_run_steps.specs.RunStates.{is_alive_in, HoldsMore}
 use Rattle.ash_run_steps.proofs.Bare.{same_alive}
 use Rattle.ash_run_steps.proofs.Stacking.{handles_few}
 
-abbrev globals_in : List LoadedModule → List Word
+abbrev pub globals_in : List LoadedModule → List Word
 globals_in ms = flat_map (λ (m : LoadedModule). m.globals.items) ms
 
-globals_seen : (ms : List LoadedModule) → globals_of (modules_seen ms) ≡ globals_in ms
+pub globals_seen : (ms : List LoadedModule) → globals_of (modules_seen ms) ≡ globals_in ms
 globals_seen [] = refl
 globals_seen (m ∷ ms) = ap (λ (ws : List Word). m.globals.items ++ ws) (globals_seen ms)
 
@@ -51,7 +51,7 @@ module _ (ms : List LoadedModule) (i : ℕ) (d : LoadedModule) (within : i < len
   alive_here old now all more k w inside =
       same_alive (get_or here k w) old now more.same ∙ all_here (λ (word : Word). IsTrue (is_alive_in word old)) all k w inside
 
-all_few : (limit : ℕ) (ms : List LoadedModule) → All (λ (m : LoadedModule). length m.globals.items ≤ limit) ms → length (globals_in ms) ≤ limit * length ms
+pub all_few : (limit : ℕ) (ms : List LoadedModule) → All (λ (m : LoadedModule). length m.globals.items ≤ limit) ms → length (globals_in ms) ≤ limit * length ms
 all_few limit [] short = omega arith
 all_few limit (m ∷ ms) short =
     let first : length m.globals.items ≤ limit = short 0 m (omega arith) in

@@ -16,7 +16,9 @@ use Rattle.ash_meaning.specs.Ends.{End}
 use Rattle.ash_objects.specs.Marking.{without_marks}
 use Rattle.ash_object_ranks.specs.ShownTables.{SlotNames, objects_shown}
 use Rattle.ash_run_steps.specs.declared.beginning.Parts.{Parts}
-use Rattle.ash_change_laws.specs.ChangedStates.{HoldOthers}
+use Rattle.ash_change_laws.specs.ChangedStates as named
+use Rattle.ash_change_laws.specs.ChangedStates.{HoldOthers, IsModuleChange}
+use Rattle.ash_change_records.specs.ListedChanges.{IsListableChange}
 use Rattle.ash_run_steps.specs.RunStates.{HoldsRoots}
 use Rattle.ash_code.specs.CompiledCode.{IsCodeOf}
 use Rattle.ash_code.specs.declared.code.CodeParts.{CodeParts}
@@ -41,14 +43,15 @@ use Rattle.ash_plain_steps.specs.declared.task.Invocation.{Invocation}
 use Rattle.ash_plain_steps.specs.declared.task.Task.TheVariants as tasks
 use Rattle.ash_plain_steps.specs.StateViews.{loaded_seen, modules_seen}
 use Rattle.ash_plain_steps.specs.Consistency.{AreConsistent}
-use Rattle.ash_plain_steps.proofs.Changed.{seen_set, consistent_set, got_set}
+use Rattle.ash_plain_steps.proofs.Changed.{globals_set, seen_set, consistent_set, got_set}
 use Rattle.ash_states.specs.HostStates.{HostState, IsAdmitted, embedding_for, offered_to}
 use Rattle.ash_table_states.specs.TableStates.{names_in, state_shown}
 use Rattle.ash_engine.specs.declared.live.Compiled.{Compiled}
 use Rattle.ash_engine.specs.declared.live.Live.{Live}
 use Rattle.ash_engine.specs.declared.changes.ChangedGlobals.{ChangedGlobals}
+use Rattle.ash_engine.specs.declared.changes.ModuleChange.{ModuleChange}
 use Rattle.ash_engine.specs.declared.changes.ModuleChange.TheVariants as changes
-use Rattle.ash_engine.specs.NamedChanges.{name_at, AreOthers, AreChanged, AreTaken}
+use Rattle.ash_engine.specs.NamedChanges.{name_at, module_change_seen, AreOthers, AreChanged, IsChangeOf, AreTaken}
 use Rattle.ash_engine.specs.LiveSteps.{TakesStep}
 use Rattle.ash_engine.specs.RankedSources.{ReadsRanked}
 use Rattle.ash_engine.specs.TableRuns.{SaysOfCall}
@@ -62,6 +65,8 @@ use Rattle.ash_engine.proofs.ChangedModules.{held_after, updated_names}
 use Rattle.ash_engine.proofs.GivenAnswers.{answers_fit}
 use Rattle.ash_engine.proofs.LoadEnds.{answered_with}
 use Rattle.ash_engine.proofs.NamedSlots.{names_same, contains_at}
+use Rattle.ash_engine.proofs.Others.{none_other}
+use Rattle.ash_engine.proofs.RemovedModules.{set_own}
 use Rattle.ash_engine.proofs.RunSettings.{names_for}
 use Rattle.ash_engine.proofs.TableCalls.{CallSteps, Takes, call_steps, hosts_of}
 
@@ -162,9 +167,9 @@ module _ {B : Type 0} (G : Ghosts B) (live : Live B) (call : Invocation) (asked 
       pub seq : new.loaded.seq ≡ live.loaded.seq + 1
       pub codes : codes_of new.compiled.items ≡ codes_of live.compiled.items
       pub table : new.table ≡ without_marks left.parts.table
-      pub others : ChangedGlobals
-      pub are_others : AreChanged call.module m.globals.items left.parts.globals.items others
-      pub taken_so : AreTaken left.parts.events.items (changes.Globals others) left.parts.table new.changes
+      pub change : ModuleChange
+      pub is_change : IsChangeOf call.module m.globals.items left.parts.globals.items change
+      pub taken_so : AreTaken left.parts.events.items change left.parts.table new.changes
 
     module _ (o : run_outcome.Outcome) (new : Live B)
         (after : IsAfterCall new)
@@ -203,8 +208,8 @@ module _ {B : Type 0} (G : Ghosts B) (live : Live B) (call : Invocation) (asked 
           ∙ seen_at (set ms call.module after.changed) call.module after.changed
           (got_set ms call.module m after.changed at)
 
-      name_is : name_at changed_modules (after.others).module ≡ (loaded_seen m).name
-      name_is = ap (name_at changed_modules) (after.are_others).of_module
+      name_is : (at : ℕ) → at ≡ call.module → name_at changed_modules at ≡ (loaded_seen m).name
+      name_is at of_module = ap (name_at changed_modules) of_module
           ∙ ap (λ (x : Option LoadedModule). option_map_or (λ (y : LoadedModule). y.name) x []) now_there
           ∙ ap (λ (x : code_module.LoadedModule). (loaded_seen x).name) after.same
 
@@ -249,29 +254,56 @@ module _ {B : Type 0} (G : Ghosts B) (live : Live B) (call : Invocation) (asked 
             ∙ ap (λ (t : Module). length (types_of_globals t.globals)) same
             ∙ sym (values_length was.values)
 
-        others_are : (place : ℕ) → Contains (after.others).places.items place
-            ↔ (slice_get left.parts.globals.items place ≢ slice_get m.globals.items place)
-        others_are place = only_within m.globals.items left.parts.globals.items (after.others).places.items as_many
-            (after.are_others).others place
+        -- the module is what it was, if no global holds another word
+        none_changed : AreOthers m.globals.items left.parts.globals.items [] → changed_modules ≡ modules_seen ms
+        none_changed none =
+            ap (λ (ws : List Word). update_globals (loaded_seen m).name ws (modules_seen ms))
+            (none_other m.globals.items left.parts.globals.items as_many none)
+            ∙ sym (globals_set (modules_seen ms) call.module (loaded_seen m) m.globals.items
+            ((asked.live).consistent).ascending was_there)
+            ∙ set_own (modules_seen ms) call.module (loaded_seen m) was_there
 
-        globals_are : HoldOthers (loaded_seen m).name (after.others).places.items (modules_seen ms) changed_modules
-        globals_are = record {
+        globals_are : (globals : ChangedGlobals) → AreChanged call.module m.globals.items left.parts.globals.items globals
+            → HoldOthers (loaded_seen m).name globals.places.items (modules_seen ms) changed_modules
+        globals_are globals are = record {
           was = loaded_seen m;
           words = left.parts.globals.items;
           named = refl;
           many = as_many;
-          others = others_are;
+          some = are.some;
+          others = only_within m.globals.items left.parts.globals.items globals.places.items as_many are.others;
           there = contains_at (modules_seen ms) call.module (loaded_seen m) was_there;
           changed = refl {A = List LoadedModule};
         }
 
+        abbrev change_seen : ModuleChange → named.ModuleChange
+        change_seen change = module_change_seen changed_modules change
+
+        modules_change : (change : ModuleChange) → IsChangeOf call.module m.globals.items left.parts.globals.items change
+            → IsModuleChange (change_seen change) (modules_seen ms) changed_modules × IsListableChange (change_seen change)
+        modules_change changes.Unchanged none = (none_changed none, tt)
+        modules_change (changes.Globals globals) are = (
+          subst (λ (n : List ℕ). HoldOthers n globals.places.items (modules_seen ms) changed_modules)
+              (sym (name_is globals.module are.of_module)) (globals_are globals are),
+          are.rise,
+        )
+        modules_change (changes.Loaded place) never = absurd never
+        modules_change (changes.Discarded name) never = absurd never
+
+        none_discarded : (change : ModuleChange) → IsChangeOf call.module m.globals.items left.parts.globals.items change
+            → (name : List ℕ) → change_seen change ≡ named.Discarded name → ⊥
+        none_discarded changes.Unchanged none name is = cc
+        none_discarded (changes.Globals globals) are name is = cc
+        none_discarded (changes.Loaded place) never name is = never
+        none_discarded (changes.Discarded other) never name is = never
+
         has : HasNames G live new left.parts.events.items changed_modules slots left.parts.table
         has = record {
-          change = changes.Globals after.others;
+          change = after.change;
           taken_so = after.taken_so;
-          change_is = subst (λ (n : List ℕ). HoldOthers n (after.others).places.items (modules_seen ms) changed_modules)
-              (sym name_is) globals_are;
-          listable = (after.are_others).rise;
+          change_is = (modules_change after.change after.is_change).0;
+          listable = (modules_change after.change after.is_change).1;
+          discards = λ name is number marked. none_discarded after.change after.is_change name is;
           names = names_of live;
           shown_before = refl;
           same_names = λ number. ap (λ (names : SlotNames). object_at number (objects_shown G names left.parts.table.objects))

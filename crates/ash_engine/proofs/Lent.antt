@@ -28,7 +28,6 @@ use Rattle.ash_requests.specs.declared.step_error.StepError.TheVariants as error
 use Rattle.ash_requests.specs.Requests.{Reply, Answered, Refused, NoMemory}
 use Rattle.ash_requests.specs.RequestViews.{reply_seen}
 use Rattle.ash_requests.specs.States.{LoadedModule, Embedding, globals_of, without_module, update_globals}
-use Rattle.ash_requests.specs.TaskResults.{TaskChangesState}
 use Rattle.ash_requests.specs.Tasks.{Task, TaskResult, Invoke, max_seq}
 use Rattle.ash_soundness.specs.WellFormedStates.{IsLoaded}
 use Rattle.ash_soundness.proofs.Asked.{IsTask, calls, task_is}
@@ -44,17 +43,16 @@ use Rattle.ash_plain_steps.specs.StateViews.{loaded_seen, modules_seen}
 use Rattle.ash_plain_steps.specs.Consistency.{AreConsistent}
 use Rattle.ash_plain_steps.proofs.Changed.{removed_there, seen_set, consistent_set, set_again, got_set}
 use Rattle.ash_states.specs.HostStates.{HostState, IsAdmitted, embedding_for}
-use Rattle.ash_states.specs.StateSteps.{task_of, FailsInChange}
+use Rattle.ash_states.specs.StateSteps.{task_of, FailsInChange, TaskRunsCode}
 use Rattle.ash_table_states.specs.TableStates.{state_shown}
 use Rattle.ash_engine.specs.declared.live.Compiled.{Compiled}
 use Rattle.ash_engine.specs.declared.live.Live.{Live}
 use Rattle.ash_engine.specs.declared.live.Rest.{Rest}
 use Rattle.ash_engine.specs.declared.steps.LiveStep.{LiveStep}
-use Rattle.ash_engine.specs.declared.changes.ChangedGlobals.{ChangedGlobals}
-use Rattle.ash_engine.specs.declared.changes.ModuleChange.TheVariants as changes_are
+use Rattle.ash_engine.specs.declared.changes.ModuleChange.{ModuleChange}
 use Rattle.ash_engine.specs.LiveStates.{plain_box}
 use Rattle.ash_change_records.specs.ListedChanges.{AreListable}
-use Rattle.ash_engine.specs.NamedChanges.{AreChanged, AreTaken, changes_seen}
+use Rattle.ash_engine.specs.NamedChanges.{IsChangeOf, AreTaken, changes_seen}
 use Rattle.ash_engine.specs.LiveSteps.{LiveSteps, TakesStep}
 use Rattle.ash_engine.specs.TableRuns.{SaysOfCall, IsLent, IsGivenBack, IsAnswered, end_named}
 use Rattle.ash_engine.specs.TableStates.{slots_of, names_of, roots_of, IsCompiledFrom, BoxesFit, durable_seen}
@@ -117,8 +115,8 @@ module _ {B : Type 0} (G : Ghosts B) (live : Live B) (call : Invocation)
     task_found : task_of asked.request durable ≡ Ok the_task
     task_found = asked.is ∙ ap (λ (t : Task). Ok t) (sym one)
 
-    changes : TaskChangesState (task_of asked.request durable)
-    changes = subst (λ (d : TaskResult SourceFault). TaskChangesState d) (sym task_found) tt
+    runs : TaskRunsCode (task_of asked.request durable)
+    runs = subst (λ (d : TaskResult SourceFault). TaskRunsCode d) (sym task_found) tt
 
     -- what the code needs before the run
 
@@ -316,12 +314,11 @@ module _ {B : Type 0} (G : Ghosts B) (live : Live B) (call : Invocation)
               ∙ ap (λ (v : _). codes_of v.items) lent.compiled
 
           -- the run had an outcome
-          answers : (o : run_outcome.Outcome) (step : LiveStep B) (others : ChangedGlobals) → left.outcome ≡ Ok o
-              → AreChanged call.module words left.parts.globals.items others
-              → IsAnswered back (end_named (entry_name (module_of lending.tree)) o) left.parts.events.items
-              (changes_are.Globals others) step
+          answers : (o : run_outcome.Outcome) (step : LiveStep B) (change : ModuleChange) → left.outcome ≡ Ok o
+              → IsChangeOf call.module words left.parts.globals.items change
+              → IsAnswered back (end_named (entry_name (module_of lending.tree)) o) left.parts.events.items change step
               → IsStepOf G registered budget asked.request live (Ok step)
-          answers o step others e are_others answered =
+          answers o step change e is_change answered =
               let tree : module_of lending.tree ≡ module_of m.tree =
               ap (λ (x : code_module.LoadedModule). module_of x.tree) lent.same in
               let end : end_named (entry_name (module_of lending.tree)) o
@@ -341,11 +338,11 @@ module _ {B : Type 0} (G : Ghosts B) (live : Live B) (call : Invocation)
                 seq = ap (λ (l : Live B). l.loaded.seq) answered.live ∙ ap (λ (n : ℕ). n + 1) seq_back;
                 codes = ap (λ (l : Live B). codes_of l.compiled.items) answered.live ∙ codes_back;
                 table = ap (λ (l : Live B). l.table) answered.live ∙ ap (λ (t : Table B). without_marks t) given.table;
-                others = others;
-                are_others = subst (λ (ws : List Word). AreChanged call.module ws left.parts.globals.items others)
-                    words_are are_others;
-                taken_so = subst (λ (t : Table B). AreTaken left.parts.events.items (changes_are.Globals others) t
-                    step.live.changes) given.table answered.taken;
+                change = change;
+                is_change = subst (λ (ws : List Word). IsChangeOf call.module ws left.parts.globals.items change)
+                    words_are is_change;
+                taken_so = subst (λ (t : Table B). AreTaken left.parts.events.items change t step.live.changes)
+                    given.table answered.taken;
               }) held in (
                 inl (subst (λ (r : Reply SourceFault). TakesStep G budget asked.request (live_seen G registered live) r
                     (live_seen G registered step.live)) (sym reply) came.0),
@@ -374,11 +371,11 @@ module _ {B : Type 0} (G : Ghosts B) (live : Live B) (call : Invocation)
         pub call_stepped : (result : Result (LiveStep B) StepError) (o : Result run_outcome.Outcome RunFault)
             → left.outcome ≡ o
             → ((outcome : run_outcome.Outcome) → left.outcome ≡ Ok outcome
-            → IfOk result (λ step. (back : Live B) × (others : ChangedGlobals)
+            → IfOk result (λ step. (back : Live B) × (change : ModuleChange)
             × IsGivenBack after call.module lending left.parts back
-            × AreChanged call.module words left.parts.globals.items others
+            × IsChangeOf call.module words left.parts.globals.items change
             × IsAnswered back (end_named (entry_name (module_of lending.tree)) outcome) left.parts.events.items
-            (changes_are.Globals others) step))
+            change step))
             → (left.outcome ≡ Err faults.NotBegun
             → IfOk result (λ step. (reply_seen fault_of step.reply ≡ Refused NoMemory)
             × IsGivenBack after call.module lending left.parts step.live))
@@ -387,7 +384,7 @@ module _ {B : Type 0} (G : Ghosts B) (live : Live B) (call : Invocation)
             → IfErr result (λ error. error ≡ errors.NoMemory)
             → IsStepOf G registered budget asked.request live result
         call_stepped (Err error) o is answered refused lost never memory =
-            subst (FailsInChange asked.request durable) (sym memory) changes
+            subst (FailsInChange asked.request durable) (sym memory) runs
         call_stepped (Ok step) (Ok outcome) is answered refused lost never memory =
             let found = answered outcome is in
             answers found.0 found.2 outcome step found.1 is found.3 found.4

@@ -25,6 +25,7 @@ pub mod RanksExist
 pub mod ReadRanks
 pub mod Unanswered
 pub mod Looked
+pub mod AllReached
 pub mod TableLoads
 pub mod FreeSlots
 pub mod ReleasedGlobals
@@ -32,6 +33,9 @@ pub mod InsertedModules
 pub mod LoadEnds
 pub mod AnsweredSteps
 pub mod Loaded
+pub mod StartedGlobals
+pub mod HeldGlobals
+pub mod AtRest
 pub mod Discarded
 pub mod ObjectsAsked
 pub mod LoadOutcomes
@@ -46,10 +50,8 @@ pub mod RefusedHosts
 pub mod Started
 pub mod Living
 pub mod RestoredState
-pub mod HeldGlobals
 pub mod CompiledModules
 pub mod SavedTables
-pub mod StartedGlobals
 pub mod FirstLives
 pub mod RestoredLives
 pub mod LiveFacts

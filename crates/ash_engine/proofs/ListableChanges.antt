@@ -37,7 +37,7 @@ marked_rise {B} table order =
     IsStrictlyIncreasing-from_sorted (marked_of table)
     (still_sorted (λ (e : ℕ × Living B). (e.1).touched) table.objects (sorted_from_strictly_increasing (keys_of table.objects) order))
 
-none_rise : IsStrictlyIncreasing []
+pub none_rise : IsStrictlyIncreasing []
 unfolding IsStrictlySortedBy
 none_rise = IsStrictlyIncreasing-from_sorted [] tt
 

@@ -22,6 +22,7 @@ use Rattle.ash_run_steps.proofs.Roots.{times_append}
 use Rattle.ash_code.specs.declared.code.CodeParts.{CodeParts}
 use Rattle.ash_code.specs.CompiledCode.{IsCodeOf}
 use Rattle.ash_context.specs.declared.context.Left.{Left}
+use Rattle.ash_context.specs.declared.outcome.Outcome.TheVariants as outcomes
 use Rattle.ash_context.specs.declared.outcome.RunFault.TheVariants as faults
 use Rattle.ash_requests.specs.declared.step_error.StepError.{StepError}
 use Rattle.ash_requests.specs.RequestViews.{reply_seen}
@@ -35,16 +36,16 @@ use Rattle.ash_plain_steps.specs.declared.task.NewModule.{NewModule}
 use Rattle.ash_plain_steps.specs.declared.task.Task.TheVariants as tasks
 use Rattle.ash_plain_steps.specs.StateViews.{modules_seen}
 use Rattle.ash_states.specs.HostStates.{embedding_for}
-use Rattle.ash_states.specs.StateSteps.{task_of}
+use Rattle.ash_states.specs.StateSteps.{task_of, TaskRunsCode}
 use Rattle.ash_engine.specs.declared.live.Compiled.{Compiled}
 use Rattle.ash_engine.specs.declared.live.Live.{Live}
 use Rattle.ash_engine.specs.declared.loading.Prepared.{Prepared}
 use Rattle.ash_engine.specs.declared.steps.LiveStep.{LiveStep}
-use Rattle.ash_engine.specs.TableRuns.{SaysOfLoad, IsPrepared}
+use Rattle.ash_engine.specs.TableRuns.{SaysOfLoad, IsKeptAtOnce, IsPrepared}
 use Rattle.ash_engine.specs.TableSteps.{IsStepOf}
 use Rattle.ash_engine.specs.TableStates.{slots_of, roots_of, IsCompiledFrom, durable_seen, live_seen, IsLive}
 use Rattle.ash_engine.specs.TableTasks.{IsAsked}
-use Rattle.ash_engine.proofs.Loaded.{IsLeft, loaded}
+use Rattle.ash_engine.proofs.Loaded.{IsLeft, at_once, loaded, rest_of}
 use Rattle.ash_engine.proofs.Looked.{ran_out}
 use Rattle.ash_engine.proofs.ReadRanks.{read_ranked}
 use Rattle.ash_engine.proofs.TableCalls.{Takes}
@@ -147,14 +148,26 @@ module _ {B : Type 0} (G : Ghosts B) (live : Live B) (new : NewModule) (asked : 
           no_events = events;
         }
 
+        -- A module without globals is kept at once, or not for want of memory.
+        pub load_at_once : (budget : ℕ) → (module_of m.tree).globals ≡ [] → (one : LiveStep B)
+            → IsKeptAtOnce (rest_of live) m c parts one → IsStepOf G asked.registered budget asked.request live (Ok one)
+        load_at_once budget none one l =
+            at_once G asked.registered asked.request budget live asked.live (read_ranked asked.registered) m asked_as c
+            fresh compiled (record { parts = parts; outcome = Ok (outcomes.Finished None) })
+            (subst (λ (t : Table B). HoldsRoots t (parts.outside.items ++ handles parts.globals.items)) (sym table)
+            (subst (λ (ns : List ℕ). HoldsRoots live.table (ns ++ handles parts.globals.items)) (sym outside)
+            (held_first parts.globals.items globals)))
+            parts takes refl none one l
+
         -- What the run leaves is a step.
-        pub load_stepped : (budget : ℕ) (left : Left B) → SaysOfLoad G prepared.compiled.code parts budget left
+        pub load_stepped : ((module_of m.tree).globals ≡ [] → ⊥) → (budget : ℕ) (left : Left B) → SaysOfLoad G prepared.compiled.code parts budget left
             → (left.outcome ≡ Err faults.NotBegun → left.parts ≡ parts)
             → HoldsRoots left.parts.table (left.parts.outside.items ++ handles left.parts.globals.items)
             → (result : Result (LiveStep B) StepError) → IsLeft live m c left result
             → IsStepOf G asked.registered budget asked.request live result
-        load_stepped budget left says unchanged held result l =
+        load_stepped some budget left says unchanged held result l =
             loaded G asked.registered asked.request budget live asked.live (read_ranked asked.registered) m asked_as c
-            fresh compiled parts left takes
-            (subst (λ (p : CodeParts). SaysOfLoad G p parts budget left) (sym code) says) held
+            fresh compiled left held parts takes
+            (subst (λ (p : CodeParts). SaysOfLoad G p parts budget left) (sym code) says)
+            (subst (λ (d : TaskResult SourceFault). TaskRunsCode d) (sym asked_as) some)
             (λ none. ap (λ (p : Parts B). p.table) (unchanged none) ∙ table) result l

@@ -1,6 +1,6 @@
 -- What the outcome of a load is, and what it is not.
 use Rattle.std.proofs.Common.{◌≡◌, List, sym, ◌∙◌, subst}
-use Rattle.std.specs.Prelude.{Option, Result, Ok, Err, IfOk}
+use Rattle.std.specs.Prelude.{Option, Result, Ok, Err, IfOk, OnErr}
 use Rattle.ash_host.specs.declared.event.Event.{Event}
 use Rattle.ash_host.specs.declared.word.Word.{Word}
 use Rattle.ash_typed.specs.Modules.{Module}
@@ -37,3 +37,8 @@ pub abandoned_as : {B : Type 0} (rest : Rest) (parts : Parts B) (tree : Module) 
 abandoned_as {B} rest parts tree result one other same h =
     subst (λ (o : Outcome). IfOk result (λ s. (live : Live B) × (events : List Event) × IsAbandoned rest parts live
     events × IsAnswered live (end_named (entry_name tree) o) events changes.Unchanged s)) same h
+
+-- what holds anyway holds if there is an error
+pub on_error : {A E P : Type 0} (result : Result A E) → P → OnErr result P
+on_error (Ok value) holds = tt
+on_error (Err error) holds = holds

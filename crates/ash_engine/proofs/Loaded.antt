@@ -38,7 +38,6 @@ use Rattle.ash_requests.specs.Requests.{Request, NoMemory as NoMemoryRefusal, Re
 use Rattle.ash_requests.specs.Requests as replies
 use Rattle.ash_requests.specs.Steps.{unless_refused}
 use Rattle.ash_requests.specs.Steps as steps
-use Rattle.ash_requests.specs.TaskResults.{TaskChangesState}
 use Rattle.ash_requests.specs.Tasks.{Task, TaskResult, Initialize, is_module_name, max_modules, max_seq}
 use Rattle.ash_soundness.specs.WellFormedStates.{known_of}
 use Rattle.ash_soundness.proofs.Asked.{IsTask, initializes, task_is}
@@ -50,7 +49,7 @@ use Rattle.ash_plain_steps.specs.StateViews.{loaded_seen, modules_seen}
 use Rattle.ash_plain_steps.specs.Consistency.{AreConsistent}
 use Rattle.ash_plain_steps.proofs.Changed.{consistent_insert}
 use Rattle.ash_states.specs.HostStates.{HostState, embedding_for, offered_to}
-use Rattle.ash_states.specs.StateSteps.{task_of, FailsInChange}
+use Rattle.ash_states.specs.StateSteps.{task_of, FailsInChange, TaskRunsCode}
 use Rattle.ash_table_states.specs.TableStates.{names_in}
 use Rattle.ash_engine.specs.declared.changes.ModuleChange.TheVariants as changed
 use Rattle.ash_engine.specs.declared.live.Compiled.{Compiled}
@@ -61,6 +60,15 @@ use Rattle.ash_engine.specs.LiveSteps.{LiveSteps, TakesStep}
 use Rattle.ash_engine.specs.NamedChanges.{name_at, AreTaken}
 use Rattle.ash_engine.specs.RankedSources.{ReadsRanked}
 use Rattle.ash_engine.specs.TableRuns.{end_named, SaysOfLoad, IsAnswered, IsKept, IsAbandoned}
+use Rattle.ash_engine.specs.TableRuns.{IsKeptAtOnce, IsUnkept}
+use Rattle.ash_change_laws.specs.MarkedObjects.{IsSettled}
+use Rattle.ash_change_records.specs.ListedChanges.{AreListable}
+use Rattle.ash_engine.specs.LiveStates.{plain_box}
+use Rattle.ash_engine.specs.NamedChanges.{changes_seen}
+use Rattle.ash_engine.specs.TableStates.{roots_of, BoxesFit}
+use Rattle.ash_run_steps.specs.Answered.{boxes_of}
+use Rattle.ash_states.specs.HostStates.{IsAdmitted}
+use Rattle.ash_table_states.specs.TableStates.{state_shown}
 use Rattle.ash_engine.specs.TableSteps.{IsStepOf}
 use Rattle.ash_engine.specs.TableStates.{slots_of, IsCompiledFrom, AreCompiled, durable_seen, live_seen}
 use Rattle.ash_engine.specs.TableStates.{IsLive}
@@ -77,7 +85,7 @@ use Rattle.ash_engine.proofs.ReleasedGlobals.{run_released}
 use Rattle.ash_engine.proofs.RunSettings.{names_for}
 use Rattle.ash_engine.proofs.ShownAlike.{shown_alike}
 use Rattle.ash_engine.proofs.TableCalls.{Takes, hosts_of}
-use Rattle.ash_engine.proofs.TableLoads.{LoadSteps, load_steps}
+use Rattle.ash_engine.proofs.TableLoads.{LoadSteps, load_steps, steps_at_once}
 
 -- an end with the names of functions, whatever the names of modules
 ends_same : (tree : Module) (o : run_outcome.Outcome) (names : ℕ → List ℕ)
@@ -153,13 +161,8 @@ module _ {B : Type 0} (G : Ghosts B) (registered : List Registration) (request :
   rest = rest_of live
 
   module _ (asked : task_of request durable ≡ Ok task) (c : Compiled) (fresh : Contains slots c.code.module
-      → ⊥) (compiled : IsCompiledFrom m c) (parts : Parts B) (left : Left B)
-      (takes : Takes live.table (map zero_of (types_of_globals tree.globals)) (handles (globals_of seen)) parts)
-      (says : SaysOfLoad G c.code parts budget left)
+      → ⊥) (compiled : IsCompiledFrom m c) (left : Left B)
       (held : HoldsRoots left.parts.table (left.parts.outside.items ++ handles left.parts.globals.items)) where
-    changes : TaskChangesState (task_of request durable)
-    changes = subst (λ (d : TaskResult SourceFault). TaskChangesState d) (sym asked) tt
-
     -- the module while it runs, and the names of modules
     abbrev new_names : SlotNames
     new_names = names_in (record { name = name; source = m.source.items; globals = [] } ∷ seen) (c.code.module ∷ slots)
@@ -171,11 +174,6 @@ module _ {B : Type 0} (G : Ghosts B) (registered : List Registration) (request :
       Loads o = LoadSteps embedding (offered_to registered) (read_sound registered) ranked G seen slots live.loaded.seq
           live.table ((is_live.admitted).formed) is_live.fit
           name m.source.items tree c.code good is free fresh compiled budget o left.parts
-
-      loads : (o : run_outcome.Outcome) → left.outcome ≡ Ok o → Loads o
-      loads o came = load_steps embedding (offered_to registered) (read_sound registered) ranked G seen slots
-          live.loaded.seq live.table ((is_live.admitted).formed) is_live.fit
-          name m.source.items tree c.code good is free fresh compiled budget parts left takes says o came
 
       step_by : (one : steps.Step SourceFault) (o : run_outcome.Outcome) (run : Loads o)
           → steps.perform {Fault = SourceFault} budget task durable.state (hosts_of G live.table run.records) ≡ Some one
@@ -249,6 +247,7 @@ module _ {B : Type 0} (G : Ghosts B) (registered : List Registration) (request :
         kept_has = record {
           change = changed.Loaded place;
           listable = tt;
+          discards = λ name is number marked. cc;
           taken_so = subst (λ (t : Table B). AreTaken left.parts.events.items (changed.Loaded place) t one.live.changes)
               kept.table answered.taken;
           change_is = (loaded_seen kept_module, sym kept_at, refl {A = List LoadedModule});
@@ -339,6 +338,7 @@ module _ {B : Type 0} (G : Ghosts B) (registered : List Registration) (request :
           taken_so = answered.taken;
           change_is = refl {A = List LoadedModule};
           listable = tt;
+          discards = λ name is number marked. cc;
           names = names_in seen slots;
           shown_before = refl;
           same_names = λ number. refl;
@@ -409,59 +409,152 @@ module _ {B : Type 0} (G : Ghosts B) (registered : List Registration) (request :
       subst (IsLive G registered) (sym same) is_live,
     )
 
-    load_is_step : IsTask embedding durable.state task
-        → (left.outcome ≡ Err faults.NotBegun → left.parts.table ≡ live.table)
-        → (result : Result (LiveStep B) StepError) → IsLeft live m c left result
-        → IsStepOf G registered budget request live result
-    load_is_step is_task unchanged (Err error) l = subst (λ (e : StepError). FailsInChange request durable e)
-        (sym l.memory) changes
-    load_is_step (initializes good is free few numbered) unchanged (Ok one) l = by left.outcome refl
-      where
-        ended : (o : run_outcome.Outcome) → left.outcome ≡ Ok o → IsStepOf G registered budget request live (Ok one)
-        ended (outcomes.Finished value) came =
-            let (before, kept, place, in_place, answered) = l.kept value came in
-            let run = loads good is free few numbered (outcomes.Finished value) came in (
-              inl (kept_taken good is free few numbered value run before kept place in_place one answered),
-              kept_live good is free few numbered value run before kept place in_place one answered,
-            )
-        ended (outcomes.Exception x function line) came =
-            let other : (value : Option Word) → outcomes.Exception x function line ≡ outcomes.Finished value
-            → ⊥ = λ value e. cc in
-            let (before, events, gone, answered) = l.abandoned (outcomes.Exception x function line) came other in
-            let run = loads good is free few numbered (outcomes.Exception x function line) came in (
-              inl (gone_taken good is free few numbered (outcomes.Exception x function line) run other before events
-                  gone one answered),
-              gone_live good is free few numbered (outcomes.Exception x function line) run other before events gone one
-                  answered,
-            )
-        ended (outcomes.Aborted function line) came =
-            let other : (value : Option Word) → outcomes.Aborted function line ≡ outcomes.Finished value
-            → ⊥ = λ value e. cc in
-            let (before, events, gone, answered) = l.abandoned (outcomes.Aborted function line) came other in
-            let run = loads good is free few numbered (outcomes.Aborted function line) came in (
-              inl (gone_taken good is free few numbered (outcomes.Aborted function line) run other before events gone
-                  one answered),
-              gone_live good is free few numbered (outcomes.Aborted function line) run other before events gone one
-                  answered,
-            )
+    module _ (parts : Parts B)
+        (takes : Takes live.table (map zero_of (types_of_globals tree.globals)) (handles (globals_of seen)) parts) where
+      -- what the run leaves is that of the step
+      loads : SaysOfLoad G c.code parts budget left → (good : is_module_name name ≡ true)
+          (is : embedding.read m.source.items ≡ Ok tree)
+          (free : find_module name durable.state ≡ None) (few : length seen < max_modules)
+          (numbered : live.loaded.seq < max_seq) (o : run_outcome.Outcome) → left.outcome ≡ Ok o
+          → Loads good is free few numbered o
+      loads says good is free few numbered o came = load_steps embedding (offered_to registered) (read_sound registered)
+          ranked G seen slots live.loaded.seq live.table ((is_live.admitted).formed) is_live.fit
+          name m.source.items tree c.code good is free fresh compiled budget parts takes left says o came
 
-        by : (r : Result run_outcome.Outcome RunFault) → left.outcome ≡ r
+      -- Nothing changed that can be seen.
+      module _ (new : Live B) (same : IsUnkept rest parts new) where
+        items_same : new.loaded.modules.items ≡ ms
+        items_same = same.modules
+
+        codes_same : new.compiled.items ≡ cs
+        codes_same = same.compiled
+
+        seq_same : new.loaded.seq ≡ live.loaded.seq
+        seq_same = ap (λ (s : PlainState). s.seq) same.loaded
+
+        table_same : new.table ≡ live.table
+        table_same = same.table ∙ takes.same_table
+
+        durable_same : durable_seen G registered new ≡ durable
+        durable_same = (λ i. record {
+          registered = registered;
+          state = state_shown G (modules_seen (items_same i)) (slots_of (codes_same i)) (seq_same i) (table_same i);
+        })
+
+        live_same : live_seen G registered new ≡ live_seen G registered live
+        live_same = (λ i. record {
+          durable = durable_same i;
+          pool = map (plain_box G) (table_same i).pool;
+          boxes = boxes_of (table_same i);
+          changes = changes_seen (modules_seen (items_same i)) (same.changes i);
+        })
+
+        still_live : IsLive G registered new
+        still_live = record {
+          admitted = subst IsAdmitted (sym durable_same) is_live.admitted;
+          consistent = subst (AreConsistent embedding) (sym items_same) is_live.consistent;
+          compiled = subst (λ (l : List code_module.LoadedModule). AreCompiled l new.compiled.items) (sym items_same)
+              (subst (λ (l : List Compiled). AreCompiled ms l) (sym codes_same) is_live.compiled);
+          held = subst (λ (t : Table B). HoldsRoots t (roots_of new)) (sym table_same)
+              (subst (λ (l : List code_module.LoadedModule). HoldsRoots live.table
+              (handles (globals_of (modules_seen l)))) (sym items_same) is_live.held);
+          kinds = ap (λ (t : Table B). map G.kind_of t.services) table_same ∙ is_live.kinds;
+          fit = subst (λ (t : Table B). BoxesFit (map (plain_box G) t.pool)) (sym table_same) is_live.fit;
+          settled = subst (λ (t : Table B). IsSettled t) (sym table_same) is_live.settled;
+          listable = subst AreListable (sym (λ i. changes_seen (modules_seen (items_same i)) (same.changes i)))
+              is_live.listable;
+        }
+
+        unkept_step : (one : LiveStep B) → one.live ≡ new → reply_seen fault_of one.reply ≡ Refused NoMemoryRefusal
             → IsStepOf G registered budget request live (Ok one)
-        by (Ok o) came = ended o came
-        by (Err faults.NotBegun) came =
-            let both = l.refused came in
-            refused_step one both.0 (both.1 ∙ ap
-            (λ (t : Table B). let same : Live B = record {
-              loaded = live.loaded;
-              compiled = live.compiled;
-              table = t;
-              changes = live.changes;
-            } in same) (unchanged came))
-        by (Err faults.NoMemory) came = absurd (l.lost came)
-        by (Err faults.Unsound) came = absurd (l.never came)
+        unkept_step one is refused = (
+          inr (ran_out G registered live request task (reply_seen fault_of one.reply) one.live asked tt refused
+              (ap (live_seen G registered) is ∙ live_same)),
+          subst (IsLive G registered) (sym is) still_live,
+        )
 
-    -- The load that the code ran is a step.
-    pub loaded : (left.outcome ≡ Err faults.NotBegun → left.parts.table ≡ live.table)
-        → (result : Result (LiveStep B) StepError) → IsLeft live m c left result
-        → IsStepOf G registered budget request live result
-    loaded unchanged result l = load_is_step (task_is embedding durable.state request task asked) unchanged result l
+      -- A module without globals is kept at once.
+      module _ (ended : left ≡ record { parts = parts; outcome = Ok (outcomes.Finished None) })
+          (none : tree.globals ≡ []) where
+        parts_are : left.parts ≡ parts
+        parts_are = ap (λ (l : Left B). l.parts) ended
+
+        kept_step_at_once : IsTask embedding durable.state task → (one : LiveStep B)
+            → IsKeptAtOnce rest m c left.parts one → IsStepOf G registered budget request live (Ok one)
+        kept_step_at_once (initializes good is free few numbered) one (inl refused) =
+            unkept_step one.live (subst (λ (p : Parts B). IsUnkept rest p one.live) parts_are refused.1) one refl refused.0
+        kept_step_at_once (initializes good is free few numbered) one (inr l) =
+            let (before, kept, place, in_place, answered) = l in
+            let run : Loads good is free few numbered (outcomes.Finished None) =
+            subst (λ (p : Parts B). LoadSteps embedding (offered_to registered) (read_sound registered) ranked G seen
+            slots live.loaded.seq live.table ((is_live.admitted).formed) is_live.fit
+            name m.source.items tree c.code good is free fresh compiled budget (outcomes.Finished None) p)
+            (sym parts_are)
+            (steps_at_once embedding (offered_to registered) (read_sound registered) ranked G seen slots
+            live.loaded.seq live.table ((is_live.admitted).formed) is_live.fit
+            name m.source.items tree c.code good is free fresh compiled budget parts takes none) in (
+              inl (kept_taken good is free few numbered None run before kept place in_place one answered),
+              kept_live good is free few numbered None run before kept place in_place one answered,
+            )
+
+        pub at_once : (one : LiveStep B) → IsKeptAtOnce rest m c left.parts one
+            → IsStepOf G registered budget request live (Ok one)
+        at_once one l = kept_step_at_once (task_is embedding durable.state request task asked) one l
+
+      module _ (says : SaysOfLoad G c.code parts budget left) (runs : TaskRunsCode (task_of request durable)) where
+        load_is_step : IsTask embedding durable.state task
+            → (left.outcome ≡ Err faults.NotBegun → left.parts.table ≡ live.table)
+            → (result : Result (LiveStep B) StepError) → IsLeft live m c left result
+            → IsStepOf G registered budget request live result
+        load_is_step is_task unchanged (Err error) l = subst (λ (e : StepError). FailsInChange request durable e)
+            (sym l.memory) runs
+        load_is_step (initializes good is free few numbered) unchanged (Ok one) l = by left.outcome refl
+          where
+            ended : (o : run_outcome.Outcome) → left.outcome ≡ Ok o → IsStepOf G registered budget request live (Ok one)
+            ended (outcomes.Finished value) came =
+                let (before, kept, place, in_place, answered) = l.kept value came in
+                let run = loads says good is free few numbered (outcomes.Finished value) came in (
+                  inl (kept_taken good is free few numbered value run before kept place in_place one answered),
+                  kept_live good is free few numbered value run before kept place in_place one answered,
+                )
+            ended (outcomes.Exception x function line) came =
+                let other : (value : Option Word) → outcomes.Exception x function line ≡ outcomes.Finished value
+                → ⊥ = λ value e. cc in
+                let (before, events, gone, answered) = l.abandoned (outcomes.Exception x function line) came other in
+                let run = loads says good is free few numbered (outcomes.Exception x function line) came in (
+                  inl (gone_taken good is free few numbered (outcomes.Exception x function line) run other before events
+                      gone one answered),
+                  gone_live good is free few numbered (outcomes.Exception x function line) run other before events gone one
+                      answered,
+                )
+            ended (outcomes.Aborted function line) came =
+                let other : (value : Option Word) → outcomes.Aborted function line ≡ outcomes.Finished value
+                → ⊥ = λ value e. cc in
+                let (before, events, gone, answered) = l.abandoned (outcomes.Aborted function line) came other in
+                let run = loads says good is free few numbered (outcomes.Aborted function line) came in (
+                  inl (gone_taken good is free few numbered (outcomes.Aborted function line) run other before events gone
+                      one answered),
+                  gone_live good is free few numbered (outcomes.Aborted function line) run other before events gone one
+                      answered,
+                )
+
+            by : (r : Result run_outcome.Outcome RunFault) → left.outcome ≡ r
+                → IsStepOf G registered budget request live (Ok one)
+            by (Ok o) came = ended o came
+            by (Err faults.NotBegun) came =
+                let both = l.refused came in
+                refused_step one both.0 (both.1 ∙ ap
+                (λ (t : Table B). let same : Live B = record {
+                  loaded = live.loaded;
+                  compiled = live.compiled;
+                  table = t;
+                  changes = live.changes;
+                } in same) (unchanged came))
+            by (Err faults.NoMemory) came = absurd (l.lost came)
+            by (Err faults.Unsound) came = absurd (l.never came)
+
+        -- The load that the code ran is a step.
+        pub loaded : (left.outcome ≡ Err faults.NotBegun → left.parts.table ≡ live.table)
+            → (result : Result (LiveStep B) StepError) → IsLeft live m c left result
+            → IsStepOf G registered budget request live result
+        loaded unchanged result l = load_is_step (task_is embedding durable.state request task asked) unchanged result l

@@ -41,6 +41,7 @@ module _ {B : Type 0} (G : Ghosts B) (registered : List Registration) (live : Li
     gave = subst (λ (es : List Event). Answered G (boxes_of live.table) es [] (boxes_of live.table)) (sym none) (nothing_answered G (boxes_of live.table));
     unchanged = λ no. refl;
     named = λ answered. absurd (answered silent);
+    no_more = λ answered. absurd (answered silent);
   }
 
   -- A request whose task changes the state takes memory.

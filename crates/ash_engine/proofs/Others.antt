@@ -1,11 +1,14 @@
 -- The places at which words differ.
-use Rattle.std.proofs.Common.{◌≡◌, ◌<◌, ◌≤◌, ◌+◌, ◌++◌, ℕ, List, [], ◌∷◌, length, refl, sym, ap, ◌∙◌, subst, slice_get, get_or, ⊎_elim, inl, inr, arith}
-use Rattle.std.specs.Prelude.{◌≢◌, ◌↔◌, Contains, slice_index}
+use Rattle.std.proofs.Common.{◌≡◌, ◌<◌, ◌≤◌, ◌+◌, ◌++◌, ℕ, suc, Bool, true, false, List, [], ◌∷◌, length, refl, sym, ap, ◌∙◌, subst, slice_get, get_or, ⊎_elim, inl, inr, arith}
+use Rattle.std.specs.Prelude.{◌≢◌, ◌↔◌, Some, Contains, slice_index}
 use Rattle.std.specs.List.Sorted.{IsStrictlyIncreasing}
 use Rattle.std.proofs.lemmas.Bool.{cases_lt}
 use Rattle.std.proofs.lemmas.List.{get_or_append_left, get_or_push, length-append}
 use Rattle.std.proofs.lemmas.List.Elements.{Contains-push, Contains-push_cases, Contains-append_left, Contains-get_or}
+use Rattle.std.proofs.lemmas.Option.{same_Some}
 use Rattle.ash_host.specs.declared.word.Word.{Word}
+use Rattle.ash_host.specs.Records.{is_same_word}
+use Rattle.ash_host.proofs.RecordLaws.{word_decides}
 use Rattle.ash_engine.specs.NamedChanges.{AreOthers}
 
 -- the places below a number at which words differ, in ascending order
@@ -88,3 +91,27 @@ others_all before after limit places past are =
     let within = are.within in
     let same : limit ≡ length before = omega (arith, past, within) in
     (subst (λ (n : ℕ). AreOthersBelow before after n places) same are).others
+
+-- words of which none is another are the same
+
+one_word : (a b : Word) → ((Some a ≢ Some b) → ⊥) → a ≡ b
+one_word a b h = by (is_same_word a b) refl
+  where
+    by : (t : Bool) → is_same_word a b ≡ t → a ≡ b
+    by true is = (word_decides a b).0 is
+    by false is = absurd (h (λ e. let same : a ≡ b = same_Some a b e in let yes = (word_decides a b).1 same in cc))
+
+none_there : {A : Type 0} (x : A) → Contains [] x → ⊥
+none_there x is = omega (arith, is.1)
+
+pub none_other : (before after : List Word) → length after ≡ length before → AreOthers before after [] → after ≡ before
+none_other [] [] many others = refl
+none_other [] (a ∷ after) many others = absurd (omega (arith, many))
+none_other (b ∷ before) [] many others = absurd (omega (arith, many))
+none_other (b ∷ before) (a ∷ after) many others =
+    let first : a ≡ b = one_word a b (λ differ. none_there 0 ((others 0).1 (omega arith, differ))) in
+    let rest : after ≡ before = none_other before after (omega (arith, many)) (λ place. (
+      λ is. absurd (none_there place is),
+      λ both. absurd (none_there (suc place) ((others (suc place)).1 (let low = both.0 in omega (arith, low), both.1))),
+    )) in
+    (λ i. first i ∷ rest i)

@@ -1,5 +1,5 @@
 -- Where globals give up what they hold, no box answers.
-use Rattle.std.proofs.Common.{◌≡◌, ℕ, List, [], ◌∷◌, ◌++◌, map, refl, sym, ap, ◌∙◌, subst}
+use Rattle.std.proofs.Common.{◌≡◌, ℕ, List, [], ◌∷◌, ◌++◌, map, refl, sym, ap, ◌∙◌, subst, inl, inr}
 use Rattle.std.specs.Prelude.{filter}
 use Rattle.std.specs.Map.{keys_of}
 use Rattle.std.proofs.lemmas.List.{append-nil, append_cancel_left}
@@ -15,14 +15,14 @@ use Rattle.ash_objects.specs.Table.{Living, Table}
 use Rattle.ash_objects.specs.Sweeping.{gone_from, drops}
 use Rattle.ash_run_steps.specs.Answered.{drawn_in}
 use Rattle.ash_run_steps.specs.Becoming.{Gave}
-use Rattle.ash_run_steps.specs.Following.{Follows}
+use Rattle.ash_run_steps.specs.Following.{KeepsBoxes, MarksNoMore}
 use Rattle.ash_run_steps.specs.GuardedSteps.{RankTest}
 use Rattle.ash_run_steps.specs.RunStates.{State, Names, HoldsRoots}
 use Rattle.ash_run_steps.specs.Stacks.{Frames}
 use Rattle.ash_run_steps.proofs.AnsweredRuns.{numbered_bare}
 use Rattle.ash_run_steps.proofs.Bare.{follows_bare}
 use Rattle.ash_run_steps.proofs.Composed.{gave_nothing, gave_then}
-use Rattle.ash_run_steps.proofs.Swept.{release_gives}
+use Rattle.ash_run_steps.proofs.Swept.{release_gives, marked_swept}
 use Rattle.ash_engine.specs.TableRuns.{Released}
 use Rattle.ash_engine.proofs.TableReleases.{held_less}
 
@@ -63,8 +63,9 @@ module _ {B : Type 0} (G : Ghosts B) (names : Names) (test : RankTest) where
 
   -- where drops alone happened, no box answered
   drops_gave : (records : List HostRecord) (old new : Table B) (before : List Event) (gone : List (ℕ × Living B))
-      → Gave G records old before new (before ++ drops gone) → Gave G [] old before new (before ++ drops gone)
-  drops_gave records old new before gone gave =
+      → MarksNoMore [] old new → Gave G records old before new (before ++ drops gone)
+      → Gave G [] old before new (before ++ drops gone)
+  drops_gave records old new before gone no_more gave =
       let happened : drops gone ≡ gave.happened = append_cancel_left before (drops gone) gave.happened gave.told in
       let undrawn : drawn_in (drops gone) ≡ [] = none_drawn (keys_of (filter (λ e. is_boxed (e.1).body) gone)) in
       let none : gave.drawn ≡ [] = nothing_numbered gave.drawn (gave.in_turn ∙ ap drawn_in (sym happened) ∙ undrawn) in
@@ -74,7 +75,11 @@ module _ {B : Type 0} (G : Ghosts B) (names : Names) (test : RankTest) where
         told = refl;
         in_turn = sym undrawn;
         valid = tt;
-        follows = subst (λ (l : List (ℕ × B)). Follows G l old new) none gave.follows;
+        follows = record {
+          boxes = subst (λ (l : List (ℕ × B)). KeepsBoxes G l old new) none (gave.follows).boxes;
+          marks = (gave.follows).marks;
+          no_more = no_more;
+        };
       }
 
   pub released_gave : (outside : List ℕ) (given : List Word) (old new : Table B) (before after : List Event)
@@ -87,7 +92,8 @@ module _ {B : Type 0} (G : Ghosts B) (names : Names) (test : RankTest) where
       (sym (append-nil (outside ++ []) ∙ append-nil outside)) counted in
       let was = numbered_bare old r.unheld (r.less).same numbered in
       let swept = release_gives G names (state_of outside r.unheld before) new roots was.in_order order r.swept test in
-      let gave = drops_gave swept.records r.unheld new before (gone_from r.unheld.objects new.objects) swept.gave in
+      let gave = drops_gave swept.records r.unheld new before (gone_from r.unheld.objects new.objects)
+      (λ n is has. inr (inl (marked_swept r.unheld new (r.swept).collected n is))) swept.gave in
       let went : Gave G [] r.unheld before new after = subst (λ (es : List Event). Gave G [] r.unheld before new es)
       (sym r.dropped) gave in
       gave_then G [] [] old before r.unheld before new after

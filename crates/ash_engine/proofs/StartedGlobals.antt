@@ -28,7 +28,7 @@ use Rattle.ash_plain_steps.specs.StateViews.{loaded_seen, modules_seen, state_se
 use Rattle.ash_states.specs.HostStates.{IsAdmitted, embedding_for, offered_to}
 use Rattle.ash_states.specs.Holding.{held_with}
 
-each_alive : (lives : ℕ → Bool) (ws : List Word) → ((n : ℕ) → Contains (handles ws) n → lives n ≡ true) → AllByRecursion (λ (w : Word). option_map_or lives (handle w) true ≡ true) ws
+pub each_alive : (lives : ℕ → Bool) (ws : List Word) → ((n : ℕ) → Contains (handles ws) n → lives n ≡ true) → AllByRecursion (λ (w : Word). option_map_or lives (handle w) true ≡ true) ws
 each_alive lives [] all = tt
 each_alive lives (w ∷ ws) all = (one (handle w) refl, each_alive lives ws (λ n among. all n (handle_later w ws n among)))
   where
@@ -42,7 +42,7 @@ module _ {Fault : Type 0} (embedding : Embedding Fault) (host : signatures.HostS
       let (m, among, there) = from_globals s.modules n i in
       values_live n (rec_of (IsLoaded embedding s.objects) s.modules h.loaded m among).values there
 
-  all_short : ReadsSound host embedding → (objects : LiveObjects (List ℕ)) (ms : List LoadedModule) → AllByRecursion (IsLoaded embedding objects) (modules_seen ms)
+  pub all_short : ReadsSound host embedding → (objects : LiveObjects (List ℕ)) (ms : List LoadedModule) → AllByRecursion (IsLoaded embedding objects) (modules_seen ms)
       → AllByRecursion (λ (m : LoadedModule). length m.globals.items ≤ 256) ms
   all_short reads objects [] loaded = tt
   all_short reads objects (m ∷ ms) loaded =

@@ -57,6 +57,19 @@ use Rattle.ash_engine.proofs.NamedSlots.{slot_of_name, slot_known, contains_at, 
 use Rattle.ash_engine.proofs.RunSettings.{names_for, setting, is_set}
 use Rattle.ash_engine.proofs.ShownAlike.{shown_alike}
 use Rattle.ash_engine.proofs.TableCalls.{hosts_of, PoolFits, Takes}
+use Rattle.std.proofs.Common.{◌++◌}
+use Rattle.std.proofs.lemmas.List.{append-nil}
+use Rattle.ash_host.specs.Reach.{ReachableIn}
+use Rattle.ash_typed.specs.Modules.{Variables}
+use Rattle.ash_meaning.specs.Ends.{Finished, outcome_of, init_frame}
+use Rattle.ash_meaning.specs.Ends as meant
+use Rattle.ash_meaning.specs.Functions.{initialize_module, calls_within}
+use Rattle.ash_meaning.specs.Releases.{roots, sweep}
+use Rattle.ash_meaning.specs.Runs.{give, ◌>>◌}
+use Rattle.ash_run_steps.proofs.Bare.{follows_bare}
+use Rattle.ash_run_steps.proofs.Composed.{gave_nothing}
+use Rattle.ash_context.specs.declared.outcome.Outcome.TheVariants as outcomes
+use Rattle.ash_engine.proofs.AllReached.{nothing_goes}
 
 zero_values : {p : Program} {all : LiveObjects (List ℕ)} (types : List VarType)
     → AreValues p all types (map zero_of types)
@@ -180,9 +193,8 @@ module _ {Fault : Type 0} (embedding : Embedding Fault) (host : HostSignatures) 
       pub outside : left.outside.items ≡ handles (globals_of ms)
       pub settled : IsBetweenRequests (context records) (world_in G names [] left)
 
-    module _ (budget : ℕ) (parts : Parts B) (left : Left B)
-        (takes : Takes table (map zero_of (types_of_globals tree.globals)) (handles (globals_of ms)) parts)
-        (says : SaysOfLoad G code parts budget left) where
+    module _ (budget : ℕ) (parts : Parts B)
+        (takes : Takes table (map zero_of (types_of_globals tree.globals)) (handles (globals_of ms)) parts) where
       world_is : (records : List HostRecord) → world_in G names records parts ≡ before records
       world_is records =
           (λ i. worlds.world_of G names records (takes.same_table i) (takes.same_globals i) (takes.same_outside i)
@@ -192,36 +204,64 @@ module _ {Fault : Type 0} (embedding : Embedding Fault) (host : HostSignatures) 
       abbrev run : World → Option Outcome
       run world = load_module (context []).program budget world
 
-      said : Says G names run uncounted parts left.outcome left.parts
-      said = says (context []) the_setting (is_context []) (compiled (context []) (is_context []) refl)
-          (set_for []) takes.same_globals
-          (subst (λ (w : World). IsWellFormed (context []) (env_of (context []) []) [] (first_of_load tree budget w))
-          (sym (world_is [])) (record {
-            world = begins_in [] tt;
-            since = follows_itself (before []);
-            frame = record { this = no_this; locals = no_values; held = record { each = λ n i. absurd (none_in n i) } };
-            callers = no_frames;
-            few = omega arith;
-          }))
-
-      pub load_steps : (o : run_outcome.Outcome) → left.outcome ≡ Ok o → LoadSteps budget o left.parts
-      load_steps o e =
-          let l : Leads G names run uncounted parts (end_said names o) left.parts = subst
-          (λ (r : Result run_outcome.Outcome RunFault). Says G names run uncounted parts r left.parts) e said in
-          let end : Outcome = record { end = end_said names o; world = world_in G names [] left.parts } in
-          let gave : Gave G l.records table [] left.parts.table left.parts.events.items =
-          subst (λ (t : Table B). Gave G l.records t [] left.parts.table left.parts.events.items) takes.same_table
-          (subst (λ (es : List Event). Gave G l.records parts.table es left.parts.table left.parts.events.items)
-          takes.no_events l.gave) in
-          let ran : run (world_of [] ms state (hosts_of G table l.records)) ≡ Some end = ap run
-          (sym (world_is l.records)) ∙ l.same in
-          let fits = answers_fit G l.records table left.parts.table [] left.parts.events.items gave in
-          let kept = loads_keep (is_context l.records) budget (world_of [] ms state (hosts_of G table l.records)) end
-          (begins_in l.records fits) (follows_itself (before l.records)) ran in
+      -- A module without globals has nothing to run.
+      pub steps_at_once : tree.globals ≡ [] → LoadSteps budget (outcomes.Finished None) parts
+      steps_at_once none =
+          let w = world_of [] ms state (hosts_of G table []) in
+          let end : Outcome = record { end = Finished None; world = world_in G names [] parts } in
+          let zeros : map zero_of (types_of_globals tree.globals) ≡ [] =
+          ap (λ (ds : List Variables). map zero_of (types_of_globals ds)) none in
+          let rooted : roots [] (before []) ≡ handles (globals_of ms) =
+          ap (λ (ws : List Word). handles (globals_of ms) ++ handles ws ++ []) zeros
+          ∙ append-nil (handles (globals_of ms) ++ []) ∙ append-nil (handles (globals_of ms)) in
+          let still : sweep [] (before []) ≡ before [] = nothing_goes (before []) (h.numbered).in_order
+          (λ n lives. subst (λ (ns : List ℕ). ReachableIn (Contains ns) state.objects n) (sym rooted)
+          (h.reached n lives)) in
+          let ended : World → Outcome = λ world. record { end = Finished None; world = world } in
+          let ran : run w ≡ Some end =
+          ap (λ (ds : List Variables). outcome_of ((initialize_module
+          (calls_within (context []).program budget) 0 ds >> give None) (meant.begun (before []) budget init_frame))) none
+          ∙ ap (λ (world : World). Some (ended world)) (still ∙ sym (world_is [])) in
           record {
-            records = l.records;
-            gave = gave;
+            records = [];
+            gave = subst (λ (t : Table B). Gave G [] table [] t parts.events.items) (sym takes.same_table)
+                (gave_nothing G table [] table parts.events.items (follows_bare G table table refl) takes.no_events);
             stepped = ap (option_map (after_load name source state)) ran;
-            outside = (kept.since).outside;
-            settled = kept;
+            outside = takes.same_outside;
+            settled = loads_keep (is_context []) budget w end (begins_in [] tt) (follows_itself (before [])) ran;
           }
+
+      module _ (left : Left B) (says : SaysOfLoad G code parts budget left) where
+        said : Says G names run uncounted parts left.outcome left.parts
+        said = says (context []) the_setting (is_context []) (compiled (context []) (is_context []) refl)
+            (set_for []) takes.same_globals
+            (subst (λ (w : World). IsWellFormed (context []) (env_of (context []) []) [] (first_of_load tree budget w))
+            (sym (world_is [])) (record {
+              world = begins_in [] tt;
+              since = follows_itself (before []);
+              frame = record { this = no_this; locals = no_values; held = record { each = λ n i. absurd (none_in n i) } };
+              callers = no_frames;
+              few = omega arith;
+            }))
+
+        pub load_steps : (o : run_outcome.Outcome) → left.outcome ≡ Ok o → LoadSteps budget o left.parts
+        load_steps o e =
+            let l : Leads G names run uncounted parts (end_said names o) left.parts = subst
+            (λ (r : Result run_outcome.Outcome RunFault). Says G names run uncounted parts r left.parts) e said in
+            let end : Outcome = record { end = end_said names o; world = world_in G names [] left.parts } in
+            let gave : Gave G l.records table [] left.parts.table left.parts.events.items =
+            subst (λ (t : Table B). Gave G l.records t [] left.parts.table left.parts.events.items) takes.same_table
+            (subst (λ (es : List Event). Gave G l.records parts.table es left.parts.table left.parts.events.items)
+            takes.no_events l.gave) in
+            let ran : run (world_of [] ms state (hosts_of G table l.records)) ≡ Some end = ap run
+            (sym (world_is l.records)) ∙ l.same in
+            let fits = answers_fit G l.records table left.parts.table [] left.parts.events.items gave in
+            let kept = loads_keep (is_context l.records) budget (world_of [] ms state (hosts_of G table l.records)) end
+            (begins_in l.records fits) (follows_itself (before l.records)) ran in
+            record {
+              records = l.records;
+              gave = gave;
+              stepped = ap (option_map (after_load name source state)) ran;
+              outside = (kept.since).outside;
+              settled = kept;
+            }

@@ -18,7 +18,7 @@ use Rattle.ash_sources.specs.SourceFaults as faults
 use Rattle.ash_soundness.specs.WellFormed.{IsState, AreAnswers}
 use Rattle.ash_states.specs.HostStates.{HostState, IsAdmitted, embedding_for}
 use Rattle.ash_states.specs.StateSteps.{task_of, FailsInChange}
-use Rattle.ash_change_laws.specs.ChangedStates.{Names}
+use Rattle.ash_change_laws.specs.ChangedStates.{Names, NamesNoMore}
 use Rattle.ash_engine.specs.LiveStates.{LiveState}
 pub use Rattle.ash_run_steps.specs.Answered.{number_drawn, drawn_in, box_at, IsValidOf, IsStill, Answered}
 
@@ -67,7 +67,7 @@ module _ {B : Type 0} where
   -- ---- the step of a live state
 
   -- The step of a request was taken: there are answers, each of the very box that gave it, for which it is the written
-  -- one. What is not answered changes nothing; of what is answered, the names of what it changed are kept.
+  -- one. What is not answered changes nothing; of what is answered, the names of what it changed are kept, and no more.
   pub record TakesStep (G : Ghosts B) (budget : ℕ) (request : Request) (old : LiveState B) (reply : Reply SourceFault)
       (new : LiveState B) : Type 0 where
     pub answers : List HostRecord
@@ -76,6 +76,8 @@ module _ {B : Type 0} where
     pub unchanged : IsNoAnswer reply → new ≡ old
     pub named : (IsNoAnswer reply → ⊥)
         → Names new.changes (events_of_reply reply) (old.durable).state (new.durable).state
+    pub no_more : (IsNoAnswer reply → ⊥)
+        → NamesNoMore answers (old.durable).state (new.durable).state new.changes
 
   -- Memory was refused to a request that takes it, before anything changed. It replaces no cause that is found without
   -- memory: it was refused while what the request asks for was found, or before that was begun.
@@ -99,7 +101,7 @@ module _ {B : Type 0} where
       → IsReached (reached_by new)
 
   -- What the code gives for a request. Where it gives an error, the live state is lost: the request is not refused, it
-  -- changes the state, and memory was refused while it did.
+  -- runs code, and memory was refused while it ran or after that.
   abbrev pub Handled : Ghosts B → ℕ → Request → LiveState B
       → Result (code_reply.Reply code_fault.SourceFault) StepError → Option (LiveState B) → Type 0
   Handled G budget request old (Ok reply) (Some new) =

@@ -45,11 +45,19 @@ abbrev pub AreOthers : List Word → List Word → List ℕ → Type 0
 AreOthers before after places = (place : ℕ)
     → Contains places place ↔ ((place < length before) × (slice_get after place ≢ slice_get before place))
 
--- The globals of the module at a place hold other words at these places, and at no others.
+-- The globals of the module at a place hold other words at these places, of which there are some, and at no others.
 pub record AreChanged (at : ℕ) (before after : List Word) (globals : ChangedGlobals) : Type 0 where
   pub of_module : globals.module ≡ at
+  pub some : globals.places.items ≢ []
   pub others : AreOthers before after globals.places.items
   pub rise : IsStrictlyIncreasing globals.places.items
+
+-- What became of the modules in a run of the one at a place, whose globals held these words and hold these: its globals
+-- changed, if any of them holds another word, and nothing otherwise.
+abbrev pub IsChangeOf : ℕ → List Word → List Word → ModuleChange → Type 0
+IsChangeOf at before after changes.Unchanged = AreOthers before after []
+IsChangeOf at before after (changes.Globals globals) = AreChanged at before after globals
+IsChangeOf at before after _ = ⊥
 
 -- The names are those of the events, of the change of the modules and of the marks of a table.
 pub record AreTaken {B : Type 0} (happened : List Event) (modules : ModuleChange) (table : Table B) (c : Changes)

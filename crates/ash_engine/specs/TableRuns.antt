@@ -1,5 +1,7 @@
 -- What runs take of a live state, what the machine says of them, and what they leave.
-use Rattle.std.specs.Prelude.{◌≡◌, ℕ, ◌+◌, ◌++◌, List, [], map, set, slice_get, Some, Contains, string_bytes}
+use Rattle.std.specs.Prelude.{◌≡◌, ◌⊎◌, ◌<◌, ℕ, ◌+◌, ◌++◌, List, [], map, set, slice_get, Some, None, Contains}
+use Rattle.std.specs.Prelude.{string_bytes, vec_len, vec_capacity}
+use Rattle.std.specs.declared.vec.Vec.{Vec}
 use Rattle.std.specs.List.{insert, remove}
 use Rattle.ash_host.specs.declared.host_object.HostObject.{Ghosts}
 use Rattle.ash_host.specs.declared.word.Word.{Word}
@@ -24,7 +26,7 @@ use Rattle.ash_context.specs.declared.context.Left.{Left}
 use Rattle.ash_context.specs.declared.outcome.Outcome as run_outcome
 use Rattle.ash_context.specs.declared.outcome.Outcome.TheVariants as outcomes
 use Rattle.ash_context.specs.Outcomes.{Says, world_in}
-use Rattle.ash_requests.specs.Requests.{Reply, Answered}
+use Rattle.ash_requests.specs.Requests.{Reply, Answered, Refused, NoMemory}
 use Rattle.ash_requests.specs.RequestViews.{reply_seen}
 use Rattle.ash_sources.specs.SourceFaults.{SourceFault, fault_of}
 use Rattle.ash_plain_steps.specs.declared.state.LoadedModule.{LoadedModule}
@@ -33,6 +35,7 @@ use Rattle.ash_plain_steps.specs.StateViews.{loaded_seen, modules_seen}
 use Rattle.ash_requests.specs.States.{globals_of, with_module}
 use Rattle.ash_objects.specs.Marking.{without_marks}
 use Rattle.ash_engine.specs.declared.changes.ModuleChange.{ModuleChange}
+use Rattle.ash_engine.specs.declared.changes.ModuleChange.TheVariants as changes
 use Rattle.ash_engine.specs.NamedChanges.{AreTaken}
 use Rattle.ash_engine.specs.declared.live.Compiled.{Compiled}
 use Rattle.ash_engine.specs.declared.live.Live.{Live}
@@ -50,6 +53,10 @@ end_named name (outcomes.Aborted function line) = Aborted (name function) line
 -- a run, however many instructions it did
 abbrev pub uncounted : World → Outcome → Type 0
 uncounted world outcome = Unit {0}
+
+-- there is room for one more
+abbrev pub HasRoom : {A C : Type 0} → Vec A C → Type 0
+HasRoom items = vec_len items < vec_capacity items
 
 module _ {B : Type 0} (G : Ghosts B) where
   -- what the machine says of a call of a function of code
@@ -132,6 +139,23 @@ module _ {B : Type 0} where
     pub loaded : new.loaded ≡ record rest.loaded { modules = new.loaded.modules }
     pub compiled : new.compiled.items ≡ insert rest.compiled.items place c
     pub table : new.table ≡ parts.table
+
+  -- Nothing changed that can be seen; there may be more room.
+  pub record IsUnkept (rest : Rest) (parts : Parts B) (new : Live B) : Type 0 where
+    pub modules : new.loaded.modules.items ≡ rest.loaded.modules.items
+    pub loaded : new.loaded ≡ record rest.loaded { modules = new.loaded.modules }
+    pub compiled : new.compiled.items ≡ rest.compiled.items
+    pub changes : new.changes ≡ rest.changes
+    pub table : new.table ≡ parts.table
+
+  -- What a load of a module comes to that has nothing to run: memory was refused, and nothing changed; or the module is
+  -- kept, and that is answered.
+  abbrev pub IsKeptAtOnce : Rest → LoadedModule → Compiled → Parts B → LiveStep B → Type 0
+  IsKeptAtOnce rest m c parts one =
+      ((reply_seen fault_of one.reply ≡ Refused NoMemory) × IsUnkept rest parts one.live)
+      ⊎ ((live : Live B) × IsKept rest m c parts live
+      × (place : ℕ) × (slice_get live.loaded.modules.items place ≡ Some (record m { globals = parts.globals }))
+      × IsAnswered live (Finished None) parts.events.items (changes.Loaded place) one)
 
   -- A module whose initializers did not come to their end is gone, with what its globals held.
   pub record IsAbandoned (rest : Rest) (parts : Parts B) (new : Live B) (events : List Event) : Type 0 where

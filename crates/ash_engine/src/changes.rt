@@ -7,7 +7,7 @@ ghost use Rattle.ash_requests.specs.States.{LoadedModule};
 ghost use Rattle.ash_change_laws.specs.ChangedStates.{nothing};
 ghost use Rattle.ash_change_laws.specs.UncalledServices.{IsCalled};
 ghost use Rattle.ash_objects.specs.Marking.{without_marks};
-ghost use Rattle.ash_engine.specs.NamedChanges.{changes_seen, service_called, AreOthers, AreChanged, AreTaken};
+ghost use Rattle.ash_engine.specs.NamedChanges.{changes_seen, service_called, AreOthers, IsChangeOf, AreTaken};
 
 use ash_host::{Event, HostObject, NoMemory, Target, Word};
 use ash_objects::Objects;
@@ -31,7 +31,7 @@ pub enum ModuleChange {
 pub struct ChangedGlobals {
     /// The place of the module.
     pub module: usize,
-    /// The places of the globals in source order, in ascending order.
+    /// The places of the globals in source order, in ascending order. There is at least one.
     pub places: Vec<u16>,
 }
 
@@ -93,8 +93,8 @@ fn sort_places(places: &mut Vec<u16>)
     places.dedup();
 }
 
-// Sorts numbers, and keeps each once.
-fn sort_numbers(numbers: &mut Vec<u64>)
+/// Sorts numbers, and keeps each once.
+pub(crate) fn sort_numbers(numbers: &mut Vec<u64>)
     ensures rise { IsStrictlyIncreasing numbers.new.items }
     ensures same { (number : ℕ) → Contains numbers.new.items number ↔ Contains numbers.old.items number }
 {
@@ -164,18 +164,21 @@ fn places_of_others(alloc: Global, before: &[Word], after: &[Word]) -> Result<Ve
     Ok(places)
 }
 
-/// The globals of the module at a place that hold other words than before.
-pub(crate) fn changed_globals(
+/// What became of the modules in a run of the one at a place, by the words of its globals before and after.
+pub(crate) fn change_of_globals(
     alloc: Global,
     module: usize,
     before: &[Word],
     after: &[Word],
-) -> Result<ChangedGlobals, AllocError>
+) -> Result<ModuleChange, AllocError>
     requires few { length before.now ≤ 256 }
-    ensures changed { IfOk result (λ globals. AreChanged «module» before.now after.now globals) }
+    ensures change { IfOk result (λ change. IsChangeOf «module» before.now after.now change) }
 {
     let places = places_of_others(alloc, before, after)?;
-    Ok(ChangedGlobals { module, places })
+    if places.is_empty() {
+        return Ok(ModuleChange::Unchanged);
+    }
+    Ok(ModuleChange::Globals(ChangedGlobals { module, places }))
 }
 
 /// What a request changed that had these events and made this of the modules. The marks of the table are cleared.

@@ -29,7 +29,7 @@ use std::alloc::{AllocError, Global};
 use std::marker::Model;
 
 /// A registry, and a live state: what outlives a request, beside the boxes of host objects, which are free, in use by
-/// number, or services. Its state is lost where memory is refused while a request changes it.
+/// number, or services. Its state is lost if memory is refused while or after a request runs code.
 #[derive(Drop)]
 pub struct Engine<B: HostObject = Box<dyn HostObject>> {
     registry: Registry,
@@ -172,7 +172,7 @@ impl<B: HostObject> Engine<B> {
         ensures image { (live : LiveState B) → self.now.live ≡ Some live
             → IfOk result (λ image. IsImageIn Two image.items live.durable) }
         // It fits into a record.
-        ensures short { IfOk result (λ image. length image.items < 2 ^ 32) }
+        ensures short { IfOk result (λ image. length image.items < 2 ^ 28) }
     {
         let Some(live) = &self.live else {
             unreachable!()
@@ -186,7 +186,7 @@ impl<B: HostObject> Engine<B> {
         ensures body { (live : LiveState B) → self.now.live ≡ Some live
             → IfOk result (λ body. IsBodyIn Two body.items live.durable) }
         // It fits into a record.
-        ensures short { IfOk result (λ body. length body.items < 2 ^ 32) }
+        ensures short { IfOk result (λ body. length body.items < 2 ^ 28) }
     {
         let Some(live) = &self.live else {
             unreachable!()
@@ -215,7 +215,7 @@ impl<B: HostObject> Engine<B> {
         requires live { IsSome self.now.live }
         ensures delta { (live : LiveState B) → self.now.live ≡ Some live
             → OnOk result (AppendsChanges live body.old.items body.new.items) }
-        // Sixteen of them fit into a record.
+        // A record has room for one.
         ensures short { OnOk result (length body.new.items ≤ length body.old.items + (2 ^ 28 - 2)) }
     {
         let Some(live) = &self.live else {
@@ -229,8 +229,8 @@ impl<B: HostObject> Engine<B> {
     ///
     /// # Errors
     ///
-    /// The live state is lost; that comes only of a request that is not refused and changes the state. `NoMemory` where
-    /// memory was refused while it changed; never `NoStep`.
+    /// The live state is lost; that comes only of a request that is not refused and runs code: of a call, or of a load of
+    /// a module that has globals. `NoMemory` if memory was refused while the code ran or after that; never `NoStep`.
     pub fn handle(&mut self, request: &Request<'_>, budget: u64) -> Result<HostReply, StepError>
         requires live { IsSome self.old.live }
         ensures handled { (live : LiveState B) → self.old.live ≡ Some live

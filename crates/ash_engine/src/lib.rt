@@ -8,8 +8,8 @@
 //! and what is refused), `RestoredTables` (the table of a state), `TableStates` (the live state that the code has),
 //! `TableSteps`, `TableTasks` and `TableRuns` (what the code does for it), `RankedSources`. In reading order: `engine`;
 //! `live`; `boxes`, `compiling` and `starting` (the boxes that are handed over, and the states with which engines start);
-//! `steps`; `runs`, `loading` and `discarding` (what changes the state), `names` (of functions), `showing` (objects);
-//! `writing`; `laws`.
+//! `steps`; `runs`, `loading` and `discarding` (what changes the state), `resting` (answers that take no memory),
+//! `names` (of functions), `showing` (objects); `writing`; `laws`.
 #![tactic(auto)]
 
 mod boxes;
@@ -22,6 +22,7 @@ mod live;
 mod loading;
 mod names;
 mod recording;
+mod resting;
 mod runs;
 mod showing;
 mod starting;

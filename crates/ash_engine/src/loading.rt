@@ -2,9 +2,9 @@
 
 ghost use Rattle.std.specs.Prelude.{◌≡◌, ◌<◌, ◌≤◌, ◌++◌, ℕ, List, [], Contains, Option, Some, Ok, Err, map, length};
 ghost use Rattle.std.specs.Prelude.{slice_get};
-ghost use Rattle.std.specs.Prelude.{IfErr, IfOk, IfSome, OnOk, nat_eq};
+ghost use Rattle.std.specs.Prelude.{IfErr, IfOk, IfSome, IsOk, OnErr, OnOk, ◌≢◌, true, false, nat_eq};
 ghost use Rattle.std.specs.List.{insert, list_any};
-ghost use Rattle.ash_host.specs.Objects.{handles};
+ghost use Rattle.ash_host.specs.Objects.{handles, object_at};
 ghost use Rattle.ash_meaning.specs.Ends.{Finished};
 ghost use Rattle.ash_meaning.specs.OperatorMeaning.{zero_of};
 ghost use Rattle.ash_objects.specs.Table.{holds_of};
@@ -24,7 +24,8 @@ ghost use Rattle.ash_sources.specs.SourceFaults.{fault_of};
 ghost use Rattle.ash_plain_steps.specs.StateViews.{loaded_seen, modules_seen};
 ghost use Rattle.ash_plain_steps.specs.declared.task.Task.TheVariants as tasks;
 ghost use Rattle.ash_engine.specs.declared.changes.ModuleChange.TheVariants as changes;
-ghost use Rattle.ash_engine.specs.TableRuns.{end_named, SaysOfLoad, IsAnswered, IsPrepared, IsKept, IsAbandoned};
+ghost use Rattle.ash_engine.specs.TableRuns.{end_named, HasRoom, SaysOfLoad, IsAnswered, IsPrepared, IsKept};
+ghost use Rattle.ash_engine.specs.TableRuns.{IsAbandoned, IsKeptAtOnce};
 ghost use Rattle.ash_engine.specs.TableStates.{slots_of};
 ghost use Rattle.ash_engine.specs.TableSteps.{IsStepOf};
 ghost use Rattle.ash_engine.specs.TableTasks.{entry_name, IsAsked};
@@ -34,6 +35,7 @@ use crate::compiling::compiled_for;
 use crate::discarding::release;
 use crate::live::{Compiled, Live, Rest};
 use crate::names::outcome_of;
+use crate::resting::answered_at_rest;
 use crate::runs::{answered, handles_of, without_memory};
 use crate::steps::LiveStep;
 use ash_context::context::Left;
@@ -140,7 +142,18 @@ fn run_initializers<B: HostObject>(compiled: &mut Compiled, parts: Parts<B>, bud
         .run(&compiled.code, parts, place, &[], budget)
 }
 
-/// Inserts a module at the place of its name, and its code at the same place, and returns the place.
+/// Makes room for one module more, and for its code.
+fn make_room(modules: &mut Vec<LoadedModule>, codes: &mut Vec<Compiled>) -> Result<(), AllocError>
+    ensures modules { modules.new.items ≡ modules.old.items }
+    ensures codes { codes.new.items ≡ codes.old.items }
+    ensures room { OnOk result (HasRoom modules.new × HasRoom codes.new) }
+{
+    modules.reserve(1)?;
+    codes.reserve(1)
+}
+
+/// Inserts a module at the place of its name, and its code at the same place, and returns the place. It takes no memory
+/// if there is room.
 fn insert_module(
     modules: &mut Vec<LoadedModule>,
     codes: &mut Vec<Compiled>,
@@ -153,6 +166,7 @@ fn insert_module(
     ensures at_a_place { IfOk result (λ place. (modules.new.items ≡ insert modules.old.items place new_module)
         × (codes.new.items ≡ insert codes.old.items place compiled)) }
     ensures within { IfOk result (λ place. place ≤ length modules.old.items) }
+    ensures fits { HasRoom modules.old → HasRoom codes.old → IsOk result }
 {
     let place = place_after(modules, new_module.name.as_str()).unwrap_or(modules.len());
     modules.insert(place, new_module)?;
@@ -161,6 +175,7 @@ fn insert_module(
 }
 
 /// The live state with a module whose initializers came to their end, the events of these, and the place of the module.
+/// It takes no memory if there is room.
 fn keep<B: HostObject>(
     rest: Rest,
     new_module: LoadedModule,
@@ -172,6 +187,7 @@ fn keep<B: HostObject>(
     ensures there { IfOk result (λ left. slice_get left.0.loaded.modules.items left.2
         ≡ Some (record new_module { globals = parts.globals })) }
     ensures events { IfOk result (λ left. left.1 ≡ parts.events) }
+    ensures fits { HasRoom rest.loaded.modules → HasRoom rest.compiled → IsOk result }
 {
     let Rest {
         mut loaded,
@@ -194,6 +210,29 @@ fn keep<B: HostObject>(
         changes,
     };
     Ok((live, events, place))
+}
+
+/// The step that refuses a load for want of memory, and changes nothing.
+fn unkept<B: HostObject>(rest: Rest, parts: Parts<B>) -> LiveStep<B>
+    ensures refused { reply_seen fault_of result.reply ≡ Refused NoMemoryRefusal }
+    ensures unchanged { result.live ≡ record {
+      loaded = rest.loaded;
+      compiled = rest.compiled;
+      table = parts.table;
+      changes = rest.changes;
+    } }
+{
+    let Rest {
+        loaded,
+        compiled,
+        changes,
+    } = rest;
+    without_memory(Live {
+        loaded,
+        compiled,
+        table: parts.table,
+        changes,
+    })
 }
 
 /// The live state without a module whose initializers did not come to their end, and the events of these.
@@ -242,6 +281,32 @@ fn finish_abandoned<B: HostObject>(
         Ok((live, events)) => answered(live, outcome, events, ModuleChange::Unchanged),
         Err(_) => Err(StepError::NoMemory),
     }
+}
+
+/// What is left of a load of a module without globals. Its room is made first. If memory is refused, the request is
+/// refused, and nothing changes.
+fn keep_at_once<B: HostObject>(
+    rest: Rest,
+    new_module: LoadedModule,
+    compiled: Compiled,
+    parts: Parts<B>,
+) -> LiveStep<B>
+    requires numbered { rest.loaded.seq < max_seq }
+    requires many { length rest.compiled.items ≡ length rest.loaded.modules.items }
+    requires unmarked { (number : ℕ) → IfSome (object_at number parts.table.objects)
+        (λ object. object.touched ≡ false) }
+    requires none { parts.events.items ≡ [] }
+    ensures kept { IsKeptAtOnce rest new_module compiled parts result }
+{
+    let mut rest = rest;
+    if make_room(&mut rest.loaded.modules, &mut rest.compiled).is_err() {
+        return unkept(rest, parts);
+    }
+    let Ok((live, events, place)) = keep(rest, new_module, compiled, parts) else {
+        unreachable!()
+    };
+    let outcome = Outcome::Finished(None);
+    answered_at_rest(live, outcome, events, ModuleChange::Loaded(place))
 }
 
 /// What is left of a load whose initializers ended so.
@@ -318,6 +383,8 @@ fn finish_load<B: HostObject>(
           table = left.parts.table;
           changes = rest.changes;
         })) }
+    // The state is lost only if the run had begun.
+    ensures begun { OnErr result (left.outcome ≡ Err faults.NotBegun → ⊥) }
     ensures lost { left.outcome ≡ Err faults.NoMemory → IfOk result (λ one. ⊥) }
     ensures never { left.outcome ≡ Err faults.Unsound → IfOk result (λ one. ⊥) }
     ensures memory { IfErr result (λ error. error ≡ StepError.NoMemory) }
@@ -325,22 +392,19 @@ fn finish_load<B: HostObject>(
     let Left { parts, outcome } = left;
     match outcome {
         Ok(outcome) => finish_ended(rest, new_module, compiled, outcome, parts),
-        Err(RunFault::NotBegun) => {
-            let Rest {
-                loaded,
-                compiled,
-                changes,
-            } = rest;
-            Ok(without_memory(Live {
-                loaded,
-                compiled,
-                table: parts.table,
-                changes,
-            }))
-        }
+        Err(RunFault::NotBegun) => Ok(unkept(rest, parts)),
+        Err(RunFault::NoMemory) => Err(StepError::NoMemory),
         // The code of a module is never unsound.
-        Err(RunFault::NoMemory) | Err(RunFault::Unsound) => Err(StepError::NoMemory),
+        Err(RunFault::Unsound) => Err(StepError::NoMemory),
     }
+}
+
+/// Whether these are no declarations of globals.
+fn is_bare(declarations: &[Variables]) -> bool
+    ensures none { result ≡ true → declarations.now ≡ [] }
+    ensures some { result ≡ false → declarations.now ≢ [] }
+{
+    declarations.is_empty()
 }
 
 /// Loads a module: runs its initializers, and keeps it if they come to their end.
@@ -374,11 +438,14 @@ pub(crate) fn initialize<B: HostObject>(
         outside,
         events: Vec::new(alloc),
     };
-    let left = run_initializers(&mut compiled, parts, budget);
     let rest = Rest {
         loaded,
         compiled: codes,
         changes,
     };
+    if is_bare(&new_module.tree.globals) {
+        return Ok(keep_at_once(rest, new_module, compiled, parts));
+    }
+    let left = run_initializers(&mut compiled, parts, budget);
     finish_load(rest, new_module, compiled, left)
 }

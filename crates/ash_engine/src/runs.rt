@@ -1,7 +1,7 @@
 //! Runs of functions that are called from outside.
 
 ghost use Rattle.std.specs.Prelude.{◌≡◌, ◌<◌, ◌≤◌, ◌+◌, ◌++◌, ℕ, List, [], All, IsTrue, set, length, map, slice_get};
-ghost use Rattle.std.specs.Prelude.{Some, Ok, Err, IfOk, IfErr, OnOk};
+ghost use Rattle.std.specs.Prelude.{Some, Ok, Err, IfOk, IfErr, OnErr, OnOk};
 ghost use Rattle.std.specs.List.{remove};
 ghost use Rattle.ash_host.specs.Objects.{handles};
 ghost use Rattle.ash_typed.specs.Modules.{module_of};
@@ -18,15 +18,14 @@ ghost use Rattle.ash_plain_steps.specs.StateViews.{modules_seen};
 ghost use Rattle.ash_plain_steps.specs.declared.state.LoadedModule.{LoadedModule as LoadedData};
 ghost use Rattle.ash_plain_steps.specs.declared.task.Task.TheVariants as tasks;
 ghost use Rattle.ash_sources.specs.SourceFaults.{fault_of};
-ghost use Rattle.ash_engine.specs.declared.changes.ChangedGlobals.{ChangedGlobals as ChangedData};
-ghost use Rattle.ash_engine.specs.declared.changes.ModuleChange.TheVariants as changes;
+ghost use Rattle.ash_engine.specs.declared.changes.ModuleChange.{ModuleChange as ChangeData};
 ghost use Rattle.ash_engine.specs.declared.live.Compiled.{Compiled as CompiledData};
 ghost use Rattle.ash_engine.specs.TableRuns.{end_named, SaysOfCall, IsLent, IsGivenBack, IsAnswered};
-ghost use Rattle.ash_engine.specs.NamedChanges.{AreChanged};
+ghost use Rattle.ash_engine.specs.NamedChanges.{IsChangeOf};
 ghost use Rattle.ash_engine.specs.TableSteps.{IsStepOf};
 ghost use Rattle.ash_engine.specs.TableTasks.{codes_of, entry_name, IsAsked};
 
-use crate::changes::{ModuleChange, changed_globals, take_changes};
+use crate::changes::{ModuleChange, change_of_globals, take_changes};
 use crate::live::{Compiled, Live, Rest};
 use crate::names::outcome_of;
 use crate::steps::LiveStep;
@@ -239,15 +238,17 @@ fn finish_call<B: HostObject>(
     ensures answered { (m : LoadedData) (outcome : outcomes.Outcome)
         → slice_get rest.loaded.modules.items place ≡ Some m
         → left.outcome ≡ Ok outcome
-        → IfOk result (λ one. (live : Live B) × (globals : ChangedData)
+        → IfOk result (λ one. (live : Live B) × (change : ChangeData)
         × IsGivenBack rest place m left.parts live
-        × AreChanged place before.now left.parts.globals.items globals
+        × IsChangeOf place before.now left.parts.globals.items change
         × IsAnswered live (end_named (entry_name (module_of m.tree)) outcome) left.parts.events.items
-        (changes.Globals globals) one) }
+        change one) }
     ensures refused { (m : LoadedData) → slice_get rest.loaded.modules.items place ≡ Some m
         → left.outcome ≡ Err faults.NotBegun
         → IfOk result (λ one. (reply_seen fault_of one.reply ≡ Refused NoMemoryRefusal)
         × IsGivenBack rest place m left.parts one.live) }
+    // The state is lost only if the run had begun.
+    ensures begun { OnErr result (left.outcome ≡ Err faults.NotBegun → ⊥) }
     ensures lost { left.outcome ≡ Err faults.NoMemory → IfOk result (λ one. ⊥) }
     ensures never { left.outcome ≡ Err faults.Unsound → IfOk result (λ one. ⊥) }
     ensures memory { IfErr result (λ error. error ≡ StepError.NoMemory) }
@@ -256,16 +257,18 @@ fn finish_call<B: HostObject>(
     match outcome {
         Ok(outcome) => {
             let outcome = outcome_of(rest.loaded.alloc, &rest.loaded.modules[place].tree, outcome)?;
-            let places = changed_globals(rest.loaded.alloc, place, before, &parts.globals)?;
+            let alloc = rest.loaded.alloc;
+            let change = change_of_globals(alloc, place, before, &parts.globals)?;
             let (live, events) = give_back(rest, place, parts);
-            answered(live, outcome, events, ModuleChange::Globals(places))
+            answered(live, outcome, events, change)
         }
         Err(RunFault::NotBegun) => {
             let (live, _) = give_back(rest, place, parts);
             Ok(without_memory(live))
         }
+        Err(RunFault::NoMemory) => Err(StepError::NoMemory),
         // The code of a module that is loaded is never unsound.
-        Err(RunFault::NoMemory) | Err(RunFault::Unsound) => Err(StepError::NoMemory),
+        Err(RunFault::Unsound) => Err(StepError::NoMemory),
     }
 }
 

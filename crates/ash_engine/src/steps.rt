@@ -66,7 +66,7 @@ fn perform<B: HostObject>(
     match task {
         Task::Initialize(new) => initialize(budget, new, live),
         Task::Invoke(call) => invoke(budget, call, live),
-        Task::Remove(place) => discard(place, live),
+        Task::Remove(place) => Ok(discard(place, live)),
         Task::Read(word) => Ok(replied(Reply::Value(word), live)),
         Task::Show(shown) => Ok(replied(Reply::Shown(shown), live)),
         Task::Count => {

@@ -48,7 +48,7 @@ pub(crate) fn image_of<B: HostObject>(
     requires live { IsLive B.HostObject (registered registry.now) live.now }
     ensures image { IfOk result (λ image. IsImageIn Two image.items
         (durable_seen B.HostObject (registered registry.now) live.now)) }
-    ensures short { IfOk result (λ image. length image.items < 2 ^ 32) }
+    ensures short { IfOk result (λ image. length image.items < 2 ^ 28) }
 {
     let alloc = live.loaded.alloc;
     let slots = slots_of(alloc, &live.compiled)?;
@@ -63,7 +63,7 @@ pub(crate) fn body_of<B: HostObject>(
     requires live { IsLive B.HostObject (registered registry.now) live.now }
     ensures body { IfOk result (λ body. IsBodyIn Two body.items
         (durable_seen B.HostObject (registered registry.now) live.now)) }
-    ensures short { IfOk result (λ body. length body.items < 2 ^ 32) }
+    ensures short { IfOk result (λ body. length body.items < 2 ^ 28) }
 {
     let alloc = live.loaded.alloc;
     let slots = slots_of(alloc, &live.compiled)?;

@@ -193,7 +193,8 @@ change_field = tagged_field change_takes change_again
 gone_field : IsField (items 4 (number 8)) FitNumbers gone_at
 unfolding gone_at
 gone_field =
-    refit_field (checked_field do_rise (items_field 4 (number_field 4) (number_field 8))) (items 4 (number 8)) FitNumbers
+    refit_field (checked_field (λ (gone : List ℕ). do_rise (0 ∷ gone)) (items_field 4 (number_field 4) (number_field 8)))
+    (items 4 (number 8)) FitNumbers
     (λ gone. refl)
     (λ gone h. record { few = h.0.0; each = h.0.1; order = h.1 })
     (λ gone h. ((h.few, h.each), h.order))

@@ -92,11 +92,11 @@ FitsChange (Added m) = FitsModule m
 FitsChange (Removed name) = IsTrue (is_module_name name)
 FitsChange (Globals name globals) = FitGlobals name globals
 
--- numbers by ascending number, as many as a count has room for
+-- Numbers that objects can have, by ascending number, as many as a count has room for: no object has the number 0.
 pub record FitNumbers (gone : List ℕ) : Type 0 where
   pub few : length gone < 2 ^ 32
   pub each : AllByRecursion (λ n. n < 2 ^ 64) gone
-  pub order : IsTrue (do_rise gone)
+  pub order : IsTrue (do_rise (0 ∷ gone))
 
 -- no number is both gone and put
 abbrev pub are_apart : List ℕ → List ℕ → Bool

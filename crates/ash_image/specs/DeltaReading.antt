@@ -54,9 +54,9 @@ change_case (suc (suc (suc (suc more)))) = λ rest. None
 unfoldable pub change_at : List ℕ → Option (ModuleChange × List ℕ)
 change_at = tagged_at change_case
 
--- a count, and that many numbers, by ascending number
+-- a count, and that many numbers above 0, by ascending number
 unfoldable pub gone_at : List ℕ → Option (List ℕ × List ℕ)
-gone_at = checked_at do_rise (items_at (number_at 4) (number_at 8))
+gone_at = checked_at (λ gone. do_rise (0 ∷ gone)) (items_at (number_at 4) (number_at 8))
 
 -- the parts of a delta
 unfoldable pub parts_at : Version → List ℕ → Option (Delta × List ℕ)

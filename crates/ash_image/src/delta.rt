@@ -9,7 +9,7 @@
 //!         state      u16    its length, 1,024 at most, and the bytes
 //!     modules               as in changed_modules.rt
 //!     gone           u32    how many, and each:
-//!         number     u64    ascending
+//!         number     u64    above 0, ascending
 //!     put                   the objects that are new or changed, as in numbered.rt
 //!
 //! The body of a record:
@@ -17,7 +17,7 @@
 //!     tag            u8     2, it leads from a state to the next
 //!     delta                 all of the bytes after the tag
 
-ghost use Rattle.std.specs.Prelude.{◌≡◌, ◌++◌, ◌<◌, ◌≤◌, ◌-◌, ◌^◌, length, OnOk, IfOk, IfSome};
+ghost use Rattle.std.specs.Prelude.{◌≡◌, ◌∷◌, ◌++◌, ◌<◌, ◌≤◌, ◌-◌, ◌^◌, length, OnOk, IfOk, IfSome};
 ghost use Rattle.std.specs.Prelude.{ℕ, List, Some, option_map, IsTrue};
 ghost use Rattle.std.specs.List.{flat_map, AllByRecursion};
 ghost use Rattle.ash_host.specs.Limits.{max_objects};
@@ -131,15 +131,12 @@ fn counted_numbers(alloc: Global, count: u32, bytes: &[u8]) -> Result<(Vec<u64>,
     Ok((numbers, rest))
 }
 
-/// Whether each number is below the next.
+/// Whether each number is above 0 and above the one before it.
 fn do_rise(numbers: &[u64]) -> bool
-    ensures value { result ≡ do_rise numbers.now }
+    ensures value { result ≡ do_rise (0 ∷ numbers.now) }
 {
-    let Some((first, rest)) = numbers.split_first() else {
-        return true;
-    };
-    let mut last = *first;
-    for number in rest {
+    let mut last = 0;
+    for number in numbers {
         if last >= *number {
             return false;
         }
@@ -148,7 +145,7 @@ fn do_rise(numbers: &[u64]) -> bool
     true
 }
 
-/// Numbers of objects, ascending.
+/// Numbers that objects can have, ascending.
 #[tactic(auto, unfolding(crate::specs::DeltaReading::gone_at))]
 fn gone_of(alloc: Global, bytes: &[u8]) -> Result<(Vec<u64>, &[u8]), ReadError>
     ensures read { ReturnsField (λ x. (x.0.items, x.1.now)) result (gone_at bytes.now) }

@@ -6,7 +6,7 @@ use Rattle.ash_disk.specs.Device.{Device, IsDurable, HoldsThroughout}
 use Rattle.ash_disk.proofs.MomentLaws.{at_start}
 use Rattle.ash_journal.specs.declared.other_state.OtherState.{OtherState}
 use Rattle.ash_journal.specs.declared.other_state.OtherState.TheVariants.{Shut, Older, Stray}
-use Rattle.ash_journal.specs.Layout.{mark, block, records, committed_bytes, FieldsFit, IsShut, HasMark}
+use Rattle.ash_journal.specs.Layout.{mark, block, records, committed_bytes, FieldsFit, length_limit, IsShut, HasMark}
 use Rattle.ash_journal.specs.Current.{IsContents, HoldsOneOf, IsOlder, Represent, reopened, SettleOn, MaySettleOn, SettleFurther}
 use Rattle.ash_journal.specs.SettledSince.{HoldsSince, Extends, NoContents}
 use Rattle.ash_journal.specs.Writes.{IsOn, WhileCommitted, WhileRepaired, WhileReplaced, repaired}
@@ -163,7 +163,7 @@ module _ {D : Type 0} (device : Device D) where
   module _ (number end size : ℕ) (stray : Bool) (other_state : OtherState) (c c' o : D) (image : List ℕ)
       (bodies : List (List ℕ)) (body : List ℕ)
       (files : FilesAre device number end size stray other_state c o image bodies)
-      (ready : NeedsNoRepair stray other_state) (short : length body < 2 ^ 32) where
+      (ready : NeedsNoRepair stray other_state) (short : length body < length_limit) where
     -- the current file, at rest
     pub at_rest : device.seen c ≡ committed_bytes number image bodies ++ 0 ∷ files.after
     at_rest = files.bytes
@@ -248,7 +248,7 @@ module _ {D : Type 0} (device : Device D) where
   module _ (number end size : ℕ) (stray : Bool) (other_state : OtherState) (c o o' : D) (was : List ℕ)
       (bodies : List (List ℕ)) (image : List ℕ)
       (files : FilesAre device number end size stray other_state c o was bodies)
-      (ready : NeedsNoRepair stray other_state) (higher : number + 1 < 2 ^ 64) (short : length image < 2 ^ 32) where
+      (ready : NeedsNoRepair stray other_state) (higher : number + 1 < 2 ^ 64) (short : length image < length_limit) where
     new_fits : FieldsFit (number + 1) image []
     new_fits = record { numbered = higher; image_short = short; bodies_short = tt }
 
@@ -364,7 +364,7 @@ module _ {D : Type 0} (device : Device D) where
 
   -- ---- a first generation
 
-  pub create_files : (c o : D) (image rest : List ℕ) (end : ℕ) → end ≡ 21 + length image → length image < 2 ^ 32
+  pub create_files : (c o : D) (image rest : List ℕ) (end : ℕ) → end ≡ 21 + length image → length image < length_limit
       → IsTrue (device.honest c) → IsTrue (device.honest o)
       → IsOn device c (1 ∷ ((mark 1 ++ (block image ++ 0 ∷ [])) ++ rest)) → IsShut (device.seen o) → IsDurable device o
       → FilesAre device 1 end 0 false Shut c o image []

@@ -1,6 +1,6 @@
 -- What a file holds before, while and after a gate is written.
-use Rattle.std.proofs.Common.{◌≡◌, inl, inr, ℕ, ◌+◌, ◌≤◌, List, [], ◌∷◌, ◌++◌, length, drop, refl, sym, ◌∙◌, ap, subst}
-use Rattle.std.proofs.Common.{arith, append_assoc, length-append, length-drop, Result, Ok, Err, OnOk, Bool, true, false}
+use Rattle.std.proofs.Common.{◌≡◌, inl, inr, ℕ, ◌+◌, ◌<◌, ◌≤◌, List, [], ◌∷◌, ◌++◌, length, take, drop, refl, sym, ◌∙◌, ap, subst}
+use Rattle.std.proofs.Common.{arith, append_assoc, length-append, length-take, length-drop, Result, Ok, Err, OnOk, Bool, true, false}
 use Rattle.ash_disk.specs.Device.{Device, IsDurable, HoldsThroughout}
 use Rattle.ash_disk.specs.DiskImage.{after_write, Torn, TornFrom, LeavesOnly, torn_not}
 use Rattle.ash_disk.specs.Moments.{HoldsDuring}
@@ -17,6 +17,25 @@ within prefix suffix at file long is = omega (arith, ap length is, length-append
 pub within_next : (prefix suffix : List ℕ) (at : ℕ) (file : List ℕ) → length prefix ≡ at → file ≡ prefix ++ 0 ∷ suffix
     → at + 1 ≤ length file
 within_next prefix suffix at file long is = omega (arith, ap length is, length-append prefix (0 ∷ suffix))
+
+-- A write that begins within a file ends within it afterwards.
+pub write_reaches : (file new bytes : List ℕ) (at : ℕ) → at ≤ length file → new ≡ after_write file at bytes
+    → at + length bytes ≤ length new
+write_reaches file new bytes at fits is =
+    omega (
+      arith,
+      fits,
+      ap length is,
+      length-append (take at file ++ bytes) (drop (at + length bytes) file),
+      length-append (take at file) bytes,
+      length-take at file,
+    )
+
+-- A file has a first byte once its first gate was written over, or if it had one before.
+pub after_repair : (stray : Bool) (old new : ℕ) → (stray ≡ true → 0 < new) → old ≤ new → (stray ≡ false → 0 < old)
+    → 0 < new
+after_repair true old new there longer before = there refl
+after_repair false old new there longer before = omega (arith, longer, before refl)
 
 -- 0 is over the gate
 pub shut_written : (prefix suffix : List ℕ) (at : ℕ) → length prefix ≡ at

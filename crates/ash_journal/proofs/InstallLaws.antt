@@ -1,8 +1,8 @@
 -- Files settle on old or new contents while a generation or a record is written.
-use Rattle.std.proofs.Common.{◌≡◌, ◌⊎◌, inl, inr, ℕ, ◌<◌, ◌^◌, List, [], ◌∷◌, ◌++◌, length, refl, sym, ◌∙◌, ap, subst}
+use Rattle.std.proofs.Common.{◌≡◌, ◌⊎◌, inl, inr, ℕ, ◌<◌, List, [], ◌∷◌, ◌++◌, length, refl, sym, ◌∙◌, ap, subst}
 use Rattle.std.proofs.Common.{arith, append_assoc}
 use Rattle.std.proofs.lemmas.Bool.{cases_eq}
-use Rattle.ash_journal.specs.Layout.{mark, block, committed_bytes, AreShort, FieldsFit, IsFile, IsOpen, IsClosed, IsShut, HasMark}
+use Rattle.ash_journal.specs.Layout.{mark, block, length_limit, committed_bytes, AreShort, FieldsFit, IsFile, IsOpen, IsClosed, IsShut, HasMark}
 use Rattle.ash_journal.specs.Current.{IsContents, HoldsOneOf, IsOlder, RepresentOne, reopened, Reopens, SettleOn}
 use Rattle.ash_journal.specs.Opening.{IsCreatedOrClosed}
 use Rattle.ash_journal.specs.Writes.{IsUnused, WhileCreated}
@@ -149,13 +149,13 @@ IsGrowing prefix body file =
     ((rest : List ℕ) × (file ≡ prefix ++ 0 ∷ rest))
     ⊎ ((gate : ℕ) × (rest : List ℕ) × (file ≡ prefix ++ gate ∷ (block body ++ 0 ∷ rest)))
 
-short_push : (bodies : List (List ℕ)) (body : List ℕ) → AreShort bodies → length body < 2 ^ 32
+short_push : (bodies : List (List ℕ)) (body : List ℕ) → AreShort bodies → length body < length_limit
     → AreShort (bodies ++ body ∷ [])
 short_push [] body short fits = (fits, tt)
 short_push (first ∷ bodies) body short fits = (short.0, short_push bodies body short.1 fits)
 
 pub fits_push : (g : ℕ) (image : List ℕ) (bodies : List (List ℕ)) (body : List ℕ) → FieldsFit g image bodies
-    → length body < 2 ^ 32 → FieldsFit g image (bodies ++ body ∷ [])
+    → length body < length_limit → FieldsFit g image (bodies ++ body ∷ [])
 fits_push g image bodies body fits short =
     record {
       numbered = fits.numbered;
@@ -172,7 +172,7 @@ grown g image bodies body rest =
 
 -- A file at rest settles, with any other, on what it did or on one record more, while that record is written.
 pub append_settles : (P : Property) (g : ℕ) (image : List ℕ) (bodies : List (List ℕ)) (body x rest u y : List ℕ)
-    → x ≡ committed_bytes g image bodies ++ 0 ∷ rest → FieldsFit g image bodies → length body < 2 ^ 32
+    → x ≡ committed_bytes g image bodies ++ 0 ∷ rest → FieldsFit g image bodies → length body < length_limit
     → IsGrowing (committed_bytes g image bodies) body u → SettleOn P x y
     → SettleOn (HoldsOneOf (IsContents (image, bodies ++ body ∷ [])) P) u y
 append_settles P g image bodies body x rest u y is fits short growing settle = from growing
@@ -284,7 +284,7 @@ created_settles g image x rest y is fits idle =
     preserved a b s t holds (inr (inr one)) = absurd (mark_closed g x marked (subst IsClosed holds.0 one.0.closed))
 
 -- while a first generation is written, no file is open or they settle on it
-pub create_settles : (image x y : List ℕ) → length image < 2 ^ 32 → WhileCreated image x → IsUnused y
+pub create_settles : (image x y : List ℕ) → length image < length_limit → WhileCreated image x → IsUnused y
     → IsCreatedOrClosed image x y
 create_settles image x y short (inl idle) idle_y = inl (idle_closed x idle, idle_closed y idle_y)
 create_settles image x y short (inr whole) idle_y = elim (open_or_closed x) [

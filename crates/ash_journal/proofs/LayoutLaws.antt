@@ -7,7 +7,7 @@ use Rattle.std.specs.Int.{byte_at, bytes_low_first}
 use Rattle.byteorder.specs.Endian.{little_from, little_number}
 use Rattle.byteorder.specs.Numbers.{little_from-cons, little_number-reads_back}
 use Rattle.ash_journal.specs.Layout.{magic, four_bytes, eight_bytes, mark, block, records, committed_bytes, AreShort, FieldsFit}
-use Rattle.ash_journal.specs.Layout.{IsFile, IsOpen, IsClosed, HasMark}
+use Rattle.ash_journal.specs.Layout.{length_limit, IsFile, IsOpen, IsClosed, HasMark}
 
 -- ---- numbers
 
@@ -103,7 +103,7 @@ pub length-block : (body : List ℕ) → length (block body) ≡ 4 + length body
 unfolding block
 length-block body = omega (arith, length-append (four_bytes (length body)) body, length-four (length body))
 
-pub block_same : (b c s t : List ℕ) → length b < 2 ^ 32 → length c < 2 ^ 32 → block b ++ s ≡ block c ++ t
+pub block_same : (b c s t : List ℕ) → length b < length_limit → length c < length_limit → block b ++ s ≡ block c ++ t
     → (b ≡ c) × (s ≡ t)
 unfolding block
 block_same b c s t b_fits c_fits is =
@@ -114,9 +114,21 @@ block_same b c s t b_fits c_fits is =
     let parts = same_parts (four_bytes (length b)) (four_bytes (length c)) (b ++ s) (c ++ t)
     (length-four (length b) ∙ sym (length-four (length c))) is' in
     let same : length b ≡ length c =
-    sym (four_read (length b) [] b_fits) ∙ ap (λ (l : List ℕ). little_number 4 (l ++ [])) parts.0
-    ∙ four_read (length c) [] c_fits in
+    sym (four_read (length b) [] (omega (arith, b_fits))) ∙ ap (λ (l : List ℕ). little_number 4 (l ++ [])) parts.0
+    ∙ four_read (length c) [] (omega (arith, c_fits)) in
     same_parts b c s t same parts.1
+
+-- a generation has as many bytes after its first gate as its image and 21
+pub length-generation : (generation : ℕ) (image bytes : List ℕ) → bytes ≡ mark generation ++ (block image ++ 0 ∷ [])
+    → length bytes ≡ 21 + length image
+length-generation generation image bytes is =
+    ap length is ∙ omega (
+      arith,
+      length-append (mark generation) (block image ++ 0 ∷ []),
+      length-mark generation,
+      length-append (block image) (0 ∷ []),
+      length-block image,
+    )
 
 -- ---- records
 

@@ -7,3 +7,4 @@ pub mod RunLaws
 pub mod SettleLaws
 pub mod ReopenLaws
 pub mod InstallLaws
+pub mod PlacingLaws

@@ -16,7 +16,7 @@ use Rattle.ash_journal.specs.Current.{IsOlder, Represent}
 use Rattle.ash_journal.specs.Journal.{EndIs, FilesAre}
 use Rattle.ash_journal.specs.Layout.{HasMark}
 use Rattle.ash_journal.specs.Opening.{ChoiceIs, ContentsAre, FaultIs}
-use Rattle.ash_journal.specs.Reading.{IsFileRead, IsCutFault, bodies_of}
+use Rattle.ash_journal.specs.Reading.{IsFileRead, IsFileFault, bodies_of}
 use Rattle.ash_journal.proofs.LayoutLaws.{length-committed_bytes}
 use Rattle.ash_journal.proofs.InstallLaws.{aside_closed_or_older}
 use Rattle.ash_journal.proofs.SettleLaws.{represent_turned}
@@ -28,14 +28,14 @@ other_closed_or_older Shut g file is = aside_closed_or_older g file (inl is)
 other_closed_or_older Older g file is = inr is
 other_closed_or_older Stray g file is = inl is.0
 
-cut_first : (g : ℕ) (fault : OpenFault) (x y : List ℕ) → HasMark g x → IsOlder g y → IsCutFault fault x
+cut_first : (g : ℕ) (fault : OpenFault) (x y : List ℕ) → HasMark g x → IsOlder g y → IsFileFault fault x
     → FaultIs fault x y
 cut_first g DeviceFailed x y marked older cut = tt
 cut_first g NoMemory x y marked older cut = inl (g, marked, older)
 cut_first g NoGeneration x y marked older cut = absurd cut
 cut_first g (Damaged at) x y marked older cut = inr (inl (g, marked, older, cut))
 
-cut_second : (g : ℕ) (fault : OpenFault) (x y : List ℕ) → HasMark g y → IsOlder g x → IsCutFault fault y
+cut_second : (g : ℕ) (fault : OpenFault) (x y : List ℕ) → HasMark g y → IsOlder g x → IsFileFault fault y
     → FaultIs fault x y
 cut_second g DeviceFailed x y marked older cut = tt
 cut_second g NoMemory x y marked older cut = inr (g, marked, older)
@@ -50,7 +50,7 @@ pub chosen_first : (choice : Choice) (r : Result CurrentFile OpenFault) (x y : L
     (λ current_file.
     IsFileRead choice.generation current_file.image.items current_file.tail.records.items current_file.tail.end
     current_file.tail.gate x)
-    (λ fault. IsCutFault fault x)) → MatchResult r
+    (λ fault. IsFileFault fault x)) → MatchResult r
     (λ current_file. ContentsAre choice current_file x y) (λ fault. FaultIs fault x y)
 chosen_first choice r x y swapped is read =
     let marked = subst (λ (s : Bool). HasMark choice.generation (first_of s x y)) swapped is.0 in
@@ -74,7 +74,7 @@ pub chosen_second : (choice : Choice) (r : Result CurrentFile OpenFault) (x y : 
     (λ current_file.
     IsFileRead choice.generation current_file.image.items current_file.tail.records.items current_file.tail.end
     current_file.tail.gate y)
-    (λ fault. IsCutFault fault y)) → MatchResult r
+    (λ fault. IsFileFault fault y)) → MatchResult r
     (λ current_file. ContentsAre choice current_file x y) (λ fault. FaultIs fault x y)
 chosen_second choice r x y swapped is read =
     let marked = subst (λ (s : Bool). HasMark choice.generation (first_of s x y)) swapped is.0 in

@@ -1,5 +1,5 @@
 -- What bytes that were read say of a file.
-use Rattle.std.proofs.Common.{◌≡◌, inl, inr, ℕ, ◌+◌, ◌-◌, ◌<◌, ◌≤◌, ◌^◌, Bool, true, false, not, IsTrue, List, [], ◌∷◌}
+use Rattle.std.proofs.Common.{◌≡◌, ◌⊎◌, inl, inr, ℕ, ◌+◌, ◌-◌, ◌<◌, ◌≤◌, ◌^◌, Bool, true, false, not, IsTrue, List, [], ◌∷◌}
 use Rattle.std.proofs.Common.{◌++◌, length, take, drop, get_or, refl, sym, ◌∙◌, ap, subst, arith, append_assoc}
 use Rattle.std.proofs.Common.{length-append, length-drop, take-append-drop}
 use Rattle.std.proofs.lemmas.Bool.{false≢true, not-false, cases_lt}
@@ -8,7 +8,7 @@ use Rattle.std.proofs.lemmas.Slice.Eq.{bytes_eq-Decides}
 use Rattle.std.specs.Str.{bytes_eq}
 use Rattle.byteorder.specs.Endian.{little_number}
 use Rattle.ash_journal.specs.Layout.{prefix_size, magic, eight_bytes, four_bytes, mark, block, records, committed_bytes, FieldsFit, IsOpen}
-use Rattle.ash_journal.specs.Layout.{IsShut, IsCutShort, IsCutAt, HasMark, LacksMark}
+use Rattle.ash_journal.specs.Layout.{length_limit, IsShut, IsDamaged, IsDamagedAt, HasMark, LacksMark}
 use Rattle.ash_disk.specs.DiskImage.{bytes_at}
 use Rattle.ash_disk.specs.Device.{Device, IsOnlyRead, HoldsThroughout}
 use Rattle.ash_journal.specs.Writes.{IsUnused, AreUnused, WasUnused, WhileStarted, WhileCreated}
@@ -90,18 +90,20 @@ size_prefix : (seen : List ℕ) (at n : ℕ) → four_bytes n ≡ bytes_at seen 
 size_prefix seen at n is =
     sym (take-append-drop 4 (drop at seen)) ∙ ap (λ (l : List ℕ). l ++ drop 4 (drop at seen)) (sym is)
 
-pub cut_block : (seen : List ℕ) (at n : ℕ) → n < 2 ^ 32 → four_bytes n ≡ bytes_at seen at 4 → length seen - at - 4 ≤ n
-    → IsCutShort (drop at seen)
-cut_block seen at n fits is short =
+pub damaged_block : (seen : List ℕ) (at n : ℕ) → n < 2 ^ 32 → four_bytes n ≡ bytes_at seen at 4
+    → (length_limit ≤ n) ⊎ (length seen - at - 4 ≤ n) → IsDamaged (drop at seen)
+damaged_block seen at n fits is (inl long) =
+    inr (n, drop 4 (drop at seen), fits, size_prefix seen at n is, inl long)
+damaged_block seen at n fits is (inr short) =
     inr (
       n,
       drop 4 (drop at seen),
       fits,
       size_prefix seen at n is,
-      omega (arith, short, length-drop 4 (drop at seen), length-drop at seen),
+      inr (omega (arith, short, length-drop 4 (drop at seen), length-drop at seen)),
     )
 
-pub whole_block : (seen : List ℕ) (at n : ℕ) (bytes body : List ℕ) (gate : ℕ) → n < 2 ^ 32
+pub whole_block : (seen : List ℕ) (at n : ℕ) (bytes body : List ℕ) (gate : ℕ) → n < length_limit
     → four_bytes n ≡ bytes_at seen at 4 → bytes ≡ bytes_at seen (at + 4) (n + 1) → length bytes ≡ n + 1
     → bytes ≡ body ++ gate ∷ [] → IsFileBlock body gate (drop at seen)
 unfolding block
@@ -150,9 +152,9 @@ after_gate prefix suffix file at gate is at_is =
     ∙ drop_at (prefix ++ gate ∷ []) suffix (at + 1) (omega (arith, at_is, length-append prefix (gate ∷ [])))
 
 -- an open gate with nothing whole after it
-pub read_cut : (g : ℕ) (image file : List ℕ) (found : List Record) (at gate : ℕ) → gate ≡ 1
-    → IsReadTo g image found at gate file → IsCutShort (drop (at + 1) file) → IsCutAt at file
-read_cut g image file found at gate is_open so_far cut =
+pub read_damaged : (g : ℕ) (image file : List ℕ) (found : List Record) (at gate : ℕ) → gate ≡ 1
+    → IsReadTo g image found at gate file → IsDamaged (drop (at + 1) file) → IsDamagedAt at file
+read_damaged g image file found at gate is_open so_far cut =
     inr (
       g,
       image,
@@ -160,7 +162,7 @@ read_cut g image file found at gate is_open so_far cut =
       so_far.after,
       so_far.fits,
       so_far.bytes ∙ ap (λ (b : ℕ). committed_bytes g image (bodies_of found) ++ b ∷ so_far.after) is_open,
-      subst IsCutShort (after_gate (committed_bytes g image (bodies_of found)) so_far.after file at gate so_far.bytes so_far.end_is)
+      subst IsDamaged (after_gate (committed_bytes g image (bodies_of found)) so_far.after file at gate so_far.bytes so_far.end_is)
           cut,
       so_far.end_is,
     )
@@ -203,8 +205,8 @@ after_mark : (g : ℕ) (file : List ℕ) (marked : HasMark g file) → drop pref
 after_mark g file marked =
     ap (λ (l : List ℕ). drop prefix_size l) marked.bytes ∙ drop_at (1 ∷ mark g) marked.rest prefix_size (omega (arith, length-mark g))
 
-pub image_cut : (g : ℕ) (file : List ℕ) → HasMark g file → IsCutShort (drop prefix_size file) → IsCutAt 0 file
-image_cut g file marked cut = inl (g, marked.rest, marked.bytes, subst IsCutShort (after_mark g file marked) cut, refl)
+pub damaged_image : (g : ℕ) (file : List ℕ) → HasMark g file → IsDamaged (drop prefix_size file) → IsDamagedAt 0 file
+damaged_image g file marked cut = inl (g, marked.rest, marked.bytes, subst IsDamaged (after_mark g file marked) cut, refl)
 
 -- the image after a mark, and the first gate after it
 pub image_read : (g : ℕ) (file image : List ℕ) (gate : ℕ) → HasMark g file → IsFileBlock image gate (drop prefix_size file)

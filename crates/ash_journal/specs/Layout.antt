@@ -34,6 +34,10 @@ prefix_size = 17
 abbrev pub header_size : ℕ
 header_size = 21
 
+-- An image and the body of a record have fewer bytes than `length_limit`. A length that is not below it is damage.
+abbrev pub length_limit : ℕ
+length_limit = 2 ^ 28
+
 -- `records bodies` are the blocks of the bodies, each after an open gate.
 unfoldable pub records : List (List ℕ) → List ℕ
 records [] = []
@@ -43,15 +47,15 @@ records (body ∷ bodies) = 1 ∷ (block body ++ records bodies)
 unfoldable pub committed_bytes : ℕ → List ℕ → List (List ℕ) → List ℕ
 committed_bytes generation image bodies = 1 ∷ (mark generation ++ (block image ++ records bodies))
 
--- The length of each body fits four bytes.
+-- Each body is shorter than the limit.
 abbrev pub AreShort : List (List ℕ) → Type 0
 AreShort [] = Unit {0}
-AreShort (body ∷ bodies) = (length body < 2 ^ 32) × AreShort bodies
+AreShort (body ∷ bodies) = (length body < length_limit) × AreShort bodies
 
--- The numbers fit their fields.
+-- The number of the generation fits eight bytes, and the image and each body are shorter than the limit.
 pub record FieldsFit (generation : ℕ) (image : List ℕ) (bodies : List (List ℕ)) : Type 0 where
   pub numbered : generation < 2 ^ 64
-  pub image_short : length image < 2 ^ 32
+  pub image_short : length image < length_limit
   pub bodies_short : AreShort bodies
 
 -- This is a file of the generation, with this image and these records; the gate after the last of them is not 1, and
@@ -86,20 +90,23 @@ pub record HasMark (generation : ℕ) (file : List ℕ) : Type 0 where
   pub bytes : file ≡ 1 ∷ (mark generation ++ rest)
   pub numbered : generation < 2 ^ 64
 
--- The length is cut short, or what it is the length of, or the gate after that.
-abbrev pub IsCutShort : List ℕ → Type 0
-IsCutShort rest =
-    (length rest < 4) ⊎ ((n : ℕ) × (more : List ℕ) × (n < 2 ^ 32) × (rest ≡ four_bytes n ++ more) × (length more ≤ n))
+-- The length is cut short, or it is not below the limit, or what it is the length of is cut short, or the gate after
+-- that.
+abbrev pub IsDamaged : List ℕ → Type 0
+IsDamaged rest =
+    (length rest < 4)
+    ⊎ ((n : ℕ) × (more : List ℕ) × (n < 2 ^ 32) × (rest ≡ four_bytes n ++ more)
+    × ((length_limit ≤ n) ⊎ (length more ≤ n)))
 
 -- The file is open, and it has no magic and generation.
 abbrev pub LacksMark : List ℕ → Type 0
 LacksMark file = IsOpen file × ((generation : ℕ) → HasMark generation file → ⊥)
 
--- An open file is cut short, as this offset says: 0 where its image is, else the gate before the record that is.
-abbrev pub IsCutAt : ℕ → List ℕ → Type 0
-IsCutAt at file =
-    ((generation : ℕ) × (rest : List ℕ) × (file ≡ 1 ∷ (mark generation ++ rest)) × IsCutShort rest × (at ≡ 0))
+-- An open file is damaged, as this offset says: 0 if its image is, else the gate before the record that is.
+abbrev pub IsDamagedAt : ℕ → List ℕ → Type 0
+IsDamagedAt at file =
+    ((generation : ℕ) × (rest : List ℕ) × (file ≡ 1 ∷ (mark generation ++ rest)) × IsDamaged rest × (at ≡ 0))
     ⊎ ((generation : ℕ) × (image : List ℕ) × (bodies : List (List ℕ)) × (rest : List ℕ)
     × FieldsFit generation image bodies
-    × (file ≡ committed_bytes generation image bodies ++ 1 ∷ rest) × IsCutShort rest
+    × (file ≡ committed_bytes generation image bodies ++ 1 ∷ rest) × IsDamaged rest
     × (at ≡ length (committed_bytes generation image bodies)))

@@ -2,6 +2,7 @@ pub mod Current
 pub mod JournalFailures
 pub mod Installing
 pub mod Journal
+pub mod JournalFields
 pub mod Layout
 pub mod Opening
 pub mod OtherState

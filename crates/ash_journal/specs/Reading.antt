@@ -1,5 +1,5 @@
 -- These definitions say what is read of a file.
-use Rattle.std.specs.Prelude.{◌≡◌, ◌≢◌, ℕ, ◌+◌, ◌<◌, ◌≤◌, ◌^◌, Bool, true, false, List, [], ◌∷◌, ◌++◌, length, map}
+use Rattle.std.specs.Prelude.{◌≡◌, ◌≢◌, ℕ, ◌+◌, ◌<◌, ◌≤◌, Bool, true, false, List, [], ◌∷◌, ◌++◌, length, map}
 use Rattle.std.specs.Prelude.{Result, IfErr}
 use Rattle.ash_disk.specs.Failures.{Rose}
 use Rattle.ash_journal.specs.declared.one_file.FileHeader.{FileHeader}
@@ -7,7 +7,7 @@ use Rattle.ash_journal.specs.declared.one_file.FileHeader.TheVariants.{Closed, U
 use Rattle.ash_journal.specs.declared.record.Record.{Record}
 use Rattle.ash_journal.specs.declared.error.OpenFault.{OpenFault}
 use Rattle.ash_journal.specs.declared.error.OpenFault.TheVariants.{DeviceFailed, NoGeneration, Damaged, NoMemory}
-use Rattle.ash_journal.specs.Layout.{block, header_size, committed_bytes, FieldsFit, IsClosed, IsShut, IsCutAt, HasMark}
+use Rattle.ash_journal.specs.Layout.{block, header_size, length_limit, committed_bytes, FieldsFit, IsClosed, IsShut, IsDamagedAt, HasMark}
 use Rattle.ash_journal.specs.Layout.{LacksMark}
 
 -- The first gate is 0, or it is not.
@@ -30,7 +30,7 @@ pub record Counts (failed : Type 0) (before after : ℕ) : Type 0 where
 
 -- The bytes begin with the block of this body and this gate.
 abbrev pub IsFileBlock : List ℕ → ℕ → List ℕ → Type 0
-IsFileBlock body gate bytes = (length body < 2 ^ 32) × (more : List ℕ) × (bytes ≡ block body ++ gate ∷ more)
+IsFileBlock body gate bytes = (length body < length_limit) × (more : List ℕ) × (bytes ≡ block body ++ gate ∷ more)
 
 -- `bodies_of found` are the bodies of records.
 abbrev pub bodies_of : List Record → List (List ℕ)
@@ -54,12 +54,12 @@ pub record IsReadTo (generation : ℕ) (image : List ℕ) (found : List Record) 
 abbrev pub IsFileRead : ℕ → List ℕ → List Record → ℕ → ℕ → List ℕ → Type 0
 IsFileRead generation image found end gate file = IsReadTo generation image found end gate file × (gate ≢ 1)
 
--- `IsCutFault fault file` says what a current file is like where a fault is reported as it is read.
-abbrev pub IsCutFault : OpenFault → List ℕ → Type 0
-IsCutFault DeviceFailed file = Unit {0}
-IsCutFault NoMemory file = Unit {0}
-IsCutFault NoGeneration file = ⊥
-IsCutFault (Damaged at) file = IsCutAt at file
+-- `IsFileFault fault file` says what a current file is like where a fault is reported as it is read.
+abbrev pub IsFileFault : OpenFault → List ℕ → Type 0
+IsFileFault DeviceFailed file = Unit {0}
+IsFileFault NoMemory file = Unit {0}
+IsFileFault NoGeneration file = ⊥
+IsFileFault (Damaged at) file = IsDamagedAt at file
 
 -- The fault is a failure of the device, or that memory ran out.
 abbrev pub IsUnread : OpenFault → Type 0

@@ -1,9 +1,12 @@
 //! What is written after a gate, in one piece.
 ghost use Rattle.std.specs.Prelude.{◌≡◌, ◌<◌, ◌^◌, ◌∷◌, ◌++◌, [], length, IfOk};
-ghost use Rattle.ash_journal.specs.Layout.{mark, block};
+ghost use Rattle.ash_journal.specs.Layout.{mark, block, length_limit};
 
 use byteorder::{ByteOrder, LittleEndian};
 use std::alloc::{AllocError, Global};
+
+/// An image and the body of a record have fewer bytes than this. A length in a file that is not below it is damage.
+pub const LENGTH_LIMIT: usize = 1 << 28;
 
 /// What every generation has after its first gate.
 pub(crate) const MAGIC: &[u8; 8] = b"ASHOST01";
@@ -20,7 +23,7 @@ pub(crate) const HEADER_SIZE: u64 = 21;
 /// A record's length and body, and a next gate that is shut.
 #[tactic(auto, unfolding(crate::specs::Layout::block, crate::specs::Layout::four_bytes))]
 pub(crate) fn record_bytes(alloc: Global, body: &[u8]) -> Result<Vec<u8>, AllocError>
-    requires within { length body.now < 2 ^ 32 }
+    requires within { length body.now < length_limit }
     ensures value { IfOk result (λ v. v.items ≡ block body.now ++ 0 ∷ []) }
 {
     let mut size = [0; 4];
@@ -39,7 +42,7 @@ pub(crate) fn generation_bytes(
     generation: u64,
     image: &[u8],
 ) -> Result<Vec<u8>, AllocError>
-    requires within { length image.now < 2 ^ 32 }
+    requires within { length image.now < length_limit }
     ensures value { IfOk result (λ v. v.items ≡ mark generation ++ (block image.now ++ 0 ∷ [])) }
 {
     let mut number = [0; 8];

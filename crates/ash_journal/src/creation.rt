@@ -1,10 +1,10 @@
 //! How two files become a journal's.
-ghost use Rattle.std.specs.Prelude.{◌≡◌, ◌<◌, ◌^◌, ◌∷◌, ◌++◌, []};
+ghost use Rattle.std.specs.Prelude.{◌≡◌, ◌+◌, ◌<◌, ◌≤◌, ◌∷◌, ◌++◌, []};
 ghost use Rattle.std.specs.Prelude.{length, drop, IsTrue, IfErr, OnOk, IsErr, IsErrOf};
 ghost use Rattle.ash_disk.specs.Failures.{CountsFailure};
 ghost use Rattle.ash_disk.specs.Device.{IsOnlyRead, HoldsThroughout};
 ghost use Rattle.ash_journal.specs.JournalFailures.{CountsFailuresOf};
-ghost use Rattle.ash_journal.specs.Layout.{mark, block, IsClosed};
+ghost use Rattle.ash_journal.specs.Layout.{mark, block, length_limit, IsClosed};
 ghost use Rattle.ash_journal.specs.Opening.{CreateFaultIs};
 ghost use Rattle.ash_journal.specs.Reading.{ShutIs};
 ghost use Rattle.ash_journal.specs.Writes.{IsOn, IsUnused, AreUnused, WhileStarted, WhileCreated};
@@ -41,6 +41,9 @@ fn start<D: Disk>(
     second_gate: FirstGate,
     bytes: &[u8],
 ) -> Result<(), DeviceFailed>
+    requires first_shut { IsTrue (D.honest first.old) → ShutIs first_gate.shut (D.seen first.old) }
+    requires second_shut { IsTrue (D.honest second.old)
+        → ShutIs second_gate.shut (D.seen second.old) }
     ensures created { OnOk result (IsTrue (D.honest first.old)
         → ShutIs first_gate.shut (D.seen first.old)
         → IsOn D.Disk first.new
@@ -57,6 +60,10 @@ fn start<D: Disk>(
         → AreUnused (D.leaves second.old (D.clock second.old))
         → HoldsThroughout D.Disk second.old second.new
         IsUnused }
+    ensures first_there { OnOk result (IsTrue (D.honest first.old)
+        → 1 + length bytes.now ≤ length (D.seen first.new)) }
+    ensures second_there { OnOk result (IsTrue (D.honest second.old)
+        → 0 < length (D.seen second.new)) }
     ensures honesty_first { D.honest first.new ≡ D.honest first.old }
     ensures honesty_second { D.honest second.new ≡ D.honest second.old }
     ensures cause { CountsFailuresOf D.Disk (IsErr result)
@@ -74,7 +81,7 @@ pub(crate) fn create_both<D: Disk>(
     second: &mut D,
     image: &[u8],
 ) -> Result<(), CreateFault>
-    requires within { length image.now < 2 ^ 32 }
+    requires within { length image.now < length_limit }
     ensures created { OnOk result (IsTrue (D.honest first.old) → IsTrue (D.honest second.old)
         → IsOn D.Disk first.new (1 ∷ ((mark 1 ++ (block image.now ++ 0 ∷ []))
         ++ drop (length (mark 1 ++ (block image.now ++ 0 ∷ []))) (drop 1 (D.seen first.old))))) }
@@ -94,6 +101,10 @@ pub(crate) fn create_both<D: Disk>(
         → AreUnused (D.leaves second.old (D.clock second.old))
         → HoldsThroughout D.Disk second.old second.new
         IsUnused }
+    ensures first_there { OnOk result (IsTrue (D.honest first.old)
+        → 22 + length image.now ≤ length (D.seen first.new)) }
+    ensures second_there { OnOk result (IsTrue (D.honest second.old)
+        → 0 < length (D.seen second.new)) }
     ensures honesty_first { D.honest first.new ≡ D.honest first.old }
     ensures honesty_second { D.honest second.new ≡ D.honest second.old }
     ensures cause { CountsFailuresOf D.Disk (IsErrOf result CreateFault.DeviceFailed)

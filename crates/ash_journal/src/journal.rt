@@ -1,6 +1,4 @@
 //! The journal.
-ghost use Rattle.std.specs.Prelude.{◌≡◌, ◌≤◌, ◌+◌, ◌^◌};
-
 use crate::bytes::{HEADER_SIZE, record_bytes};
 use crate::creation::create_both;
 use crate::error::{AppendError, CreateFault, OpenFault};
@@ -11,6 +9,7 @@ use crate::refusal::{CreateRefused, OpenRefused};
 use crate::two_files::{ReadFiles, read_both};
 use ash_disk::{DeviceFailed, Disk};
 use std::alloc::Global;
+use std::marker::Model;
 
 mod generations;
 
@@ -19,7 +18,7 @@ pub const RECORD_BYTES_LIMIT: u64 = 1 << 62;
 
 /// A journal over two disks: a generation's image, and records that were added to it.
 #[derive(Drop)]
-pub struct Journal<D> {
+pub struct Journal<D: Disk> {
     alloc: Global,
     current: D,
     other: D,
@@ -34,12 +33,32 @@ pub struct Journal<D> {
     other_state: OtherState,
     /// Whether a device failed in a call: the journal is to be opened again.
     failed: bool,
-    ghost within: { end ≤ record_bytes + 2 ^ 33 },
+}
+
+impl<D: Disk> Model for Journal<D> {
+    ghost use Rattle.ash_journal.specs.JournalFields.{JournalFields, IsPlaced};
+
+    ghost Value = { JournalFields D };
+
+    ghost view = { λ j. record {
+      current = j.current;
+      other = j.other;
+      swapped = j.swapped;
+      generation = j.generation;
+      end = j.end;
+      record_bytes = j.record_bytes;
+      stray = j.stray;
+      other_state = j.other_state;
+      failed = j.failed;
+    } };
+
+    // An honest disk is written to at most at its end.
+    ghost invariant = { λ j. IsPlaced D.Disk j.end j.record_bytes j.other_state j.current j.other };
 }
 
 /// Two disks that were opened: a journal over them, and what they hold.
 #[derive(Drop)]
-pub struct OpenedJournal<D> {
+pub struct OpenedJournal<D: Disk> {
     pub journal: Journal<D>,
     /// The image of the current generation.
     pub image: Vec<u8>,
@@ -56,7 +75,7 @@ pub struct NextGeneration {
 }
 
 impl<D: Disk> Journal<D> {
-    ghost use Rattle.std.specs.Prelude.{◌≡◌, ◌<◌, ◌↔◌, ◌∷◌, ◌++◌, []};
+    ghost use Rattle.std.specs.Prelude.{◌≡◌, ◌<◌, ◌≤◌, ◌+◌, ◌^◌, ◌↔◌, ◌∷◌, ◌++◌, []};
     ghost use Rattle.std.specs.Prelude.{ℕ, List, length, IsTrue, IfOk, IfErr, OnOk};
     ghost use Rattle.std.specs.Prelude.{OnErr, IsErr, IsErrOf, MatchResult};
     ghost use Rattle.ash_journal.specs.JournalFailures.{CountsFailuresOf};
@@ -67,7 +86,7 @@ impl<D: Disk> Journal<D> {
     ghost use Rattle.ash_journal.specs.Journal.{LeavesOther, LeavesRepaired, WritesGates};
     ghost use Rattle.ash_journal.specs.Current.{IsContents, Represent};
     ghost use Rattle.ash_disk.specs.Device.{IsOnlyRead, EveryMomentSince};
-    ghost use Rattle.ash_journal.specs.Layout.{IsClosed, header_size};
+    ghost use Rattle.ash_journal.specs.Layout.{IsClosed, header_size, length_limit};
     ghost use Rattle.ash_journal.specs.Opening.{FaultIs, CreateFaultIs, IsCreatedOrClosed};
     ghost use Rattle.ash_journal.specs.Writes.{WasUnused};
     ghost use Rattle.ash_journal.specs.Reading.{AreAt, bodies_of};
@@ -89,7 +108,7 @@ impl<D: Disk> Journal<D> {
         second: D,
         image: &[u8],
     ) -> Result<Journal<D>, CreateRefused<D>>
-        requires short { length image.now < 2 ^ 32 }
+        requires short { length image.now < length_limit }
         ensures created { IfOk result (λ j. IsTrue (D.honest first) → IsTrue (D.honest second)
             → Holds D.Disk j image.now []) }
         ensures ready { IfOk result IsReady }
@@ -146,8 +165,9 @@ impl<D: Disk> Journal<D> {
     /// record or image.
     ///
     /// Refusals: `NoGeneration` where no file is open; `Damaged` where an open file has no magic and generation, two
-    /// open files have one number, or the current file is cut short, with the offset of the gate before the record that
-    /// is, else 0; `DeviceFailed`; `NoMemory`. They hand the disks back as they were read.
+    /// open files have one number, or an image or a record of the current file is cut short or has a length of
+    /// `LENGTH_LIMIT` or more, with the offset of the gate before that record, else 0; `DeviceFailed`; `NoMemory`. They
+    /// hand the disks back as they were read. Nothing is read, and no memory is taken, for a length that is damage.
     pub fn open(alloc: Global, first: D, second: D) -> Result<OpenedJournal<D>, OpenRefused<D>>
         ensures found { IfOk result (λ o. IsTrue (D.honest first) → IsTrue (D.honest second)
             → HoldsBeforeRepair D.Disk o.journal o.image.items (bodies_of o.records.items)) }
@@ -227,13 +247,13 @@ impl<D: Disk> Journal<D> {
     /// Adds a record to the current generation, on a journal that is ready. At `Ok` the record is acknowledged, and
     /// every crash leaves it.
     ///
-    /// The open records take fewer than `RECORD_BYTES_LIMIT` bytes, and the body is shorter than 2^32.
+    /// The open records take fewer than `RECORD_BYTES_LIMIT` bytes, and the body is shorter than `LENGTH_LIMIT`.
     ///
     /// `NoMemory` comes before any call of a device, and changes nothing. After `DeviceFailed` the record is there or
     /// not, and the journal is ready no more: it is to be opened again. A record is one write and a sync, twice;
     /// nothing is read.
     pub fn append(&mut self, body: &[u8]) -> Result<(), AppendError>
-        requires short { length body.now < 2 ^ 32 }
+        requires short { length body.now < length_limit }
         requires room { record_bytes self.old < record_bytes_limit }
         requires ready { IsReady self.old }
         ensures acknowledged { OnOk result ((image : List ℕ) (bodies : List (List ℕ))

@@ -10,10 +10,10 @@
 //! | 1 | gate: 1 is open, any other value closed |
 //! | 8 | `ASHOST01` |
 //! | 8 | the number of the generation |
-//! | 4 | the length of the image |
+//! | 4 | the length of the image, less than 2^28 |
 //! | | the image |
 //! | 1 | gate |
-//! | 4 | for each record, the length of its body |
+//! | 4 | for each record, the length of its body, less than 2^28 |
 //! | | its body |
 //! | 1 | gate |
 //!
@@ -32,8 +32,8 @@
 //! but that of 0 over the first gate of a new file), `bytes` (what is written), `creation`, `two_files` and `one_file`
 //! (what files are read as), `first_append` (the first record after an opening), `other_state` (the file that is not
 //! current), `record`, `refusal`, `error`. The words of the clauses are in `specs/Layout` (a file), `specs/Current`
-//! (two files, and what they settle on), `specs/SettledSince` (moments), `specs/Journal` (what a journal holds) and
-//! `specs/Opening` (faults).
+//! (two files, and what they settle on), `specs/SettledSince` (moments), `specs/JournalFields` (what a clause sees of a
+//! journal, and where its writes begin), `specs/Journal` (what a journal holds) and `specs/Opening` (faults).
 #![tactic(auto)]
 
 mod bytes;
@@ -48,6 +48,7 @@ mod record;
 mod refusal;
 mod two_files;
 
+pub use bytes::LENGTH_LIMIT;
 pub use error::{AppendError, CreateFault, InstallError, OpenFault};
 pub use first_append::append_first;
 pub use journal::{Journal, NextGeneration, OpenedJournal, RECORD_BYTES_LIMIT};

@@ -5,12 +5,12 @@ ghost use Rattle.std.specs.Prelude.{IsTrue, IfOk, IfSome, IsErr, IsErrOf, MatchO
 ghost use Rattle.ash_disk.specs.Device.{IsOnlyRead};
 ghost use Rattle.ash_disk.specs.DiskImage.{bytes_at};
 ghost use Rattle.ash_journal.specs.Layout.{four_bytes, mark, mark_size, prefix_size};
-ghost use Rattle.ash_journal.specs.Layout.{header_size, committed_bytes};
-ghost use Rattle.ash_journal.specs.Layout.{IsShut, FieldsFit, IsCutShort, HasMark};
-ghost use Rattle.ash_journal.specs.Reading.{HeaderIs, IsFailure, IsCutFault};
+ghost use Rattle.ash_journal.specs.Layout.{header_size, length_limit, committed_bytes};
+ghost use Rattle.ash_journal.specs.Layout.{IsShut, FieldsFit, IsDamaged, HasMark};
+ghost use Rattle.ash_journal.specs.Reading.{HeaderIs, IsFailure, IsFileFault};
 ghost use Rattle.ash_journal.specs.Reading.{Counts, IsFileBlock, IsFileRead};
 
-use crate::bytes::{HEADER_SIZE, MAGIC, MARK_SIZE, PREFIX_SIZE};
+use crate::bytes::{HEADER_SIZE, LENGTH_LIMIT, MAGIC, MARK_SIZE, PREFIX_SIZE};
 use crate::error::OpenFault;
 use crate::record::Record;
 use ash_disk::{DeviceFailed, Disk};
@@ -104,8 +104,9 @@ fn size_of(bytes: &[u8]) -> u32
 }
 
 fn read_size<D: Disk>(disk: &mut D, at: u64) -> Result<u32, OpenFault>
+    requires within { IsTrue (D.honest disk.old) → at + 4 ≤ length (D.seen disk.old) }
     ensures answer { IfOk result (λ size. IsTrue (D.honest disk.old)
-        → at + 4 ≤ length (D.seen disk.old) → four_bytes size ≡ bytes_at (D.seen disk.old) at 4) }
+        → four_bytes size ≡ bytes_at (D.seen disk.old) at 4) }
     ensures fits { IfOk result (λ size. size < 2 ^ 32) }
     ensures only_read { IsOnlyRead D.Disk disk.old disk.new }
     ensures faults { IsFailure result }
@@ -123,9 +124,9 @@ fn read_bytes<D: Disk>(
     at: u64,
     size: usize,
 ) -> Result<Vec<u8>, OpenFault>
+    requires within { IsTrue (D.honest disk.old) → at + size ≤ length (D.seen disk.old) }
     ensures size { IfOk result (λ bytes. length bytes.items ≡ size) }
     ensures answer { IfOk result (λ bytes. IsTrue (D.honest disk.old)
-        → at + size ≤ length (D.seen disk.old)
         → bytes.items ≡ bytes_at (D.seen disk.old) at size) }
     ensures only_read { IsOnlyRead D.Disk disk.old disk.new }
     ensures faults { IsFailure result }
@@ -137,21 +138,22 @@ fn read_bytes<D: Disk>(
     Ok(bytes)
 }
 
-/// The block from an offset on in a file of this length, or `None` where it is cut short.
+/// The block from an offset on in a file of this length, or `None` if it is damaged: cut short, or with a length that
+/// isn't below the limit. Nothing after such a length is read.
 fn read_block<D: Disk>(
     alloc: Global,
     disk: &mut D,
     at: u64,
     len: u64,
 ) -> Result<Option<Block>, OpenFault>
+    requires whole { IsTrue (D.honest disk.old) → len ≡ length (D.seen disk.old) }
     ensures answer { IfOk result (λ found. IsTrue (D.honest disk.old)
-        → len ≡ length (D.seen disk.old)
-        → MatchOption found (IsCutShort (drop at (D.seen disk.old)))
+        → MatchOption found (IsDamaged (drop at (D.seen disk.old)))
         (λ block. IsFileBlock block.body.items block.gate (drop at (D.seen disk.old)))) }
     ensures within { IfOk result (λ found. IfSome found (λ block.
         at + length block.body.items + 4 < len)) }
     ensures short { IfOk result (λ found. IfSome found (λ block.
-        length block.body.items < 2 ^ 32)) }
+        length block.body.items < length_limit)) }
     ensures only_read { IsOnlyRead D.Disk disk.old disk.new }
     ensures faults { IsFailure result }
     ensures cause { Counts (IsErrOf result OpenFault.DeviceFailed)
@@ -162,7 +164,7 @@ fn read_block<D: Disk>(
         return Ok(None);
     }
     let size = read_size(disk, at)?;
-    if room - 4 <= u64::from(size) {
+    if size as usize >= LENGTH_LIMIT || room - 4 <= u64::from(size) {
         return Ok(None);
     }
     let mut body = read_bytes(alloc, disk, at + 4, size as usize + 1)?;
@@ -189,15 +191,17 @@ fn read_records<D: Disk>(
     first: u8,
 ) -> Result<Tail, OpenFault>
     requires bounded { at < len }
+    requires whole { IsTrue (D.honest disk.old) → len ≡ length (D.seen disk.old) }
     ensures answer { (generation : ℕ) (image rest : List ℕ) → IsTrue (D.honest disk.old)
-        → len ≡ length (D.seen disk.old) → FieldsFit generation image []
+        → FieldsFit generation image []
         → D.seen disk.old ≡ committed_bytes generation image [] ++ first ∷ rest
         → at ≡ length (committed_bytes generation image [])
         → MatchResult result
         (λ tail.
         IsFileRead generation image tail.records.items tail.end tail.gate (D.seen disk.old))
-        (λ fault. IsCutFault fault (D.seen disk.old)) }
+        (λ fault. IsFileFault fault (D.seen disk.old)) }
     ensures within { IfOk result (λ tail. at ≤ tail.end) }
+    ensures inside { IfOk result (λ tail. tail.end < len) }
     ensures only_read { IsOnlyRead D.Disk disk.old disk.new }
     ensures cause { Counts (IsErrOf result OpenFault.DeviceFailed)
         (D.failures disk.old) (D.failures disk.new) }
@@ -234,14 +238,16 @@ pub(crate) fn read_current<D: Disk>(
     disk: &mut D,
     len: u64,
 ) -> Result<CurrentFile, OpenFault>
-    ensures answer { (generation : ℕ) → IsTrue (D.honest disk.old) → len ≡ length (D.seen disk.old)
+    requires whole { IsTrue (D.honest disk.old) → len ≡ length (D.seen disk.old) }
+    ensures answer { (generation : ℕ) → IsTrue (D.honest disk.old)
         → HasMark generation (D.seen disk.old)
         → MatchResult result
         (λ r. IsFileRead generation r.image.items r.tail.records.items r.tail.end r.tail.gate
         (D.seen disk.old))
-        (λ fault. IsCutFault fault (D.seen disk.old)) }
+        (λ fault. IsFileFault fault (D.seen disk.old)) }
     ensures within { IfOk result (λ r. header_size + length r.image.items ≤ r.tail.end) }
-    ensures short { IfOk result (λ r. length r.image.items < 2 ^ 32) }
+    ensures inside { IfOk result (λ r. r.tail.end < len) }
+    ensures short { IfOk result (λ r. length r.image.items < length_limit) }
     ensures only_read { IsOnlyRead D.Disk disk.old disk.new }
     ensures cause { Counts (IsErrOf result OpenFault.DeviceFailed)
         (D.failures disk.old) (D.failures disk.new) }

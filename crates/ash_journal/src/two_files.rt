@@ -1,11 +1,12 @@
 //! What two files are read as. Nothing here writes.
 ghost use Rattle.std.specs.Prelude.{◌≡◌, ◌+◌, ◌<◌, ◌≤◌, ◌^◌};
 ghost use Rattle.std.specs.Prelude.{ℕ, List, length, IsTrue, IfOk, OnOk, IsErr, IsErrOf};
-ghost use Rattle.std.specs.Prelude.{MatchOption, MatchResult, ◌⊎◌, if◌then◌else◌};
+ghost use Rattle.std.specs.Prelude.{IfSome, MatchOption, MatchResult, ◌⊎◌, if◌then◌else◌};
 ghost use Rattle.ash_disk.specs.Device.{IsDurable, IsOnlyRead};
 ghost use Rattle.ash_journal.specs.JournalFailures.{CountsFailuresOf};
-ghost use Rattle.ash_journal.specs.Layout.{IsOpen, IsClosed, HasMark, header_size};
+ghost use Rattle.ash_journal.specs.Layout.{IsOpen, IsClosed, IsShut, HasMark, header_size, length_limit};
 ghost use Rattle.ash_journal.specs.Opening.{HeadersAre, ChoiceIs, ContentsAre, FaultIs};
+ghost use Rattle.ash_journal.specs.OtherState.{first_of, second_of};
 ghost use Rattle.ash_journal.specs.Reading.{HeaderIs, ShutIs};
 
 use crate::error::OpenFault;
@@ -43,6 +44,9 @@ fn closed_state(gate: FirstGate) -> OtherState
 // Which file is current: the open one with the greater number.
 fn choose(first: FileHeader, second: FileHeader) -> Result<Choice, OpenFault>
     ensures failed { IsErrOf result OpenFault.DeviceFailed → ⊥ }
+    ensures shut { IfOk result (λ choice. choice.other_state ≡ OtherState.Shut
+        → (file : List ℕ) → HeaderIs (second_of choice.swapped first second) file
+        → IsShut file) }
     ensures answer { (x y : List ℕ) → HeaderIs first x → HeaderIs second y
         → MatchResult result (λ choice. ChoiceIs choice x y) (λ fault. FaultIs fault x y) }
 {
@@ -68,6 +72,7 @@ fn choose(first: FileHeader, second: FileHeader) -> Result<Choice, OpenFault>
 // Which of two generations is current.
 fn choose_greater(first: u64, second: u64) -> Result<Choice, OpenFault>
     ensures failed { IsErrOf result OpenFault.DeviceFailed → ⊥ }
+    ensures older { IfOk result (λ choice. choice.other_state ≡ OtherState.Older) }
     ensures answer { (x y : List ℕ) → HasMark first x → HasMark second y
         → MatchResult result (λ choice. ChoiceIs choice x y) (λ fault. FaultIs fault x y) }
 {
@@ -115,6 +120,14 @@ pub(crate) struct Headers {
 pub(crate) fn read_headers<D: Disk>(first: &mut D, second: &mut D) -> Result<Headers, DeviceFailed>
     ensures answer { IfOk result (λ x. IsTrue (D.honest first.old) → IsTrue (D.honest second.old)
         → HeadersAre x (D.seen first.old) (D.seen second.old)) }
+    ensures first_header { IfOk result (λ x. IsTrue (D.honest first.old)
+        → HeaderIs x.first (D.seen first.old)) }
+    ensures second_header { IfOk result (λ x. IsTrue (D.honest second.old)
+        → HeaderIs x.second (D.seen second.old)) }
+    ensures first_whole { IfOk result (λ x. IsTrue (D.honest first.old)
+        → x.first_len ≡ length (D.seen first.old)) }
+    ensures second_whole { IfOk result (λ x. IsTrue (D.honest second.old)
+        → x.second_len ≡ length (D.seen second.old)) }
     ensures first_read { IsOnlyRead D.Disk first.old first.new }
     ensures second_read { IsOnlyRead D.Disk second.old second.new }
     ensures cause { CountsFailuresOf D.Disk (IsErr result)
@@ -135,6 +148,10 @@ pub(crate) fn both_closed(headers: &Headers) -> Option<(FirstGate, FirstGate)>
     ensures gates { (x y : List ℕ) → HeadersAre headers.now x y
         → MatchOption result (IsOpen x ⊎ IsOpen y)
         (λ gates. (IsClosed x × ShutIs gates.0.shut x) × (IsClosed y × ShutIs gates.1.shut y)) }
+    ensures first { IfSome result (λ gates. (file : List ℕ) → HeaderIs headers.now.first file
+        → ShutIs gates.0.shut file) }
+    ensures second { IfSome result (λ gates. (file : List ℕ) → HeaderIs headers.now.second file
+        → ShutIs gates.1.shut file) }
 {
     match headers.first {
         FileHeader::Closed { gate: one } => match headers.second {
@@ -154,6 +171,10 @@ fn read_chosen<D: Disk>(
     headers: &Headers,
     choice: Choice,
 ) -> Result<CurrentFile, OpenFault>
+    requires first_whole { IsTrue (D.honest first.old)
+        → headers.now.first_len ≡ length (D.seen first.old) }
+    requires second_whole { IsTrue (D.honest second.old)
+        → headers.now.second_len ≡ length (D.seen second.old) }
     ensures answer { IsTrue (D.honest first.old) → IsTrue (D.honest second.old)
         → HeadersAre headers.now (D.seen first.old) (D.seen second.old)
         → ChoiceIs choice (D.seen first.old) (D.seen second.old)
@@ -161,7 +182,9 @@ fn read_chosen<D: Disk>(
         (λ r. ContentsAre choice r (D.seen first.old) (D.seen second.old))
         (λ fault. FaultIs fault (D.seen first.old) (D.seen second.old)) }
     ensures within { IfOk result (λ r. header_size + length r.image.items ≤ r.tail.end) }
-    ensures short { IfOk result (λ r. length r.image.items < 2 ^ 32) }
+    ensures inside { IfOk result (λ r. IsTrue (D.honest (first_of choice.swapped first.old second.old))
+        → r.tail.end < length (D.seen (first_of choice.swapped first.old second.old))) }
+    ensures short { IfOk result (λ r. length r.image.items < length_limit) }
     ensures first_read { IsOnlyRead D.Disk first.old first.new }
     ensures second_read { IsOnlyRead D.Disk second.old second.new }
     ensures cause { CountsFailuresOf D.Disk (IsErrOf result OpenFault.DeviceFailed)
@@ -189,7 +212,13 @@ pub(crate) fn read_both<D: Disk>(
     ensures durable_second { OnOk result (IsTrue (D.honest second.old)
         → IsDurable D.Disk second.new) }
     ensures within { IfOk result (λ c. header_size + length c.file.image.items ≤ c.file.tail.end) }
-    ensures short { IfOk result (λ c. length c.file.image.items < 2 ^ 32) }
+    ensures current_inside { IfOk result (λ c.
+        IsTrue (D.honest (first_of c.choice.swapped first.new second.new))
+        → c.file.tail.end < length (D.seen (first_of c.choice.swapped first.new second.new))) }
+    ensures other_inside { IfOk result (λ c. c.choice.other_state ≡ OtherState.Shut
+        → IsTrue (D.honest (second_of c.choice.swapped first.new second.new))
+        → 0 < length (D.seen (second_of c.choice.swapped first.new second.new))) }
+    ensures short { IfOk result (λ c. length c.file.image.items < length_limit) }
     ensures first_read { IsOnlyRead D.Disk first.old first.new }
     ensures second_read { IsOnlyRead D.Disk second.old second.new }
     ensures cause { CountsFailuresOf D.Disk (IsErrOf result OpenFault.DeviceFailed)

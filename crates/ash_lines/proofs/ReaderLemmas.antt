@@ -1,7 +1,12 @@
 -- What a read of one byte came to.
 use Rattle.std.proofs.Common.{◌≡◌, ◌<◌, ◌≤◌, ℕ, List, [], ◌∷◌, length, take, get_or, refl, sym, ap, ◌∙◌, subst, arith}
-use Rattle.std.proofs.Common.{zero, suc, Option, Some, None, Ok, Result}
+use Rattle.std.proofs.Common.{zero, suc, Option, Some, None, Ok, Result, Bool, true, false, if◌then◌else◌}
 use Rattle.std.specs.Io.KnownBytes.{Consumes, Keeps, IsAtEnd, ReadConsumes, prepend_known}
+use Rattle.ash_lines.specs.Reader.{TakesBuffered}
+use Rattle.ash_lines.specs.Source.{ReadyComesNext}
+use Rattle.ash_lines.specs.declared.source.ReadFault.{ReadFault}
+use Rattle.ash_lines.specs.declared.reader.ByteRead.{ByteRead}
+use Rattle.ash_lines.specs.declared.reader.ByteRead.TheVariants as byte_reads
 
 keeps_then : (old mid new : Option (List ℕ)) (bytes : List ℕ) → Keeps old mid → Consumes mid new bytes → Consumes old new bytes
 keeps_then None mid new bytes h k = tt
@@ -31,6 +36,11 @@ reads_byte old mid new r n buf byte k h e z l o f =
     let w = rw e at h in
     keeps_then old mid new (byte ∷ []) k (subst (λ (x : List ℕ). Consumes mid new x) (take-one n buf byte z l o f) w.0)
 
+-- no byte came
+abbrev IsNone : ByteRead → Type 0
+IsNone (byte_reads.Byte byte) = ⊥
+IsNone _ = Unit {0}
+
 -- what one step of the source did, by what the read came to
 
 pub left_end : (old new : Option (List ℕ)) → Keeps old new × IsAtEnd new → Consumes (prepend_known [] old) (prepend_known [] new) [] × IsAtEnd (prepend_known [] new)
@@ -48,3 +58,10 @@ pub left_extra : (old new : Option (List ℕ)) (byte : ℕ) → Consumes old new
 left_extra None new byte h = tt
 left_extra (Some xs) None byte h = absurd h
 left_extra (Some xs) (Some ys) byte h = h
+
+-- what is ready is what the buffer has, and it has none if no byte came from it
+
+pub unready : (buffer after : List ℕ) (within : Bool) (read : ByteRead) (result : Result (Option ℕ) ReadFault) (new : List ℕ) → TakesBuffered buffer read after → IsNone read → ReadyComesNext (if within then buffer else []) result new
+unready [] after true read result new h n = tt
+unready [] after false read result new h n = tt
+unready (byte ∷ more) after within read result new h n = absurd (rw h.0 at n)

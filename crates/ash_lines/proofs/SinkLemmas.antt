@@ -5,13 +5,21 @@ use Rattle.std.proofs.lemmas.List.{append-nil}
 use Rattle.std.proofs.lemmas.Grind.{common_steps}
 use Rattle.std.specs.Borrow.{Bor}
 use Rattle.std.specs.List.{flat_map}
-use Rattle.ash_lines.specs.Sink.{Outlet, IsOutlet, Accepts, FailsPartway, Writes, Flushes, WritesAndFlushes}
+use Rattle.ash_lines.specs.Sink.{Outlet, IsOutlet, KeepsRoom, Accepts, FailsPartway, Writes, Flushes, WritesAndFlushes}
 use Rattle.ash_lines.specs.RefusalTexts.{names_text}
 use Rattle.ash_lines.specs.declared.sink.WriteFault.{WriteFault}
 
+-- the room
+
+pub room-stays : {K : Type 0} (outlet : Outlet K) (s : K) → KeepsRoom outlet s s
+room-stays outlet s = record { same = refl; within = λ h. h }
+
+room-onward : {K : Type 0} (outlet : Outlet K) (s t u : K) → KeepsRoom outlet s t → KeepsRoom outlet t u → KeepsRoom outlet s u
+room-onward outlet s t u h k = record { same = k.same ∙ h.same; within = λ w. k.within (h.within w) }
+
 -- nothing was written
 pub accepts-nil : {K : Type 0} (outlet : Outlet K) → IsOutlet outlet → (s : K) → Accepts outlet s [] s
-accepts-nil outlet is s = record { out = []; written = is.nothing s; whole = append-nil (outlet.buffered s) }
+accepts-nil outlet is s = record { out = []; written = is.nothing s; whole = append-nil (outlet.buffered s); room = room-stays outlet s }
 
 -- some bytes, and then more
 pub accepts-then : {K : Type 0} (outlet : Outlet K) → IsOutlet outlet → (s t u : K) (bytes more : List ℕ) → Accepts outlet s bytes t → Accepts outlet t more u → Accepts outlet s (bytes ++ more) u
@@ -19,6 +27,7 @@ accepts-then outlet is s t u bytes more h k = record {
   out = h.out ++ k.out;
   written = is.onward s t u h.out k.out h.written k.written;
   whole = sym (append_assoc (outlet.buffered s) bytes more) ∙ (ap (λ (x : List ℕ). x ++ more) h.whole ∙ (append_assoc h.out (outlet.buffered t) more ∙ (ap (λ (x : List ℕ). h.out ++ x) k.whole ∙ sym (append_assoc h.out k.out (outlet.buffered u)))));
+  room = room-onward outlet s t u h.room k.room;
 }
 
 -- a write that fails loses what comes after it too
@@ -48,6 +57,7 @@ pub accepts-flushes : {K : Type 0} (outlet : Outlet K) → IsOutlet outlet → (
 accepts-flushes outlet is s t u bytes (Ok x) h k = record {
   written = subst (λ (y : List ℕ). outlet.writes s y u) (ap (λ (y : List ℕ). h.out ++ y) (append-nil (outlet.buffered t)) ∙ sym h.whole) (is.onward s t u h.out (outlet.buffered t ++ []) h.written k.written);
   empty = k.empty;
+  room_same = k.room_same ∙ h.room.same;
 }
 accepts-flushes outlet is s t u bytes (Err x) h k = subst (λ (y : List ℕ). FailsPartway outlet s y u) (append-nil bytes) (accepts-fails outlet is s t u bytes [] h k)
 
@@ -56,6 +66,7 @@ pub writes_line-then : {K : Type 0} (outlet : Outlet K) → IsOutlet outlet → 
 writes_line-then outlet is s t u bytes more (Ok x) h k = record {
   written = subst (λ (y : List ℕ). outlet.writes s y u) (sym (append_assoc h.out (outlet.buffered t) more) ∙ (ap (λ (y : List ℕ). y ++ more) (sym h.whole) ∙ append_assoc (outlet.buffered s) bytes more)) (is.onward s t u h.out (outlet.buffered t ++ more) h.written k.written);
   empty = k.empty;
+  room_same = k.room_same ∙ h.room.same;
 }
 writes_line-then outlet is s t u bytes more (Err x) h k = accepts-fails outlet is s t u bytes more h k
 

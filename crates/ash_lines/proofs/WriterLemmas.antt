@@ -69,11 +69,12 @@ keeps_none (Some xs) (Some ys) k = k ∙ sym (append-nil xs)
 pub buffered_fault : {K : Type 0} (outlet : Outlet K) (s t : K) (bytes : List ℕ) → ((out : List ℕ) × (lost : List ℕ) × outlet.fails s out t × (outlet.buffered s ≡ out ++ lost)) → FailsPartway outlet s bytes t
 buffered_fault outlet s t bytes h = record { out = h.0; lost = h.1 ++ bytes; broke = h.2; whole = ap (λ (x : List ℕ). x ++ bytes) h.3 ∙ append_assoc h.0 h.1 bytes }
 
-pub through_after : {K : Type 0} (outlet : Outlet K) → IsOutlet outlet → (s m t : K) (bytes : List ℕ) (r : Result (Unit {0}) WriteFault) → (outlet.writes s (outlet.buffered s) m × (outlet.buffered m ≡ [])) → WritesThrough outlet m bytes r t (outlet.buffered m) → Writes outlet s bytes r t
+pub through_after : {K : Type 0} (outlet : Outlet K) → IsOutlet outlet → (s m t : K) (bytes : List ℕ) (r : Result (Unit {0}) WriteFault) → (outlet.writes s (outlet.buffered s) m × (outlet.buffered m ≡ []) × (outlet.room m ≡ outlet.room s)) → WritesThrough outlet m bytes r t (outlet.buffered m) → Writes outlet s bytes r t
 through_after outlet is s m t bytes (Ok x) h k = record {
   out = outlet.buffered s ++ bytes;
   written = is.onward s m t (outlet.buffered s) bytes h.0 k.0;
   whole = sym (append-nil (outlet.buffered s ++ bytes)) ∙ ap (λ (x : List ℕ). (outlet.buffered s ++ bytes) ++ x) (sym (k.1 ∙ h.1));
+  room = record { same = k.2 ∙ h.2; within = λ l. rw (k.1 ∙ h.1) (omega arith) };
 }
 through_after outlet is s m t bytes (Err x) h k = record {
   out = outlet.buffered s ++ k.0;
@@ -82,8 +83,8 @@ through_after outlet is s m t bytes (Err x) h k = record {
   whole = ap (λ (x : List ℕ). outlet.buffered s ++ x) k.3 ∙ sym (append_assoc (outlet.buffered s) k.0 k.1);
 }
 
-pub flush_after : {K : Type 0} (outlet : Outlet K) → IsOutlet outlet → (s m t : K) (r : Result (Unit {0}) WriteFault) → (outlet.writes s (outlet.buffered s) m × (outlet.buffered m ≡ [])) → WritesThrough outlet m [] r t (outlet.buffered m) → Flushes outlet s r t
-flush_after outlet is s m t (Ok x) h k = record { written = is.onward s m t (outlet.buffered s) [] h.0 k.0; empty = k.1 ∙ h.1 }
+pub flush_after : {K : Type 0} (outlet : Outlet K) → IsOutlet outlet → (s m t : K) (r : Result (Unit {0}) WriteFault) → (outlet.writes s (outlet.buffered s) m × (outlet.buffered m ≡ []) × (outlet.room m ≡ outlet.room s)) → WritesThrough outlet m [] r t (outlet.buffered m) → Flushes outlet s r t
+flush_after outlet is s m t (Ok x) h k = record { written = is.onward s m t (outlet.buffered s) [] h.0 k.0; empty = k.1 ∙ h.1; room_same = k.2 ∙ h.2 }
 flush_after outlet is s m t (Err x) h k = record {
   out = outlet.buffered s ++ k.0;
   lost = k.1;

@@ -1,8 +1,8 @@
 -- A reader as a source of bytes.
 use Rattle.std.specs.Prelude.{◌≡◌, ℕ, ◌+◌, ◌^◌, true, List, [], ◌∷◌, ◌++◌, length, Option, Some, None, is_some, refl, ⊤}
-use Rattle.std.specs.Prelude.{if◌then◌else◌}
+use Rattle.std.specs.Prelude.{if◌then◌else◌, nat_le}
 use Rattle.std.specs.Option.{option_to_list}
-use Rattle.std.specs.Io.Buffered.{reader_remaining}
+use Rattle.std.specs.Io.Buffered.{reader_buffer, reader_remaining}
 use Rattle.std.specs.Io.KnownBytes.{Consumes, Keeps, IsAtEnd, prepend_known}
 use Rattle.std.proofs.Common.{sym, ap, ◌∙◌, append_assoc, arith, length-append}
 use Rattle.ash_lines.specs.Source.{Feed, IsFeed}
@@ -28,6 +28,15 @@ max_input_bytes = 2 ^ 40
 abbrev pub allowance_of : {R : Type 0} → Reader R → ℕ
 allowance_of s = if is_some s.extra then 0 else s.allowance
 
+-- the bytes in the buffer, if so many may still be read
+abbrev pub ready_of : {R : Type 0} → Reader R → List ℕ
+ready_of s = if nat_le (length (reader_buffer s.reader)) (allowance_of s) then reader_buffer s.reader else []
+
+-- What reading a byte did to those that are in the buffer: the first of them was read.
+abbrev pub TakesBuffered : List ℕ → ByteRead → List ℕ → Type 0
+TakesBuffered [] result after = ⊤
+TakesBuffered (byte ∷ more) result after = (result ≡ byte_reads.Byte byte) × (after ≡ more)
+
 abbrev pub reader_feed : {R : Type 0} → (R → Option (List ℕ)) → Feed (Reader R)
 reader_feed remaining = record {
   reads = λ s bytes t. Consumes (left_of remaining s) (left_of remaining t) bytes
@@ -36,6 +45,7 @@ reader_feed remaining = record {
   ended = λ s. IsAtEnd (left_of remaining s);
   unread = λ s. is_some s.extra ≡ true;
   allowance = λ s. allowance_of s;
+  ready = λ s. ready_of s;
 }
 
 consumes-nothing : (known : Option (List ℕ)) → Consumes known known []

@@ -15,6 +15,8 @@ pub record Feed (S : Type 0) : Type 1 where
   pub unread : S → Type 0
   -- so many bytes may still be read
   pub allowance : S → ℕ
+  -- these bytes come next, without waiting for them
+  pub ready : S → List ℕ
 
 -- Reading goes on from moment to moment, and each byte is taken from the allowance.
 pub record IsFeed {S : Type 0} (feed : Feed S) : Type 0 where
@@ -33,6 +35,11 @@ abbrev pub ReadsNext : {S : Type 0} → Feed S → S → Result (Option ℕ) Rea
 ReadsNext feed old (Ok None) new = feed.reads old [] new × feed.ended new
 ReadsNext feed old (Ok (Some byte)) new = feed.reads old (byte ∷ []) new
 ReadsNext feed old (Err fault) new = Faults feed old [] fault new
+
+-- What a read gives if these bytes are ready before it: the first of them, and the others are ready after it.
+abbrev pub ReadyComesNext : List ℕ → Result (Option ℕ) ReadFault → List ℕ → Type 0
+ReadyComesNext [] result after = Unit {0}
+ReadyComesNext (byte ∷ more) result after = (result ≡ Ok (Some byte)) × (after ≡ more)
 
 -- the code by which a fault is reported
 abbrev pub read_code : ReadFault → List ℕ

@@ -14,6 +14,7 @@ writer_outlet contents = record {
   fails = λ s bytes t. Appends (contents s.writer.now) (contents t.writer.now) bytes
       × (t.writer.ghost_name ≡ s.writer.ghost_name) × (t.failed ≡ true);
   buffered = λ s. s.buffer.items;
+  room = λ s. s.room;
 }
 
 pub appends-nothing : (known : Option (List ℕ)) → Appends known known []
@@ -50,6 +51,7 @@ WritesOut old bytes (Err count) new = Appends old new (take count bytes)
 
 -- Bytes went out, and this is buffered after them; or a prefix of them went out.
 abbrev pub WritesThrough : {K : Type 0} → Outlet K → K → List ℕ → Result (Unit {0}) WriteFault → K → List ℕ → Type 0
-WritesThrough outlet old bytes (Ok _) new buffered = outlet.writes old bytes new × (outlet.buffered new ≡ buffered)
+WritesThrough outlet old bytes (Ok _) new buffered =
+    outlet.writes old bytes new × (outlet.buffered new ≡ buffered) × (outlet.room new ≡ outlet.room old)
 WritesThrough outlet old bytes (Err _) new buffered =
     (out : List ℕ) × (lost : List ℕ) × outlet.fails old out new × (bytes ≡ out ++ lost)

@@ -1,14 +1,14 @@
 //! A source over any reader.
 
 ghost use Rattle.std.specs.Prelude.{◌≡◌, IfOk, None, false};
-ghost use Rattle.std.specs.Io.Buffered.{reader_remaining};
+ghost use Rattle.std.specs.Io.Buffered.{reader_buffer, reader_remaining};
 ghost use Rattle.std.specs.Io.KnownBytes.{Keeps};
 ghost use Rattle.ash_lines.specs.Reader.{reader_feed, reader_is_feed, left_of, allowance_of};
-ghost use Rattle.ash_lines.specs.Reader.{ReadsByte, max_input_bytes};
+ghost use Rattle.ash_lines.specs.Reader.{ReadsByte, TakesBuffered, max_input_bytes};
 
 use crate::source::{ReadFault, Source};
 use std::alloc::{AllocError, Global};
-use std::io::{BufReader, ErrorKind, Read};
+use std::io::{BufRead, BufReader, ErrorKind, Read};
 
 /// The most bytes that are read in one run.
 pub const MAX_INPUT_BYTES: u64 = 1 << 40;
@@ -80,12 +80,32 @@ impl<R: Read + Drop> Source for Reader<R> {
     }
 
     fn ready(&self) -> &[u8] {
-        self.reader.buffer()
+        let bytes = self.reader.buffer();
+        if self.extra.is_none() && bytes.len() as u64 <= self.allowance {
+            bytes
+        } else {
+            b""
+        }
     }
 }
 
-/// Reads one byte.
-fn read_byte<R: Read>(reader: &mut R) -> ByteRead
+/// Reads one byte: the next one of the buffer, if it has one.
+fn read_byte<R: Read>(reader: &mut BufReader<R>) -> ByteRead
+    ensures byte { ReadsByte (reader_remaining R.remaining reader.old) result
+        (reader_remaining R.remaining reader.new) }
+    ensures buffered { TakesBuffered (reader_buffer reader.old) result (reader_buffer reader.new) }
+{
+    match reader.buffer().first() {
+        Some(&byte) => {
+            reader.consume(1);
+            ByteRead::Byte(byte)
+        }
+        None => read_more(reader),
+    }
+}
+
+/// Reads one byte, which may have to be waited for.
+fn read_more<R: Read>(reader: &mut R) -> ByteRead
     ensures byte { ReadsByte (R.remaining reader.old) result (R.remaining reader.new) }
 {
     let mut byte = [0u8; 1];

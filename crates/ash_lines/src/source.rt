@@ -1,7 +1,7 @@
 //! Where requests come from.
 
 ghost use Rattle.std.specs.Prelude.{◌≡◌};
-ghost use Rattle.ash_lines.specs.Source.{Feed, IsFeed, ReadsNext, read_code};
+ghost use Rattle.ash_lines.specs.Source.{Feed, IsFeed, ReadsNext, ReadyComesNext, read_code};
 
 use thiserror::Error;
 
@@ -33,12 +33,14 @@ pub trait Source {
     /// What was read between two moments, and what is left at one.
     ghost feed: { Feed Self };
 
-    /// The next byte, or `None` at the end.
+    /// The next byte, or `None` at the end. What is ready comes first.
     fn next(&mut self) -> Result<Option<u8>, ReadFault>
-        ensures byte { ReadsNext feed self.old result self.new };
+        ensures byte { ReadsNext feed self.old result self.new }
+        ensures ready { ReadyComesNext (feed.ready self.old) result (feed.ready self.new) };
 
     /// The next bytes, as far as they can be had without waiting for them.
-    fn ready(&self) -> &[u8];
+    fn ready(&self) -> &[u8]
+        ensures ready { result.now ≡ feed.ready self.now };
 
     ghost is_feed: { IsFeed feed };
 }

@@ -1,6 +1,6 @@
 //! A sink over any writer.
 
-ghost use Rattle.std.specs.Prelude.{◌≡◌, ◌≤◌, [], ◌++◌, length, take, false, IfOk, IfErr, OnOk};
+ghost use Rattle.std.specs.Prelude.{◌≡◌, ◌≤◌, [], ◌++◌, length, take, false, IfOk, IfErr, OnOk, vec_capacity};
 ghost use Rattle.std.specs.Io.KnownBytes.{Keeps, Appends};
 ghost use Rattle.ash_lines.specs.Writer.{writer_outlet, writer_is_outlet, WritesOut, WritesThrough};
 
@@ -12,6 +12,8 @@ use std::io::{ErrorKind, Write};
 pub struct Writer<'a, W> {
     writer: &'a mut W,
     buffer: Vec<u8>,
+    /// The most bytes that are buffered.
+    room: usize,
     failed: bool,
 }
 
@@ -19,13 +21,16 @@ impl<'a, W: Write> Writer<'a, W> {
     /// A writer with this buffer before it, which is emptied first. No more is buffered than it has room for.
     pub fn new(writer: &'a mut W, mut buffer: Vec<u8>) -> Writer<'a, W>
         ensures buffered { result.buffer.items ≡ [] }
+        ensures room { result.room ≡ vec_capacity buffer }
         ensures writer { result.writer ≡ writer.entry }
         ensures whole { result.failed ≡ false }
     {
         buffer.clear();
+        let room = buffer.capacity();
         Writer {
             writer,
             buffer,
+            room,
             failed: false,
         }
     }
@@ -37,6 +42,7 @@ impl<'a, W: Write> Writer<'a, W> {
         let Writer {
             writer,
             buffer,
+            room: _,
             failed: _,
         } = self;
         drop(buffer);
@@ -50,8 +56,8 @@ impl<'a, W: Write> Sink for Writer<'a, W> {
     ghost is_outlet = { writer_is_outlet W.contents };
 
     fn write(&mut self, bytes: &[u8]) -> Result<(), WriteFault> {
-        let room = self.buffer.capacity().saturating_sub(self.buffer.len());
-        if bytes.len() <= room {
+        let room = self.room.min(self.buffer.capacity());
+        if bytes.len() <= room.saturating_sub(self.buffer.len()) {
             self.buffer.extend_from_slice(bytes).unwrap();
             return Ok(());
         }

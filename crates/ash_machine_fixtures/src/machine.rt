@@ -123,6 +123,11 @@ impl<B: HostObject> Machine<B> {
         self.run(init, &[], budget)
     }
 
+    /// How many instructions the last run did.
+    pub fn steps(&self) -> u128 {
+        self.context.steps()
+    }
+
     /// What the last run left.
     pub fn parts(&self) -> &Parts<B> {
         &self.parts

@@ -22,6 +22,10 @@ module _ {B : Type 0} where
     gone = [];
   }
 
+  -- the table once the numbers that went were taken, whatever is marked
+  abbrev pub without_gone : Table B → Table B
+  without_gone table = record table { settled = table.last; gone = [] }
+
   -- the numbers of those that have a mark, by ascending number
   abbrev pub marked_in : List (ℕ × SlotEntry B) → List ℕ
   marked_in objects = keys_of (filter (λ e. (e.1.item).touched) objects)

@@ -12,11 +12,13 @@ ghost use Rattle.ash_objects.specs.Collecting.{HaveGone, AreInOrder, entry_mark}
 ghost use Rattle.ash_objects.specs.Collecting.{marked_since, marked_drops};
 ghost use Rattle.ash_objects.specs.Sweeping.{Collects, RanksFall, LeavesReachable};
 ghost use Rattle.ash_objects.specs.Sweeping.{gone_from, drops};
+ghost use Rattle.ash_objects.specs.Marking.{without_gone};
 
 use crate::counting::release_words;
 use crate::objects::Objects;
 use ash_host::{Event, HostObject, NoMemory};
 use ash_slots::{Entry, Store};
+use std::mem;
 
 // Takes an object that is counted nowhere out of its slot, and the handles among its words out of the counts.
 fn take_idle<B>(store: &mut Store<B>, slot: usize) -> Entry<B>
@@ -115,6 +117,17 @@ impl<B: HostObject> Objects<B> {
             → LeavesReachable self.now self.now }
     {
         self.store.none_waits()
+    }
+
+    /// The numbers of the objects that went since the last such call, or since the marks were cleared, except those
+    /// that were made and taken away since. The marks stay. It takes no memory.
+    pub fn take_gone(&mut self) -> Vec<u64>
+        ensures gone { result.items ≡ self.old.gone }
+        ensures taken { self.new ≡ without_gone self.old }
+    {
+        let alloc = *self.gone.allocator();
+        self.settled = self.last;
+        mem::replace(&mut self.gone, Vec::new(alloc))
     }
 
     // The sweep, where objects may wait for it.

@@ -8,6 +8,7 @@
 //!   memory that is ample or refused once.
 //! - `sequences`, `marks`, `arrays`, `limits` and `guesses`: sequences of calls with the events that they leave, what is
 //!   named as changed, arrays, a table at its limits, and numbers with the same last bits, with memory that is ample.
+//! - `by_slot`: each call that takes a slot beside the one that takes a number.
 //! - `states`, `restoring`, `reading`, `pools` and `refused_states`: tables from what a state holds, what is read of one,
 //!   the boxes that they take, and those that are given up where a state is refused.
 //! - `refusals`: memory that is refused once.
@@ -16,6 +17,8 @@
 
 #[cfg(test)]
 mod arrays;
+#[cfg(test)]
+mod by_slot;
 #[cfg(test)]
 mod checks;
 #[cfg(test)]

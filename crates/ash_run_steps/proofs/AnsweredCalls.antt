@@ -66,7 +66,7 @@ module _ {B : Type 0} (G : Ghosts B) (names : Names) where
     pub before_fits : length (G.state before) ≤ max_state_bytes
     pub after_fits : length (G.state after) ≤ max_state_bytes
     pub in_range : IsAnswer answer
-    pub follows : Follows G [] s.table table
+    pub follows : Follows G [] (record_of target call answer before after ∷ []) s.table table
     pub asked : (rest : List HostRecord) → hosts.state_of target (world_shown G names rest s) ≡ Some (G.state before)
     pub left : (rest : List HostRecord) → hosts.with_state target (G.state after) (world_shown G names rest s) ≡ world_shown G names rest (at_table table s)
 
@@ -104,7 +104,7 @@ module _ {B : Type 0} (G : Ghosts B) (names : Names) where
         }),
         tt,
       );
-      follows = subst (λ (t : Table B). Follows G [] s.table t) (sym now) is.follows;
+      follows = subst (λ (t : Table B). Follows G [] (answered ∷ []) s.table t) (sym now) is.follows;
     }
 
     -- a run that comes to this after the answer
@@ -287,7 +287,7 @@ module _ {B : Type 0} (G : Ghosts B) (names : Names) where
     before_fits = fits;
     after_fits = responds.bounded;
     in_range = in_range;
-    follows = follows_object G number before after call answer s.table was responds;
+    follows = follows_object G number before after call answer s.table was responds (record_of (targets.Object number) call answer before after, (0, omega arith, refl), refl);
     asked = λ rest. ap (option_and_then hosts.state_in) (host_shown_at G names.modules number before s.table was);
     left = λ rest. ap (λ (l : LiveObjects (List ℕ)). record (world_shown G names rest s) { objects = l }) (boxed_shown G names.modules number before after s.table numbered.in_order was responds.same_kind);
   }

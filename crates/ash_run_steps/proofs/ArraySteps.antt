@@ -31,6 +31,7 @@ use Rattle.ash_slots.specs.declared.body.Body.TheVariants as bodies
 use Rattle.ash_slots.specs.Bodies.{words_of}
 use Rattle.ash_slots.specs.SlotArrays.{array_of, with_words, lengthened}
 use Rattle.ash_slots.specs.SlotResponses.{box_of}
+use Rattle.ash_objects.specs.Responses.{box_at}
 use Rattle.ash_objects.specs.Arrays.{array_at, with_elements}
 use Rattle.ash_objects.specs.Table.{Living, Table, with_object, body_of}
 use Rattle.ash_object_ranks.specs.ShownTables.{SlotNames, elements_shown, body_shown, objects_shown}
@@ -139,6 +140,19 @@ module _ {B : Type 0} where
         go None is = absurd (cc)
         go (Some x) is = each x.body is
 
+    array_unboxed : box_at n table ≡ None
+    array_unboxed = go (object_at n table.objects) at
+      where
+        each : (b : Body B) → array_of b ≡ Some array → box_of b ≡ None
+        each (bodies.Script script) is = refl
+        each (bodies.Array a) is = refl
+        each (bodies.Host box) is = absurd (cc)
+
+        go : (o : Option (Living B)) → option_and_then array_of (option_map (λ (x : Living B). x.body) o) ≡ Some array
+            → option_and_then (λ (x : Living B). box_of x.body) o ≡ None
+        go None is = refl
+        go (Some x) is = each x.body is
+
     array_body : (x : Living B) → object_at n table.objects ≡ Some x → array_of x.body ≡ Some array
     array_body x is = ap (λ (o : Option (Living B)). option_and_then array_of (option_map (λ (y : Living B). y.body) o)) (sym is) ∙ at
 
@@ -199,7 +213,7 @@ module _ {B : Type 0} (G : Ghosts B) (names : Names) (n : ℕ) (s : State B) whe
         → Becomes G names run s (give tt) (at_table table (refilled ws ns))
     refilled_gives run ws ns table same says =
         then_held G names run s tt (refilled ws ns) table same
-        (becomes_kept G names run s (give tt) (refilled ws ns) (follows_changed G (with_elements ws) (elements_box ws) (λ x. refl) n s.table) refl
+        (becomes_kept G names run s (give tt) (refilled ws ns) (follows_changed G (with_elements ws) (elements_box ws) (λ x. refl) n s.table (array_unboxed n array s.table at)) refl
         (λ rest. subst (λ (a : Activity). IfSome (run (shown G names rest s)) (λ p. Some (Done tt a) ≡ Some p)) (sym (refilled_shown rest ws ns)) (says rest)))
 
     -- resizing

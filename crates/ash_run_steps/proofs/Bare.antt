@@ -3,6 +3,7 @@ use Rattle.std.proofs.Common.{◌≡◌, ℕ, Bool, true, false, cond, List, [],
 use Rattle.std.specs.Prelude.{Option, Some, None, Contains, is_some}
 use Rattle.std.specs.Option.{option_map, option_map_or, option_and_then}
 use Rattle.ash_host.specs.declared.host_object.HostObject.{Ghosts}
+use Rattle.ash_host.specs.Records.{HostRecord}
 use Rattle.ash_host.specs.declared.word.Word.{Word}
 use Rattle.ash_host.specs.Objects.{object_at, LiveObjects, handle}
 use Rattle.ash_slots.specs.Store.{change_at}
@@ -13,7 +14,7 @@ use Rattle.ash_objects.proofs.Marks.{object_at-mapped}
 use Rattle.ash_object_ranks.specs.ShownTables.{SlotNames, body_shown, objects_shown}
 use Rattle.ash_run_steps.specs.RunStates.{bare, bare_living, is_alive_in}
 use Rattle.ash_object_ranks.proofs.ShownTables.{lives_shown}
-use Rattle.ash_run_steps.specs.Following.{KeepsMarks, Follows}
+use Rattle.ash_run_steps.specs.Following.{KeepsMarks, IsMarked, Follows}
 use Rattle.ash_run_steps.proofs.Followed.{keeps_by}
 
 module _ {B : Type 0} where
@@ -105,13 +106,24 @@ module _ {B : Type 0} where
       found n x None is same = absurd (cc)
       found n x (Some y) is same = (y, is, cc)
 
-  pub follows_bare : (G : Ghosts B) (old new : Table B) → bare new ≡ bare old → Follows G [] old new
+  -- who has a mark had it
+  pub marked_bare : (old new : Table B) → bare new ≡ bare old → (n : ℕ) → IsMarked new n → IsMarked old n
+  marked_bare old new same n is = go (object_at n old.objects) refl (same_bare old new same n is.object is.there)
+    where
+      go : (o : Option (Living B)) → object_at n old.objects ≡ o → option_map bare_living o ≡ Some (bare_living is.object) → IsMarked old n
+      go None at same = absurd (cc)
+      go (Some y) at same =
+          let one : bare_living y ≡ bare_living is.object = cc in
+          record { object = y; there = at; marked = ap (λ (l : Living B). l.touched) one ∙ is.marked }
+
+  pub follows_bare : {records : List HostRecord} (G : Ghosts B) (old new : Table B) → bare new ≡ bare old → Follows G [] records old new
   follows_bare G old new same =
       let last = ap (λ (t : Table B). t.last) same in
       record {
         boxes = keeps_by G old new (omega (arith, last)) (ap (λ (t : Table B). t.pool) same) (ap (λ (t : Table B). t.services) same)
             (λ n box below at. (omega (arith, below, last), sym (same_box old new same n) ∙ at));
         marks = marks_bare old new same;
+        no_more = λ n is has. inr (inl (marked_bare old new same n is));
       }
 
 module _ {B : Type 0} (G : Ghosts B) (names : SlotNames) where

@@ -8,6 +8,7 @@ use Rattle.ash_host.specs.declared.answer.HostAnswer.{HostAnswer}
 use Rattle.ash_host.specs.declared.event.Target.{Target}
 use Rattle.ash_host.specs.declared.event.Target.TheVariants as targets
 use Rattle.ash_host.specs.declared.host_object.HostObject.{Ghosts}
+use Rattle.ash_host.specs.Records.{HostRecord}
 use Rattle.ash_host.specs.Calls.{HostCall}
 use Rattle.ash_host.specs.Objects.{Plain, Host, LiveObjects, object_at, with_at, IsInOrder, Lives}
 use Rattle.ash_host.proofs.Order.{same_in_order, object_at-with_at, in_order-with_at}
@@ -24,8 +25,8 @@ use Rattle.ash_objects.proofs.Marks.{in_order-mapped}
 use Rattle.ash_object_ranks.specs.ShownTables.{SlotNames, body_shown, objects_shown}
 use Rattle.ash_object_ranks.proofs.ShownTables.{living_shown, shown_at}
 use Rattle.ash_run_steps.specs.Answered.{IsStill}
-use Rattle.ash_run_steps.specs.Following.{box_for, Follows}
-use Rattle.ash_run_steps.proofs.Followed.{still_same, marks_by, marks_changed}
+use Rattle.ash_run_steps.specs.Following.{HasAnswered, box_for, Follows}
+use Rattle.ash_run_steps.proofs.Followed.{still_same, marks_by, marks_changed, no_more_answered}
 
 -- lists of which one is replaced
 
@@ -125,11 +126,12 @@ module _ {B : Type 0} (G : Ghosts B) where
       subst (λ (p : Option B). IsStill G p box) (sym was)
       (subst (λ (b : B). IsStill G (Some before) b) (sym is) (responds.same_kind, responds.same_relation))
 
-  pub follows_service : (index : ℕ) (before after : B) (call : HostCall) (answer : HostAnswer) (table : Table B)
-      → slice_get table.services index ≡ Some before → Responds G before call answer after → Follows G [] table (with_service index after table)
+  pub follows_service : {records : List HostRecord} (index : ℕ) (before after : B) (call : HostCall) (answer : HostAnswer) (table : Table B)
+      → slice_get table.services index ≡ Some before → Responds G before call answer after → Follows G [] records table (with_service index after table)
   follows_service index before after call answer table was responds = record {
     boxes = record { rises = omega arith; given = tt; first_free = refl; still = still };
     marks = marks_by table (with_service index after table) refl refl (λ n x at un. at) (λ n below lives. lives) (λ n lives. lives);
+    no_more = λ n is has. inr (inl (record { object = is.object; there = is.there; marked = is.marked }));
   }
     where
       still : (target : Target) (box : B) → box_for (with_service index after table) [] target ≡ Some box → IsStill G (box_for table [] target) box
@@ -141,11 +143,13 @@ module _ {B : Type 0} (G : Ghosts B) where
             | inr other ↦ still_same G (slice_get table.services k) box other
           ]
 
-  pub follows_object : (number : ℕ) (before after : B) (call : HostCall) (answer : HostAnswer) (table : Table B)
-      → box_at number table ≡ Some before → Responds G before call answer after → Follows G [] table (with_object number (with_box after) table)
-  follows_object number before after call answer table was responds = record {
+  pub follows_object : {records : List HostRecord} (number : ℕ) (before after : B) (call : HostCall) (answer : HostAnswer) (table : Table B)
+      → box_at number table ≡ Some before → Responds G before call answer after → HasAnswered records number
+      → Follows G [] records table (with_object number (with_box after) table)
+  follows_object {records} number before after call answer table was responds answered = record {
     boxes = record { rises = omega arith; given = tt; first_free = refl; still = still };
     marks = marks_changed (with_box after) (λ x. refl) number table;
+    no_more = no_more_answered records (with_box after) number table answered;
   }
     where
       by : (m : ℕ) (b : Bool) (box : B) → cond b (box_at m (with_object number (with_box after) table)) None ≡ Some box → IsStill G (cond b (box_at m table) None) box

@@ -26,7 +26,7 @@ use Rattle.ash_run_steps.specs.Guarded.{Guarded, give}
 use Rattle.ash_run_steps.specs.PartSteps.{words_at}
 use Rattle.ash_run_steps.specs.RunStates.{State, Names, shown, bare, is_alive_in}
 use Rattle.ash_run_steps.proofs.Composed.{gave_nothing, becomes_by, becomes_then}
-use Rattle.ash_run_steps.proofs.Followed.{keeps_by, marks_changed}
+use Rattle.ash_run_steps.proofs.Followed.{keeps_by, marks_changed, no_more_changed}
 use Rattle.ash_run_steps.proofs.HoldSteps.{at_table, same_activity}
 
 module _ {B : Type 0} (f : Living B → Living B) (n : ℕ) where
@@ -69,10 +69,11 @@ module _ {B : Type 0} (f : Living B → Living B) (n : ℕ) where
 module _ {B : Type 0} (G : Ghosts B) where
   -- a change that leaves an object's box leaves all boxes, and one that marks it marks what changed
   pub follows_changed : (f : Living B → Living B) → ((x : Living B) → box_of (f x).body ≡ box_of x.body) → ((x : Living B) → (f x).touched ≡ true)
-      → (n : ℕ) (table : Table B) → Follows G [] table (with_object n f table)
-  follows_changed f same touches n table = record {
+      → (n : ℕ) (table : Table B) → box_at n table ≡ None → Follows G [] [] table (with_object n f table)
+  follows_changed f same touches n table none = record {
     boxes = keeps_by G table (with_object n f table) (omega arith) refl refl (λ m box below at. (below, sym (changed_box f n same m table) ∙ at));
     marks = marks_changed f touches n table;
+    no_more = no_more_changed f n table none same;
   }
 
 module _ {B : Type 0} (G : Ghosts B) (names : SlotNames) where
@@ -140,7 +141,7 @@ module _ {B : Type 0} (G : Ghosts B) (names : Names) where
       ap (λ (all : LiveObjects (List ℕ)). in_world (λ (world : World). record world { objects = all }) (shown G names rest s)) (changed_shown G names.modules n f how (s.table).objects o each)
 
   -- a step in which no host answers
-  pub becomes_kept : {A : Type 0} (run : Guarded A) (old : State B) (left : Guarded A) (new : State B) → Follows G [] old.table new.table → new.events ≡ old.events
+  pub becomes_kept : {A : Type 0} (run : Guarded A) (old : State B) (left : Guarded A) (new : State B) → Follows G [] [] old.table new.table → new.events ≡ old.events
       → ((rest : List HostRecord) → IfSome (run (shown G names rest old)) (λ progress. left (shown G names rest new) ≡ Some progress))
       → Becomes G names run old left new
   becomes_kept run old left new follows told says = record {

@@ -44,7 +44,7 @@ use Rattle.ash_run_steps.specs.Drawing.{Enough, draw_then}
 use Rattle.ash_run_steps.specs.Following.{box_for, Follows}
 use Rattle.ash_run_steps.proofs.AnsweredCalls.{some_of}
 use Rattle.ash_run_steps.proofs.Composed.{becomes_by}
-use Rattle.ash_run_steps.proofs.Followed.{still_same, marks_made}
+use Rattle.ash_run_steps.proofs.Followed.{still_same, marks_made, no_more_made}
 use Rattle.ash_run_steps.proofs.HoldSteps.{at_table, same_activity}
 use Rattle.ash_run_steps.proofs.Roots.{holding}
 
@@ -162,7 +162,7 @@ module _ {B : Type 0} (G : Ghosts B) where
       ∙ ap (option_map (λ (b : B). (b, remove table.pool place))) at
 
   pub follows_drawn : (kind slot place : ℕ) (box : B) (table : Table B) → first_of_kind G kind table ≡ Some place → slice_get table.pool place ≡ Some box
-      → Follows G ((table.last + 1, box) ∷ []) table (drawn_table slot box place table)
+      → Follows G ((table.last + 1, box) ∷ []) [] table (drawn_table slot box place table)
   follows_drawn kind slot place box table first at = record {
     boxes = record {
       rises = omega arith;
@@ -171,6 +171,7 @@ module _ {B : Type 0} (G : Ghosts B) where
       still = still;
     };
     marks = marks_made slot (bodies.Host box) (remove table.pool place) table;
+    no_more = no_more_made [] slot (bodies.Host box) (remove table.pool place) table;
   }
     where
       by : (m : ℕ) (c b : Bool) (other : B) → nat_le m (table.last + 1) ≡ c → nat_eq m (table.last + 1) ≡ b

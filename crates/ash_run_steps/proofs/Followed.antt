@@ -1,11 +1,12 @@
 -- Tables that follow one another.
-use Rattle.std.proofs.Common.{◌≡◌, ◌⊎◌, ◌<◌, ◌≤◌, ◌+◌, ℕ, Bool, true, false, cond, List, [], ◌∷◌, ◌++◌, refl, sym, ap, ◌∙◌, subst, arith, nat_eq, inl, inr}
-use Rattle.std.specs.Prelude.{Option, Some, None, Contains, is_some, nat_le, slice_get}
+use Rattle.std.proofs.Common.{◌≡◌, ◌⊎◌, ◌<◌, ◌≤◌, ◌+◌, ℕ, Bool, true, false, cond, List, [], ◌∷◌, ◌++◌, refl, sym, ap, ◌∙◌, subst, arith, nat_eq, inl, inr, ⊎_elim}
+use Rattle.std.specs.Prelude.{Option, Some, None, IsSome, Contains, is_some, nat_le, slice_get}
 use Rattle.std.specs.List.{AllByRecursion}
-use Rattle.std.specs.Option.{option_map, option_or}
-use Rattle.std.proofs.lemmas.Bool.{eqb-true}
+use Rattle.std.specs.Option.{option_map, option_or, option_and_then}
+use Rattle.std.proofs.lemmas.Bool.{eqb-true, cases_lt}
 use Rattle.std.proofs.lemmas.Bool.Decides.{nat_tests}
 use Rattle.std.proofs.lemmas.List.{map-append}
+use Rattle.std.proofs.lemmas.List.Elements.{Contains-append_left, Contains-append_right}
 use Rattle.ash_host.specs.declared.answer.HostAnswer.{HostAnswer}
 use Rattle.ash_host.specs.declared.event.Target.{Target}
 use Rattle.ash_host.specs.declared.event.Target.TheVariants as targets
@@ -15,6 +16,7 @@ use Rattle.ash_host.specs.Objects.{object_at, Lives}
 use Rattle.ash_host.specs.Records.{HostRecord}
 use Rattle.ash_host.proofs.Order.{object_at-with_at}
 use Rattle.ash_slots.specs.declared.body.Body.{Body}
+use Rattle.ash_slots.specs.SlotResponses.{box_of}
 use Rattle.ash_slots.proofs.Changing.{object_at-change}
 use Rattle.ash_objects.specs.Making.{new_object, with_new_object}
 use Rattle.ash_objects.specs.Restoring.{draw_box}
@@ -22,7 +24,7 @@ use Rattle.ash_objects.specs.Responses.{box_at}
 use Rattle.ash_objects.specs.Table.{Living, Table, with_object}
 use Rattle.ash_run_steps.specs.Answered.{IsStill, IsValidOf}
 use Rattle.ash_run_steps.specs.Drawing.{Drawing, Short, Enough, draw_all, draw_then, with_first, kinds_of}
-use Rattle.ash_run_steps.specs.Following.{box_for, IsGivenBetween, KeepsBoxes, HasGone, KeepsMarks, Follows}
+use Rattle.ash_run_steps.specs.Following.{HasAnswered, box_for, IsGivenBetween, KeepsBoxes, HasGone, KeepsMarks, IsMarked, MarksNoMore, Follows}
 
 -- lists
 
@@ -323,9 +325,111 @@ module _ {B : Type 0} where
       there true o lives = refl
       there false o lives = lives
 
+-- marks of host objects
+
+answered_first : (one two : List HostRecord) (n : ℕ) → HasAnswered one n → HasAnswered (one ++ two) n
+answered_first one two n has = (has.0, Contains-append_left one two has.0 has.1, has.2)
+
+answered_later : (one two : List HostRecord) (n : ℕ) → HasAnswered two n → HasAnswered (one ++ two) n
+answered_later one two n has = (has.0, Contains-append_right one two has.0 has.1, has.2)
+
+module _ {B : Type 0} where
+  boxed_lives : (n : ℕ) (table : Table B) (x : Living B) → object_at n table.objects ≡ Some x → IsSome (box_at n table) → IsSome (box_of x.body)
+  boxed_lives n table x at has = subst (λ (o : Option (Living B)). IsSome (option_and_then (λ (y : Living B). box_of y.body) o)) at has
+
+  no_more_then : (one two : List HostRecord) (old mid new : Table B) → old.last ≤ mid.last
+      → ((n : ℕ) → n ≤ mid.last → IsSome (box_at n new) → IsSome (box_at n mid))
+      → MarksNoMore one old mid → MarksNoMore two mid new → MarksNoMore (one ++ two) old new
+  no_more_then one two old mid new rises was first second n is has =
+      elim (second n is has) [
+        | inl given ↦ inl (omega (arith, given, rises))
+        | inr earlier ↦
+            elim earlier [
+              | inl marked ↦ before marked
+              | inr answered ↦ inr (inr (answered_later one two n answered))
+            ]
+      ]
+    where
+      onward : (old.last < n) ⊎ (IsMarked old n ⊎ HasAnswered one n) → (old.last < n) ⊎ (IsMarked old n ⊎ HasAnswered (one ++ two) n)
+      onward (inl given) = inl given
+      onward (inr (inl marked)) = inr (inl marked)
+      onward (inr (inr answered)) = inr (inr (answered_first one two n answered))
+
+      before : IsMarked mid n → (old.last < n) ⊎ (IsMarked old n ⊎ HasAnswered (one ++ two) n)
+      before marked =
+          ⊎_elim (λ above. inl (omega (arith, above, rises)))
+          (λ below. onward (first n marked (was n below has)))
+          (cases_lt mid.last n)
+
+  -- an object that is changed, and is no host object
+  pub no_more_changed : (f : Living B → Living B) (n : ℕ) (table : Table B) → (box_at n table ≡ None)
+      → ((x : Living B) → box_of (f x).body ≡ box_of x.body) → MarksNoMore [] table (with_object n f table)
+  no_more_changed f n table none same m is has =
+      go (nat_eq n m) refl (object_at m table.objects) refl (sym (object_at-change n f m table.objects) ∙ is.there)
+    where
+      boxed : IsSome (box_of (is.object).body)
+      boxed = boxed_lives m (with_object n f table) is.object is.there has
+
+      unboxed : (y : Living B) → n ≡ m → object_at m table.objects ≡ Some y → box_of y.body ≡ None
+      unboxed y here at =
+          sym (ap (option_and_then (λ (x : Living B). box_of x.body)) at)
+          ∙ ap (λ (k : ℕ). box_at k table) (sym here) ∙ none
+
+      go : (b : Bool) → nat_eq n m ≡ b → (o : Option (Living B)) → object_at m table.objects ≡ o → cond b (option_map f o) o ≡ Some is.object
+          → (table.last < m) ⊎ (IsMarked table m ⊎ HasAnswered [] m)
+      go true here None at now = absurd (cc)
+      go true here (Some y) at now =
+          let one : f y ≡ is.object = cc in
+          let lacks : box_of (is.object).body ≡ None = ap (λ (x : Living B). box_of x.body) (sym one) ∙ same y ∙ unboxed y (eqb-true n m here) at in
+          let no = subst (λ (o : Option B). IsSome o) lacks boxed in
+          absurd (cc)
+      go false other o at now = inr (inl (record { object = is.object; there = at ∙ now; marked = is.marked }))
+
+  -- the host object that gave an answer
+  pub no_more_answered : (records : List HostRecord) (f : Living B → Living B) (n : ℕ) (table : Table B) → HasAnswered records n
+      → MarksNoMore records table (with_object n f table)
+  no_more_answered records f n table answered m is has =
+      go (nat_eq n m) refl (sym (object_at-change n f m table.objects) ∙ is.there)
+    where
+      go : (b : Bool) → nat_eq n m ≡ b → cond b (option_map f (object_at m table.objects)) (object_at m table.objects) ≡ Some is.object
+          → (table.last < m) ⊎ (IsMarked table m ⊎ HasAnswered records m)
+      go true here now = inr (inr (subst (HasAnswered records) (eqb-true n m here) answered))
+      go false other now = inr (inl (record { object = is.object; there = now; marked = is.marked }))
+
+  -- an object that is made
+  pub no_more_made : (records : List HostRecord) (slot : ℕ) (body : Body B) (pool : List B) (table : Table B)
+      → MarksNoMore records table (record (with_new_object slot body table) { pool = pool })
+  no_more_made records slot body pool table m is has =
+      go (nat_eq m (table.last + 1)) refl (sym (object_at-with_at (table.last + 1) (new_object slot body) m table.objects) ∙ is.there)
+    where
+      go : (b : Bool) → nat_eq m (table.last + 1) ≡ b → cond b (Some (new_object slot body)) (object_at m table.objects) ≡ Some is.object
+          → (table.last < m) ⊎ (IsMarked table m ⊎ HasAnswered records m)
+      go true next now = let at = eqb-true m (table.last + 1) next in inl (omega (arith, at))
+      go false other now = inr (inl (record { object = is.object; there = now; marked = is.marked }))
+
 module _ {B : Type 0} (G : Ghosts B) where
-  pub follows_then : (one two : List (ℕ × B)) (old mid new : Table B) → Follows G one old mid → Follows G two mid new → Follows G (one ++ two) old new
-  follows_then one two old mid new first second = record {
+  -- a box that is there of a number that was given was there
+  box_was : (drawn : List (ℕ × B)) (old new : Table B) → KeepsBoxes G drawn old new → (n : ℕ) → n ≤ old.last → n ≤ new.last → IsSome (box_at n new) → IsSome (box_at n old)
+  box_was drawn old new keeps n before within has = go (box_at n new) refl has
+    where
+      still_some : (o : Option B) (box : B) → IsStill G o box → IsSome o
+      still_some None box is = absurd is
+      still_some (Some other) box is = refl
+
+      go : (o : Option B) → box_at n new ≡ o → IsSome o → IsSome (box_at n old)
+      go None is has = absurd (cc)
+      go (Some box) is has =
+          let now : nat_le n new.last ≡ true = grind (arith, nat_tests) in
+          let given : nat_le n old.last ≡ true = grind (arith, nat_tests) in
+          let still : IsStill G (box_for old drawn (targets.Object n)) box = keeps.still (targets.Object n) box (ap (λ (b : Bool). cond b (box_at n new) None) now ∙ is) in
+          still_some (box_at n old) box (subst (λ (b : Bool). IsStill G (cond b (box_at n old) (object_at n drawn)) box) given still)
+
+  pub follows_then : (one two : List (ℕ × B)) (first_records records : List HostRecord) (old mid new : Table B)
+      → Follows G one first_records old mid → Follows G two records mid new → Follows G (one ++ two) (first_records ++ records) old new
+  follows_then one two first_records records old mid new first second = record {
     boxes = keeps_then G one two old mid new first.boxes second.boxes;
     marks = marks_then old mid new (first.boxes).rises first.marks second.marks;
+    no_more = no_more_then first_records records old mid new (first.boxes).rises
+        (λ n below has. box_was two mid new second.boxes n below (omega (arith, below, (second.boxes).rises)) has)
+        first.no_more second.no_more;
   }

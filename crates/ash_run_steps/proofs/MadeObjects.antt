@@ -25,7 +25,7 @@ use Rattle.ash_objects.specs.Table.{Living, Table, holds_of}
 use Rattle.ash_object_ranks.specs.ShownTables.{body_shown, objects_shown}
 use Rattle.ash_run_steps.specs.Following.{Follows}
 use Rattle.ash_run_steps.specs.RunStates.{State, Names, shown}
-use Rattle.ash_run_steps.proofs.Followed.{keeps_by, marks_made}
+use Rattle.ash_run_steps.proofs.Followed.{keeps_by, marks_made, no_more_made}
 use Rattle.ash_run_steps.proofs.HoldSteps.{at_table}
 
 -- a value that is put among others, each of which is mapped
@@ -77,11 +77,12 @@ module _ {B : Type 0} where
         go None is at = absurd (cc)
         go (Some x) is at = (numbered.given m (ap is_some is)).1
 
-    pub follows_made : (G : Ghosts B) → box_of body ≡ None → Follows G [] table (with_new_object slot body table)
+    pub follows_made : (G : Ghosts B) → box_of body ≡ None → Follows G [] [] table (with_new_object slot body table)
     follows_made G none = record {
       boxes = keeps_by G table (with_new_object slot body table) (omega arith) refl refl
           (λ m box below at. let was = sym (made_box none m) ∙ at in (lived m box was, was));
       marks = marks_made slot body table.pool table;
+      no_more = no_more_made [] slot body table.pool table;
     }
 
 module _ {B : Type 0} (G : Ghosts B) (names : Names) where

@@ -32,7 +32,7 @@ use Rattle.ash_object_ranks.proofs.ShownTables.{living_shown, tables_have_ranks}
 use Rattle.ash_object_ranks.proofs.Sweeps.{all, dropped}
 use Rattle.ash_run_steps.specs.Answered.{drawn_in}
 use Rattle.ash_run_steps.specs.Becoming.{Becomes}
-use Rattle.ash_run_steps.specs.Following.{HasGone, KeepsMarks, Follows}
+use Rattle.ash_run_steps.specs.Following.{HasGone, KeepsMarks, IsMarked, Follows}
 use Rattle.ash_run_steps.specs.Guarded.{give}
 use Rattle.ash_run_steps.specs.GuardedSteps.{RankTest, release}
 use Rattle.ash_run_steps.specs.RunStates.{State, Names, HoldsRoots, roots_in, times, shown, world_shown, frame_shown, box_shown}
@@ -72,6 +72,14 @@ module _ {B : Type 0} where
       go : (o : Option (Living B)) → object_at m new.objects ≡ o → holds_of m new ≡ holds_of m old
       go None is = ap (λ (p : Option (Living B)). option_map_or (λ (x : Living B). x.holds) p 0) is ∙ sym (collects.not_held m is)
       go (Some x) is = ap (λ (p : Option (Living B)). option_map_or (λ (y : Living B). y.holds) p 0) (collects.unchanged m (ap is_some is))
+
+  -- who has a mark had it
+  pub marked_swept : (old new : Table B) → Collects old new → (n : ℕ) → IsMarked new n → IsMarked old n
+  marked_swept old new collects n is = record {
+    object = is.object;
+    there = sym (collects.unchanged n (ap is_some is.there)) ∙ is.there;
+    marked = is.marked;
+  }
 
 module _ {B : Type 0} (G : Ghosts B) where
   box_stays : (old new : Table B) → Collects old new → (n : ℕ) (box : B) → box_at n new ≡ Some box → box_at n old ≡ Some box
@@ -164,13 +172,14 @@ module _ {B : Type 0} (G : Ghosts B) where
         );
       }
 
-      follows_swept : Follows G [] old new
+      follows_swept : Follows G [] [] old new
       follows_swept =
           let last = ap (λ (t : Table B). t.last) collects.others in
           record {
             boxes = keeps_by G old new (omega (arith, last)) (ap (λ (t : Table B). t.pool) collects.others) (ap (λ (t : Table B). t.services) collects.others)
                 (λ n box below at. (omega (arith, below, last), box_stays old new collects n box at));
             marks = marks_swept;
+            no_more = λ n is has. inr (inl (marked_swept old new collects n is));
           }
 
   drops_draw : (ns : List ℕ) → drawn_in (map (λ n. Dropped n) ns) ≡ []

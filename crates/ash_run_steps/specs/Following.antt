@@ -1,16 +1,22 @@
--- What a table still is of one before it: its boxes are what they were, and what came, changed or went is marked.
+-- What a table still is of one before it: its boxes are what they were, what came, changed or went is marked, and of the
+-- host objects that were there only those that answered a call.
 use Rattle.std.specs.Prelude.{◌≡◌, ◌⊎◌, ◌↔◌, ◌<◌, ◌≤◌}
-use Rattle.std.specs.Prelude.{ℕ, false, cond, nat_le, List, [], slice_get, Option, Some, None, Contains}
+use Rattle.std.specs.Prelude.{ℕ, true, false, cond, nat_le, List, [], slice_get, Option, Some, None, IsSome, Contains}
 use Rattle.std.specs.List.{AllByRecursion}
 use Rattle.ash_host.specs.declared.event.Target.{Target}
 use Rattle.ash_host.specs.declared.event.Target.TheVariants as targets
 use Rattle.ash_host.specs.declared.host_object.HostObject.{Ghosts}
 use Rattle.ash_host.specs.Objects.{object_at, Lives}
+use Rattle.ash_host.specs.Records.{HostRecord}
 use Rattle.ash_objects.specs.Table.{Living, Table}
 use Rattle.ash_objects.specs.Responses.{box_at}
 use Rattle.ash_run_steps.specs.Answered.{IsStill}
 use Rattle.ash_run_steps.specs.Drawing.{Enough, draw_all, kinds_of}
 use Rattle.ash_run_steps.specs.RunStates.{bare_living}
+
+-- the object of this number gave one of the answers
+abbrev pub HasAnswered : List HostRecord → ℕ → Type 0
+HasAnswered records number = (r : HostRecord) × Contains records r × (r.target ≡ targets.Object number)
 
 module _ {B : Type 0} where
   -- The box that a call goes to: that of a service, of an object whose number was given, or of one drawn since.
@@ -48,7 +54,19 @@ module _ {B : Type 0} where
     pub gone : old.settled ≤ old.last → (number : ℕ)
         → Contains new.gone number ↔ (Contains old.gone number ⊎ HasGone old new number)
 
-  -- the same of both, if these were drawn
-  pub record Follows (G : Ghosts B) (drawn : List (ℕ × B)) (old new : Table B) : Type 0 where
+  -- an object has a mark
+  pub record IsMarked (table : Table B) (number : ℕ) : Type 0 where
+    pub object : Living B
+    pub there : object_at number table.objects ≡ Some object
+    pub marked : object.touched ≡ true
+
+  -- A host object that has a mark came since, had it before, or gave one of these answers.
+  abbrev pub MarksNoMore : List HostRecord → Table B → Table B → Type 0
+  MarksNoMore records old new = (number : ℕ) → IsMarked new number → IsSome (box_at number new)
+      → (old.last < number) ⊎ (IsMarked old number ⊎ HasAnswered records number)
+
+  -- the same of all three, if these were drawn, and boxes gave these answers
+  pub record Follows (G : Ghosts B) (drawn : List (ℕ × B)) (records : List HostRecord) (old new : Table B) : Type 0 where
     pub boxes : KeepsBoxes G drawn old new
     pub marks : KeepsMarks old new
+    pub no_more : MarksNoMore records old new

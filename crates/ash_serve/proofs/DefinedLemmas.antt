@@ -1,12 +1,15 @@
 -- Commands that a host over two disks replied to in turn are a run of the definition, up to the first failure, and part
 -- of a life of its store.
 use Rattle.std.proofs.Common.{◌≡◌, ℕ, List, [], ◌∷◌, subst}
+use Rattle.std.specs.Bool.{IsTrue}
 use Rattle.ash_disk.specs.Device.{Device}
 use Rattle.ash_host.specs.declared.host_object.HostObject.{Ghosts}
 use Rattle.ash_durable.specs.Batches.{HandlesCalls}
 use Rattle.ash_durable.specs.Hosting.{Hosted}
+use Rattle.ash_durable.specs.KeptAnswers.{KeepsAnswers}
 use Rattle.ash_durable.specs.Lives.{LivesOn}
 use Rattle.ash_durable.specs.RequestRuns.{RunsToFailure}
+use Rattle.ash_durable.proofs.KeptAnswers.{keeps_answers}
 use Rattle.ash_durable.proofs.LivesOn.{lives_on}
 use Rattle.ash_durable.proofs.Running.{runs_to_failure}
 use Rattle.ash_lines.specs.Lines.{HostRequest, Quit, BadRequest, LineTooLong, Command, Single, Batch}
@@ -35,3 +38,6 @@ replies_run device G budget old commands replies new h = runs_to_failure device 
 
 pub replies_live : {D B : Type 0} (device : Device D) (G : Ghosts B) (budget : ℕ) (old : Hosted D B) (commands : List Command) (replies : List CommandReply) (new : Hosted D B) → RepliesToAll (hosting device G budget) old commands replies new → LivesOn device G budget old (host_calls commands) (host_results replies) new
 replies_live device G budget old commands replies new h = lives_on device G budget old (host_calls commands) (host_results replies) new (handles_all device G budget old commands replies new h)
+
+pub replies_kept : {D B : Type 0} (device : Device D) (G : Ghosts B) (stays : (disk : D) → IsTrue (device.honest disk) → device.leaves disk (device.clock disk) (device.seen disk)) (budget : ℕ) (old : Hosted D B) (commands : List Command) (replies : List CommandReply) (new : Hosted D B) → RepliesToAll (hosting device G budget) old commands replies new → KeepsAnswers device G budget old (host_calls commands) (host_results replies) new
+replies_kept device G stays budget old commands replies new h = keeps_answers device G stays budget old (host_calls commands) (host_results replies) new (handles_all device G budget old commands replies new h)

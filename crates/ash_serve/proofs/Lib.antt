@@ -1,5 +1,6 @@
 pub mod NextLemmas
 pub mod RequestLemmas
+pub mod ReadyLemmas
 pub mod ServingLemmas
 pub mod RunningLemmas
 pub mod DefinedLemmas

@@ -1,5 +1,5 @@
 -- A run over a reader and a writer, from the run over their source and sink.
-use Rattle.std.proofs.Common.{◌≡◌, ◌<◌, ℕ, true, is_some, length, List, [], ◌∷◌, ◌++◌, refl, sym, ap, ◌∙◌, subst}
+use Rattle.std.proofs.Common.{◌≡◌, ◌<◌, ◌≤◌, ◌+◌, length-append, ℕ, true, is_some, length, List, [], ◌∷◌, ◌++◌, refl, sym, ap, ◌∙◌, subst}
 use Rattle.std.proofs.Common.{arith, append_assoc, Option, Some, None, Ok, Err, Result, inl, inr, ⊎_elim, ◌⊎◌}
 use Rattle.std.proofs.lemmas.List.{append-nil}
 use Rattle.std.specs.Option.{option_to_list}
@@ -15,7 +15,7 @@ use Rattle.ash_serve.specs.Serving.{RequestRelation, BatchRelation, HostRelation
 use Rattle.ash_serve.specs.Serving.{RepliesToAll, Log, Serves}
 use Rattle.ash_serve.specs.Serving.{EndsBetweenRequests, Quits, run_state, serving_with}
 use Rattle.ash_serve.specs.StreamRuns.{Run, KnownState, RunEnds, ReadsPrefix, ReadsProperPrefix, ReadsAll, GoOn}
-use Rattle.ash_serve.specs.StreamRuns.{EndsWithQuit}
+use Rattle.ash_serve.specs.StreamRuns.{EndsWithQuit, LosesLittle, last_text, max_buffered_bytes}
 use Rattle.ash_lines.specs.Reader.{left_of, allowance_of, max_input_bytes, reader_feed, reader_is_feed}
 use Rattle.ash_lines.specs.Writer.{writer_outlet, writer_is_outlet}
 use Rattle.ash_lines.specs.declared.reader.Reader.{Reader}
@@ -101,14 +101,30 @@ all-flushed : {R W H : Type 0} (remaining : R → Option (List ℕ)) (contents :
 all-flushed remaining contents host before last t n log x =
     all-out contents before.output t (replies_text log.replies) n x.empty (flushed (writer_outlet contents) (writer_is_outlet contents) before.output last.output t (replies_text log.replies) log.written x)
 
--- a prefix of the replies so far and of what was being written went out
-part-out : {R W H : Type 0} (remaining : R → Option (List ℕ)) (contents : W → Option (List ℕ)) (host : HostRelation H) (before last : RunState (Reader R) (Writer W) H) (t : Writer W) (bytes : List ℕ) → before.output.buffer.items ≡ [] → (log : Log (serving-over remaining contents host) before last) → FailsPartway (writer_outlet contents) last.output bytes t → (out : List ℕ) × (lost : List ℕ) × (replies_text log.replies ++ bytes ≡ out ++ lost) × Appends (contents before.output.writer.now) (contents t.writer.now) out
-part-out remaining contents host before last t bytes n log x =
-    let f = accepts-fails (writer_outlet contents) (writer_is_outlet contents) before.output last.output t (replies_text log.replies) bytes log.written x in
-    (f.out, f.lost, ap (λ (y : List ℕ). y ++ (replies_text log.replies ++ bytes)) (sym n) ∙ f.whole, f.broke.0)
+last-more : (replies : List CommandReply) (reply : CommandReply) → last_text (replies ++ reply ∷ []) ≡ command_text reply
+last-more [] reply = refl
+last-more (first ∷ []) reply = refl
+last-more (first ∷ other ∷ replies) reply = last-more (other ∷ replies) reply
 
-pub run_ends : {R W H : Type 0} (remaining : R → Option (List ℕ)) (contents : W → Option (List ℕ)) (host : HostRelation H) (before after : RunState (Reader R) (Writer W) H) (input : Option (List ℕ)) (r : Result (Unit {0}) RunFault) → left_of remaining before.input ≡ input → allowance_of before.input ≡ max_input_bytes → before.output.buffer.items ≡ [] → Serves (serving-over remaining contents host) before r after → RunEnds host (run_state input (contents before.output.writer.now) before.host) r (contents after.output.writer.now) after.host
-run_ends {H = H} remaining contents host before after input (Ok x) e a n w =
+-- no more is lost than what is buffered and what was being written
+lost-within : {K : Type 0} (outlet : Outlet K) (s t u : K) (bytes more : List ℕ) (room : ℕ) → outlet.buffered s ≡ [] → outlet.room s ≡ room → Accepts outlet s bytes t → (x : FailsPartway outlet t more u) → length x.lost ≤ room + length more
+lost-within outlet s t u bytes more room n r h x =
+    let start : length (outlet.buffered s) ≤ outlet.room s = rw n (omega arith) in
+    let fits = h.room.within start in
+    let all = ap length x.whole in
+    omega (arith, fits, all, length-append (outlet.buffered t) more, length-append x.out x.lost, h.room.same, r)
+
+-- a prefix of the replies so far and of what was being written went out
+part-out : {R W H : Type 0} (remaining : R → Option (List ℕ)) (contents : W → Option (List ℕ)) (host : HostRelation H) (before last : RunState (Reader R) (Writer W) H) (t : Writer W) (bytes : List ℕ) → before.output.buffer.items ≡ [] → before.output.room ≡ max_buffered_bytes → (log : Log (serving-over remaining contents host) before last) → FailsPartway (writer_outlet contents) last.output bytes t → (out : List ℕ) × (lost : List ℕ) × (replies_text log.replies ++ bytes ≡ out ++ lost) × (length lost ≤ max_buffered_bytes + length bytes) × Appends (contents before.output.writer.now) (contents t.writer.now) out
+part-out remaining contents host before last t bytes n room log x =
+    let f = accepts-fails (writer_outlet contents) (writer_is_outlet contents) before.output last.output t (replies_text log.replies) bytes log.written x in
+    (f.out, f.lost, ap (λ (y : List ℕ). y ++ (replies_text log.replies ++ bytes)) (sym n) ∙ f.whole, lost-within (writer_outlet contents) before.output last.output t (replies_text log.replies) bytes max_buffered_bytes n room log.written x, f.broke.0)
+
+little : (replies : List CommandReply) (lost : List ℕ) → length lost ≤ max_buffered_bytes + length {A = ℕ} [] → LosesLittle replies lost
+little replies lost h = omega (arith, h)
+
+pub run_ends : {R W H : Type 0} (remaining : R → Option (List ℕ)) (contents : W → Option (List ℕ)) (host : HostRelation H) (before after : RunState (Reader R) (Writer W) H) (input : Option (List ℕ)) (r : Result (Unit {0}) RunFault) → left_of remaining before.input ≡ input → allowance_of before.input ≡ max_input_bytes → before.output.buffer.items ≡ [] → before.output.room ≡ max_buffered_bytes → Serves (serving-over remaining contents host) before r after → RunEnds host (run_state input (contents before.output.writer.now) before.host) r (contents after.output.writer.now) after.host
+run_ends {H = H} remaining contents host before after input (Ok x) e a n room w =
     let last = w.0 in let log = w.1.log in
     ⊎_elim
     (λ (over : EndsBetweenRequests (serving-over remaining contents host) last after).
@@ -128,28 +144,28 @@ run_ends {H = H} remaining contents host before after input (Ok x) e a n w =
       inr (log.commands, refl, w.1.on),
     ))
     w.2
-run_ends remaining contents host before after input (Err faults.Truncated) e a n w =
+run_ends remaining contents host before after input (Err faults.Truncated) e a n room w =
     let last = w.0 in let log = w.1.log in let cut = w.2 in
     let whole = (reader_is_feed remaining).onward before.input last.input after.input log.read cut.rest log.took cut.took in
     let from : Consumes input (left_of remaining after.input) (log.read ++ cut.rest) = subst (λ (y : Option (List ℕ)). Consumes y (left_of remaining after.input) (log.read ++ cut.rest)) e whole.0 in
     let wrote = all-flushed remaining contents host before last after.output n log cut.flushed in
     rw cut.host_same (run-of remaining contents host before last after.input cut.rest a log cut.took, reads_all input (left_of remaining after.input) (log.read ++ cut.rest) from cut.ended, wrote, cut.cut, w.1.on)
-run_ends remaining contents host before after input (Err (faults.Read read_faults.TooLong)) e a n w =
+run_ends remaining contents host before after input (Err (faults.Read read_faults.TooLong)) e a n room w =
     let last = w.0 in let log = w.1.log in let f = w.2 in
     let whole = (reader_is_feed remaining).onward before.input last.input after.input log.read f.rest log.took f.faults.0 in
     let from : Consumes input (left_of remaining after.input) (log.read ++ f.rest) = subst (λ (y : Option (List ℕ)). Consumes y (left_of remaining after.input) (log.read ++ f.rest)) e whole.0 in
     let wrote = all-flushed remaining contents host before last after.output n log f.flushed in
     rw f.host_same (run-of remaining contents host before last after.input f.rest a log f.faults.0, reads_proper_prefix input (left_of remaining after.input) (log.read ++ f.rest) from (has-more after.input.extra (reader_remaining remaining after.input.reader) f.faults.2), wrote, f.unfinished, omega (arith, whole.1, a, f.faults.1), w.1.on)
-run_ends remaining contents host before after input (Err (faults.Read read_faults.Failed)) e a n w =
+run_ends remaining contents host before after input (Err (faults.Read read_faults.Failed)) e a n room w =
     let last = w.0 in let log = w.1.log in let f = w.2 in let end = f.faults.0 in
     let whole = (reader_is_feed remaining).onward before.input last.input end log.read f.rest log.took f.faults.1 in
     let from : Consumes input (left_of remaining end) (log.read ++ f.rest) = subst (λ (y : Option (List ℕ)). Consumes y (left_of remaining end) (log.read ++ f.rest)) e whole.0 in
     let wrote = all-flushed remaining contents host before last after.output n log f.flushed in
     rw f.host_same (run-of remaining contents host before last end f.rest a log f.faults.1, reads_prefix input (left_of remaining end) (log.read ++ f.rest) from, wrote, f.unfinished, w.1.on)
-run_ends remaining contents host before after input (Err faults.Write) e a n (last, gone, inl f) =
+run_ends remaining contents host before after input (Err faults.Write) e a n room (last, gone, inl f) =
     let log = gone.log in let served = f.handled in
     let whole = (reader_is_feed remaining).onward before.input last.input after.input log.read served.bytes log.took served.took in
-    let part = part-out remaining contents host before last after.output (command_text f.reply) n log f.failed in (
+    let part = part-out remaining contents host before last after.output (command_text f.reply) n room log f.failed in (
       record {
         read = log.read ++ served.bytes;
         commands = log.commands ++ f.command ∷ [];
@@ -165,14 +181,15 @@ run_ends remaining contents host before after input (Err faults.Write) e a n (la
       part.0,
       part.1,
       text-more log.replies f.reply ∙ part.2,
-      part.3,
+      subst (λ (text : List ℕ). length part.1 ≤ max_buffered_bytes + length text) (sym (last-more log.replies f.reply)) part.3,
+      part.4,
       inr (log.commands, f.command, refl, gone.on),
     )
-run_ends remaining contents host before after input (Err faults.Write) e a n (last, gone, inr f) =
+run_ends remaining contents host before after input (Err faults.Write) e a n room (last, gone, inr f) =
     let log = gone.log in
     let whole = (reader_is_feed remaining).onward before.input last.input f.reached log.read f.rest log.took f.took in
     let from = subst (λ (y : Option (List ℕ)). Consumes y (left_of remaining f.reached) (log.read ++ f.rest)) e whole.0 in
-    let part = part-out remaining contents host before last after.output [] n log f.failed in
+    let part = part-out remaining contents host before last after.output [] n room log f.failed in
     rw f.host_same (
       run-of remaining contents host before last f.reached f.rest a log f.took,
       reads_prefix input (left_of remaining f.reached) (log.read ++ f.rest) from,
@@ -180,12 +197,13 @@ run_ends remaining contents host before after input (Err faults.Write) e a n (la
       part.0,
       part.1,
       sym (append-nil (replies_text log.replies)) ∙ part.2,
-      part.3,
+      little log.replies part.1 part.3,
+      part.4,
       inl gone.on,
     )
-run_ends remaining contents host before after input (Err faults.NoMemory) e a n (inl same) =
+run_ends remaining contents host before after input (Err faults.NoMemory) e a n room (inl same) =
     inl (same.host_same, subst (λ (y : Writer _). Keeps (contents before.output.writer.now) (contents y.writer.now)) (sym same.output_same) (keeps_all (contents before.output.writer.now)))
-run_ends remaining contents host before after input (Err faults.NoMemory) e a n (inr (last, gone, f)) =
+run_ends remaining contents host before after input (Err faults.NoMemory) e a n room (inr (last, gone, f)) =
     let log = gone.log in
     let whole = (reader_is_feed remaining).onward before.input last.input after.input log.read f.rest log.took f.took in
     let from : Consumes input (left_of remaining after.input) (log.read ++ f.rest) = subst (λ (y : Option (List ℕ)). Consumes y (left_of remaining after.input) (log.read ++ f.rest)) e whole.0 in
@@ -207,9 +225,9 @@ serves_name remaining contents host before after (Err faults.NoMemory) (inl same
 serves_name remaining contents host before after (Err faults.NoMemory) (inr (last, gone, f)) = f.flushed.written.1 ∙ gone.log.written.written.1
 
 -- the run, where the writer is lent as `old` and ends as `new`
-pub run_writes : {R W H : Type 0} (remaining : R → Option (List ℕ)) (contents : W → Option (List ℕ)) (host : HostRelation H) (before after : RunState (Reader R) (Writer W) H) (input : Option (List ℕ)) (r : Result (Unit {0}) RunFault) (old new : W) → left_of remaining before.input ≡ input → allowance_of before.input ≡ max_input_bytes → before.output.buffer.items ≡ [] → before.output.writer.now ≡ old → (after.output.writer.ghost_name ≡ before.output.writer.ghost_name → new ≡ after.output.writer.now) → Serves (serving-over remaining contents host) before r after → RunEnds host (run_state input (contents old) before.host) r (contents new) after.host
-run_writes remaining contents host before after input r old new e a n b f w =
-    let ends = run_ends remaining contents host before after input r e a n w in
+pub run_writes : {R W H : Type 0} (remaining : R → Option (List ℕ)) (contents : W → Option (List ℕ)) (host : HostRelation H) (before after : RunState (Reader R) (Writer W) H) (input : Option (List ℕ)) (r : Result (Unit {0}) RunFault) (old new : W) → left_of remaining before.input ≡ input → allowance_of before.input ≡ max_input_bytes → before.output.buffer.items ≡ [] → before.output.room ≡ max_buffered_bytes → before.output.writer.now ≡ old → (after.output.writer.ghost_name ≡ before.output.writer.ghost_name → new ≡ after.output.writer.now) → Serves (serving-over remaining contents host) before r after → RunEnds host (run_state input (contents old) before.host) r (contents new) after.host
+run_writes remaining contents host before after input r old new e a n room b f w =
+    let ends = run_ends remaining contents host before after input r e a n room w in
     subst (λ (y : _). RunEnds host (run_state input (contents y) before.host) r (contents new) after.host) b
     (subst (λ (y : _). RunEnds host (run_state input (contents before.output.writer.now) before.host) r (contents y) after.host) (sym (f (serves_name remaining contents host before after r w))) ends)
 

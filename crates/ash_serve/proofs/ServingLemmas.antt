@@ -3,6 +3,7 @@ use Rattle.std.proofs.Common.{◌≡◌, ◌<◌, ℕ, true, false, List, [], �
 use Rattle.std.proofs.Common.{append_assoc, Option, Some, None, Result, Ok, Err, inl, inr}
 use Rattle.std.proofs.lemmas.List.{append-nil}
 use Rattle.std.specs.List.{AllByRecursion}
+use Rattle.std.specs.Prelude.{OnOk}
 use Rattle.ash_lines.specs.Source.{Feed, Faults, IsFeed}
 use Rattle.ash_lines.specs.Sink.{Outlet, IsOutlet, Accepts, WritesAll, FailsPartway, Writes, Flushes}
 use Rattle.ash_lines.specs.declared.sink.WriteFault.{WriteFault}
@@ -17,7 +18,7 @@ use Rattle.ash_serve.specs.CommandReplies.{CommandReply, SingleReply, BatchRepli
 use Rattle.ash_serve.specs.CommandReplies.{replies_text}
 use Rattle.ash_serve.specs.Serving.{HostRelation, Handling, RequestState, Serving, RunState, handling_with, handling_of}
 use Rattle.ash_serve.specs.Serving.{without_output, HandlesNext, HandledCommand, RepliesTo, RepliesToAll, Log}
-use Rattle.ash_serve.specs.Serving.{OngoingLog, Serves, EndsByFault, FlushFails, Quits, Closes, ends_run}
+use Rattle.ash_serve.specs.Serving.{OngoingLog, Turn, Turns, IsPrompt, Serves, EndsByFault, FlushFails, Quits, Closes, ends_run}
 use Rattle.ash_serve.specs.Serving.{BatchRelation, RequestRelation, relations}
 use Rattle.ash_serve.specs.declared.fault.RunFault.{RunFault}
 use Rattle.ash_serve.specs.declared.fault.RunFault.TheVariants as faults
@@ -120,13 +121,20 @@ all-more : (commands : List Command) (command : Command) → AllByRecursion Cont
 all-more [] command h on = (on, tt)
 all-more (first ∷ commands) command h on = (h.0, all-more commands command h.1 on)
 
-pub ongoing-nil : {S K H : Type 0} (serving : Serving S K H) → IsFeed serving.feed → IsOutlet serving.outlet → (state : RunState S K H) → OngoingLog serving state state
-ongoing-nil serving is io state = record { log = log-nil serving is io state; on = tt }
+turns-more : {S K H : Type 0} (serving : Serving S K H) (before last after : RunState S K H) (commands : List Command) (replies : List CommandReply) (command : Command) (reply : CommandReply) → Turns serving before commands replies last → Turn serving last command reply after → Turns serving before (commands ++ command ∷ []) (replies ++ reply ∷ []) after
+turns-more {S} {K} {H} serving before last after [] [] command reply h turn = (after, subst (λ (x : RunState S K H). Turn serving x command reply after) h turn, refl)
+turns-more serving before last after [] (other ∷ replies) command reply h turn = absurd h
+turns-more serving before last after (first ∷ commands) [] command reply h turn = absurd h
+turns-more serving before last after (first ∷ commands) (other ∷ replies) command reply h turn = (h.0, h.1, turns-more serving h.0 last after commands replies command reply h.2 turn)
 
-pub ongoing-more : {S K H : Type 0} (serving : Serving S K H) → IsFeed serving.feed → IsOutlet serving.outlet → (before last after : RunState S K H) (command : Command) (reply : CommandReply) → OngoingLog serving before last → HandledCommand (handling_of serving) (without_output last) command reply (without_output after) → Accepts serving.outlet last.output (command_text reply) after.output → ContinuesRun command → OngoingLog serving before after
-ongoing-more serving is io before last after command reply gone served x on = record {
+pub ongoing-nil : {S K H : Type 0} (serving : Serving S K H) → IsFeed serving.feed → IsOutlet serving.outlet → (state : RunState S K H) → OngoingLog serving state state
+ongoing-nil serving is io state = record { log = log-nil serving is io state; on = tt; turns = refl }
+
+pub ongoing-more : {S K H : Type 0} (serving : Serving S K H) → IsFeed serving.feed → IsOutlet serving.outlet → (before last after : RunState S K H) (command : Command) (reply : CommandReply) → OngoingLog serving before last → HandledCommand (handling_of serving) (without_output last) command reply (without_output after) → Accepts serving.outlet last.output (command_text reply) after.output → IsPrompt serving.feed serving.outlet after.input after.output → ContinuesRun command → OngoingLog serving before after
+ongoing-more serving is io before last after command reply gone served x prompt on = record {
   log = log-more serving is io before last after command reply gone.log served x;
   on = all-more gone.log.commands command gone.on on;
+  turns = turns-more serving before last after gone.log.commands gone.log.replies command reply gone.turns (record { handled = served; written = x; prompt = prompt });
 }
 
 -- a command takes from the allowance
@@ -166,9 +174,14 @@ serves_quit serving io before last after middle reply r log e w x (inr y) = rw y
 -- bytes and all before them went out
 pub all-accepted : {K : Type 0} (outlet : Outlet K) (s t : K) (bytes : List ℕ) → WritesAll outlet s bytes t → Accepts outlet s bytes t
 all-accepted outlet s t bytes w =
-    record { out = outlet.buffered s ++ bytes; written = w.written; whole = sym (ap (λ (y : List ℕ). (outlet.buffered s ++ bytes) ++ y) w.empty ∙ append-nil (outlet.buffered s ++ bytes)) }
+    record { out = outlet.buffered s ++ bytes; written = w.written; whole = sym (ap (λ (y : List ℕ). (outlet.buffered s ++ bytes) ++ y) w.empty ∙ append-nil (outlet.buffered s ++ bytes)); room = record { same = w.room_same; within = λ h. rw w.empty (omega arith) } }
 
 -- written, and then flushed
 pub writes-flushes : {K : Type 0} (outlet : Outlet K) → IsOutlet outlet → (s t u : K) (bytes : List ℕ) (r : Result (Unit {0}) WriteFault) → Accepts outlet s bytes t → Flushes outlet t r u → Writes outlet s bytes r u
 writes-flushes outlet io s t u bytes (Ok x) h k = all-accepted outlet s u bytes (accepts-flushes outlet io s t u bytes (Ok x) h k)
 writes-flushes outlet io s t u bytes (Err x) h k = accepts-then-fails outlet io s t u bytes h k
+
+-- nothing waits once all is flushed
+pub flush_prompts : {S K : Type 0} (feed : Feed S) (outlet : Outlet K) (input : S) (s t : K) (r : Result (Unit {0}) WriteFault) → Flushes outlet s r t → OnOk r (IsPrompt feed outlet input t)
+flush_prompts feed outlet input s t (Ok x) h = inl h.empty
+flush_prompts feed outlet input s t (Err x) h = tt

@@ -9,7 +9,7 @@ use Rattle.ash_lines.specs.Source.{Feed, Faults}
 use Rattle.ash_lines.specs.Reading.{source_prefix}
 use Rattle.ash_lines.specs.Sink.{Outlet, Accepts, WritesAll, FailsPartway}
 use Rattle.ash_lines.specs.Lines.{Line, HostRequest, Quit, BadRequest, LineTooLong, Command, Single, Batch, ContinuesRun}
-use Rattle.ash_lines.specs.Lines.{Cut, next, ConsistsOf, is_unfinished}
+use Rattle.ash_lines.specs.Lines.{Cut, Whole, next, ConsistsOf, is_unfinished}
 use Rattle.ash_lines.specs.ReplyText.{LineReply, HostReply, QuitReply, BadRequestReply, LineTooLongReply}
 use Rattle.ash_lines.specs.declared.source.ReadFault.{ReadFault}
 use Rattle.ash_serve.specs.BatchLines.{batch_request, prefix_of}
@@ -246,11 +246,36 @@ pub record Log {S K H : Type 0} (serving : Serving S K H) (before after : RunSta
   pub handled : RepliesToAll serving.host before.host commands replies after.host
   pub written : Accepts serving.outlet before.output (replies_text replies) after.output
 
+-- A whole command lies at the front of these bytes.
+abbrev pub HasCommand : List ℕ → Type 0
+HasCommand bytes = (command : Command) × (more : List ℕ) × (next bytes ≡ Whole command more)
+
+-- Nothing waits to be written, unless a whole command is ready to be read.
+abbrev pub IsPrompt : {S K : Type 0} → Feed S → Outlet K → S → K → Type 0
+IsPrompt feed outlet input output = (outlet.buffered output ≡ []) ⊎ HasCommand (feed.ready input)
+
+-- One turn: a command was read and handled, and the reply to it went out or is buffered.
+pub record Turn {S K H : Type 0} (serving : Serving S K H) (before : RunState S K H) (command : Command)
+    (reply : CommandReply) (after : RunState S K H) : Type 0 where
+  pub handled : HandledCommand (handling_of serving) (without_output before) command reply (without_output after)
+  pub written : Accepts serving.outlet before.output (command_text reply) after.output
+  pub prompt : IsPrompt serving.feed serving.outlet after.input after.output
+
+-- The turns of a run, one after another.
+abbrev pub Turns : {S K H : Type 0} → Serving S K H → RunState S K H → List Command → List CommandReply
+    → RunState S K H → Type 0
+Turns serving before [] [] after = after ≡ before
+Turns {S} {K} {H} serving before (command ∷ commands) (reply ∷ replies) after =
+    (between : RunState S K H) × Turn serving before command reply between
+    × Turns serving between commands replies after
+Turns serving before _ _ after = ⊥
+
 -- A run so far in which no command was `quit`.
 pub record OngoingLog {S K H : Type 0} (serving : Serving S K H) (before after : RunState S K H)
     : Type 0 where
   pub log : Log serving before after
   pub on : AllByRecursion ContinuesRun log.commands
+  pub turns : Turns serving before log.commands log.replies after
 
 -- `quit` was read, and the reply to it was written.
 pub record Quits {S K H : Type 0} (serving : Serving S K H) (before after : RunState S K H)

@@ -1,8 +1,9 @@
 //! The request loop: from the bytes of requests to the bytes of replies, over the host of `ash_durable`, the lines of
 //! `ash_lines`, and std's `Read` and `Write`. It promises that what is written is the text of the replies to the
-//! requests and batches of which the input consists, in order, or a prefix of it if a write fails; that what the host
-//! was asked and gave is a run of the written steps, up to the first call by which it must be reopened; and that
-//! nothing of a batch is handled before all of it is read.
+//! requests and batches of which the input consists, in order, or a prefix of it if a write fails; that no reply is left
+//! in the buffer when a command is read that is not whole in the input's buffer, and never more than 8,192 bytes; that
+//! what the host was asked and gave is a run of the written steps, up to the first call by which it must be reopened;
+//! and that nothing of a batch is handled before all of it is read.
 //!
 //! `handler` is what handles requests: the host. `serve` is the loop: a `session` reads a command, which is a request or
 //! a batch of them, into its `buffers`, and has the host handle it; the requests of a batch are `owned` until all are

@@ -2,6 +2,7 @@
 
 ghost use Rattle.std.specs.Prelude.{List};
 ghost use Rattle.ash_durable.specs.Hosting.{IsSaved, RunsSound};
+ghost use Rattle.ash_durable.specs.KeptAnswers.{KeepsAnswers};
 ghost use Rattle.ash_durable.specs.Lives.{LivesOn};
 ghost use Rattle.ash_durable.specs.RequestRuns.{RunsToFailure};
 ghost use Rattle.ash_lines.specs.Lines.{Command};
@@ -25,7 +26,8 @@ pub(crate) const MAX_BUFFERED_BYTES: usize = 8192;
 
 /// Reads requests, has the host handle each with this budget in ticks, and writes the replies in order. A batch is read
 /// whole before its requests are handled, in one call. Replies are flushed before anything is read that may have to be
-/// waited for, and at the end: at most 8,192 bytes of replies wait for that. Ends at the end of the input between two
+/// waited for, and at the end: at most 8,192 bytes of replies wait for that. std's traits cannot say when a byte is
+/// written, so that is promised by `serve`, the loop, of every source and sink. Ends at the end of the input between two
 /// commands, or when the reply to `quit` is written.
 ///
 /// `Truncated` if the input ends inside a request or a batch, `Read(TooLong)` past 2^40 bytes, `Read(Failed)` and `Write`
@@ -56,6 +58,12 @@ pub fn run<D: Disk, B: HostObject, R: Read + Drop, W: Write>(
         → RepliesToAll (hosting D.Disk B.HostObject budget) host.old commands replies host.new
         → LivesOn D.Disk B.HostObject budget host.old (host_calls commands) (host_results replies)
         host.new }
+    // Whenever a crash comes, at any moment of a call of the host, between two, or afterwards: each answer so far is in
+    // all that it leaves.
+    ensures kept { (commands : List Command) (replies : List CommandReply)
+        → RepliesToAll (hosting D.Disk B.HostObject budget) host.old commands replies host.new
+        → KeepsAnswers D.Disk B.HostObject budget host.old (host_calls commands)
+        (host_results replies) host.new }
     ensures saved { IsSaved D.Disk host.old → IsSaved D.Disk host.new }
     // So do the boxes stay those of the state.
     ensures sound { RunsSound B.HostObject host.old → RunsSound B.HostObject host.new }

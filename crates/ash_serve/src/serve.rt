@@ -1,9 +1,10 @@
 //! The loop over a source and a sink.
 
-ghost use Rattle.std.specs.Prelude.{◌≡◌, []};
+ghost use Rattle.std.specs.Prelude.{◌≡◌, [], true, OnOk};
 ghost use Rattle.ash_lines.specs.Sink.{Writes};
 ghost use Rattle.ash_serve.specs.CommandReplies.{command_reply_of, command_text};
-ghost use Rattle.ash_serve.specs.Serving.{Closes, Serves, ends_run, relations, run_state, serving_with};
+ghost use Rattle.ash_serve.specs.Serving.{Closes, HasCommand, IsPrompt, Serves, ends_run, relations};
+ghost use Rattle.ash_serve.specs.Serving.{run_state, serving_with};
 
 use crate::fault::RunFault;
 use crate::handler::RequestHandler;
@@ -53,6 +54,7 @@ fn write_reply<S: Source, K: Sink>(
 ) -> Result<(), WriteFault>
     ensures written { Writes K.outlet output.old (command_text (command_reply_of reply)) result
         output.new }
+    ensures prompt { OnOk result (IsPrompt S.feed K.outlet input.now output.new) }
 {
     write_command_reply(output, reply)?;
     if is_request(input.ready()) {
@@ -64,7 +66,9 @@ fn write_reply<S: Source, K: Sink>(
 
 /// Whether these bytes begin with a whole request. Of a load or a batch they may have no more than the first line, so it
 /// counts as none.
-fn is_request(bytes: &[u8]) -> bool {
+fn is_request(bytes: &[u8]) -> bool
+    ensures whole { result ≡ true → HasCommand bytes.now }
+{
     bytes.contains(&b'\n') && !bytes.starts_with(b"load ") && !bytes.starts_with(b"batch ")
 }
 

@@ -106,7 +106,7 @@ impl HostState {
     pub fn image(&self) -> Result<Vec<u8>, AllocError>
         ensures image { IfOk result (λ image. IsImageIn Two image.items self.now) }
         // It fits into a record.
-        ensures short { IfOk result (λ image. length image.items < 2 ^ 32) }
+        ensures short { IfOk result (λ image. length image.items < 2 ^ 28) }
     {
         image_of(&self.registry, &self.state)
     }
@@ -115,7 +115,7 @@ impl HostState {
     pub fn body(&self) -> Result<Vec<u8>, AllocError>
         ensures body { IfOk result (λ body. IsBodyIn Two body.items self.now) }
         // It fits into a record.
-        ensures short { IfOk result (λ body. length body.items < 2 ^ 32) }
+        ensures short { IfOk result (λ body. length body.items < 2 ^ 28) }
     {
         body_of(&self.registry, &self.state)
     }

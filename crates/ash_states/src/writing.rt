@@ -56,7 +56,7 @@ fn image_by(
         services.now modules.now objects.now }
     ensures image { IfOk result (λ image. IsImageIn Two image.items
         (held_with (registered registry.now) state.now)) }
-    ensures short { IfOk result (λ image. length image.items < 2 ^ 32) }
+    ensures short { IfOk result (λ image. length image.items < 2 ^ 28) }
 {
     write_image(
         state.alloc,
@@ -78,7 +78,7 @@ fn body_by(
         services.now modules.now objects.now }
     ensures body { IfOk result (λ body. IsBodyIn Two body.items
         (held_with (registered registry.now) state.now)) }
-    ensures short { IfOk result (λ body. length body.items < 2 ^ 32) }
+    ensures short { IfOk result (λ body. length body.items < 2 ^ 28) }
 {
     write_body(
         state.alloc,
@@ -91,7 +91,7 @@ pub fn image_of(registry: &Registry, state: &PlainState) -> Result<Vec<u8>, Allo
     requires held { IsHeld (registered registry.now) state.now }
     ensures image { IfOk result (λ image. IsImageIn Two image.items
         (held_with (registered registry.now) state.now)) }
-    ensures short { IfOk result (λ image. length image.items < 2 ^ 32) }
+    ensures short { IfOk result (λ image. length image.items < 2 ^ 28) }
 {
     let kinds = registry.service_kinds()?;
     let services = service_parts(state.alloc, &kinds, &state.services)?;
@@ -105,7 +105,7 @@ pub fn body_of(registry: &Registry, state: &PlainState) -> Result<Vec<u8>, Alloc
     requires held { IsHeld (registered registry.now) state.now }
     ensures body { IfOk result (λ body. IsBodyIn Two body.items
         (held_with (registered registry.now) state.now)) }
-    ensures short { IfOk result (λ body. length body.items < 2 ^ 32) }
+    ensures short { IfOk result (λ body. length body.items < 2 ^ 28) }
 {
     let kinds = registry.service_kinds()?;
     let services = service_parts(state.alloc, &kinds, &state.services)?;

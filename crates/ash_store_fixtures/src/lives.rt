@@ -149,7 +149,7 @@ fn change_between<'a>(before: State, after: State, global: &'a [(u16, i32)]) -> 
         (None, None) => ModuleDelta::Unchanged,
         (None, Some(_)) => ModuleDelta::Added(module),
         (Some(_), None) => ModuleDelta::Removed("m"),
-        (Some(old), Some(new)) if old == new => ModuleDelta::Globals("m", &[]),
+        (Some(old), Some(new)) if old == new => ModuleDelta::Unchanged,
         (Some(_), Some(_)) => ModuleDelta::Globals("m", global),
     }
 }

@@ -75,7 +75,7 @@ fn image_by<B: HostObject>(
         services.now modules.now objects.now }
     ensures image { IfOk result (λ image. IsImageIn Two image.items
         (state_in B.HostObject (registered registry.now) state.now)) }
-    ensures short { IfOk result (λ image. length image.items < 2 ^ 32) }
+    ensures short { IfOk result (λ image. length image.items < 2 ^ 28) }
 {
     write_image(
         alloc,
@@ -98,7 +98,7 @@ fn body_by<B: HostObject>(
         services.now modules.now objects.now }
     ensures body { IfOk result (λ body. IsBodyIn Two body.items
         (state_in B.HostObject (registered registry.now) state.now)) }
-    ensures short { IfOk result (λ body. length body.items < 2 ^ 32) }
+    ensures short { IfOk result (λ body. length body.items < 2 ^ 28) }
 {
     write_body(
         alloc,
@@ -116,7 +116,7 @@ pub fn image_of<B: HostObject>(
     ensures image { IfOk result (λ image. IsImageIn Two image.items
         (state_in B.HostObject (registered registry.now) state.now)) }
     // It fits into a record.
-    ensures short { IfOk result (λ image. length image.items < 2 ^ 32) }
+    ensures short { IfOk result (λ image. length image.items < 2 ^ 28) }
 {
     let kinds = registry.service_kinds()?;
     let saved = states_of(alloc, state.table.services())?;
@@ -138,7 +138,7 @@ pub fn body_of<B: HostObject>(
     ensures body { IfOk result (λ body. IsBodyIn Two body.items
         (state_in B.HostObject (registered registry.now) state.now)) }
     // It fits into a record.
-    ensures short { IfOk result (λ body. length body.items < 2 ^ 32) }
+    ensures short { IfOk result (λ body. length body.items < 2 ^ 28) }
 {
     let kinds = registry.service_kinds()?;
     let saved = states_of(alloc, state.table.services())?;

@@ -1,7 +1,8 @@
 //! A caller that makes every call of a journal, proved.
-ghost use Rattle.std.specs.Prelude.{◌≡◌, ◌<◌, ◌^◌, ◌∷◌, [], ℕ, List, length, IsTrue, IfOk};
+ghost use Rattle.std.specs.Prelude.{◌≡◌, ◌<◌, ◌∷◌, [], ℕ, List, length, IsTrue, IfOk};
 ghost use Rattle.ash_journal.specs.Reading.{bodies_of};
 ghost use Rattle.ash_journal.specs.Journal.{Holds, IsReady};
+ghost use Rattle.ash_journal.specs.Layout.{length_limit};
 
 use crate::compare::{check_bytes, check_number};
 use ash_disk::{Disk, MemoryDisk};
@@ -24,8 +25,8 @@ fn three_records<D: Disk + Drop>(
     image: &[u8],
     body: &[u8],
 ) -> Result<Journal<D>, CallerError>
-    requires image_short { length image.now < 2 ^ 32 }
-    requires body_short { length body.now < 2 ^ 32 }
+    requires image_short { length image.now < length_limit }
+    requires body_short { length body.now < length_limit }
     ensures ready { IfOk result IsReady }
     ensures holds { IfOk result (λ j. IsTrue (D.honest first) → IsTrue (D.honest second)
         → Holds D.Disk j image.now (body.now ∷ body.now ∷ body.now ∷ [])) }
@@ -55,8 +56,8 @@ fn reopened<D: Disk + Drop>(
     image: &[u8],
     body: &[u8],
 ) -> Result<OpenedJournal<D>, CallerError>
-    requires image_short { length image.now < 2 ^ 32 }
-    requires body_short { length body.now < 2 ^ 32 }
+    requires image_short { length image.now < length_limit }
+    requires body_short { length body.now < length_limit }
     requires ready { IsReady journal }
     ensures ready { IfOk result (λ o. IsReady o.journal) }
     ensures found { IfOk result (λ o. (was : List ℕ) (bodies : List (List ℕ))
@@ -93,8 +94,8 @@ fn composed<D: Disk + Drop>(
     image: &[u8],
     body: &[u8],
 ) -> Result<Journal<D>, CallerError>
-    requires image_short { length image.now < 2 ^ 32 }
-    requires body_short { length body.now < 2 ^ 32 }
+    requires image_short { length image.now < length_limit }
+    requires body_short { length body.now < length_limit }
     ensures held { IfOk result (λ j. IsTrue (D.honest first) → IsTrue (D.honest second)
         → Holds D.Disk j image.now (body.now ∷ body.now ∷ [])) }
 {

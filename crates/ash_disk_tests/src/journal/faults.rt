@@ -11,12 +11,16 @@ use std::test::Fail;
 // record ends. The file below has room for six records at the most.
 type Shape = (u64, usize, [usize; 8]);
 
-// Where the block from a place on ends, after its length, or nothing where it or the gate after it is cut.
+// Where the block from a place on ends, after its length, or nothing where it or the gate after it is cut, or its
+// length is 2^28 or more.
 fn block_end(file: &[u8], at: usize) -> Option<usize> {
     let size = file.get(at..at.checked_add(4)?)?;
     let mut bytes = 0_usize;
     for byte in size.iter().rev() {
         bytes = bytes.wrapping_mul(256).wrapping_add(usize::from(*byte));
+    }
+    if bytes >= 268_435_456 {
+        return None;
     }
     let end = at.checked_add(4)?.checked_add(bytes)?;
     file.get(end)?;

@@ -1,6 +1,7 @@
 //! How a host handles several requests at once.
 
-ghost use Rattle.std.specs.Prelude.{◌≡◌, ◌<◌, ◌≤◌, ◌^◌, [], length, map, IsSome};
+ghost use Rattle.std.specs.Prelude.{◌≡◌, ◌<◌, ◌≤◌, [], length, map, IsSome};
+ghost use Rattle.ash_journal.specs.Layout.{length_limit};
 ghost use Rattle.ash_durable.specs.Hosting.{IsFull};
 ghost use Rattle.ash_durable.specs.HostRequests.{CommitsRecord};
 ghost use Rattle.ash_durable.specs.Batches.{HandlesBatch, max_batch};
@@ -21,7 +22,7 @@ impl<D: Disk, B: HostObject> Host<D, B> {
     fn commit_record(&mut self, last: u64, body: &[u8]) -> Result<(), HostRefusal>
         requires live { IsSome self.old.live }
         requires room { IsFull self.old → ⊥ }
-        requires short { length body.now < 2 ^ 32 }
+        requires short { length body.now < length_limit }
         ensures commits { CommitsRecord D.Disk last body.now self.old result self.new }
     {
         self.engine.facts();
@@ -68,7 +69,8 @@ impl<D: Disk, B: HostObject> Host<D, B> {
     /// Handles a batch: requests in order, each with a budget in ticks, of which each sees what the ones before it
     /// changed. What is refused changes nothing, and the batch goes on. What all of them changed is stored at once, as
     /// one record, before any reply is given: a crash leaves the state before the batch or the one after it, and once
-    /// the replies are given the latter.
+    /// the replies are given the latter. If it is too long for a record, the record has the image of the state after
+    /// the batch.
     ///
     /// Refusals of the whole batch, the first that holds: `Reopen`; if a request is a `load`, a `call` or a `discard`,
     /// `GenerationSpent`, `NoMemory` and `DeviceFailed` of a new generation that is installed first; `NoMemory`;

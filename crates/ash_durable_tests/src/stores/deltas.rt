@@ -95,7 +95,7 @@ const MODULE: ImageModule<'static> = ImageModule {
 /// What a record is called, the record, and the state that is found.
 type Row = (&'static str, StoreDelta<'static>, Result<State, OpenFault>);
 
-static ROWS: [Row; 4] = [
+static ROWS: [Row; 5] = [
     (
         "a service that is not there",
         StoreDelta {
@@ -124,6 +124,14 @@ static ROWS: [Row; 4] = [
         "an object that is gone twice",
         StoreDelta {
             gone: &[9, 9],
+            ..NOTHING
+        },
+        DAMAGED,
+    ),
+    (
+        "the number 0, which no object has, among those gone",
+        StoreDelta {
+            gone: &[0, 9],
             ..NOTHING
         },
         DAMAGED,

@@ -5,6 +5,7 @@ ghost use Rattle.ash_journal.specs.Journal.{first_disk, second_disk, generation,
 ghost use Rattle.ash_journal.specs.Journal.{IsReady, HasFailed, Holds, CountsFailuresIn};
 ghost use Rattle.ash_journal.specs.Journal.{LeavesCurrent};
 ghost use Rattle.ash_journal.specs.Installing.{IsNext};
+ghost use Rattle.ash_journal.specs.Layout.{length_limit};
 ghost use Rattle.ash_journal.specs.Current.{IsContents, HoldsOneOf};
 ghost use Rattle.ash_journal.specs.SettledSince.{HoldsSince};
 
@@ -21,7 +22,7 @@ impl<D: Disk> Journal<D> {
     ///
     /// Refusals, the first that holds: `GenerationSpent` where the number is 2^64 - 1; `NoMemory`.
     pub fn next_generation(&self, image: &[u8]) -> Result<NextGeneration, InstallError>
-        requires short { length image.now < 2 ^ 32 }
+        requires short { length image.now < length_limit }
         ensures next { IfOk result (IsNext self.now image.now) }
         ensures spent { IsErrOf result InstallError.GenerationSpent
             ↔ (generation self.now ≡ 2 ^ 64 - 1) }
@@ -87,7 +88,7 @@ impl<D: Disk> Journal<D> {
     /// and come before any call of a device. After `DeviceFailed` the old generation is current or the new one, and the
     /// journal is ready no more: it is to be opened again.
     pub fn install(&mut self, image: &[u8]) -> Result<(), InstallError>
-        requires short { length image.now < 2 ^ 32 }
+        requires short { length image.now < length_limit }
         requires ready { IsReady self.old }
         ensures installed { OnOk result ((was : List ℕ) (bodies : List (List ℕ))
             → Holds D.Disk self.old was bodies

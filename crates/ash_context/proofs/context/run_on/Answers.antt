@@ -8,7 +8,8 @@ use Rattle.ash_context.specs.Bounds.{bound, left_in}
 use Rattle.ash_context.specs.Outcomes.{Compiles, Says, Takes}
 use Rattle.ash_context.specs.Positions.{callers_of, control_of}
 use Rattle.ash_context.proofs.Falling.{starts_within}
-use Rattle.ash_context.proofs.Meant.{says}
+use Rattle.ash_context.specs.RanOut.{IsShort, RanOut}
+use Rattle.ash_context.proofs.Meant.{ran_out, says}
 use Rattle.ash_context.proofs.context.run_on.Goals as goal
 
 pub run-ran-requires-clause-enough : goal.run-ran-requires-clause-enough
@@ -44,3 +45,20 @@ returns-clause-says g c = λ s run same compiles.
     (λ records. begin.ensures.begun s.names records) there ran.result.steps code (same ∙ sym c.parts.ensures.parts)
     ran.result.end ran.ensures.ran c.finish.result.outcome c.finish.ensures.memory
     (λ left comes. c.finish.ensures.came s.names s.test left ran.new.state comes))
+
+pub returns-clause-ran_out : goal.returns-clause-ran_out
+returns-clause-ran_out g c = λ s run same compiles out.
+    let G = g.B.HostObject in
+    let code = c.parts.result.now in
+    let parts = c.args.parts in
+    let begin = c.begin-state in
+    let ran = c.run-ran in
+    let frame = c.args.stack.frame in
+    let first : World → Activity = λ world. begun world c.args.budget (frame_shown s.names frame) in
+    let there : Compiles G s (control_of 0 (begin.result).frames) first run parts
+    = subst (λ (f : Frames). Compiles G s (control_of 0 f) first run parts) (sym begin.ensures.frames) compiles in
+    subst (λ (f : Frames). RanOut G s.names (λ world. IsShort s (control_of 0 f) (first world) ran.result.steps) parts)
+    begin.ensures.frames
+    (ran_out G s first run parts c.finish.result.parts begin.result ran.new.state begin.ensures.same begin.ensures.events
+    (λ records. begin.ensures.begun s.names records) there ran.result.steps code (same ∙ sym c.parts.ensures.parts)
+    ran.result.end ran.ensures.ran)

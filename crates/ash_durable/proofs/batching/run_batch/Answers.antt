@@ -3,6 +3,7 @@ use Rattle.std.proofs.lemmas.List.{length-map, length-take}
 use Rattle.std.proofs.lemmas.Result.{err_from_is_err_and}
 use Rattle.ash_durable.specs.BatchViews.{batch_request_seen}
 use Rattle.ash_durable.proofs.BatchRunLaws.{begun, run_has, run_few, run_next, stops_at, run_all, run_whole}
+use Rattle.ash_durable.proofs.BatchRunLaws.{fit_stops}
 use Rattle.ash_durable.proofs.Requesting.{some_live}
 use Rattle.ash_durable.proofs.batching.run_batch.Goals as goal
 
@@ -68,8 +69,29 @@ pub returns-clause-runs : goal.returns-clause-runs
 returns-clause-runs g c live is =
     let i = c.loop-request.request-index in
     let xs = c.args.requests.now in
-    run_whole g.B.HostObject c.args.budget (map batch_request_seen xs) live c.loop-request.engine c.loop-request.run _
+    run_whole g.B.HostObject c.args.budget (map batch_request_seen xs) live c.loop-request.engine c.loop-request.run
+    c.fit.new.self
     (omega (arith, length-map xs batch_request_seen, c.requires.few))
     (run_all g.B.HostObject c.args.budget batch_request_seen live xs i c.loop-request.run c.loop-request.engine
-    c.loop-request-test.false (c.loop-request.invariant.runs live is)) refl refl
-    (λ bs same. ap (λ (ys : List ℕ). slice_set ys 1 c.loop-request.run.answered) same)
+    c.loop-request-test.false (c.loop-request.invariant.runs live is)) c.in_ok-fit.ensures.replies
+    c.in_ok-fit.ensures.answered _ (λ bs same. ap (λ (ys : List ℕ). slice_set ys 1 c.loop-request.run.answered) same)
+    c.in_ok-fit.ensures.fitted
+
+pub fit-requires : goal.fit-requires
+fit-requires g c =
+    let some = some_live c.args.engine.now.live c.requires.live in
+    let i = c.loop-request.request-index in
+    record {
+      live = run_has g.B.HostObject c.args.budget (map batch_request_seen (take i c.args.requests.now)) some.0
+          c.loop-request.run c.loop-request.engine (c.loop-request.invariant.runs some.0 some.1);
+    }
+
+pub returns-in_err-fit-clause-runs : goal.returns-in_err-fit-clause-runs
+returns-in_err-fit-clause-runs g c live is =
+    let i = c.loop-request.request-index in
+    let xs = c.args.requests.now in
+    let p = err_from_is_err_and c.from_residual-in_err-fit.result c.from_residual-in_err-fit.ensures.1 in
+    rw (p.1, p.2) (fit_stops g.B.HostObject c.args.budget (map batch_request_seen xs) live c.loop-request.engine
+    c.loop-request.run
+    (run_all g.B.HostObject c.args.budget batch_request_seen live xs i c.loop-request.run c.loop-request.engine
+    c.loop-request-test.false (c.loop-request.invariant.runs live is)) c.in_err-fit.field-0.0 c.in_err-fit.ensures.stop)

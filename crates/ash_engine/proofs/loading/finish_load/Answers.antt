@@ -3,7 +3,7 @@ use Rattle.std.specs.Prelude.{Option}
 use Rattle.ash_host.specs.declared.word.Word.{Word}
 use Rattle.ash_typed.specs.Modules.{module_of}
 use Rattle.ash_context.specs.declared.outcome.Outcome.TheVariants as outcomes
-use Rattle.ash_engine.proofs.LoadOutcomes.{same_outcome, no_fault, abandoned_as}
+use Rattle.ash_engine.proofs.LoadOutcomes.{same_outcome, no_fault, on_error, abandoned_as}
 use Rattle.ash_engine.proofs.loading.finish_load.Goals as goal
 
 pub returns-in-Ok : goal.returns-in-Ok
@@ -17,6 +17,7 @@ returns-in-Ok g c = record {
       c.in-Ok.outcome outcome same
       (c.finish_ended.ensures.abandoned (λ value is. other value (sym same ∙ is)));
   refused = λ came. absurd (no_fault c.args.left.outcome c.in-Ok.outcome _ c.in-Ok.is came);
+  begun = on_error c.finish_ended.result (λ came. no_fault c.args.left.outcome c.in-Ok.outcome _ c.in-Ok.is came);
   lost = λ came. absurd (no_fault c.args.left.outcome c.in-Ok.outcome _ c.in-Ok.is came);
   never = λ came. absurd (no_fault c.args.left.outcome c.in-Ok.outcome _ c.in-Ok.is came);
   memory = c.finish_ended.ensures.memory;

@@ -9,10 +9,9 @@ use Rattle.ash_run_steps.specs.declared.beginning.Parts.{Parts}
 use Rattle.ash_requests.specs.Tasks.{max_seq}
 use Rattle.ash_plain_steps.specs.declared.state.LoadedModule.{LoadedModule}
 use Rattle.ash_plain_steps.specs.declared.state.PlainState.{PlainState}
-use Rattle.ash_engine.specs.declared.changes.ModuleChange.TheVariants as changes
 use Rattle.ash_engine.specs.declared.live.Live.{Live}
 use Rattle.ash_engine.specs.declared.live.Rest.{Rest}
-use Rattle.ash_engine.specs.NamedChanges.{AreChanged}
+use Rattle.ash_engine.specs.NamedChanges.{IsChangeOf}
 use Rattle.ash_engine.specs.TableRuns.{end_named, IsGivenBack, IsAnswered}
 use Rattle.ash_engine.specs.TableTasks.{entry_name}
 use Rattle.ash_engine.proofs.runs.finish_call.Goals as goal
@@ -33,8 +32,8 @@ answered-requires g c =
           (c.give_back-live.ensures.given m at) c.requires.numbered;
     }
 
-pub returns-in_ok-places-in-Ok-clause-answered : goal.returns-in_ok-places-in-Ok-clause-answered
-returns-in_ok-places-in-Ok-clause-answered g c m outcome at is =
+pub returns-in_ok-change-in-Ok-clause-answered : goal.returns-in_ok-change-in-Ok-clause-answered
+returns-in_ok-change-in-Ok-clause-answered g c m outcome at is =
     let ms : List LoadedModule = c.args.rest.loaded.modules.items in
     let found : LoadedModule = c.index.result.now in
     let back = c.give_back-live.result.0 in
@@ -42,18 +41,18 @@ returns-in_ok-places-in-Ok-clause-answered g c m outcome at is =
     let outcome_is : c.in-Ok.outcome ≡ outcome = cc (c.in-Ok.is, is) in
     let end = c.in_ok-outcome-in-Ok.ensures.end
     ∙ (λ i. end_named (entry_name (module_of (module_is i).tree)) (outcome_is i)) in
-    let globals = c.in_ok-places-in-Ok.places in
+    let change = c.in_ok-change-in-Ok.change in
     IfOk-weaker c.answered.result _ _
     (λ step answered. (
       back,
-      globals,
+      change,
       c.give_back-live.ensures.given m at,
-      subst (λ (ws : List Word). AreChanged c.args.place c.args.before.now ws globals) c.deref.ensures.value
-          c.in_ok-places-in-Ok.ensures.changed,
+      subst (λ (ws : List Word). IsChangeOf c.args.place c.args.before.now ws change) c.deref.ensures.value
+          c.in_ok-change-in-Ok.ensures.change,
       subst (λ (es : List Event). IsAnswered back (end_named (entry_name (module_of m.tree)) outcome) es
-          (changes.Globals globals) step)
+          change step)
           (ap (λ (v : _). v.items) c.give_back-live.ensures.events)
-          (subst (λ (e : End). IsAnswered back e c.give_back-live.result.1.items (changes.Globals globals) step) end
+          (subst (λ (e : End). IsAnswered back e c.give_back-live.result.1.items change step) end
           answered),
     )) c.answered.ensures.answered
 

@@ -17,5 +17,5 @@ one_more last rest i d all within above e =
 
 pub loop-number-preserved : goal.loop-number-preserved
 loop-number-preserved c =
-    one_more c.loop-number.last c.in-Some.rest.now c.loop-number.number-index _ _ c.loop-number-test.true (omega arith)
+    one_more c.loop-number.last c.args.numbers.now c.loop-number.number-index _ _ c.loop-number-test.true (omega arith)
     c.loop-number.invariant

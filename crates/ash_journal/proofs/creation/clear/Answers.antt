@@ -1,4 +1,4 @@
-use Rattle.std.proofs.Common.{subst, arith}
+use Rattle.std.proofs.Common.{subst}
 use Rattle.ash_disk.specs.DiskImage.{TornFrom}
 use Rattle.ash_disk.proofs.MomentLaws.{weaker}
 use Rattle.ash_journal.specs.Reading.{ShutIs}
@@ -13,4 +13,4 @@ returns-clause-moments g c honest shut idle =
     let not_shut = subst (λ s. ShutIs s (d.seen disk)) c.if-gate.false shut in
     weaker _ _ _ _ (TornFrom 0 1 (d.leaves disk (d.clock disk))) IsUnused
     (torn_idle (d.leaves disk (d.clock disk)) (d.seen disk) (g.met.D.Disk.seen_may_stay disk honest) not_shut idle)
-    (c.write_durably.ensures.moments honest (omega arith))
+    (c.write_durably.ensures.moments honest)

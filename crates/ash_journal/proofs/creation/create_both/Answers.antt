@@ -1,9 +1,10 @@
-use Rattle.std.proofs.Common.{◌≡◌, ◌∙◌, ◌∷◌, ◌++◌, [], ℕ, List, IsTrue, length, drop, inl, sym, subst}
+use Rattle.std.proofs.Common.{◌≡◌, ◌∙◌, ◌∷◌, ◌++◌, [], ℕ, List, IsTrue, length, drop, inl, sym, subst, arith}
 use Rattle.ash_disk.specs.Device.{HoldsThroughout}
 use Rattle.ash_disk.proofs.MomentLaws.{weaker}
 use Rattle.ash_journal.specs.Layout.{mark, block}
 use Rattle.ash_journal.specs.Reading.{ShutIs}
 use Rattle.ash_journal.specs.Writes.{IsOn, IsUnused, WhileStarted, WhileCreated}
+use Rattle.ash_journal.proofs.LayoutLaws.{length-generation}
 use Rattle.ash_journal.proofs.ReadLaws.{read_idle, idle_throughout, started_created}
 use Rattle.ash_journal.proofs.creation.create_both.Goals as goal
 
@@ -153,3 +154,34 @@ returns-in_err-start-clause-second_moments g c honest_first honest_second idle =
     (read_idle d two c.read_headers.new.second honest_second second_read idle) in
     idle_throughout d two c.read_headers.new.second c.start.new.second IsUnused honest_second second_read idle
     (λ image is. is) call
+
+pub start-requires : goal.start-requires
+start-requires g c = record {
+  first_shut =
+      λ honest'.
+      let read = c.in_ok-headers.ensures.first_read in
+      let honest = subst IsTrue read.honesty honest' in
+      subst (λ (l : List ℕ). ShutIs c.in-Some.one.shut l) (sym (read.seen honest))
+      (c.in-Some.ensures.first (g.D.Disk.seen c.args.first.now) (c.in_ok-headers.ensures.first_header honest));
+  second_shut =
+      λ honest'.
+      let read = c.in_ok-headers.ensures.second_read in
+      let honest = subst IsTrue read.honesty honest' in
+      subst (λ (l : List ℕ). ShutIs c.in-Some.two.shut l) (sym (read.seen honest))
+      (c.in-Some.ensures.second (g.D.Disk.seen c.args.second.now) (c.in_ok-headers.ensures.second_header honest));
+}
+
+pub returns-clause-first_there : goal.returns-clause-first_there
+returns-clause-first_there g c honest =
+    let bytes_are : c.deref.result.now ≡ mark 1 ++ (block c.args.image.now ++ 0 ∷ []) =
+    c.deref.ensures.value ∙ c.in_ok-bytes.ensures.value in
+    let honest' = subst IsTrue (sym c.in_ok-headers.ensures.first_read.honesty) honest in
+    omega (
+      arith,
+      c.in_ok-start.ensures.first_there honest',
+      length-generation 1 c.args.image.now c.deref.result.now bytes_are,
+    )
+
+pub returns-clause-second_there : goal.returns-clause-second_there
+returns-clause-second_there g c honest =
+    c.in_ok-start.ensures.second_there (subst IsTrue (sym c.in_ok-headers.ensures.second_read.honesty) honest)

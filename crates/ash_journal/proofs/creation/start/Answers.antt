@@ -1,4 +1,4 @@
-use Rattle.std.proofs.Common.{[], drop, IsTrue, refl, sym, subst}
+use Rattle.std.proofs.Common.{[], length, drop, IsTrue, refl, sym, ap, subst, arith}
 use Rattle.std.proofs.lemmas.Result.{on_ok_weaker}
 use Rattle.ash_disk.proofs.MomentLaws.{goes_on_either}
 use Rattle.ash_journal.specs.Writes.{IsUnused, WhileCommitted}
@@ -30,3 +30,25 @@ returns-clause-first_moments g c honest shut idle =
       bytes = on.bytes;
       durable = on.durable;
     }))
+
+pub commit-requires : goal.commit-requires
+commit-requires g c = record {
+  within = omega arith;
+  inside =
+      λ honest'.
+      let honest = subst IsTrue c.clear.ensures.honesty honest' in
+      omega (arith, ap length (c.in_ok-clear.ensures.cleared honest (c.requires.first_shut honest)).bytes);
+}
+
+pub returns-clause-first_there : goal.returns-clause-first_there
+returns-clause-first_there g c =
+    on_ok_weaker c.commit.result
+    (λ there honest. omega (arith, there (subst IsTrue (sym c.clear.ensures.honesty) honest)))
+    c.commit.ensures.there
+
+pub returns-clause-second_there : goal.returns-clause-second_there
+returns-clause-second_there g c =
+    on_ok_weaker c.commit.result
+    (λ there honest.
+    omega (arith, ap length (c.in_ok-clear-2.ensures.cleared honest (c.requires.second_shut honest)).bytes))
+    c.commit.ensures.there

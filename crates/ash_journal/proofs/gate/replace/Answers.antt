@@ -1,10 +1,10 @@
-use Rattle.std.proofs.Common.{◌∙◌, [], IsTrue, drop, refl, sym, subst, inl}
+use Rattle.std.proofs.Common.{◌∙◌, [], IsTrue, length, drop, refl, sym, subst, inl, arith}
 use Rattle.std.proofs.lemmas.Result.{on_ok_weaker}
 use Rattle.ash_disk.specs.Device.{HoldsThroughout}
 use Rattle.ash_disk.proofs.MomentLaws.{goes_on_either, weaker}
 use Rattle.ash_journal.specs.OtherState.{is_older}
 use Rattle.ash_journal.specs.Writes.{WhileRepaired, WhileCommitted, WhileReplaced}
-use Rattle.ash_journal.proofs.GateLaws.{repaired_shut}
+use Rattle.ash_journal.proofs.GateLaws.{repaired_shut, after_repair}
 use Rattle.ash_journal.proofs.gate.replace.Goals as goal
 
 pub returns-in_err-repair-clause-moments : goal.returns-in_err-repair-clause-moments
@@ -51,3 +51,25 @@ returns-clause-moments g c honest only shut =
       bytes = on.bytes ∙ repaired_shut c.is_older.result file (λ closed. shut (sym c.is_older.ensures.value ∙ closed));
       durable = on.durable;
     }))
+
+pub commit-requires : goal.commit-requires
+commit-requires g c = record {
+  within = omega arith;
+  inside =
+      λ honest'.
+      let honest = subst IsTrue c.repair.ensures.honesty honest' in
+      after_repair c.is_older.result (length (g.D.Disk.seen c.args.disk.now)) (length (g.D.Disk.seen c.repair.new.disk))
+      (λ stray. c.in_ok-repair.ensures.there stray honest) (c.repair.ensures.no_shorter honest)
+      (λ closed. c.requires.inside (sym c.is_older.ensures.value ∙ closed) honest);
+}
+
+pub returns-clause-no_shorter : goal.returns-clause-no_shorter
+returns-clause-no_shorter g c honest =
+    let honest' = subst IsTrue (sym c.repair.ensures.honesty) honest in
+    omega (arith, c.repair.ensures.no_shorter honest, c.commit.ensures.no_shorter honest')
+
+pub returns-clause-there : goal.returns-clause-there
+returns-clause-there g c =
+    on_ok_weaker c.commit.result
+    (λ there honest. omega (arith, there (subst IsTrue (sym c.repair.ensures.honesty) honest)))
+    c.commit.ensures.there

@@ -12,7 +12,7 @@ invariant-loop-gate g l =
       within : l.end < l.len;
       goes_on : l.at ≤ l.end;
       answer : (generation : ℕ) (image rest : List ℕ) → IsTrue (g.D.Disk.honest l.fn.disk)
-          → l.len ≡ length (g.D.Disk.seen l.fn.disk) → FieldsFit generation image []
+          → FieldsFit generation image []
           → g.D.Disk.seen l.fn.disk ≡ committed_bytes generation image [] ++ l.first ∷ rest
           → l.at ≡ length (committed_bytes generation image [])
           → IsReadTo generation image l.records.items l.end l.gate (g.D.Disk.seen l.fn.disk);

@@ -68,7 +68,7 @@ requests-preserved g c =
     (request_state c.requests.input c.requests.host) (request_state c.handle_next.new.input c.handle_next.new.host)
     (Ok c.in-Ok-Some.field-0) c.requests.invariant.budget c.in-Ok-Some.ensures.handled) in
     record {
-      log = ongoing-more serving g.met.S.Source.is_feed g.met.K.Sink.is_outlet before last after w.0 (command_reply_of c.in-Ok-Some.reply) c.requests.invariant.log w.1 c.in_ok-write_reply.ensures.written
+      log = ongoing-more serving g.met.S.Source.is_feed g.met.K.Sink.is_outlet before last after w.0 (command_reply_of c.in-Ok-Some.reply) c.requests.invariant.log w.1 c.in_ok-write_reply.ensures.written c.in_ok-write_reply.ensures.prompt
           (goes_on (relations g.H.RequestHandler.handles g.H.RequestHandler.handles_batch c.args.budget) c.requests.host c.handle_next.new.host w.0 (command_reply_of c.in-Ok-Some.reply) (sym c.ends_run-ends.ensures.quit ∙ c.if-ends.false) w.1.handled);
       room = c.handle_next.ensures.room;
       budget = c.handle_next.ensures.budget ∙ c.requests.invariant.budget;

@@ -1,4 +1,5 @@
-use Rattle.std.proofs.Common.{ℕ, ◌<◌, ◌^◌, List, length, Ok, Err, map, sym, subst}
+use Rattle.std.proofs.Common.{ℕ, ◌<◌, List, length, Ok, Err, map, sym, subst}
+use Rattle.ash_journal.specs.Layout.{length_limit}
 use Rattle.std.proofs.lemmas.Result.{err_from_is_err_and}
 use Rattle.ash_requests.specs.Requests.{Request}
 use Rattle.ash_durable.specs.Batches.{adding_request}
@@ -144,7 +145,7 @@ commit_record-requires-clause-short g c =
     let found = found_room g.D.Disk (adding_request requests) c.self.inside.stopped c.self.inside.engine
     c.self.inside.journal c.args.self.now c.make_room.new.self c.requires.live made c.self.view_is in
     let ran = c.in-Ok.ensures.runs found.live found.live_is in
-    subst (λ (bs : List ℕ). length bs < 2 ^ 32) (sym c.deref.ensures.value) ran.short
+    subst (λ (bs : List ℕ). length bs < length_limit) (sym c.deref.ensures.value) ran.short
 
 pub returns-in_err-commit_record : goal.returns-in_err-commit_record
 returns-in_err-commit_record g c = record {

@@ -55,3 +55,13 @@ returns-in-Err-clause-moments g c a b honest_first honest_second rested_first re
     (λ left is. inl is) one s x from_a to_a left_x)
     (since_rested d b c.args.second c.create_both.new.second IsUnused rested_second
     (λ left is. is) two t y from_b to_b left_y)
+
+pub invariant_of-result : goal.invariant_of-result
+invariant_of-result g c = record {
+  within = omega (arith, c.requires.short);
+  current_inside =
+      λ honest'.
+      let honest = subst IsTrue c.in-Ok.ensures.honesty_first honest' in
+      omega (arith, c.in-Ok.ensures.first_there honest);
+  other_inside = λ is honest'. c.in-Ok.ensures.second_there (subst IsTrue c.in-Ok.ensures.honesty_second honest');
+}

@@ -1,4 +1,4 @@
-use Rattle.std.proofs.Common.{◌≡◌, ◌-◌, IsTrue, length, sym, subst, arith}
+use Rattle.std.proofs.Common.{◌≡◌, ◌-◌, IsTrue, length, sym, ap, subst, arith}
 use Rattle.ash_journal.specs.OtherState.{first_of}
 use Rattle.ash_journal.specs.SettledSince.{Extends, NoContents}
 use Rattle.ash_journal.proofs.OpenLaws.{open_files, open_represented, placed}
@@ -60,3 +60,30 @@ returns-clause-extends g c honest_first honest_second =
     c.arrange-current.ensures.other in
     let one = subst (λ x. Extends d c.args.first c.args.second x c.read_both.new.second NoContents) (sym is.0) read in
     subst (λ y. Extends d c.args.first c.args.second (first_of swapped current other) y NoContents) (sym is.1) one
+
+pub invariant_of-journal : goal.invariant_of-journal
+invariant_of-journal g c = record {
+  within = omega (
+    arith,
+    c.in-Ok.ensures.within,
+    c.in-Ok.ensures.short,
+    c.len.ensures,
+    c.in-Ok.contents.file.image.ok.0,
+  );
+  current_inside =
+      λ honest'.
+      let honest = subst (λ d. IsTrue (g.D.Disk.honest d)) c.arrange-current.ensures.current honest' in
+      omega (
+        arith,
+        c.in-Ok.ensures.current_inside honest,
+        ap (λ d. length (g.D.Disk.seen d)) c.arrange-current.ensures.current,
+      );
+  other_inside =
+      λ is honest'.
+      let honest = subst (λ d. IsTrue (g.D.Disk.honest d)) c.arrange-current.ensures.other honest' in
+      omega (
+        arith,
+        c.in-Ok.ensures.other_inside is honest,
+        ap (λ d. length (g.D.Disk.seen d)) c.arrange-current.ensures.other,
+      );
+}

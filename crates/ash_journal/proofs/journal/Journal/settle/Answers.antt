@@ -1,4 +1,4 @@
-use Rattle.std.proofs.Common.{◌∷◌, [], false, refl, sym, subst, inl}
+use Rattle.std.proofs.Common.{◌∙◌, ◌∷◌, [], false, IsTrue, length, refl, sym, subst, inl, arith}
 use Rattle.ash_disk.specs.Device.{HoldsThroughout}
 use Rattle.ash_disk.proofs.MomentLaws.{at_start}
 use Rattle.ash_journal.specs.Layout.{committed_bytes}
@@ -7,12 +7,14 @@ use Rattle.ash_journal.specs.OtherState.{is_stray}
 use Rattle.ash_journal.specs.Journal.{FilesAre, NeedsNoRepair}
 use Rattle.ash_journal.proofs.FilesLaws.{repaired_ready, settle_files, settle_extends, ready_run}
 use Rattle.ash_journal.proofs.GateLaws.{none_written, both_written}
+use Rattle.ash_journal.proofs.PlacingLaws.{repaired_other}
 use Rattle.ash_journal.proofs.journal.Journal.settle.Goals as goal
 
 pub returns-in-Err-clause-extends : goal.returns-in-Err-clause-extends
-returns-in-Err-clause-extends g c image bodies f =
+returns-in-Err-clause-extends g c =
+    rw (← c.self.view_is) (λ image bodies f.
     let d = g.D.Disk in
-    let j = c.args.self.now in
+    let j = c.self.inside in
     let one = c.repair.ensures.moments (committed_bytes j.generation image bodies) (f.gate ∷ f.after)
     (record {
       honest_disk = f.current_honest;
@@ -24,12 +26,13 @@ returns-in-Err-clause-extends g c image bodies f =
     image bodies f j.swapped
     (g.met.D.Disk.seen_may_stay j.current f.current_honest) (g.met.D.Disk.seen_may_stay j.other f.other_honest) one
     (at_start (d.clock j.other) (d.leaves j.other)
-    (WhileRepaired (is_stray j.other_state) [] (d.seen j.other)) (λ y left. inl (f.other_durable y left)))
+    (WhileRepaired (is_stray j.other_state) [] (d.seen j.other)) (λ y left. inl (f.other_durable y left))))
 
 pub returns-in-Err-repair-clause-extends : goal.returns-in-Err-repair-clause-extends
-returns-in-Err-repair-clause-extends g c image bodies f =
+returns-in-Err-repair-clause-extends g c =
+    rw (← c.self.view_is) (λ image bodies f.
     let d = g.D.Disk in
-    let j = c.args.self.now in
+    let j = c.self.inside in
     let one = c.repair.ensures.moments (committed_bytes j.generation image bodies) (f.gate ∷ f.after)
     (record {
       honest_disk = f.current_honest;
@@ -43,12 +46,13 @@ returns-in-Err-repair-clause-extends g c image bodies f =
     c.repair-2.new.disk image bodies f j.swapped
     (g.met.D.Disk.seen_may_stay j.current f.current_honest) (g.met.D.Disk.seen_may_stay j.other f.other_honest) one
     (subst (λ stray. HoldsThroughout d j.other c.repair-2.new.disk (WhileRepaired stray [] (d.seen j.other)))
-    c.is_stray.ensures.value two)
+    c.is_stray.ensures.value two))
 
 pub returns-clause-settled : goal.returns-clause-settled
-returns-clause-settled g c image bodies f =
+returns-clause-settled g c =
+    rw (← c.self.view_is) (λ image bodies f.
     let d = g.D.Disk in
-    let j = c.args.self.now in
+    let j = c.self.inside in
     let on_c = c.in-Ok.ensures.repaired (committed_bytes j.generation image bodies) (f.gate ∷ f.after)
     (record {
       honest_disk = f.current_honest;
@@ -64,20 +68,21 @@ returns-clause-settled g c image bodies f =
     let files' =
     subst (λ other_state.
     FilesAre d j.generation j.end j.record_bytes false other_state c.repair.new.disk c.repair-2.new.disk image
-    bodies) (sym c.repaired-self.ensures.value) files in
+    bodies) (sym c.repaired-self-inside.ensures.value) files in
     let ready = subst
-    (λ other_state. NeedsNoRepair false other_state) (sym c.repaired-self.ensures.value) (repaired_ready j.other_state) in
+    (λ other_state. NeedsNoRepair false other_state) (sym c.repaired-self-inside.ensures.value) (repaired_ready j.other_state) in
     record {
       files = files';
       repaired = ready;
-      run = ready_run d j.generation j.end j.record_bytes false c.repaired-self.result j.swapped c.repair.new.disk
+      run = ready_run d j.generation j.end j.record_bytes false c.repaired-self-inside.result j.swapped c.repair.new.disk
           c.repair-2.new.disk image bodies files' ready;
-    }
+    })
 
 pub returns-clause-extends : goal.returns-clause-extends
-returns-clause-extends g c image bodies f =
+returns-clause-extends g c =
+    rw (← c.self.view_is) (λ image bodies f.
     let d = g.D.Disk in
-    let j = c.args.self.now in
+    let j = c.self.inside in
     let one = c.repair.ensures.moments (committed_bytes j.generation image bodies) (f.gate ∷ f.after)
     (record {
       honest_disk = f.current_honest;
@@ -91,12 +96,13 @@ returns-clause-extends g c image bodies f =
     c.repair-2.new.disk image bodies f j.swapped
     (g.met.D.Disk.seen_may_stay j.current f.current_honest) (g.met.D.Disk.seen_may_stay j.other f.other_honest) one
     (subst (λ stray. HoldsThroughout d j.other c.repair-2.new.disk (WhileRepaired stray [] (d.seen j.other)))
-    c.is_stray.ensures.value two)
+    c.is_stray.ensures.value two))
 
 pub returns-in-Err-clause-gates : goal.returns-in-Err-clause-gates
-returns-in-Err-clause-gates g c image bodies f =
+returns-in-Err-clause-gates g c =
+    rw (← c.self.view_is) (λ image bodies f.
     let d = g.D.Disk in
-    let j = c.args.self.now in
+    let j = c.self.inside in
     let one = c.repair.ensures.only_gate (committed_bytes j.generation image bodies) (f.gate ∷ f.after)
     (record {
       honest_disk = f.current_honest;
@@ -106,12 +112,13 @@ returns-in-Err-clause-gates g c image bodies f =
     }) in
     let two = none_written d 0 j.other f.other_durable in
     let both = both_written d j.swapped j.end j.current c.repair.new.disk j.other j.other one two in
-    record { in_first = both.0; in_second = both.1 }
+    record { in_first = both.0; in_second = both.1 })
 
 pub returns-in-Err-repair-clause-gates : goal.returns-in-Err-repair-clause-gates
-returns-in-Err-repair-clause-gates g c image bodies f =
+returns-in-Err-repair-clause-gates g c =
+    rw (← c.self.view_is) (λ image bodies f.
     let d = g.D.Disk in
-    let j = c.args.self.now in
+    let j = c.self.inside in
     let one = c.repair.ensures.only_gate (committed_bytes j.generation image bodies) (f.gate ∷ f.after)
     (record {
       honest_disk = f.current_honest;
@@ -122,12 +129,13 @@ returns-in-Err-repair-clause-gates g c image bodies f =
     let two = c.repair-2.ensures.only_gate [] (d.seen j.other)
     (record { honest_disk = f.other_honest; long = refl; bytes = refl; durable = f.other_durable }) in
     let both = both_written d j.swapped j.end j.current c.repair.new.disk j.other c.repair-2.new.disk one two in
-    record { in_first = both.0; in_second = both.1 }
+    record { in_first = both.0; in_second = both.1 })
 
 pub returns-clause-gates : goal.returns-clause-gates
-returns-clause-gates g c image bodies f =
+returns-clause-gates g c =
+    rw (← c.self.view_is) (λ image bodies f.
     let d = g.D.Disk in
-    let j = c.args.self.now in
+    let j = c.self.inside in
     let one = c.repair.ensures.only_gate (committed_bytes j.generation image bodies) (f.gate ∷ f.after)
     (record {
       honest_disk = f.current_honest;
@@ -138,4 +146,47 @@ returns-clause-gates g c image bodies f =
     let two = c.repair-2.ensures.only_gate [] (d.seen j.other)
     (record { honest_disk = f.other_honest; long = refl; bytes = refl; durable = f.other_durable }) in
     let both = both_written d j.swapped j.end j.current c.repair.new.disk j.other c.repair-2.new.disk one two in
-    record { in_first = both.0; in_second = both.1 }
+    record { in_first = both.0; in_second = both.1 })
+
+pub repair-requires : goal.repair-requires
+repair-requires g c = record { within = λ honest. omega (arith, c.self.invariant.current_inside honest) }
+
+pub invariant_of-self : goal.invariant_of-self
+invariant_of-self g c = record {
+  within = c.self.invariant.within;
+  current_inside =
+      λ honest'.
+      let honest = subst IsTrue c.repair.ensures.honesty honest' in
+      omega (arith, c.self.invariant.current_inside honest, c.repair.ensures.no_shorter honest);
+  other_inside = c.self.invariant.other_inside;
+}
+
+pub invariant_of-self-in-Err-repair : goal.invariant_of-self-in-Err-repair
+invariant_of-self-in-Err-repair g c = record {
+  within = c.self.invariant.within;
+  current_inside =
+      λ honest'.
+      let honest = subst IsTrue c.repair.ensures.honesty honest' in
+      omega (arith, c.self.invariant.current_inside honest, c.repair.ensures.no_shorter honest);
+  other_inside =
+      λ is honest'.
+      let honest = subst IsTrue c.repair-2.ensures.honesty honest' in
+      omega (arith, c.self.invariant.other_inside is honest, c.repair-2.ensures.no_shorter honest);
+}
+
+pub invariant_of-self-in-Ok-repair : goal.invariant_of-self-in-Ok-repair
+invariant_of-self-in-Ok-repair g c = record {
+  within = c.self.invariant.within;
+  current_inside =
+      λ honest'.
+      let honest = subst IsTrue c.repair.ensures.honesty honest' in
+      omega (arith, c.self.invariant.current_inside honest, c.repair.ensures.no_shorter honest);
+  other_inside =
+      λ is honest'.
+      let honest = subst IsTrue c.repair-2.ensures.honesty honest' in
+      repaired_other c.self.inside.other_state (length (g.D.Disk.seen c.self.inside.other))
+      (length (g.D.Disk.seen c.repair-2.new.disk))
+      (λ stray. c.in-Ok-repair.ensures.there (c.is_stray.ensures.value ∙ stray) honest)
+      (c.repair-2.ensures.no_shorter honest)
+      (λ shut. c.self.invariant.other_inside shut honest) (sym c.repaired-self-inside.ensures.value ∙ is);
+}

@@ -1,6 +1,6 @@
 use Rattle.std.proofs.Common.{refl, rules}
 use Rattle.ash_lines.proofs.ReaderLemmas.{reads_end, reads_byte}
-use Rattle.ash_lines.proofs.reader.read_byte.Goals as goal
+use Rattle.ash_lines.proofs.reader.read_more.Goals as goal
 
 pub returns-in-Ok-eq0 : goal.returns-in-Ok-eq0
 returns-in-Ok-eq0 g c = record { byte = reads_end _ _ _ _ _ _ c.tries.invariant c.read.ensures.bytes c.in-Ok-eq0.is c.in-Ok-eq0.field-0-test (search rules) }
