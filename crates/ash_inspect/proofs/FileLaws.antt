@@ -5,7 +5,7 @@ use Rattle.std.proofs.lemmas.List.{length-take-le, take_at, take-append-le, take
 use Rattle.ash_disk.specs.Device.{Device}
 use Rattle.ash_journal.specs.OtherState.{first_of, second_of}
 use Rattle.ash_journal.specs.declared.error.OpenFault.TheVariants.{Damaged}
-use Rattle.ash_journal.specs.Layout.{mark, committed_bytes, IsFile, IsClosed, HasMark, LacksMark, IsCutAt}
+use Rattle.ash_journal.specs.Layout.{mark, committed_bytes, IsFile, IsClosed, HasMark, LacksMark, IsDamagedAt}
 use Rattle.ash_journal.specs.Opening.{FaultIs}
 use Rattle.ash_journal.specs.Journal.{HoldsBeforeRepair, first_disk, second_disk}
 use Rattle.ash_journal.specs.declared.journal.Journal.{Journal}
@@ -77,7 +77,7 @@ read_file device j file image bodies first second holds = record {
         absurd (is_not_empty _ _ (sym second ∙ holds.bytes ∙ solid_split j.generation image bodies (holds.gate ∷ holds.after)))
 
 -- the damage is that of the file
-pub damage_alone : (at : ℕ) (file : List ℕ) → FaultIs (Damaged at) file [] → (LacksMark file × (at ≡ 0)) ⊎ IsCutAt at file
+pub damage_alone : (at : ℕ) (file : List ℕ) → FaultIs (Damaged at) file [] → (LacksMark file × (at ≡ 0)) ⊎ IsDamagedAt at file
 damage_alone at file (inl (inl lacks, zero_at)) = inl (lacks, zero_at)
 damage_alone at file (inl (inr (inl lacks), zero_at)) = absurd lacks.0
 damage_alone at file (inl (inr (inr both), zero_at)) = absurd (no_mark both.0 both.2)

@@ -1,6 +1,6 @@
 -- What is said of a file.
 use Rattle.std.specs.Prelude.{◌≡◌, ◌⊎◌, ℕ, List, ◌∷◌, ◌++◌}
-use Rattle.ash_journal.specs.Layout.{mark, committed_bytes, FieldsFit, IsClosed, HasMark, LacksMark, IsCutAt}
+use Rattle.ash_journal.specs.Layout.{mark, committed_bytes, FieldsFit, IsClosed, HasMark, LacksMark, IsDamagedAt}
 use Rattle.ash_inspect.specs.declared.header.Header.{Header}
 use Rattle.ash_inspect.specs.declared.header.Header.TheVariants.{Closed, Unmarked, Marked}
 use Rattle.ash_inspect.specs.declared.file_fault.FileFault.{FileFault}
@@ -19,7 +19,7 @@ IsMarkedBehind generation file = (gate : ℕ) × (rest : List ℕ) × (file ≡ 
 -- why no generation is read of the file
 abbrev pub FileFaultIs : FileFault → List ℕ → Type 0
 FileFaultIs faults.Closed file = IsClosed file
-FileFaultIs (faults.Damaged at) file = (LacksMark file × (at ≡ 0)) ⊎ IsCutAt at file
+FileFaultIs (faults.Damaged at) file = (LacksMark file × (at ≡ 0)) ⊎ IsDamagedAt at file
 FileFaultIs faults.NoMemory file = Unit {0}
 
 -- The file begins with a generation's image and these records.
