@@ -24,7 +24,7 @@ use Rattle.ash_lines.specs.declared.source.ReadFault.TheVariants as read_faults
 use Rattle.ash_serve.specs.declared.fault.RunFault.{RunFault}
 use Rattle.ash_serve.specs.declared.fault.RunFault.TheVariants as faults
 use Rattle.ash_lines.specs.Sink.{Outlet, IsOutlet, Accepts, WritesAll, FailsPartway}
-use Rattle.ash_lines.proofs.SinkLemmas.{accepts-fails, accepts-flushes}
+use Rattle.ash_lines.proofs.SinkLemmas.{accepts-flushes}
 use Rattle.ash_serve.proofs.CommandLemmas.{consists-more}
 use Rattle.ash_serve.proofs.ServingLemmas.{log-more, replies-more, text-more, all-accepted, next-nil}
 
@@ -117,8 +117,17 @@ lost-within outlet s t u bytes more room n r h x =
 -- a prefix of the replies so far and of what was being written went out
 part-out : {R W H : Type 0} (remaining : R → Option (List ℕ)) (contents : W → Option (List ℕ)) (host : HostRelation H) (before last : RunState (Reader R) (Writer W) H) (t : Writer W) (bytes : List ℕ) → before.output.buffer.items ≡ [] → before.output.room ≡ max_buffered_bytes → (log : Log (serving-over remaining contents host) before last) → FailsPartway (writer_outlet contents) last.output bytes t → (out : List ℕ) × (lost : List ℕ) × (replies_text log.replies ++ bytes ≡ out ++ lost) × (length lost ≤ max_buffered_bytes + length bytes) × Appends (contents before.output.writer.now) (contents t.writer.now) out
 part-out remaining contents host before last t bytes n room log x =
-    let f = accepts-fails (writer_outlet contents) (writer_is_outlet contents) before.output last.output t (replies_text log.replies) bytes log.written x in
-    (f.out, f.lost, ap (λ (y : List ℕ). y ++ (replies_text log.replies ++ bytes)) (sym n) ∙ f.whole, lost-within (writer_outlet contents) before.output last.output t (replies_text log.replies) bytes max_buffered_bytes n room log.written x, f.broke.0)
+    let s = before.output in
+    let u = last.output in
+    let text = replies_text log.replies in
+    let whole : s.buffer.items ++ (text ++ bytes) ≡ (log.written.out ++ x.out) ++ x.lost =
+    sym (append_assoc s.buffer.items text bytes) ∙ (ap (λ (y : List ℕ). y ++ bytes) log.written.whole ∙ (append_assoc log.written.out u.buffer.items bytes ∙ (ap (λ (y : List ℕ). log.written.out ++ y) x.whole ∙ sym (append_assoc log.written.out x.out x.lost)))) in (
+      log.written.out ++ x.out,
+      x.lost,
+      ap (λ (y : List ℕ). y ++ (text ++ bytes)) (sym n) ∙ whole,
+      lost-within (writer_outlet contents) s u t text bytes max_buffered_bytes n room log.written x,
+      ((writer_is_outlet contents).broken s u t log.written.out x.out log.written.written x.broke).0,
+    )
 
 little : (replies : List CommandReply) (lost : List ℕ) → length lost ≤ max_buffered_bytes + length {A = ℕ} [] → LosesLittle replies lost
 little replies lost h = omega (arith, h)

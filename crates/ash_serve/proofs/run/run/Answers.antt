@@ -1,4 +1,4 @@
-use Rattle.std.proofs.Common.{rules, ap}
+use Rattle.std.proofs.Common.{◌∙◌, rules, ap}
 use Rattle.ash_durable.specs.Hosting.{IsSaved, RunsSound}
 use Rattle.ash_serve.specs.HostCalls.{hosting}
 use Rattle.ash_serve.specs.Serving.{run_state}
