@@ -65,9 +65,9 @@ LosesLittle replies lost = length lost ≤ max_buffered_bytes + length (last_tex
 abbrev pub KnownState : Type 0 → Type 0
 KnownState H = RunState (Option (List ℕ)) (Option (List ℕ)) H
 
--- How a run ended, by its outcome, with this output and this host. What was written is the text of
--- the replies. If a write failed it is a prefix of that text, and little of it is lost. Memory is refused before anything is read, or while a batch
--- is read, of which nothing is handled.
+-- How a run ended, by its outcome, with this output and this host. What was written is the text of the replies. If a
+-- write failed it is a prefix of that text, and little of it is lost. Memory is refused before anything is read, or
+-- while a batch is read, of which nothing is handled.
 abbrev pub RunEnds : {H : Type 0} → HostRelation H → KnownState H
     → Result (Unit {0}) RunFault → Option (List ℕ) → H → Type 0
 RunEnds relation before (Ok _) output host =
