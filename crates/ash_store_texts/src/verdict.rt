@@ -155,7 +155,7 @@ fn push_closing(
 fn push_opening(text: &mut String, at: usize, side: Side) -> Result<(), AllocError> {
     writeln!(
         text,
-        "    to have that back, keep a copy, and write 1 over byte {at} of {side}; the next answer is written over it"
+        "    to have that back, keep a copy before another answer, and write 1 over byte {at} of {side}"
     )?;
     Ok(())
 }
@@ -170,7 +170,7 @@ fn push_advice(
     match finding {
         Finding::NothingStored => {
             text.push_str(
-                "    a store can be created here; if there was one, restore both files from a copy\n",
+                "    if a store was here, restore both files from a copy; else remove both to make one\n",
             )
         }
         Finding::SameGeneration => text.push_str("    restore both files from a copy\n"),
@@ -222,7 +222,7 @@ fn push_missing(text: &mut String, missing: Option<Side>) -> Result<(), AllocErr
         let other = side.other();
         writeln!(
             text,
-            "    restore both files from a copy; or make an empty {side}: then the store is what {other} holds"
+            "    restore both files from a copy; or, if {other} holds the store, make an empty {side}"
         )?;
     }
     Ok(())

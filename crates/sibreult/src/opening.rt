@@ -35,7 +35,7 @@ pub fn store_sentence(
             format!(in alloc; "{folder}: there is no memory for the store")
         }
         StoreFault::Open(OpenFault::NoGeneration) => format!(in alloc;
-            "{folder}: ash.a and ash.b hold no store, as if one was never made: remove both to make a new one"
+            "{folder}: neither file is open: if `sibreult verify {folder}` finds no store, remove both to make one"
         ),
         StoreFault::Open(OpenFault::Damaged(offset)) => format!(in alloc;
             "{folder}: the store is damaged at byte {offset}: `sibreult verify {folder}` says what is left"

@@ -174,7 +174,7 @@ fn run_in_old<R: AllocGlobal + Print + Eprint, B: HostObject>(
                 "{folder}: the store has a module '{module}' of another text than {file}"
             )?;
             eprintln!(rt;
-                "    `discard {module}` in `sibreult shell {folder}` removes it with its globals"
+                "    if you changed it: `discard {module}` in `sibreult shell {folder}` removes it with its globals"
             )?;
             return Ok(Ending::Impossible);
         }

@@ -209,7 +209,7 @@ fn show_command<'a>(alloc: Global) -> Result<Command<'a>, AllocError> {
 
 fn verify_command<'a>(alloc: Global) -> Result<Command<'a>, AllocError> {
     Command::new(alloc, "verify")
-        .about("Looks for damage in a store, and changes nothing")
+        .about("Looks for damage in the layout of a store, not in its values")
         .arg(folder(alloc, "The folder of the store").required(true))
 }
 
