@@ -23,7 +23,7 @@ overwrite '\002' 21 "$scratch/foreign/ash.a"
 ends "create over a store with another text" 1 "ashd: 502 AlreadyThere" create "$scratch/foreign"
 
 # A counter and a tally, which are stored byte for byte. The body of the record that adds the script has 64 bytes more than the
-# script: 36 of a module without a source, 11 of a global that holds an object, and 17 of the counter. That of the call has 57: 32
+# script: 36 of a module without a source, 11 of a global that holds an object, and 17 of the counter. That of the call has 53: 28
 # of a call that changes no global, 8 of the service, and 17 of the counter.
 store=$scratch/counted
 source='Counter@ g = Counter(7); void f() { g.add(tally(4)); }'
@@ -32,7 +32,7 @@ object='\001\0\0\0\001\0\0\0\0\0\0\0\002\001\0\004\0'
 empty_store "$store"
 empty_store "$scratch/wanted"
 record "$scratch/wanted/ash.a" $((64 + ${#source})) 1 "$module" '\0\0' 1 "$object\\007\\0\\0\\0"
-record "$scratch/wanted/ash.a" 57 2 '\003\001m\0\0' '\001\0\0\0\004\0\004\0\0\0' 1 "$object\\013\\0\\0\\0"
+record "$scratch/wanted/ash.a" 53 2 '\0' '\001\0\0\0\004\0\004\0\0\0' 1 "$object\\013\\0\\0\\0"
 asks "load m ${#source}\n$source\ncall m f\n"
 ends "serve a counter and a tally" 0 "" serve "$store" --budget 1000 --counters 1
 holds "a counter and a tally" $'ok seq 1\nok seq 2'
