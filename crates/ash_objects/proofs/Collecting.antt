@@ -97,21 +97,21 @@ module _ {B : Type 0} where
       → (IsIdle slot (change_in slot (with_waiting false) l) → ⊥)
       → HaveGone old (change_in slot (with_waiting false) l) taken
   skipped old l slot taken h busy = record {
-    in_order = seen_order slot l h.in_order;
-    covered = λ m. omega (arith, seen_fields slot m l, seen_counted slot l m, h.covered m);
-    balance = λ m lives. omega (arith, seen_fields slot m l, seen_counted slot l m, h.balance m (lived m lives));
+    in_order = seen_order false slot l h.in_order;
+    covered = λ m. omega (arith, seen_fields false slot m l, seen_counted false slot l m, h.covered m);
+    balance = λ m lives. omega (arith, seen_fields false slot m l, seen_counted false slot l m, h.balance m (lived m lives));
     waiting = waits;
-    stay = λ m lives. seen_face slot l m ∙ h.stay m (lived m lives);
+    stay = λ m lives. seen_face false slot l m ∙ h.stay m (lived m lives);
     go = λ m none. h.go m (gone m none);
-    whole = λ measure. let same = seen_sum slot (λ e. measure (mark_of e)) (λ k p. refl) l in omega (arith, same, h.whole measure);
-    many = omega (arith, seen_length slot l, h.many);
+    whole = λ measure. let same = seen_sum false slot (λ e. measure (mark_of e)) (λ k p. refl) l in omega (arith, same, h.whole measure);
+    many = omega (arith, seen_length false slot l, h.many);
   }
     where
       lived : (m : ℕ) → Lives (change_in slot (with_waiting false) l) m → Lives l m
-      lived m lives = lives_face m l (change_in slot (with_waiting false) l) (sym (seen_face slot l m)) lives
+      lived m lives = lives_face m l (change_in slot (with_waiting false) l) (sym (seen_face false slot l m)) lives
 
       gone : (m : ℕ) → object_at m (change_in slot (with_waiting false) l) ≡ None → object_at m l ≡ None
-      gone m none = go (object_at m l) (sym (at_seen slot l m) ∙ none)
+      gone m none = go (object_at m l) (sym (at_seen false slot l m) ∙ none)
         where
           go : (v : Option (SlotEntry B))
               → option_map (λ object. cond (nat_eq slot object.slot) (with_waiting false object) object) v ≡ None
@@ -121,14 +121,14 @@ module _ {B : Type 0} where
 
       waits : (m : ℕ) → IfSome (object_at m (change_in slot (with_waiting false) l)) (λ object. (object.item).count
           ≡ 0 → object.waiting ≡ true)
-      waits m = subst (λ (v : Option (SlotEntry B)). IfSome v (λ object. (object.item).count ≡ 0 → object.waiting ≡ true)) (sym (at_seen slot l m)) (go (object_at m l) refl (h.waiting m))
+      waits m = subst (λ (v : Option (SlotEntry B)). IfSome v (λ object. (object.item).count ≡ 0 → object.waiting ≡ true)) (sym (at_seen false slot l m)) (go (object_at m l) refl (h.waiting m))
         where
           each : (p : SlotEntry B) → object_at m l ≡ Some p → ((p.item).count ≡ 0 → p.waiting ≡ true) → (b : Bool)
               → nat_eq slot p.slot ≡ b → ((cond b (with_waiting false p) p).item).count ≡ 0
               → (cond b (with_waiting false p) p).waiting ≡ true
           each p is was false apart none = was none
           each p is was true same none =
-              let there : object_at m (change_in slot (with_waiting false) l) ≡ Some (with_waiting false p) = at_seen slot l m ∙ ap (λ (v : Option (SlotEntry B)). option_map (λ object. cond (nat_eq slot object.slot) (with_waiting false object) object) v) is ∙ ap (λ (b : Bool). Some (cond b (with_waiting false p) p)) same in
+              let there : object_at m (change_in slot (with_waiting false) l) ≡ Some (with_waiting false p) = at_seen false slot l m ∙ ap (λ (v : Option (SlotEntry B)). option_map (λ object. cond (nat_eq slot object.slot) (with_waiting false object) object) v) is ∙ ap (λ (b : Bool). Some (cond b (with_waiting false p) p)) same in
               absurd (busy (m, subst (λ (v : Option (SlotEntry B)). IsSomeAnd v (λ object. (object.slot ≡ slot) × ((object.item).count ≡ 0))) (sym there) (sym (eqb-true slot p.slot same), none)))
 
           go : (v : Option (SlotEntry B)) → object_at m l ≡ v
@@ -137,6 +137,47 @@ module _ {B : Type 0} where
               (λ object. (object.item).count ≡ 0 → object.waiting ≡ true)
           go None is was = tt
           go (Some p) is was = each p is was (nat_eq slot p.slot) refl
+
+  -- an object that waits still
+  pub put_back : (old l : List (ℕ × SlotEntry B)) (slot : ℕ) (taken : List (Entry B)) → HaveGone old l taken
+      → HaveGone old (change_in slot (with_waiting true) l) taken
+  put_back old l slot taken h = record {
+    in_order = seen_order true slot l h.in_order;
+    covered = λ m. omega (arith, seen_fields true slot m l, seen_counted true slot l m, h.covered m);
+    balance = λ m lives. omega (arith, seen_fields true slot m l, seen_counted true slot l m, h.balance m (lived m lives));
+    waiting = waits;
+    stay = λ m lives. seen_face true slot l m ∙ h.stay m (lived m lives);
+    go = λ m none. h.go m (gone m none);
+    whole = λ measure. let same = seen_sum true slot (λ e. measure (mark_of e)) (λ k p. refl) l in omega (arith, same, h.whole measure);
+    many = omega (arith, seen_length true slot l, h.many);
+  }
+    where
+      lived : (m : ℕ) → Lives (change_in slot (with_waiting true) l) m → Lives l m
+      lived m lives = lives_face m l (change_in slot (with_waiting true) l) (sym (seen_face true slot l m)) lives
+
+      gone : (m : ℕ) → object_at m (change_in slot (with_waiting true) l) ≡ None → object_at m l ≡ None
+      gone m none = go (object_at m l) (sym (at_seen true slot l m) ∙ none)
+        where
+          go : (v : Option (SlotEntry B))
+              → option_map (λ object. cond (nat_eq slot object.slot) (with_waiting true object) object) v ≡ None
+              → v ≡ None
+          go None e = refl
+          go (Some p) e = absurd (cc)
+
+      waits : (m : ℕ) → IfSome (object_at m (change_in slot (with_waiting true) l)) (λ object. (object.item).count
+          ≡ 0 → object.waiting ≡ true)
+      waits m = subst (λ (v : Option (SlotEntry B)). IfSome v (λ object. (object.item).count ≡ 0 → object.waiting ≡ true)) (sym (at_seen true slot l m)) (go (object_at m l) (h.waiting m))
+        where
+          each : (p : SlotEntry B) → ((p.item).count ≡ 0 → p.waiting ≡ true) → (b : Bool)
+              → ((cond b (with_waiting true p) p).item).count ≡ 0 → (cond b (with_waiting true p) p).waiting ≡ true
+          each p was false none = was none
+          each p was true none = refl
+
+          go : (v : Option (SlotEntry B)) → IfSome v (λ object. (object.item).count ≡ 0 → object.waiting ≡ true)
+              → IfSome (option_map (λ object. cond (nat_eq slot object.slot) (with_waiting true object) object) v)
+              (λ object. (object.item).count ≡ 0 → object.waiting ≡ true)
+          go None was = tt
+          go (Some p) was = each p was (nat_eq slot p.slot)
 
   -- an object that is taken out
   module _ (old l : List (ℕ × SlotEntry B)) (slot : ℕ) (taken : List (Entry B)) (entry : Entry B) (h : HaveGone old l taken) (s : AreStored l) (idle : IsIdle slot (change_in slot (with_waiting false) l)) (here : IsIn entry.number slot (change_in slot (with_waiting false) l)) (mine : IsSomeAnd (object_at entry.number (change_in slot (with_waiting false) l)) (λ object. object.item ≡ entry.item)) (order : IsInOrder (remove_entry (nat_eq entry.number) (change_in slot (with_waiting false) l))) where
@@ -159,7 +200,7 @@ module _ {B : Type 0} where
 
     -- the one object in the slot
     in_slot : (m : ℕ) → IsIn m slot l1 → IsIn m slot l
-    in_slot m is = in_face m slot l l1 (sym (seen_face slot l m)) is
+    in_slot m is = in_face m slot l l1 (sym (seen_face false slot l m)) is
 
     idle_in : (m : ℕ) (v : Option (SlotEntry B))
         → IsSomeAnd v (λ object. (object.slot ≡ slot) × ((object.item).count ≡ 0))
@@ -186,10 +227,10 @@ module _ {B : Type 0} where
         go (Some p) is e = (p, is, e)
 
     at_taken : (m : ℕ) → object_at m l2 ≡ cond (nat_eq entry.number m) None (object_at m l1)
-    at_taken m = object_at-removed entry.number m l1 (seen_order slot l h.in_order)
+    at_taken m = object_at-removed entry.number m l1 (seen_order false slot l h.in_order)
 
     taken_counted : (m : ℕ) → counted m l2 ≡ counted m l
-    taken_counted m = ap (λ (v : Option (SlotEntry B)). option_map_or (λ object. (object.item).count) v 0) (at_taken m) ∙ go (nat_eq entry.number m) refl ∙ seen_counted slot l m
+    taken_counted m = ap (λ (v : Option (SlotEntry B)). option_map_or (λ object. (object.item).count) v 0) (at_taken m) ∙ go (nat_eq entry.number m) refl ∙ seen_counted false slot l m
       where
         go : (b : Bool) → nat_eq entry.number m ≡ b
             → option_map_or (λ object. (object.item).count) (cond b None (object_at m l1)) 0 ≡ counted m l1
@@ -201,7 +242,7 @@ module _ {B : Type 0} where
         let sums = sum_by-remove_entry (holding m) (nat_eq entry.number) l1 in
         let there = ap (λ (v : Option (SlotEntry B)). unwrap_or (option_map (holding m) v) 0) it.1 in
         let words = ap (λ (i : Occupant B). handles_to m (words_of i.body)) it.2 in
-        omega (arith, sums, there, words, seen_fields slot m l)
+        omega (arith, sums, there, words, seen_fields false slot m l)
 
     covers : (m : ℕ) → handles_to m ws ≤ counted m l2
     covers m = omega (arith, taken_fields m, taken_counted m, h.covered m)
@@ -231,7 +272,7 @@ module _ {B : Type 0} where
     face_now : (m : ℕ) → Lives l3 m → face_at m l3 ≡ face_at m l
     face_now m lives =
         released_face ws m l2 ∙ ap (λ (v : Option (SlotEntry B)). option_map face v) (at_other m (apart_now m lives))
-        ∙ seen_face slot l m
+        ∙ seen_face false slot l m
 
     lived_now : (m : ℕ) → Lives l3 m → Lives l m
     lived_now m lives = lives_face m l l3 (sym (face_now m lives)) lives
@@ -264,7 +305,7 @@ module _ {B : Type 0} where
         go true is = tt
         go false is =
             subst (λ (v : Option (SlotEntry B)). IfSome v (λ object. (object.item).count ≡ 0 → object.waiting ≡ true))
-            (sym (at_seen slot l m)) (through (object_at m l) refl is (h.waiting m))
+            (sym (at_seen false slot l m)) (through (object_at m l) refl is (h.waiting m))
 
     less_waits : (p : SlotEntry B) → 0 < (p.item).count → ((p.item).count ≡ 0 → p.waiting ≡ true)
         → ((decremented p).item).count ≡ 0 → (decremented p).waiting ≡ true
@@ -285,19 +326,19 @@ module _ {B : Type 0} where
 
         lived : Lives l entry.number
         lived =
-            lives_face entry.number l l1 (sym (seen_face slot l entry.number))
+            lives_face entry.number l l1 (sym (seen_face false slot l entry.number))
             (subst (λ (v : Option (SlotEntry B)). IsSome v) (sym it.1) refl)
 
         go : (b : Bool) → nat_eq entry.number m ≡ b → counted m old ≤ fields_in m old
         go true is =
             let same : entry.number ≡ m = eqb-true entry.number m is in
             let balance = h.balance entry.number lived in
-            let zero_before : counted entry.number l ≡ 0 = sym (seen_counted slot l entry.number) ∙ zero_count in
+            let zero_before : counted entry.number l ≡ 0 = sym (seen_counted false slot l entry.number) ∙ zero_count in
             let one = ap (λ (k : ℕ). counted k old) same in
             let two = ap (λ (k : ℕ). fields_in k old) same in
             omega (arith, balance, zero_before, one, two)
         go false is =
-            h.go m (none_taken (object_at m l1) (object_at m l) (seen_face slot l m) (sym (at_other m is) ∙ none2))
+            h.go m (none_taken (object_at m l1) (object_at m l) (seen_face false slot l m) (sym (at_other m is) ∙ none2))
 
     pub one_more : HaveGone old
         (release_all (words_of (entry.item).body)
@@ -315,13 +356,13 @@ module _ {B : Type 0} where
           let pushed = sum_by_push (λ e. measure (entry_mark e)) taken entry in
           let removed = sum_entries-removed (λ e. measure (mark_of e)) entry.number it.0 l1 it.1 in
           let same = ap (λ (i : Occupant B). measure (entry.number, is_boxed i.body)) it.2 in
-          let before = seen_sum slot (λ e. measure (mark_of e)) (λ k p. refl) l in
+          let before = seen_sum false slot (λ e. measure (mark_of e)) (λ k p. refl) l in
           let after = released_marks measure ws l2 in
           omega (arith, pushed, removed, same, before, after, h.whole measure);
       many =
           let longer = length-append taken (entry ∷ []) in
           let removed = length-removed entry.number it.0 l1 it.1 in
-          omega (arith, longer, removed, seen_length slot l, released_length ws l2, h.many);
+          omega (arith, longer, removed, seen_length false slot l, released_length ws l2, h.many);
     }
 
 -- each step is nearer the end

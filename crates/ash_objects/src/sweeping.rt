@@ -1,12 +1,12 @@
 //! The sweep: what no hold and no object that stays leads to goes.
 ghost use Rattle.std.specs.Prelude.{◌≡◌, ◌<◌, ◌≤◌, ◌+◌, ◌++◌, ℕ, Bool, List, []};
 ghost use Rattle.std.specs.Prelude.{length, map, nat_eq, IsSomeAnd, IsTrue, OnOk};
-ghost use Rattle.std.specs.Prelude.{OnErr, vec_len, vec_capacity};
+ghost use Rattle.std.specs.Prelude.{OnErr, false, vec_len, vec_capacity};
 ghost use Rattle.std.specs.Map.{remove_entry};
 ghost use Rattle.ash_host.specs.Objects.{object_at, IsInOrder};
 ghost use Rattle.ash_slots.specs.Bodies.{words_of};
 ghost use Rattle.ash_slots.specs.Store.{IsIn, IsIdle, AreStored, NoneWaits};
-ghost use Rattle.ash_objects.specs.Counting.{fields_in, release_all, AreCounted};
+ghost use Rattle.ash_objects.specs.Counting.{fields_in, living_in, release_all, AreCounted};
 ghost use Rattle.ash_slots.specs.SlotCounting.{counted};
 ghost use Rattle.ash_objects.specs.Collecting.{HaveGone, AreInOrder, entry_mark};
 ghost use Rattle.ash_objects.specs.Collecting.{marked_since, marked_drops};
@@ -37,6 +37,23 @@ fn take_idle<B>(store: &mut Store<B>, slot: usize) -> Entry<B>
     let entry = store.remove(slot);
     release_words(store, entry.item.body.words());
     entry
+}
+
+// Takes what is counted off the list of those that wait, up to the first that nothing counts. Whether there is one.
+fn find_idle<B>(store: &mut Store<B>) -> bool
+    requires in_order { IsInOrder store.old.objects }
+    requires counted { AreCounted store.old.objects }
+    ensures same { living_in store.new.objects ≡ living_in store.old.objects }
+    ensures stay { HaveGone store.old.objects store.new.objects [] }
+    ensures none { result ≡ false → NoneWaits store.new.objects }
+{
+    while let Some(slot) = store.next_waiting() {
+        if store.is_idle(slot) {
+            store.queue_for_sweep(slot);
+            return true;
+        }
+    }
+    false
 }
 
 // Takes out what nothing counts, until all that is left is counted.
@@ -86,7 +103,8 @@ fn push_dropped<B>(taken: &[Entry<B>], settled: u64, gone: &mut Vec<u64>, events
 impl<B: HostObject> Objects<B> {
     /// Takes away what no hold and no object that stays leads to: gives its boxes up, and appends `Dropped` for each,
     /// by ascending number. It looks at what was made and at what lost its last count since the last sweep, and at what
-    /// goes; at nothing else of the table. Where there is none of these it costs one test and takes no memory.
+    /// goes; at nothing else of the table. Where there is none of these it costs one test. Where nothing goes it takes no
+    /// memory.
     ///
     /// Before it takes anything away it has room made for as many events, numbers that went and entries as objects
     /// live. The room for entries it gives up at its end; the other two lists keep theirs. Where memory is refused
@@ -130,9 +148,36 @@ impl<B: HostObject> Objects<B> {
         mem::replace(&mut self.gone, Vec::new(alloc))
     }
 
-    // The sweep, where objects may wait for it.
+    // The sweep, where objects may wait for it. What was made since the last one and is counted costs a look.
     #[inline(never)]
     fn sweep_waiting(&mut self, events: &mut Vec<Event>) -> Result<(), NoMemory>
+        ensures collected { OnOk result (Collects self.old self.new) }
+        ensures dropped { OnOk result (events.new.items ≡ events.old.items
+            ++ drops (gone_from self.old.objects self.new.objects)) }
+        ensures reachable { OnOk result ((rank : ℕ → ℕ) (top : ℕ) → RanksFall rank top self.old
+            → LeavesReachable self.old self.new) }
+        ensures unchanged { OnErr result (self.new ≡ self.old) }
+        ensures no_event { OnErr result (events.new.items ≡ events.old.items) }
+    {
+        if self.has_idle() {
+            return self.sweep_idle(events);
+        }
+        Ok(())
+    }
+
+    // Whether an object waits for the sweep that nothing counts. Those that are counted wait no longer.
+    fn has_idle(&mut self) -> bool
+        ensures same { self.new ≡ self.old }
+        ensures collected { result ≡ false → Collects self.new self.new }
+        ensures dropped { result ≡ false → drops (gone_from self.new.objects self.new.objects) ≡ [] }
+        ensures reachable { result ≡ false → (rank : ℕ → ℕ) (top : ℕ) → RanksFall rank top self.new
+            → LeavesReachable self.new self.new }
+    {
+        find_idle(&mut self.store)
+    }
+
+    // The sweep, where something may go.
+    fn sweep_idle(&mut self, events: &mut Vec<Event>) -> Result<(), NoMemory>
         ensures collected { OnOk result (Collects self.old self.new) }
         ensures dropped { OnOk result (events.new.items ≡ events.old.items
             ++ drops (gone_from self.old.objects self.new.objects)) }

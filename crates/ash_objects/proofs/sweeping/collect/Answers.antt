@@ -1,14 +1,14 @@
-use Rattle.std.proofs.Common.{◌≡◌, ◌+◌, length, ap, ◌∙◌, arith, ◌∷◌, []}
+use Rattle.std.proofs.Common.{◌≡◌, ◌+◌, length, ap, ◌∙◌, arith, ◌∷◌, [], false}
 use Rattle.std.proofs.lemmas.List.{length-append}
 use Rattle.ash_objects.proofs.Popping.{seen_stored, seen_covered, seen_length}
 use Rattle.ash_objects.proofs.Collecting.{skipped, one_more, smaller_taken, smaller_popped}
 use Rattle.ash_objects.proofs.sweeping.collect.Goals as goal
 
 pub take_idle-requires-clause-stored : goal.take_idle-requires-clause-stored
-take_idle-requires-clause-stored g c = rw c.in-Some.ensures.objects (seen_stored c.in-Some.slot c.loop-slot.store.objects c.next_waiting.ensures.stored)
+take_idle-requires-clause-stored g c = rw c.in-Some.ensures.objects (seen_stored false c.in-Some.slot c.loop-slot.store.objects c.next_waiting.ensures.stored)
 
 pub take_idle-requires-clause-covered : goal.take_idle-requires-clause-covered
-take_idle-requires-clause-covered g c = rw c.in-Some.ensures.objects (seen_covered c.in-Some.slot c.loop-slot.store.objects c.loop-slot.invariant.gone.covered)
+take_idle-requires-clause-covered g c = rw c.in-Some.ensures.objects (seen_covered false c.in-Some.slot c.loop-slot.store.objects c.loop-slot.invariant.gone.covered)
 
 pub loop-slot-preserved-then-is_idle : goal.loop-slot-preserved-then-is_idle
 loop-slot-preserved-then-is_idle g c =
@@ -59,5 +59,5 @@ loop-slot-preserved g c =
 pub loop-slot-smaller : goal.loop-slot-smaller
 loop-slot-smaller g c =
     let l = c.loop-slot.store.objects in
-    let few = ap length c.in-Some.ensures.objects ∙ seen_length c.in-Some.slot l in
+    let few = ap length c.in-Some.ensures.objects ∙ seen_length false c.in-Some.slot l in
     rw (few, c.in-Some.ensures.room) (smaller_popped (length l) c.loop-slot.store.room c.next_waiting.new.self.pending c.loop-slot.store.pending c.in-Some.ensures.fewer c.next_waiting.ensures.fits)

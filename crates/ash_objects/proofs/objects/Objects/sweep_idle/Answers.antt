@@ -7,7 +7,7 @@ use Rattle.ash_objects.specs.Sweeping.{gone_from}
 use Rattle.ash_objects.proofs.Collected.{living_mark, table_now, collects_now, gone_marks, drops_is, leaves_reachable, order_now}
 use Rattle.ash_objects.proofs.Faults.{reserved}
 use Rattle.ash_objects.proofs.Listed.{listed_left}
-use Rattle.ash_objects.proofs.objects.Objects.sweep_waiting.Goals as goal
+use Rattle.ash_objects.proofs.objects.Objects.sweep_idle.Goals as goal
 
 room_is : (had living objects room : ℕ) → had + living ≤ room → living ≡ objects → objects ≤ room
 room_is had living objects room fits many = omega arith
