@@ -6,3 +6,4 @@ pub mod Arrivals
 pub mod Sizes
 pub mod CompiledCode
 pub mod Validity
+pub mod Ops

@@ -13,10 +13,13 @@
 //! last reads null and is not written, as its line says. What depends on how many locals there are is part of the lines
 //! too: that the arguments of a call come after the locals, and that there is a slot to declare.
 //!
-//! In reading order: `instruction`, `code`, `validity`, `sizes`.
+//! Beside its instructions each function has ops, one at each place: the same instructions, small, for the inner loop of
+//! a machine.
+//!
+//! In reading order: `instruction`, `op`, `code`, `sizes`.
 #![tactic(auto)]
 
 pub mod code;
 pub mod instruction;
+pub mod op;
 pub mod sizes;
-pub mod validity;

@@ -20,7 +20,7 @@ use Rattle.ash_soundness.proofs.Bodies.{keeps_bodies}
 use Rattle.ash_soundness.proofs.Expressions.{AreArgued, arguments_give}
 use Rattle.ash_code.specs.Controls.{Window, control}
 use Rattle.ash_code.specs.Performing.{Setting}
-use Rattle.ash_compile.specs.declared.builder.CodeBuilder.{CodeBuilder}
+use Rattle.ash_compile.specs.declared.builder.Written.{Written}
 use Rattle.ash_compile.specs.Stretches.{continued, Arrives, Fits, Holds, with_slots, Computes}
 use Rattle.ash_compile.specs.Emission.{code_of, end_of, Scene, IsScene, Good, DoesExpression, Emits, calls_of}
 use Rattle.ash_compile.specs.Arguments.{HoldsAll, ComputesAll, EmitsArguments}
@@ -206,7 +206,7 @@ module _ (s : Setting) (Good : Activity → Type 0) (function room : ℕ) where
 
 -- emitted code
 
-pub no_code : (old : CodeBuilder) (slot : ℕ) → EmitsArguments old old [] slot
+pub no_code : (old : Written) (slot : ℕ) → EmitsArguments old old [] slot
 no_code old slot = record {
   keeps = record { longer = omega arith; same = λ k low. refl; slots = omega arith; layout = refl };
   does = λ s parameters scene sound stands suits.
@@ -217,7 +217,7 @@ typed_last : {env : TypedEnvironment} {of : VarType} {e : Expr} → FitsType env
     → (inner : _) × IsWellTyped env e inner
 typed_last (fits typed subtype) = (_, typed)
 
-pub one_argument : (start old new : CodeBuilder) (es : List Expr) (e : Expr) (slot next : ℕ) → next ≡ slot + length es
+pub one_argument : (start old new : Written) (es : List Expr) (e : Expr) (slot next : ℕ) → next ≡ slot + length es
     → EmitsArguments start old es slot → Emits old new e next → EmitsArguments start new (es ++ e ∷ []) slot
 one_argument start old new es e slot next is first second = record {
   keeps = keeps_on start old new first.keeps second.keeps;

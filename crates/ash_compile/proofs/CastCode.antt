@@ -19,12 +19,13 @@ use Rattle.ash_code.specs.declared.instruction.Instruction.TheVariants as i
 use Rattle.ash_code.specs.Controls.{control}
 use Rattle.ash_code.specs.Performing.{Next, put, classes_of, own_name}
 use Rattle.ash_code.specs.Steps as steps
-use Rattle.ash_compile.specs.declared.builder.CodeBuilder.{CodeBuilder}
+use Rattle.ash_compile.specs.declared.builder.Written.{Written}
 use Rattle.ash_compile.specs.Emission.{Puts, Scene, IsScene, Good, DoesExpression, Emits, calls_of}
 use Rattle.ash_compile.proofs.Simulation.{frame_in, by_one}
 use Rattle.ash_compile.proofs.Phrases.{KeepsLocals}
 use Rattle.ash_compile.proofs.Emission.{HasAt, emits_then}
 use Rattle.ash_compile.proofs.ClassTables.{object_fits}
+use Rattle.ash_compile.proofs.Implemented.{are_implemented}
 
 -- Code casts as the module does.
 cast_is : (s : Scene) (to : ObjectType) (x : Word) (b : Activity) (next : Word → Guarded Next) → IsScene s
@@ -38,7 +39,8 @@ cast_is s to (words.Int64 n) b next scene = refl
 cast_is s to (words.Uint64 n) b next scene = refl
 cast_is s to (words.Object number) b next scene =
     ap (λ (t : Bool). next (if t then words.Object number else words.Null) b)
-    (object_fits s.setting (s.context).program scene.owner scene.classes to (object_at number (b.world).objects))
+    (object_fits s.setting (s.context).program scene.owner scene.classes (are_implemented scene.sound) to
+    (object_at number (b.world).objects))
 
 cast_keeps : (p : Program) (to : ObjectType) (x : Word) → KeepsLocals (meaning.cast p to x)
 cast_keeps p to words.Null a b v ran = ap (λ (q : Progress Word). (frame_in a.frame q).locals) (sym ran)
@@ -64,7 +66,7 @@ typed_cast : {env : TypedEnvironment} {to : ObjectType} {e : Expr} {t : ValueTyp
     → (inner : ValueType) × IsWellTyped env e inner
 typed_cast (typing.cast is typed) = (_, typed)
 
-pub cast : (start old new : CodeBuilder) (to : ObjectType) (e : Expr) (slot : ℕ) → Emits start old e slot
+pub cast : (start old new : Written) (to : ObjectType) (e : Expr) (slot : ℕ) → Emits start old e slot
     → Puts old new slot (i.Cast to slot slot) → Emits start new (Cast to e) slot
 cast start old new to e slot first puts =
     emits_then start old new e (Cast to e) slot (i.Cast to slot slot) first puts (λ s of typed. typed_cast typed)

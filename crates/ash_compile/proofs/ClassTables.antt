@@ -15,7 +15,7 @@ use Rattle.ash_code.specs.declared.code.ClassCode.{ClassCode}
 use Rattle.ash_code.specs.declared.code.ImplementationCode.{ImplementationCode}
 use Rattle.ash_code.specs.Performing.{Setting, classes_of, own_name}
 use Rattle.ash_code.specs.Steps as steps
-use Rattle.ash_compile.specs.Callees.{implementation_of, implementation_at, HasClasses}
+use Rattle.ash_compile.specs.Callees.{implementation_of, implementation_at, AreImplemented, HasClasses}
 use Rattle.ash_compile.proofs.Tables.{class_same, listed}
 
 get_past : {A : Type 0} (xs : List A) (k : ℕ) → length xs ≤ k → slice_get xs k ≡ None
@@ -27,7 +27,8 @@ some_mapped : {A B : Type 0} (f : A → B) (o : Option A) → is_some o ≡ is_s
 some_mapped f None = refl
 some_mapped f (Some x) = refl
 
-module _ (s : Setting) (p : Program) (owner : own_name s ≡ p.name) (has : HasClasses s p.tree) where
+module _ (s : Setting) (p : Program) (owner : own_name s ≡ p.name) (has : HasClasses s p.tree)
+    (named : AreImplemented p.tree) where
   -- whether a class lists an interface
   lists_by : (interface class : ℕ) (there : Bool) → nat_lt class (length (p.tree).classes) ≡ there
       → is_some (steps.implementation_in (classes_of s) interface class)
@@ -36,7 +37,7 @@ module _ (s : Setting) (p : Program) (owner : own_name s ≡ p.name) (has : HasC
       let low : class < length (p.tree).classes = grind (arith, nat_tests) in
       let k = there_from (p.tree).classes class low in
       some_mapped implementation_of (steps.implementation_in (classes_of s) interface class)
-      ∙ ap is_some (listed s p.tree has interface class k.0 k.1)
+      ∙ ap is_some (listed s p.tree has interface class k.0 k.1 (named class k.0 k.1))
       ∙ sym (some_mapped (implementation_at p.tree class) (classes.implementation_in p.tree class interface))
   lists_by interface class false is =
       let high : length (p.tree).classes ≤ class = grind (arith, nat_tests) in

@@ -1,7 +1,6 @@
 -- Parts that are compiled are the code of their module.
 use Rattle.std.proofs.Common.{◌≡◌, ◌≤◌, ℕ, List, [], take, length, refl, sym, ap, ◌∙◌, subst, arith}
-use Rattle.std.specs.Prelude.{Option, Some, None, Result, IfSome, IfOk, slice_get, unwrap_or}
-use Rattle.std.specs.Option.{ok_or}
+use Rattle.std.specs.Prelude.{Option, Some, slice_get, unwrap_or}
 use Rattle.std.proofs.lemmas.Option.{slice_get_past}
 use Rattle.std.proofs.lemmas.Slice.Zip.{AllZip-long}
 use Rattle.ash_host.specs.declared.word.Word.{Word}
@@ -30,12 +29,6 @@ use Rattle.ash_compile.proofs.Functions.{runs, loads_module}
 use Rattle.ash_compile.proofs.Listings.{zip_at}
 use Rattle.ash_compile.proofs.ModuleFrames.{count_of_frames, function_at}
 use Rattle.ash_compile.proofs.EveryCallee.{scene_of, is_scene, has_callees}
-
--- what holds of a value holds of it where it is given
-pub ok_by : {A E : Type 0} (o : Option A) (e : E) (r : Result A E) (x : A) (P : A → Type 0) → r ≡ ok_or o e
-    → IfSome o (λ y. y ≡ x) → P x → IfOk r P
-ok_by (Some y) e r x P is same holds = subst (λ (q : Result _ _). IfOk q P) (sym is) (subst P (sym same) holds)
-ok_by None e r x P is same holds = subst (λ (q : Result _ _). IfOk q P) (sym is) tt
 
 module _ (layout : Layout) (parts : CodeParts) (c : Context) (context : IsContext c)
     (compiled : IsCompiled layout (c.program).tree parts) where

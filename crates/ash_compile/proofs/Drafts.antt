@@ -5,7 +5,7 @@ use Rattle.std.specs.Prelude.{Option, Some, ◌||◌, nat_eq, slice_get, if◌th
 use Rattle.std.proofs.lemmas.Bool.Decides.{nat_tests}
 use Rattle.ash_code.specs.declared.instruction.Instruction.{Instruction}
 use Rattle.ash_code.specs.declared.instruction.Instruction.TheVariants as i
-use Rattle.ash_compile.specs.declared.builder.CodeBuilder.{CodeBuilder}
+use Rattle.ash_compile.specs.declared.builder.Written.{Written}
 use Rattle.ash_compile.specs.Performances.{Exits}
 use Rattle.ash_compile.specs.Emission.{code_of, end_of, Keeps, Leads, Scene, Stands}
 use Rattle.ash_compile.specs.EmittedStatements.{waits, AreBelow, AreApart, Draft, with_jumps, end_in, Joins, Grows, shown, StandsWith}
@@ -79,7 +79,7 @@ apart_continues breaks continues more from to joins below apart k waiting =
 
 -- code that grows
 
-pub grows_code : (old new : CodeBuilder) (breaks continues : List ℕ) → Keeps old new
+pub grows_code : (old new : Written) (breaks continues : List ℕ) → Keeps old new
     → Grows (with_jumps old breaks continues) (with_jumps new breaks continues)
 grows_code old new breaks continues keeps = record {
   code = keeps;
@@ -155,7 +155,7 @@ plainly s exits d from to breaks continues stands = λ k low high.
     stands k low high ∙ shown_code exits d k (breaks k low) (continues k low)
 
 -- Code that is put behind a draft stands there, whatever is written behind it.
-pub plainly_put : (s : Scene) (exits : Exits) (old mid : CodeBuilder) (new : Draft) (breaks continues : List ℕ)
+pub plainly_put : (s : Scene) (exits : Exits) (old mid : Written) (new : Draft) (breaks continues : List ℕ)
     → Keeps old mid → Grows (with_jumps mid breaks continues) new
     → AreBelow (end_of old) breaks → AreBelow (end_of old) continues
     → StandsWith s exits new (end_of old) (end_in new)
@@ -166,7 +166,7 @@ plainly_put s exits old mid new breaks continues keeps grows no_breaks no_contin
 
 -- jumps that are written again
 
-pub led_before : (exits : Exits) (old new : CodeBuilder) (breaks continues : List ℕ) (at k : ℕ) (j : Instruction)
+pub led_before : (exits : Exits) (old new : Written) (breaks continues : List ℕ) (at k : ℕ) (j : Instruction)
     → Leads old new at j → (k ≡ at → ⊥)
     → shown exits (with_jumps new breaks continues) k ≡ shown exits (with_jumps old breaks continues) k
 led_before exits old new breaks continues at k j leads apart =

@@ -1,6 +1,6 @@
 -- The code of expressions whose value is not used: an assignment to a local writes the local itself.
-use Rattle.std.proofs.Common.{◌≡◌, ◌<◌, ◌⊎◌, ℕ, ◌+◌, ℤ, pos, negsuc, length, refl, sym, ap, ◌∙◌, subst, arith, true}
-use Rattle.std.specs.Prelude.{Result, Ok, Err, Some, slice_get, slice_index_or, ◌+ℤ◌, ◌-ℤ◌}
+use Rattle.std.proofs.Common.{◌≡◌, ◌<◌, ◌⊎◌, ℕ, ◌+◌, ℤ, pos, negsuc, refl, sym, ap, ◌∙◌, subst, arith, true}
+use Rattle.std.specs.Prelude.{Some, slice_get, slice_index_or, ◌+ℤ◌, ◌-ℤ◌}
 use Rattle.std.proofs.lemmas.Int.{ints as signed}
 use Rattle.ash_host.specs.declared.word.Word.{Word}
 use Rattle.ash_host.specs.declared.word.Word.TheVariants as words
@@ -35,11 +35,9 @@ use Rattle.ash_code.specs.declared.instruction.Instruction.TheVariants as i
 use Rattle.ash_code.specs.Controls.{Window, control}
 use Rattle.ash_code.specs.Performing.{perform, put, of_int}
 use Rattle.ash_typed.specs.declared.tree.operations.Calculator.TheVariants as calculators
-use Rattle.ash_compile.specs.declared.builder.CodeBuilder.{CodeBuilder}
-use Rattle.ash_compile.specs.Stretches.{Fits}
-use Rattle.ash_compile.specs.Emission.{code_of, end_of, Keeps, Puts, Scene, IsScene, Suits, Good, Stands, Emits, calls_of}
-use Rattle.ash_compile.specs.Places.{HoldsBelow}
-use Rattle.ash_compile.specs.Operands.{HoldsIn, ComputesIn, Affects, EmitsIn, EmitsInto, EmitsEffect, Calculates}
+use Rattle.ash_compile.specs.declared.builder.Written.{Written}
+use Rattle.ash_compile.specs.Emission.{end_of, Puts, Scene, IsScene, Good, Emits, calls_of}
+use Rattle.ash_compile.specs.Operands.{Affects, EmitsIn, EmitsInto, EmitsEffect, Calculates}
 use Rattle.ash_compile.specs.Operands.{Adds, AddsTo, IsAddition}
 use Rattle.ash_typed.specs.declared.tree.expressions.ExprKind.{ExprKind}
 use Rattle.ash_typed.specs.TypedTreeViews.{expr_in}
@@ -56,7 +54,7 @@ use Rattle.ash_compile.proofs.Operands.{DoesIn, calculated_by, receives_local, e
 
 -- what is left of a value
 
-pub effect_of : (old new : CodeBuilder) (e : Expr) (slot at : ℕ) → EmitsIn old new e slot at → EmitsEffect old new e slot
+pub effect_of : (old new : Written) (e : Expr) (slot at : ℕ) → EmitsIn old new e slot at → EmitsEffect old new e slot
 effect_of old new e slot at emits = record {
   keeps = emits.keeps;
   does = λ s of scene typed stands suits. record {
@@ -191,7 +189,7 @@ typed_there : {env : TypedEnvironment} {n : ℕ} {of : VarType} {t : IntType}
     → (of ≡ vars.Integer t) × (slice_get env.locals n ≡ Some (vars.Integer t))
 typed_there (typing.local is) = (refl, is)
 
-pub update_effect : (start old new : CodeBuilder) (place : Place) (c : Calculation) (e : Expr) (n slot right : ℕ)
+pub update_effect : (start old new : Written) (place : Place) (c : Calculation) (e : Expr) (n slot right : ℕ)
     (j : Instruction)
     → IsLocalPlace place n → EmitsIn start old e slot right → Puts old new slot j → Calculates j c n right n
     → EmitsEffect start new (Update place c.of c e) slot
@@ -214,7 +212,7 @@ update_effect start old new _ c e n slot right j (IsLocalPlace.local_place {of =
           (has_put s old new (end_of start) slot j (first.keeps).longer puts stands) by));
     })
 
-pub add_effect : (old new : CodeBuilder) (place : Place) (c : Calculation) (e : Expr) (number : ℤ) (n slot : ℕ)
+pub add_effect : (old new : Written) (place : Place) (c : Calculation) (e : Expr) (number : ℤ) (n slot : ℕ)
     → IsLocalPlace place n → Puts old new slot (i.AddNumber n number n) → AddsTo c e number
     → EmitsEffect old new (Update place c.of c e) slot
 add_effect old new _ c e number n slot (IsLocalPlace.local_place {of = of}) puts by =
@@ -300,7 +298,7 @@ typed_counted_there : {env : TypedEnvironment} {n : ℕ} {of : VarType} {t : Int
     → IsWellTyped env (Count (Stored (variables.Local n of)) t step) x → slice_get env.locals n ≡ Some (vars.Integer t)
 typed_counted_there (typing.count (typing.local is)) = is
 
-pub count_effect : (old new : CodeBuilder) (place : Place) (t : IntType) (step : IncrementOp) (n slot : ℕ)
+pub count_effect : (old new : Written) (place : Place) (t : IntType) (step : IncrementOp) (n slot : ℕ)
     (j : Instruction)
     → IsLocalPlace place n → Puts old new slot j → Counts j step t n → EmitsEffect old new (Count place t step) slot
 count_effect old new _ t step n slot j (IsLocalPlace.local_place {of = of}) puts by = record {
@@ -314,15 +312,15 @@ count_effect old new _ t step n slot j (IsLocalPlace.local_place {of = of}) puts
       (has_put s old new (end_of old) slot j (omega arith) puts stands) by));
 }
 
-pub assign_effect : (old new : CodeBuilder) (place : Place) (e : Expr) (n slot : ℕ) → IsLocalPlace place n
+pub assign_effect : (old new : Written) (place : Place) (e : Expr) (n slot : ℕ) → IsLocalPlace place n
     → EmitsInto old new e slot n → EmitsEffect old new (Assign place e) slot
 assign_effect old new _ e n slot (IsLocalPlace.local_place {of = of}) into =
     effect_of old new (Assign (Stored (variables.Local n of)) e) slot n (into.in_local of)
 
-pub plain_effect : (old new : CodeBuilder) (e : Expr) (slot : ℕ) → Emits old new e slot → EmitsEffect old new e slot
+pub plain_effect : (old new : Written) (e : Expr) (slot : ℕ) → Emits old new e slot → EmitsEffect old new e slot
 plain_effect old new e slot emits = effect_of old new e slot slot (emits_in old new e slot emits)
 
-pub effect_of_kind : (old new : CodeBuilder) (k l : ExprKind) (e : Expr) (slot : ℕ) → k ≡ l → expr_in l ≡ e
+pub effect_of_kind : (old new : Written) (k l : ExprKind) (e : Expr) (slot : ℕ) → k ≡ l → expr_in l ≡ e
     → EmitsEffect old new e slot → EmitsEffect old new (expr_in k) slot
 effect_of_kind old new k l e slot is means emits =
     subst (λ (x : Expr). EmitsEffect old new x slot) (sym (ap expr_in is ∙ means)) emits

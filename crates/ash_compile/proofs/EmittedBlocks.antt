@@ -20,7 +20,7 @@ use Rattle.ash_meaning.specs.StatementMeaning.{statement, statements, declare_al
 use Rattle.ash_code.specs.declared.instruction.Instruction.{Instruction}
 use Rattle.ash_code.specs.declared.instruction.Instruction.TheVariants as i
 use Rattle.ash_code.specs.Running.{instruction_at}
-use Rattle.ash_compile.specs.declared.builder.CodeBuilder.{CodeBuilder}
+use Rattle.ash_compile.specs.declared.builder.Written.{Written}
 use Rattle.ash_compile.specs.declared.bodies.Scope.{Scope}
 use Rattle.ash_compile.specs.declared.bodies.Branch.{Branch}
 use Rattle.ash_compile.specs.declared.bodies.Condition.{Condition}
@@ -103,7 +103,7 @@ wider s exits result scope types more inside is = record {
   returns = inside.returns;
 }
 
-pub declaration : (old mid new : CodeBuilder) (line : ℕ) (vs : List Initialization) (scope : Scope) (more : ℕ)
+pub declaration : (old mid new : Written) (line : ℕ) (vs : List Initialization) (scope : Scope) (more : ℕ)
     → Puts old mid scope.locals (i.Tick line) → EmitsVariables mid new vs scope.locals more
     → (breaks continues : List ℕ)
     → EmitsListed (with_jumps old breaks continues) (with_jumps new breaks continues) (Declare line vs) scope more
@@ -157,7 +157,7 @@ declaration old mid new line vs scope more ticks emits breaks continues end xs r
 sound_block : {scope : TypedScope} {line : ℕ} {xs : Stmts} → IsSoundStmt scope (Block line xs) → AreSoundStmts scope xs
 sound_block (typing.block sound) = sound
 
-pub block : (old mid : Draft) (new : CodeBuilder) (line : ℕ) (xs : Stmts) (scope : Scope) → EmitsStatements old mid xs scope
+pub block : (old mid : Draft) (new : Written) (line : ℕ) (xs : Stmts) (scope : Scope) → EmitsStatements old mid xs scope
     → Puts mid.code new scope.locals (i.EndBlock scope.locals)
     → EmitsStatement old (with_jumps new mid.breaks mid.continues) (Block line xs) scope
 block old mid new line xs scope emits puts = record {
@@ -188,7 +188,7 @@ block old mid new line xs scope emits puts = record {
 -- `if`
 
 -- The code has a tick and a condition; its branch leads somewhere.
-module _ (c0 c1 c2 : CodeBuilder) (line : ℕ) (e : Expr) (scope : Scope) (test : Branch)
+module _ (c0 c1 c2 : Written) (line : ℕ) (e : Expr) (scope : Scope) (test : Branch)
     (ticks : Puts c0 c1 scope.locals (i.Tick line)) (tests : Tests c1 c2 e scope.locals test) where
   pub tick_one : end_of c1 ≡ end_of c0 + 1
   tick_one = put_one c0 c1 scope.locals (i.Tick line) ticks
@@ -231,7 +231,7 @@ sound_if_else : {scope : TypedScope} {line : ℕ} {e : Expr} {x y : Stmt} → Is
     → IsSoundCondition scope.env e × IsSoundStmt scope x × IsSoundStmt scope y
 sound_if_else (typing.if_else typed x y) = (typed, x, y)
 
-pub if_only : (c0 c1 c2 c3 c4 : CodeBuilder) (breaks continues breaks' continues' : List ℕ) (line : ℕ) (e : Expr) (x : Stmt)
+pub if_only : (c0 c1 c2 c3 c4 : Written) (breaks continues breaks' continues' : List ℕ) (line : ℕ) (e : Expr) (x : Stmt)
     (scope : Scope) (at to : ℕ) (by : Condition)
     → Puts c0 c1 scope.locals (i.Tick line) → Tests c1 c2 e scope.locals (record { at = at; condition = by })
     → EmitsStatement (with_jumps c2 breaks continues) (with_jumps c3 breaks' continues') x scope
@@ -295,16 +295,16 @@ if_only c0 c1 c2 c3 c4 breaks continues breaks' continues' line e x scope at to 
 
 -- c2 with the condition, c3 with the statement, c4 with the jump over the other one, c5 with that, c6 and c7 with the
 -- branch and the jump led.
-pub if_else : (c0 c1 c2 c3 c4 c5 c6 c7 : CodeBuilder) (b0 n0 b1 n1 b2 n2 : List ℕ) (line : ℕ) (e : Expr) (x y : Stmt)
-    (scope : Scope) (at back unmet to : ℕ) (by : Condition)
+pub if_else : (c0 c1 c2 c3 c4 c5 c6 c7 : Written) (b0 n0 b1 n1 b2 n2 : List ℕ) (line : ℕ) (e : Expr) (x y : Stmt)
+    (scope : Scope) (at back unmet to : ℕ) {pending : ℕ} (by : Condition)
     → Puts c0 c1 scope.locals (i.Tick line) → Tests c1 c2 e scope.locals (record { at = at; condition = by })
     → EmitsStatement (with_jumps c2 b0 n0) (with_jumps c3 b1 n1) x scope
-    → Puts c3 c4 scope.locals (i.Jump 0)
+    → Puts c3 c4 scope.locals (i.Jump pending)
     → EmitsStatement (with_jumps c4 b1 n1) (with_jumps c5 b2 n2) y scope
     → back ≡ end_of c3 → unmet ≡ end_of c4 → to ≡ end_of c5
     → Leads c5 c6 at (branch_on by unmet) → Leads c6 c7 back (i.Jump to)
     → EmitsStatement (with_jumps c0 b0 n0) (with_jumps c7 b2 n2) (If line e x (branch y)) scope
-if_else c0 c1 c2 c3 c4 c5 c6 c7 b0 n0 b1 n1 b2 n2 line e x y scope at back unmet to by ticks tests first puts second back_is
+if_else c0 c1 c2 c3 c4 c5 c6 c7 b0 n0 b1 n1 b2 n2 line e x y scope at back unmet to {pending} by ticks tests first puts second back_is
     unmet_is to_is one two = record {
       grows = record {
         code = leads_keeps c0 c6 c7 back (i.Jump to)
@@ -328,7 +328,7 @@ if_else c0 c1 c2 c3 c4 c5 c6 c7 b0 n0 b1 n1 b2 n2 line e x y scope at back unmet
           let low2 : (k : ℕ) → end_of c2 ≤ k → end_of c0 ≤ k = λ k low. omega (arith, low, keeps.longer) in
           let suits6 = suits_led s c6 c7 back (i.Jump to) two suits in
           let suits5 = suits_led s c5 c6 at (branch_on by unmet) one suits6 in
-          let suits3 = suits_before s c3 c5 (keeps_on c3 c4 c5 (put_keeps c3 c4 scope.locals (i.Jump 0) puts) (second.grows).code)
+          let suits3 = suits_before s c3 c5 (keeps_on c3 c4 c5 (put_keeps c3 c4 scope.locals (i.Jump pending) puts) (second.grows).code)
           suits5 in
           let suits2 = suits_before s c2 c3 (first.grows).code suits3 in
           let other : (k : ℕ) → end_of c0 ≤ k → k < end_of c5 → (k ≡ at → ⊥) → (k ≡ back → ⊥) → F k ≡ shown exits d5 k
@@ -389,11 +389,11 @@ if_else c0 c1 c2 c3 c4 c5 c6 c7 b0 n0 b1 n1 b2 n2 line e x y scope at back unmet
     met = test_end c0 c1 c2 line e scope (record { at = at; condition = by }) ticks tests
 
     four : end_of c4 ≡ end_of c3 + 1
-    four = put_one c3 c4 scope.locals (i.Jump 0) puts
+    four = put_one c3 c4 scope.locals (i.Jump pending) puts
 
     later : Grows (with_jumps c3 b1 n1) (with_jumps c5 b2 n2)
     later = grows_on (with_jumps c3 b1 n1) (with_jumps c4 b1 n1) (with_jumps c5 b2 n2)
-        (grows_code c3 c4 b1 n1 (put_keeps c3 c4 scope.locals (i.Jump 0) puts)) second.grows
+        (grows_code c3 c4 b1 n1 (put_keeps c3 c4 scope.locals (i.Jump pending) puts)) second.grows
 
     all : Grows (with_jumps c2 b0 n0) (with_jumps c5 b2 n2)
     all = grows_on (with_jumps c2 b0 n0) (with_jumps c3 b1 n1) (with_jumps c5 b2 n2) first.grows later

@@ -1,6 +1,7 @@
 -- Emitted code of expressions that branch. A jump forward is written again when its target is known.
-use Rattle.std.proofs.Common.{◌≡◌, ◌≢◌, ◌≤◌, ◌<◌, ℕ, zero, suc, ◌+◌, List, [], ◌∷◌, length, refl, sym, ap, ◌∙◌, subst, arith}
-use Rattle.std.specs.Prelude.{Option, Some, None, slice_get, slice_set}
+use Rattle.std.proofs.Common.{◌≡◌, ◌≤◌, ◌<◌, ℕ, zero, suc, ◌+◌, List, [], ◌∷◌, length, refl, sym, ap, ◌∙◌, subst}
+use Rattle.std.proofs.Common.{arith}
+use Rattle.std.specs.Prelude.{Some, slice_get, slice_set}
 use Rattle.std.proofs.lemmas.List.{length-set}
 use Rattle.ash_typed.specs.declared.types.VarType.TheVariants as vars
 use Rattle.ash_typed.specs.declared.tree.operations.Lazy.{Lazy}
@@ -9,17 +10,15 @@ use Rattle.ash_typed.specs.TypeOf.{ValueType, value}
 use Rattle.ash_typed.specs.TypedTree.{Expr, Lazily, Conditional}
 use Rattle.ash_typed.specs.SoundExpressions as typing
 use Rattle.ash_typed.specs.SoundExpressions.{TypedEnvironment, IsWellTyped}
-use Rattle.ash_meaning.specs.Activity.{Activity}
-use Rattle.ash_meaning.specs.Runs.{Done}
 use Rattle.ash_meaning.specs.ExpressionMeaning.{expression}
 use Rattle.ash_code.specs.declared.instruction.Instruction.{Instruction}
 use Rattle.ash_code.specs.declared.instruction.Instruction.TheVariants as i
-use Rattle.ash_compile.specs.declared.builder.CodeBuilder.{CodeBuilder}
+use Rattle.ash_compile.specs.declared.builder.Written.{Written}
 use Rattle.ash_compile.specs.declared.layout.Layout.{Layout}
 use Rattle.ash_compile.specs.Layout.{IsLayout}
-use Rattle.ash_compile.specs.Emission.{code_of, end_of, Keeps, Puts, Leads, lazy_jump, Scene, IsScene, Suits, Good, Stands, DoesExpression, Emits, calls_of}
+use Rattle.ash_compile.specs.Emission.{code_of, end_of, Keeps, Puts, Leads, lazy_jump, Scene, IsScene, Suits, Good, DoesExpression, Emits, calls_of}
 use Rattle.ash_compile.proofs.Branches as run
-use Rattle.ash_compile.proofs.Emission.{HasAt, keeps_on, put_keeps, put_one, put_there, suits_before}
+use Rattle.ash_compile.proofs.Emission.{HasAt, keeps_on, put_keeps, put_one, suits_before}
 use Rattle.ash_compile.proofs.Typed.{stays_good, evaluates, truth_is}
 
 -- one instruction that is another one
@@ -37,19 +36,19 @@ get_other (x ∷ xs) zero (suc k) i apart = refl
 get_other (x ∷ xs) (suc at) zero i apart = refl
 get_other (x ∷ xs) (suc at) (suc k) i apart = get_other xs at k i (λ is. apart (ap suc is))
 
-pub leads_end : (old new : CodeBuilder) (at : ℕ) (i : Instruction) → Leads old new at i → end_of new ≡ end_of old
+pub leads_end : (old new : Written) (at : ℕ) (i : Instruction) → Leads old new at i → end_of new ≡ end_of old
 leads_end old new at i leads = ap length leads.code ∙ length-set (code_of old) at i
 
-pub leads_there : (old new : CodeBuilder) (at : ℕ) (i : Instruction) → Leads old new at i → at < end_of old
+pub leads_there : (old new : Written) (at : ℕ) (i : Instruction) → Leads old new at i → at < end_of old
     → slice_get (code_of new) at ≡ Some i
 leads_there old new at i leads low = ap (λ (xs : List Instruction). slice_get xs at) leads.code ∙ get_same (code_of old) at i low
 
-pub leads_other : (old new : CodeBuilder) (at k : ℕ) (i : Instruction) → Leads old new at i → (k ≡ at → ⊥)
+pub leads_other : (old new : Written) (at k : ℕ) (i : Instruction) → Leads old new at i → (k ≡ at → ⊥)
     → slice_get (code_of new) k ≡ slice_get (code_of old) k
 leads_other old new at k i leads apart =
     ap (λ (xs : List Instruction). slice_get xs k) leads.code ∙ get_other (code_of old) at k i apart
 
-pub leads_keeps : (start old new : CodeBuilder) (at : ℕ) (i : Instruction) → Keeps start old → end_of start ≤ at
+pub leads_keeps : (start old new : Written) (at : ℕ) (i : Instruction) → Keeps start old → end_of start ≤ at
     → Leads old new at i → Keeps start new
 leads_keeps start old new at i keeps later leads = record {
   longer = omega (arith, keeps.longer, leads_end old new at i leads);
@@ -59,7 +58,7 @@ leads_keeps start old new at i keeps later leads = record {
 }
 
 -- What leads elsewhere suits the same scenes.
-pub suits_led : (s : Scene) (old new : CodeBuilder) (at : ℕ) (i : Instruction) → Leads old new at i → Suits s new
+pub suits_led : (s : Scene) (old new : Written) (at : ℕ) (i : Instruction) → Leads old new at i → Suits s new
     → Suits s old
 suits_led s old new at i leads suits = record {
   slots = omega (arith, leads.slots, suits.slots);
@@ -90,7 +89,7 @@ does_lazily lazies.Or s a b from mid to slot scene typed left has right =
       truth_is v ((evaluates s a (value vars.Bool) x y v scene typed good ran).carried).value,
     ))
 
-pub lazily : (start old put mid new : CodeBuilder) (op : Lazy) (a b : Expr) (slot to : ℕ) (i : Instruction)
+pub lazily : (start old put mid new : Written) (op : Lazy) (a b : Expr) (slot to : ℕ) (i : Instruction)
     → Emits start old a slot → Puts old put slot i → Emits put mid b slot → to ≡ end_of mid
     → Leads mid new (end_of old) (lazy_jump op slot to) → Emits start new (Lazily op a b) slot
 lazily start old put mid new op a b slot to i first puts second is leads =
@@ -138,7 +137,7 @@ typed_otherwise (typing.choose c x y) = (_, y)
 typed_otherwise (typing.choose_or_null c x y) = (_, y)
 typed_otherwise (typing.null_or_choose c x y) = (_, y)
 
-pub conditional : (start m1 p1 m2 p2 m3 q new : CodeBuilder) (c a b : Expr) (slot to end : ℕ) (n j : Instruction)
+pub conditional : (start m1 p1 m2 p2 m3 q new : Written) (c a b : Expr) (slot to end : ℕ) (n j : Instruction)
     → Emits start m1 c slot → Puts m1 p1 slot n → Emits p1 m2 a slot → Puts m2 p2 slot j → Emits p2 m3 b slot
     → to ≡ end_of p2 → end ≡ end_of m3
     → Leads m3 q (end_of m1) (i.JumpUnless slot to) → Leads q new (end_of m2) (i.Jump end)

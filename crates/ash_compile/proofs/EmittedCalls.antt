@@ -1,5 +1,6 @@
 -- Emitted code of calls, target by target.
-use Rattle.std.proofs.Common.{◌≡◌, ◌<◌, ℕ, ◌+◌, List, [], ◌∷◌, length, map, refl, sym, ap, ◌∙◌, subst, arith}
+use Rattle.std.proofs.Common.{◌≡◌, ◌<◌, ◌≤◌, ℕ, ◌+◌, List, [], ◌∷◌, length, map, refl, sym, ap, ◌∙◌, subst, arith}
+use Rattle.std.proofs.Common.{true}
 use Rattle.std.specs.Prelude.{Option, Some, slice_get}
 use Rattle.std.proofs.lemmas.Option.{slice_get-map, slice_get_within}
 use Rattle.std.proofs.lemmas.List.{length-map}
@@ -31,13 +32,18 @@ use Rattle.ash_soundness.specs.WellFormed.{declared, IsNamed}
 use Rattle.ash_soundness.proofs.Entries.{mapped}
 use Rattle.ash_code.specs.declared.instruction.Instruction.{Instruction}
 use Rattle.ash_code.specs.declared.instruction.Instruction.TheVariants as i
-use Rattle.ash_compile.specs.declared.builder.CodeBuilder.{CodeBuilder}
+use Rattle.ash_compile.specs.declared.builder.Written.{Written}
 use Rattle.ash_compile.specs.declared.layout.Layout.{Layout}
 use Rattle.ash_compile.specs.Layout.{index_of, IsLayout}
 use Rattle.ash_compile.specs.Arguments.{DoesArguments, EmitsArguments}
-use Rattle.ash_compile.specs.Emission.{code_of, end_of, Puts, Scene, IsScene, Suits, DoesExpression, Emits}
+use Rattle.ash_compile.specs.EmittedFrames.{frame_of_function, frame_of_method}
+use Rattle.ash_compile.specs.ValidCode.{counts_of, constructors_of, has_callee}
+use Rattle.ash_compile.specs.Emission.{code_of, end_of, Keeps, Puts, Scene, IsScene, Suits, DoesExpression, Emits}
 use Rattle.ash_compile.proofs.Emission.{HasAt, keeps_on, put_keeps, put_one, put_greatest, suits_before}
 use Rattle.ash_compile.proofs.Emission.{stands_before, stands_after, has_put}
+use Rattle.ash_compile.proofs.ModuleFrames.{function_at, method_at}
+use Rattle.ash_compile.proofs.Counted.{frame_counted, class_counted}
+use Rattle.ash_compile.proofs.ValidSteps.{lower}
 use Rattle.ash_compile.proofs.CallCode.{does_function}
 use Rattle.ash_compile.proofs.MethodCode.{does_method}
 use Rattle.ash_compile.proofs.InterfaceCode.{does_through}
@@ -48,7 +54,7 @@ use Rattle.ash_compile.proofs.ArrayCode.{array_instruction, does_array_method, d
 use Rattle.ash_compile.proofs.Arguments.{arguments_long}
 
 -- arguments, then an instruction with their values
-pub emits_call : (start old new : CodeBuilder) (es : List Expr) (f : Expr) (slot : ℕ) (j : Instruction)
+pub emits_call : (start old new : Written) (es : List Expr) (f : Expr) (slot : ℕ) (j : Instruction)
     → EmitsArguments start old es slot → Puts old new slot j
     → ((s : Scene) (of : ValueType) → IsWellTyped s.env f of
     → (parameters : List VarType) × AreSoundArguments s.env parameters (exprs es))
@@ -68,7 +74,7 @@ emits_call start old new es f slot j first puts sound does = record {
 }
 
 -- an object, then arguments, then an instruction that leaves its value behind the object, which is moved there
-pub emits_method : (start mid old put new : CodeBuilder) (e : Expr) (es : List Expr) (f : Expr) (slot : ℕ)
+pub emits_method : (start mid old put new : Written) (e : Expr) (es : List Expr) (f : Expr) (slot : ℕ)
     (j : Instruction)
     → Emits start mid e slot → EmitsArguments mid old es (slot + 1) → Puts old put (slot + 1) j
     → Puts put new slot (i.Move (slot + 1) slot)
@@ -152,7 +158,7 @@ function_is s place result other ps scene (operations.function {name = name} at)
     (sym (slice_get-map signature_of m.functions place) ∙ listed) in
     record { function = f; there = there; takes = sym (ap (λ (x : Signature). x.parameters) is) }
 
-pub function : (start old new : CodeBuilder) (place : ℕ) (result : Option VarType) (ps : List VarType)
+pub function : (start old new : Written) (place : ℕ) (result : Option VarType) (ps : List VarType)
     (es : List Expr) (slot : ℕ)
     → EmitsArguments start old es slot → Puts old new slot (i.Call place slot)
     → Emits start new (Call (targets.Function place result) ps (exprs es)) slot
@@ -165,6 +171,37 @@ function start old new place result ps es slot first puts =
     does_function s scene place f.function es from at slot f.there
     (subst (λ (types : List VarType). AreSoundArguments s.env types (exprs es)) f.takes (typed_arguments typed)) under
     does has)
+
+-- What enters a function is emitted if the layout has that. So it is where the call is well typed.
+emits_if : (start old new : Written) (f : Expr) (slot : ℕ) (j : Instruction)
+    → Keeps start old → Keeps old new
+    → (has_callee old.layout j ≡ true → Puts old new slot j)
+    → ((s : Scene) (of : ValueType) → IsScene s → IsWellTyped s.env f of
+    → IsLayout ((s.setting).code).module ((s.context).program).tree old.layout → has_callee old.layout j ≡ true)
+    → (Puts old new slot j → Emits start new f slot)
+    → Emits start new f slot
+emits_if start old new f slot j before keeps puts there emits = record {
+  keeps = keeps_on start old new before keeps;
+  does = λ s of scene typed stands suits.
+      (emits (puts (there s of scene typed (suits_before s old new keeps suits).layout))).does s of scene typed stands
+      suits;
+}
+
+pub function_if : (start old new : Written) (place : ℕ) (result : Option VarType) (ps : List VarType)
+    (es : List Expr) (slot : ℕ)
+    → EmitsArguments start old es slot → Keeps old new
+    → (has_callee old.layout (i.Call place slot) ≡ true → Puts old new slot (i.Call place slot))
+    → Emits start new (Call (targets.Function place result) ps (exprs es)) slot
+function_if start old new place result ps es slot first keeps puts =
+    emits_if start old new (Call (targets.Function place result) ps (exprs es)) slot (i.Call place slot) first.keeps
+    keeps puts
+    (λ s of scene typed layout.
+    let target = typed_target typed in
+    let f = function_is s place result target.0 ps scene target.1 in
+    lower place (length (counts_of old.layout))
+    (frame_counted ((s.setting).code).module ((s.context).program).tree old.layout place (frame_of_function f.function)
+    layout (function_at ((s.context).program).tree place f.function f.there)))
+    (λ there. function start old new place result ps es slot first there)
 
 -- methods of classes
 
@@ -205,7 +242,7 @@ method_is s o class place result other ps scene (operations.of_class {c = cs} {n
           (ap (λ (x : Signature). x.parameters) is);
     }
 
-pub method : (start mid old put new : CodeBuilder) (class place index : ℕ) (result : Option VarType) (e : Expr)
+pub method : (start mid old put new : Written) (class place index : ℕ) (result : Option VarType) (e : Expr)
     (ps : List VarType) (es : List Expr) (slot : ℕ)
     → Emits start mid e slot → EmitsArguments mid old es (slot + 1)
     → ((number : ℕ) (m : Module) → IsLayout number m old.layout → class < length m.classes
@@ -228,9 +265,29 @@ method start mid old put new class place index result e ps es slot first second 
     (is ((s.setting).code).module ((s.context).program).tree layout
     (slice_get_within (((s.context).program).tree).classes class f.source f.there)) has) moves)
 
+-- A method that the layout does not have is called nowhere.
+pub no_method : (start mid old : Written) (class place : ℕ) (result : Option VarType) (e : Expr)
+    (ps : List VarType) (es : List Expr) (slot : ℕ)
+    → Emits start mid e slot → EmitsArguments mid old es (slot + 1)
+    → ((number : ℕ) (m : Module) → IsLayout number m old.layout → class < length m.classes
+    → length (counts_of old.layout) ≤ index_of m (ClassMethod class place))
+    → Emits start old (Invoke e (methods.Script class place result) ps (exprs es)) slot
+no_method start mid old class place result e ps es slot first second none = record {
+  keeps = keeps_on start mid old first.keeps second.keeps;
+  does = λ s of scene typed stands suits.
+      let m = ((s.context).program).tree in
+      let number = ((s.setting).code).module in
+      let invoked = typed_invoked typed in
+      let f = method_is s invoked.object class place result invoked.result ps scene invoked.is in
+      let low = frame_counted number m old.layout (index_of m (ClassMethod class place))
+      (frame_of_method f.source f.method) suits.layout (method_at m class place f.source f.method f.there f.here) in
+      let high = none number m suits.layout (slice_get_within m.classes class f.source f.there) in
+      absurd (omega (arith, low, high));
+}
+
 -- services and what hosts construct
 
-pub service : (start old new : CodeBuilder) (index id : ℕ) (result : Option VarType) (ps : List VarType)
+pub service : (start old new : Written) (index id : ℕ) (result : Option VarType) (ps : List VarType)
     (es : List Expr)
     (slot count : ℕ) → EmitsArguments start old es slot → length es ≡ count
     → Puts old new slot (i.CallService index id result slot count)
@@ -242,7 +299,7 @@ service start old new index id result ps es slot count first long puts =
     does_service s scene index id result es from at slot under does
     (subst (λ (n : ℕ). HasAt s at (i.CallService index id result slot n)) (sym long) has))
 
-pub host : (start old new : CodeBuilder) (kind : ℕ) (ps : List VarType) (es : List Expr) (slot count : ℕ)
+pub host : (start old new : Written) (kind : ℕ) (ps : List VarType) (es : List Expr) (slot count : ℕ)
     → EmitsArguments start old es slot → length es ≡ count → Puts old new slot (i.ConstructHost kind slot count)
     → Emits start new (Call (targets.Host kind) ps (exprs es)) slot
 host start old new kind ps es slot count first long puts =
@@ -272,7 +329,7 @@ class_is s class other ps scene (operations.class {c = cs} at) =
     (sym (slice_get-map signature_of_class m.classes class) ∙ listed) in
     record { source = k; there = there; takes = sym (ap (λ (x : ClassTypes). x.parameters) is) }
 
-pub construction : (start old new : CodeBuilder) (class : ℕ) (ps : List VarType) (es : List Expr) (slot : ℕ)
+pub construction : (start old new : Written) (class : ℕ) (ps : List VarType) (es : List Expr) (slot : ℕ)
     → EmitsArguments start old es slot → Puts old new slot (i.Construct class slot)
     → Emits start new (Call (targets.Class class) ps (exprs es)) slot
 construction start old new class ps es slot first puts =
@@ -285,15 +342,29 @@ construction start old new class ps es slot first puts =
     (subst (λ (types : List VarType). AreSoundArguments s.env types (exprs es)) k.takes (typed_arguments typed)) under
     does has)
 
+pub construction_if : (start old new : Written) (class : ℕ) (ps : List VarType) (es : List Expr) (slot : ℕ)
+    → EmitsArguments start old es slot → Keeps old new
+    → (has_callee old.layout (i.Construct class slot) ≡ true → Puts old new slot (i.Construct class slot))
+    → Emits start new (Call (targets.Class class) ps (exprs es)) slot
+construction_if start old new class ps es slot first keeps puts =
+    emits_if start old new (Call (targets.Class class) ps (exprs es)) slot (i.Construct class slot) first.keeps
+    keeps puts
+    (λ s of scene typed layout.
+    let target = typed_target typed in
+    let k = class_is s class target.0 ps scene target.1 in
+    lower class (length (constructors_of old.layout))
+    (class_counted ((s.setting).code).module ((s.context).program).tree old.layout class k.source layout k.there))
+    (λ there. construction start old new class ps es slot first there)
+
 -- arrays
 
 -- what the elements of an array are, as the table of objects has it
-abbrev pub ShowsElement : CodeBuilder → typed_element.Element → ElementTag → Type 0
+abbrev pub ShowsElement : Written → typed_element.Element → ElementTag → Type 0
 ShowsElement builder of tag =
     (names : SlotNames) (number : ℕ) (p : Program) → IsLayout number p.tree builder.layout → names number ≡ p.name
     → IsNamed p.tree of → elements_shown names tag ≡ element_of p of
 
-shown : (s : Scene) (old new : CodeBuilder) (of : typed_element.Element) (tag : ElementTag) (ps : List VarType)
+shown : (s : Scene) (old new : Written) (of : typed_element.Element) (tag : ElementTag) (ps : List VarType)
     (result : Option VarType) → IsScene s → new.layout ≡ old.layout → Suits s new → ShowsElement old of tag
     → IsTarget (s.env).signatures (targets.Array of) ps result
     → elements_shown ((s.setting).names).modules tag ≡ element_of (s.context).program of
@@ -317,7 +388,7 @@ shown s old new of tag ps result scene same suits shows is =
     element_named (operations.empty_array of) = named of
     element_named (operations.sized_array of) = named of
 
-pub empty_array : (start old new : CodeBuilder) (of : typed_element.Element) (tag : ElementTag) (ps : List VarType)
+pub empty_array : (start old new : Written) (of : typed_element.Element) (tag : ElementTag) (ps : List VarType)
     (es : List Expr) (slot : ℕ) → EmitsArguments start old es slot → length es ≡ 0 → ShowsElement old of tag
     → Puts old new slot (i.ConstructArray tag slot)
     → Emits start new (Call (targets.Array of) ps (exprs es)) slot
@@ -335,7 +406,7 @@ sized : {s : ModuleSignatures} {of : typed_element.Element} {ps : List VarType} 
 sized (operations.empty_array of) some = absurd (omega (arith, some))
 sized (operations.sized_array of) some = refl
 
-pub sized_array : (start old new : CodeBuilder) (of : typed_element.Element) (tag : ElementTag) (ps : List VarType)
+pub sized_array : (start old new : Written) (of : typed_element.Element) (tag : ElementTag) (ps : List VarType)
     (es : List Expr) (slot : ℕ) → EmitsArguments start old es slot → 0 < length es → ShowsElement old of tag
     → Puts old new slot (i.ConstructArrayOf tag slot slot)
     → Emits start new (Call (targets.Array of) ps (exprs es)) slot
@@ -351,7 +422,7 @@ sized_array start old new of tag ps es slot first some shows puts =
     (subst (λ (types : List VarType). AreSoundArguments s.env types (exprs es)) one (typed_arguments typed)) does has)
 
 -- an object, then arguments, then an instruction that leaves its value in the slot of the object
-pub emits_at_once : (start mid old new : CodeBuilder) (e : Expr) (es : List Expr) (f : Expr) (slot : ℕ)
+pub emits_at_once : (start mid old new : Written) (e : Expr) (es : List Expr) (f : Expr) (slot : ℕ)
     (j : Instruction)
     → Emits start mid e slot → EmitsArguments mid old es (slot + 1) → Puts old new slot j
     → ((s : Scene) (of : ValueType) → IsWellTyped s.env f of → (x : ValueType) × IsWellTyped s.env e x)
@@ -398,7 +469,7 @@ array_invoked : {env : TypedEnvironment} {e : Expr} {method : ArrayMethod} {ps :
     → IsWellTyped env (Invoke e (methods.Array method) ps es) t → IsArrayMethod env e method ps es
 array_invoked (typing.invoke e is args) = of_array e is args
 
-pub array_method : (start mid old new : CodeBuilder) (method : ArrayMethod) (e : Expr) (ps : List VarType)
+pub array_method : (start mid old new : Written) (method : ArrayMethod) (e : Expr) (ps : List VarType)
     (es : List Expr)
     (slot : ℕ) → Emits start mid e slot → EmitsArguments mid old es (slot + 1)
     → Puts old new slot (array_instruction method slot)
@@ -418,7 +489,7 @@ host_is : {s : ModuleSignatures} {o : ObjectType} {id : ℕ} {result other : Opt
     → IsMethod s o (methods.Host id result) ps other → (kind : ℕ) × (o ≡ objects.Host kind)
 host_is (operations.of_host offered) = (_, refl)
 
-pub host_method : (start mid old put new : CodeBuilder) (id : ℕ) (result : Option VarType) (e : Expr)
+pub host_method : (start mid old put new : Written) (id : ℕ) (result : Option VarType) (e : Expr)
     (ps : List VarType)
     (es : List Expr) (slot count : ℕ)
     → Emits start mid e slot → EmitsArguments mid old es (slot + 1) → length es ≡ count
@@ -456,7 +527,7 @@ interface_is : {s : ModuleSignatures} {o : ObjectType} {interface method : ℕ} 
     → o ≡ objects.Interface interface
 interface_is (operations.of_interface at here) = refl
 
-pub through : (start mid old put new : CodeBuilder) (interface method : ℕ) (result : Option VarType) (e : Expr)
+pub through : (start mid old put new : Written) (interface method : ℕ) (result : Option VarType) (e : Expr)
     (ps : List VarType) (es : List Expr) (slot : ℕ)
     → Emits start mid e slot → EmitsArguments mid old es (slot + 1)
     → Puts old put (slot + 1) (i.CallInterface interface method slot (slot + 1))

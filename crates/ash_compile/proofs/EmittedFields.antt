@@ -21,7 +21,7 @@ use Rattle.ash_soundness.proofs.Hosts.{rec_at}
 use Rattle.ash_soundness.proofs.Bodies.{begins_fitting}
 use Rattle.ash_code.specs.declared.instruction.Instruction.{Instruction}
 use Rattle.ash_code.specs.declared.instruction.Instruction.TheVariants as i
-use Rattle.ash_compile.specs.declared.builder.CodeBuilder.{CodeBuilder}
+use Rattle.ash_compile.specs.declared.builder.Written.{Written}
 use Rattle.ash_compile.specs.Performances.{Acts}
 use Rattle.ash_compile.specs.Emission.{code_of, end_of, Keeps, Puts, Scene, IsScene, calls_of, Good, Emits}
 use Rattle.ash_compile.specs.Emission.{DoesExpression}
@@ -36,28 +36,28 @@ use Rattle.ash_compile.proofs.FieldCode.{fits_wide, does_field, spends_one}
 -- stretches of code
 
 -- Code that has not grown.
-pub keeps_itself : (b : CodeBuilder) → Keeps b b
+pub keeps_itself : (b : Written) → Keeps b b
 keeps_itself b = record { longer = omega arith; same = λ k low. refl; slots = omega arith; layout = refl }
 
 -- the first of two stretches
-pub written_first : (s : Scene) (old mid new : CodeBuilder) → Keeps mid new → IsWritten s old new → IsWritten s old mid
+pub written_first : (s : Scene) (old mid new : Written) → Keeps mid new → IsWritten s old new → IsWritten s old mid
 written_first s old mid new keeps written =
     (stands_before s mid new (end_of old) keeps written.0, suits_before s mid new keeps written.1)
 
 -- the second
-pub written_second : (s : Scene) (old mid new : CodeBuilder) → Keeps old mid → IsWritten s old new → IsWritten s mid new
+pub written_second : (s : Scene) (old mid new : Written) → Keeps old mid → IsWritten s old new → IsWritten s mid new
 written_second s old mid new keeps written =
     (stands_after s (code_of new) (end_of old) (end_of mid) (end_of new) keeps.longer written.0, written.1)
 
 -- a value that is computed, then two instructions
-pub record StoresValue (old new : CodeBuilder) (e : Expr) (slot : ℕ) (store : Instruction) : Type 0 where
-  pub mid : CodeBuilder
-  pub last : CodeBuilder
+pub record StoresValue (old new : Written) (e : Expr) (slot : ℕ) (store : Instruction) : Type 0 where
+  pub mid : Written
+  pub last : Written
   pub value : Emits old mid e slot
   pub stores : Puts mid last slot store
   pub ends : Puts last new slot i.EndExpression
 
-pub stored_keeps : (old new : CodeBuilder) (e : Expr) (slot : ℕ) (store : Instruction)
+pub stored_keeps : (old new : Written) (e : Expr) (slot : ℕ) (store : Instruction)
     → StoresValue old new e slot store
     → Keeps old new
 stored_keeps old new e slot store x =
@@ -65,14 +65,14 @@ stored_keeps old new e slot store x =
     (put_keeps x.last new slot i.EndExpression x.ends))
 
 -- what such a stretch has, wherever it stands
-pub record HasStored (s : Scene) (old new : CodeBuilder) (e : Expr) (slot : ℕ) (store : Instruction) : Type 0 where
+pub record HasStored (s : Scene) (old new : Written) (e : Expr) (slot : ℕ) (store : Instruction) : Type 0 where
   pub mid : ℕ
   pub to : end_of new ≡ mid + 1 + 1
   pub value : DoesExpression s e (end_of old) mid slot
   pub stores : HasAt s mid store
   pub ends : HasAt s (mid + 1) i.EndExpression
 
-pub has_stored : (s : Scene) (old new : CodeBuilder) (e : Expr) (slot : ℕ) (store : Instruction) (of : ValueType)
+pub has_stored : (s : Scene) (old new : Written) (e : Expr) (slot : ℕ) (store : Instruction) (of : ValueType)
     → IsScene s → IsWellTyped s.env e of → StoresValue old new e slot store → IsWritten s old new
     → HasStored s old new e slot store
 has_stored s old new e slot store of scene typed x written =
@@ -106,7 +106,7 @@ field_begins s class source place count v constructs at =
     (rec_at (IsInitialized (inside (declared s.context) class)) source.fields place v
     (class_is (constructs.scene).sound class source constructs.there).fields at).value
 
-pub field_without : (b : CodeBuilder) (place : ℕ) (v : Initialization) (count : ℕ) → v.value ≡ None
+pub field_without : (b : Written) (place : ℕ) (v : Initialization) (count : ℕ) → v.value ≡ None
     → EmitsField b b place v count
 field_without b place v count none = record {
   keeps = keeps_itself b;
@@ -116,7 +116,7 @@ field_without b place v count none = record {
       (code.acts_none s.setting (Good s) s.function s.room (end_of b) count);
 }
 
-field_here : (s : Scene) (class : ℕ) (source : Class) (old new : CodeBuilder) (place : ℕ)
+field_here : (s : Scene) (class : ℕ) (source : Class) (old new : Written) (place : ℕ)
     (v : Initialization) (e : Expr)
     → IsScene s → (this : (s.env).this ≡ Some class)
     → slice_get (((s.context).program).tree).classes class ≡ Some source
@@ -134,7 +134,7 @@ field_here s class source old new place v e scene this there at narrow (fits {ac
     (does_field s scene (ranked_of s scene) class source this there place v.of e (end_of old) has.mid
     (field_type source place v at) narrow has.value has.stores has.ends)
 
-field_does : (s : Scene) (class : ℕ) (source : Class) (old new : CodeBuilder) (place count : ℕ) (v : Initialization)
+field_does : (s : Scene) (class : ℕ) (source : Class) (old new : Written) (place count : ℕ) (v : Initialization)
     (e : Expr)
     → v.value ≡ Some e
     → StoresValue old new e count (i.WriteOwnField place count)
@@ -155,7 +155,7 @@ field_does s class source old new place count v e some x constructs at written =
     wide written
     y) x)
 
-pub field_with : (old new : CodeBuilder) (place : ℕ) (v : Initialization) (e : Expr) (count : ℕ) → v.value ≡ Some e
+pub field_with : (old new : Written) (place : ℕ) (v : Initialization) (e : Expr) (count : ℕ) → v.value ≡ Some e
     → StoresValue old new e count (i.WriteOwnField place count)
     → EmitsField old new place v count
 field_with old new place v e count some x = record {
@@ -166,7 +166,7 @@ field_with old new place v e count some x = record {
 
 -- fields, one after another
 
-pub no_fields : (b : CodeBuilder) (place count : ℕ) → EmitsFields b b place [] count
+pub no_fields : (b : Written) (place count : ℕ) → EmitsFields b b place [] count
 no_fields b place count = record {
   keeps = keeps_itself b;
   none = λ is. refl;
@@ -174,7 +174,7 @@ no_fields b place count = record {
       code.acts_none s.setting (Good s) s.function s.room (end_of b) count;
 }
 
-fields_do : (s : Scene) (class : ℕ) (source : Class) (old mid new : CodeBuilder) (place : ℕ) (v : Initialization)
+fields_do : (s : Scene) (class : ℕ) (source : Class) (old mid new : Written) (place : ℕ) (v : Initialization)
     (vs : List Initialization) (count : ℕ)
     → Constructs s class source count
     → slice_get source.fields place ≡ Some v
@@ -187,7 +187,7 @@ fields_do s class source old mid new place v vs count constructs at first second
     (λ a b u good is. (spends_one s constructs.scene class source constructs.this constructs.there place v
     (field_type source place v at) (field_begins s class source place count v constructs at) a b u good is).0) second
 
-pub more_fields : (old mid new : CodeBuilder) (place : ℕ) (v : Initialization) (vs : List Initialization) (count : ℕ)
+pub more_fields : (old mid new : Written) (place : ℕ) (v : Initialization) (vs : List Initialization) (count : ℕ)
     → EmitsField old mid place v count → EmitsFields mid new (place + 1) vs count
     → EmitsFields old new place (v ∷ vs) count
 more_fields old mid new place v vs count first second = record {

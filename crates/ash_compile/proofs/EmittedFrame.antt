@@ -1,5 +1,6 @@
 -- Emitted code of a function, put together: the tick of its entry, its fields, its statements, and its end.
-use Rattle.std.proofs.Common.{◌≡◌, ℕ, suc, ◌+◌, Bool, true, false, List, [], length, refl, sym, ap, ◌∙◌, subst, arith}
+use Rattle.std.proofs.Common.{◌≡◌, ◌≤◌, ℕ, suc, ◌+◌, Bool, true, false, List, [], length, refl, sym, ap, ◌∙◌, subst}
+use Rattle.std.proofs.Common.{arith}
 use Rattle.std.specs.Prelude.{Option, Some, None, slice_get}
 use Rattle.ash_host.specs.declared.word.Word.{Word}
 use Rattle.ash_typed.specs.declared.types.VarType.{VarType}
@@ -14,7 +15,7 @@ use Rattle.ash_code.specs.declared.code.FunctionCode.{FunctionCode}
 use Rattle.ash_code.specs.declared.instruction.Instruction.{Instruction}
 use Rattle.ash_code.specs.declared.instruction.Instruction.TheVariants as i
 use Rattle.ash_code.specs.Performing.{Setting}
-use Rattle.ash_compile.specs.declared.builder.CodeBuilder.{CodeBuilder}
+use Rattle.ash_compile.specs.declared.builder.Written.{Written}
 use Rattle.ash_compile.specs.declared.layout.Layout.{Layout}
 use Rattle.ash_compile.specs.Stretches.{continued, Arrives}
 use Rattle.ash_compile.specs.Performances.{here, Exits, Acts, Enters}
@@ -24,6 +25,7 @@ use Rattle.ash_compile.specs.Emission.{code_of, end_of, Keeps, Puts, Scene, IsSc
 use Rattle.ash_compile.specs.EmittedStatements.{Returns, EmitsBody, frame_end}
 use Rattle.ash_compile.specs.EmittedParts.{IsWritten, ActsFrom, EmitsFields}
 use Rattle.ash_compile.specs.EmittedFrames.{FrameSource, given_if, AreFieldsOf, no_field, all_fields, IsSoundEntry}
+use Rattle.ash_compile.specs.ValidCode.{IsValidCode}
 use Rattle.ash_compile.specs.EmittedFrames.{IsFrameCode}
 use Rattle.ash_compile.proofs.Statements as code
 use Rattle.ash_compile.proofs.Statements.{LeadsTo}
@@ -107,30 +109,30 @@ module _ (s : Scene) (scene : IsScene s) where
       spends_fields s scene class source this there 0 source.fields
       (fields_of_class s.context scene.sound class source there)
 
-  acts_fields : (old new : CodeBuilder) (vs : List Initialization) → AreFieldsOf s.context s.env vs
+  acts_fields : (old new : Written) (vs : List Initialization) → AreFieldsOf s.context s.env vs
       → EmitsFields old new 0 vs (length (s.env).locals)
       → IsWritten s old new
       → ActsFrom s old new (length (s.env).locals) (initialize_fields (calls_of s) 0 vs)
   acts_fields old new _ no_field emits written =
-      subst (λ (b : CodeBuilder). ActsFrom s old b (length (s.env).locals) (initialize_fields (calls_of s) 0 []))
+      subst (λ (b : Written). ActsFrom s old b (length (s.env).locals) (initialize_fields (calls_of s) 0 []))
       (sym (emits.none refl))
       (code.acts_none s.setting (Good s) s.function s.room (end_of old) (length (s.env).locals))
   acts_fields old new _ (all_fields {class = class} {source = source} this there) emits written =
       emits.does s class source (record { scene = scene; this = this; there = there; locals = refl }) refl written
 
 -- code that is written for a function
-pub record WritesFrame (begun : CodeBuilder) (line parameters : ℕ) (fields : List Initialization) (stmts : Stmts)
-    (constructs : Bool) (last : CodeBuilder) : Type 0 where
+pub record WritesFrame (begun : Written) (line parameters : ℕ) (fields : List Initialization) (stmts : Stmts)
+    (constructs : Bool) (last : Written) : Type 0 where
   pub empty : code_of begun ≡ []
-  pub ticked : CodeBuilder
-  pub initialized : CodeBuilder
-  pub done : CodeBuilder
+  pub ticked : Written
+  pub initialized : Written
+  pub done : Written
   pub ticks : Puts begun ticked parameters (i.Tick line)
   pub fields_emitted : EmitsFields ticked initialized 0 fields parameters
   pub body_emitted : EmitsBody initialized done stmts parameters constructs
   pub ends : Puts done last parameters (frame_end constructs)
 
-module _ (begun last : CodeBuilder) (line parameters : ℕ) (fields : List Initialization) (stmts : Stmts)
+module _ (begun last : Written) (line parameters : ℕ) (fields : List Initialization) (stmts : Stmts)
     (constructs : Bool) (w : WritesFrame begun line parameters fields stmts constructs last) where
   starts : end_of begun ≡ 0
   starts = ap length w.empty
@@ -215,20 +217,23 @@ module _ (begun last : CodeBuilder) (line parameters : ℕ) (fields : List Initi
         (ends_by s (Entering s.context (suc s.depth) s.env s.envs) constructs exits (end_of w.done) gives has_end)))
 
 -- the code of a frame
-pub frame_code : (begun last : CodeBuilder) (line parameters : ℕ) (fields : List Initialization) (stmts : Stmts)
+pub frame_code : (begun last : Written) (line parameters : ℕ) (fields : List Initialization) (stmts : Stmts)
     (constructs : Bool) (f : FunctionCode) (x : FrameSource)
     → WritesFrame begun line parameters fields stmts constructs last
-    → f.line ≡ line → f.parameters ≡ parameters → (f.instructions).items ≡ code_of last → f.slots ≡ last.slots
+    → f.line ≡ line → f.parameters ≡ parameters → (f.instructions).items ≡ code_of last → last.slots ≤ f.slots
+    → IsValidCode begun.layout f
     → (x.entry).line ≡ line → (x.entry).fields ≡ fields → (x.entry).body ≡ stmts
     → x.parameters ≡ parameters → x.constructs ≡ constructs
     → IsFrameCode begun.layout x f
-frame_code begun last line parameters fields stmts constructs f x w line_f many_f code_f slots_f line_x fields_x body_x
+frame_code begun last line parameters fields stmts constructs f x w line_f many_f code_f slots_f valid_f line_x
+    fields_x body_x
     many_x constructs_x = record {
       line = line_f ∙ sym line_x;
       parameters = many_f ∙ sym many_x;
       begins = ap (λ (is : List Instruction). slice_get is 0) code_f
           ∙ frame_begins begun last line parameters fields stmts constructs w
           ∙ ap (λ (n : ℕ). Some (i.Tick n)) (sym line_x);
+      valid = valid_f;
       enters = λ s result scene sound nothing many code slots layout.
           let stands : Stands s (code_of last) 0 (end_of last)
           = λ k low high. ap (λ (g : FunctionCode). slice_get (g.instructions).items k) code

@@ -15,7 +15,7 @@ use Rattle.ash_meaning.specs.ExpressionMeaning.{expression}
 use Rattle.ash_meaning.specs.Functions.{initialize_global, initialize_globals, initialize_module}
 use Rattle.ash_soundness.proofs.Bodies.{begins_fitting}
 use Rattle.ash_code.specs.declared.instruction.Instruction.TheVariants as i
-use Rattle.ash_compile.specs.declared.builder.CodeBuilder.{CodeBuilder}
+use Rattle.ash_compile.specs.declared.builder.Written.{Written}
 use Rattle.ash_compile.specs.Performances.{Acts}
 use Rattle.ash_compile.specs.Emission.{end_of, Puts, Scene, IsScene, calls_of, Good}
 use Rattle.ash_compile.specs.EmittedParts.{IsWritten, ActsFrom, Initializes, EmitsGlobal, EmitsGlobals}
@@ -30,7 +30,7 @@ use Rattle.ash_compile.proofs.EmittedFields.{has_stored}
 
 -- one global
 
-pub global_without : (b : CodeBuilder) (place : ℕ) (v : Initialization) → v.value ≡ None → EmitsGlobal b b place v
+pub global_without : (b : Written) (place : ℕ) (v : Initialization) → v.value ≡ None → EmitsGlobal b b place v
 global_without b place v none = record {
   keeps = keeps_itself b;
   does = λ s initializes at sound written.
@@ -39,7 +39,7 @@ global_without b place v none = record {
       (code.acts_none s.setting (Good s) s.function s.room (end_of b) 0);
 }
 
-global_here : (s : Scene) (old new : CodeBuilder) (place : ℕ) (v : Initialization) (e : Expr)
+global_here : (s : Scene) (old new : Written) (place : ℕ) (v : Initialization) (e : Expr)
     → IsScene s
     → slice_get (types_of_globals (((s.context).program).tree).globals) place ≡ Some v.of
     → Fits s.env v.of e
@@ -55,7 +55,7 @@ global_here s old new place v e scene at (fits {actual = from} typed subtype) wr
     (fits typed subtype) has.value has.stores
     has.ends)
 
-global_does : (s : Scene) (old new : CodeBuilder) (place : ℕ) (v : Initialization) (e : Expr)
+global_does : (s : Scene) (old new : Written) (place : ℕ) (v : Initialization) (e : Expr)
     → v.value ≡ Some e
     → StoresValue old new e 0 (i.WriteGlobal place 0)
     → Initializes s
@@ -71,7 +71,7 @@ global_does s old new place v e some x initializes at begins written =
     (subst (λ (n : ℕ). StoresValue old new e n (i.WriteGlobal place n) → ActsFrom s old new n run) initializes.locals
     (λ y. global_here s old new place v e initializes.scene at fit written y) x)
 
-pub global_with : (old new : CodeBuilder) (place : ℕ) (v : Initialization) (e : Expr) → v.value ≡ Some e
+pub global_with : (old new : Written) (place : ℕ) (v : Initialization) (e : Expr) → v.value ≡ Some e
     → StoresValue old new e 0 (i.WriteGlobal place 0) → EmitsGlobal old new place v
 global_with old new place v e some x = record {
   keeps = stored_keeps old new e 0 (i.WriteGlobal place 0) x;
@@ -80,13 +80,13 @@ global_with old new place v e some x = record {
 
 -- globals, one after another
 
-pub no_globals : (b : CodeBuilder) (place : ℕ) → EmitsGlobals b b place []
+pub no_globals : (b : Written) (place : ℕ) → EmitsGlobals b b place []
 no_globals b place = record {
   keeps = keeps_itself b;
   does = λ s more initializes types sound written. code.acts_none s.setting (Good s) s.function s.room (end_of b) 0;
 }
 
-globals_do : (s : Scene) (old mid new : CodeBuilder) (place : ℕ) (v : Initialization) (vs : List Initialization)
+globals_do : (s : Scene) (old mid new : Written) (place : ℕ) (v : Initialization) (vs : List Initialization)
     → Initializes s
     → slice_get (types_of_globals (((s.context).program).tree).globals) place ≡ Some v.of
     → IsSoundBeginning s.env v.of v.value
@@ -101,7 +101,7 @@ globals_do s old mid new place v vs initializes at begins first second =
     (end_of new) at
     begins) first second
 
-pub more_globals : (old mid new : CodeBuilder) (place : ℕ) (v : Initialization) (vs : List Initialization)
+pub more_globals : (old mid new : Written) (place : ℕ) (v : Initialization) (vs : List Initialization)
     → EmitsGlobal old mid place v → EmitsGlobals mid new (place + 1) vs → EmitsGlobals old new place (v ∷ vs)
 more_globals old mid new place v vs first second = record {
   keeps = keeps_on old mid new first.keeps second.keeps;
@@ -115,13 +115,13 @@ more_globals old mid new place v vs first second = record {
 
 -- declarations, one after another
 
-pub no_variables : (b : CodeBuilder) (place : ℕ) → EmitsDeclarations b b place []
+pub no_variables : (b : Written) (place : ℕ) → EmitsDeclarations b b place []
 no_variables b place = record {
   keeps = keeps_itself b;
   does = λ s initializes types sound written. code.acts_none s.setting (Good s) s.function s.room (end_of b) 0;
 }
 
-pub more_variables : (old ticked mid new : CodeBuilder) (place : ℕ) (d : Variables) (ds : List Variables)
+pub more_variables : (old ticked mid new : Written) (place : ℕ) (d : Variables) (ds : List Variables)
     → Puts old ticked 0 (i.Tick d.line)
     → EmitsGlobals ticked mid place d.values
     → EmitsDeclarations mid new (place + length d.values) ds

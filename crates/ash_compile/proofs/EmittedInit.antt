@@ -13,19 +13,20 @@ use Rattle.ash_code.specs.declared.code.FunctionCode.{FunctionCode}
 use Rattle.ash_code.specs.declared.instruction.Instruction.{Instruction}
 use Rattle.ash_code.specs.declared.instruction.Instruction.TheVariants as i
 use Rattle.ash_code.specs.Running as running
-use Rattle.ash_compile.specs.declared.builder.CodeBuilder.{CodeBuilder}
+use Rattle.ash_compile.specs.declared.builder.Written.{Written}
 use Rattle.ash_compile.specs.declared.layout.Layout.{Layout}
 use Rattle.ash_compile.specs.Performances.{Acts}
 use Rattle.ash_compile.specs.Layout.{IsLayout}
 use Rattle.ash_compile.specs.Emission.{code_of, end_of, Keeps, Puts, Scene, IsScene, Suits, calls_of, Good, Stands}
 use Rattle.ash_compile.specs.EmittedParts.{AreTypesFrom, EmitsDeclarations}
+use Rattle.ash_compile.specs.ValidCode.{IsValidCode}
 use Rattle.ash_compile.specs.EmittedFrames.{IsInitCode, IsFinished}
 use Rattle.ash_compile.proofs.Emission.{keeps_on, put_keeps, put_there}
 use Rattle.ash_compile.proofs.EmittedFields.{written_first}
 
-module _ (begun mid last : CodeBuilder) (m : Module) (f : FunctionCode) (empty : code_of begun ≡ [])
+module _ (begun mid last : Written) (m : Module) (f : FunctionCode) (empty : code_of begun ≡ [])
     (emits : EmitsDeclarations begun mid 0 m.globals) (puts : Puts mid last 0 i.ReturnNothing)
-    (finished : IsFinished last 1 0 f) where
+    (finished : IsFinished last 1 0 f) (valid : IsValidCode begun.layout f) where
   keeps : Keeps begun last
   keeps = keeps_on begun mid last emits.keeps (put_keeps mid last 0 i.ReturnNothing puts)
 
@@ -72,6 +73,9 @@ module _ (begun mid last : CodeBuilder) (m : Module) (f : FunctionCode) (empty :
 
   pub init_code : IsInitCode begun.layout m f
   init_code = record {
+    line = finished.line;
+    parameters = finished.parameters;
+    valid = valid;
     end = end_of mid;
     ends = ap (λ (is : List Instruction). slice_get is (end_of mid)) finished.instructions
         ∙ put_there mid last 0 i.ReturnNothing puts;

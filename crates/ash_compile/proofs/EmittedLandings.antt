@@ -8,7 +8,7 @@ use Rattle.ash_typed.specs.StatementTree.{Stmts}
 use Rattle.ash_meaning.specs.StatementMeaning.{statements}
 use Rattle.ash_code.specs.declared.instruction.Instruction.{Instruction}
 use Rattle.ash_code.specs.declared.instruction.Instruction.TheVariants as i
-use Rattle.ash_compile.specs.declared.builder.CodeBuilder.{CodeBuilder}
+use Rattle.ash_compile.specs.declared.builder.Written.{Written}
 use Rattle.ash_compile.specs.declared.layout.Layout.{Layout}
 use Rattle.ash_compile.specs.Layout.{IsLayout}
 use Rattle.ash_compile.specs.Performances.{Exit, Exits}
@@ -42,10 +42,10 @@ same_or_not {X} p k equal other = pick (nat_eq p k) refl
 
 -- jumps, one after another
 
-pub leads_none : (c : CodeBuilder) (to : ℕ) → LeadsAll c c [] to
+pub leads_none : (c : Written) (to : ℕ) → LeadsAll c c [] to
 leads_none c to = record { code = λ k. refl; long = refl; slots = refl; layout = refl }
 
-pub leads_more : (old mid new : CodeBuilder) (ps : List ℕ) (p to : ℕ) → LeadsAll old mid ps to → Leads mid new p (i.Jump to)
+pub leads_more : (old mid new : Written) (ps : List ℕ) (p to : ℕ) → LeadsAll old mid ps to → Leads mid new p (i.Jump to)
     → p < end_of mid → LeadsAll old new (ps ++ p ∷ []) to
 leads_more old mid new ps p to first leads low = record {
   code = λ k. same_or_not p k (λ same. there k same) (λ apart.
@@ -71,37 +71,39 @@ take_next ps k d low =
 
 -- landings
 
-pub landing_is : (c0 c1 c2 c3 c4 : CodeBuilder) (places : List ℕ) (slot jump release end : ℕ) → Puts c0 c1 slot (i.Jump 0)
+pub landing_is : (c0 c1 c2 c3 c4 : Written) (places : List ℕ) (slot jump release end : ℕ) {pending : ℕ}
+    → Puts c0 c1 slot (i.Jump pending)
     → Puts c1 c2 slot i.Release → LeadsAll c2 c3 places release → Leads c3 c4 jump (i.Jump end)
     → jump ≡ end_of c0 → release ≡ end_of c1 → end ≡ end_of c3 → AreBelow (end_of c0) places
     → Landing c0 c4 places
-landing_is c0 c1 c2 c3 c4 places slot jump release end puts frees all leads jump_is release_is end_is below = record {
-  code = λ k low. leads_other c3 c4 jump k (i.Jump end) leads (λ same. omega (arith, same, jump_is, low)) ∙ all.code k
-      ∙ ap (λ (n : ℕ). if waits places k then Some (i.Jump n) else slice_get (code_of c2) k) (release_is ∙ one)
-      ∙ ap (λ (o : Option Instruction). if waits places k then Some (i.Jump (end_of c0 + 1)) else o)
-      ((put_keeps c1 c2 slot i.Release frees).same k (omega (arith, low, one))
-      ∙ (put_keeps c0 c1 slot (i.Jump 0) puts).same k low);
-  past = subst (λ (n : ℕ). slice_get (code_of c4) n ≡ Some (i.Jump end)) jump_is
-      (leads_there c3 c4 jump (i.Jump end) leads (omega (arith, jump_is, all.long, two)))
-      ∙ ap (λ (n : ℕ). Some (i.Jump n)) (end_is ∙ sym last);
-  release = leads_other c3 c4 jump (end_of c0 + 1) (i.Jump end) leads (λ same. omega (arith, same, jump_is))
-      ∙ all.code (end_of c0 + 1)
-      ∙ ap (λ (t : Bool). if t then Some (i.Jump release) else slice_get (code_of c2) (end_of c0 + 1))
-      (below (end_of c0 + 1) (omega arith))
-      ∙ subst (λ (n : ℕ). slice_get (code_of c2) n ≡ Some i.Release) one (put_there c1 c2 slot i.Release frees);
-  long = last ∙ all.long ∙ two;
-  slots = omega (
-    arith,
-    leads.slots,
-    all.slots,
-    (put_keeps c1 c2 slot i.Release frees).slots,
-    (put_keeps c0 c1 slot (i.Jump 0) puts).slots,
-  );
-  layout = leads.layout ∙ all.layout ∙ frees.layout ∙ puts.layout;
-}
+landing_is c0 c1 c2 c3 c4 places slot jump release end {pending} puts frees all leads jump_is release_is end_is
+    below = record {
+      code = λ k low. leads_other c3 c4 jump k (i.Jump end) leads (λ same. omega (arith, same, jump_is, low)) ∙ all.code k
+          ∙ ap (λ (n : ℕ). if waits places k then Some (i.Jump n) else slice_get (code_of c2) k) (release_is ∙ one)
+          ∙ ap (λ (o : Option Instruction). if waits places k then Some (i.Jump (end_of c0 + 1)) else o)
+          ((put_keeps c1 c2 slot i.Release frees).same k (omega (arith, low, one))
+          ∙ (put_keeps c0 c1 slot (i.Jump pending) puts).same k low);
+      past = subst (λ (n : ℕ). slice_get (code_of c4) n ≡ Some (i.Jump end)) jump_is
+          (leads_there c3 c4 jump (i.Jump end) leads (omega (arith, jump_is, all.long, two)))
+          ∙ ap (λ (n : ℕ). Some (i.Jump n)) (end_is ∙ sym last);
+      release = leads_other c3 c4 jump (end_of c0 + 1) (i.Jump end) leads (λ same. omega (arith, same, jump_is))
+          ∙ all.code (end_of c0 + 1)
+          ∙ ap (λ (t : Bool). if t then Some (i.Jump release) else slice_get (code_of c2) (end_of c0 + 1))
+          (below (end_of c0 + 1) (omega arith))
+          ∙ subst (λ (n : ℕ). slice_get (code_of c2) n ≡ Some i.Release) one (put_there c1 c2 slot i.Release frees);
+      long = last ∙ all.long ∙ two;
+      slots = omega (
+        arith,
+        leads.slots,
+        all.slots,
+        (put_keeps c1 c2 slot i.Release frees).slots,
+        (put_keeps c0 c1 slot (i.Jump pending) puts).slots,
+      );
+      layout = leads.layout ∙ all.layout ∙ frees.layout ∙ puts.layout;
+    }
   where
     one : end_of c1 ≡ end_of c0 + 1
-    one = put_one c0 c1 slot (i.Jump 0) puts
+    one = put_one c0 c1 slot (i.Jump pending) puts
 
     two : end_of c2 ≡ end_of c0 + 1 + 1
     two = put_one c1 c2 slot i.Release frees ∙ ap (λ (n : ℕ). n + 1) one
@@ -117,7 +119,7 @@ swapped true false x y = refl
 swapped false true x y = refl
 swapped false false x y = refl
 
-pub body : (c0 c1 c2 c3 : CodeBuilder) (breaks continues : List ℕ) (xs : Stmts) (locals to : ℕ) (constructs : Bool)
+pub body : (c0 c1 c2 c3 : Written) (breaks continues : List ℕ) (xs : Stmts) (locals to : ℕ) (constructs : Bool)
     → EmitsStatements (with_jumps c0 [] []) (with_jumps c1 breaks continues) xs
     (record { locals = locals; broken = locals; continued = locals; constructs = constructs })
     → LeadsAll c1 c2 breaks to → LeadsAll c2 c3 continues to

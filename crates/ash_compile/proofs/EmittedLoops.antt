@@ -25,7 +25,7 @@ use Rattle.ash_meaning.specs.StatementMeaning.{statement, loop, condition_or_tru
 use Rattle.ash_code.specs.declared.instruction.Instruction.{Instruction}
 use Rattle.ash_code.specs.declared.instruction.Instruction.TheVariants as i
 use Rattle.ash_code.specs.Running.{instruction_at}
-use Rattle.ash_compile.specs.declared.builder.CodeBuilder.{CodeBuilder}
+use Rattle.ash_compile.specs.declared.builder.Written.{Written}
 use Rattle.ash_compile.specs.declared.layout.Layout.{Layout}
 use Rattle.ash_compile.specs.declared.bodies.Scope.{Scope}
 use Rattle.ash_compile.specs.declared.bodies.Branch.{Branch}
@@ -48,7 +48,7 @@ use Rattle.ash_compile.proofs.EmittedParts.{keeps_same}
 
 -- landings
 
-pub landing_keeps : (old new : CodeBuilder) (places : List ℕ) (start : CodeBuilder) → Keeps start old
+pub landing_keeps : (old new : Written) (places : List ℕ) (start : Written) → Keeps start old
     → ((k : ℕ) → k < end_of start → waits places k ≡ false)
     → Landing old new places → Keeps start new
 landing_keeps old new places start keeps none lands = record {
@@ -60,14 +60,14 @@ landing_keeps old new places start keeps none lands = record {
   layout = lands.layout ∙ keeps.layout;
 }
 
-pub landing_suits : (s : Scene) (old new : CodeBuilder) (places : List ℕ) → Landing old new places → Suits s new → Suits s old
+pub landing_suits : (s : Scene) (old new : Written) (places : List ℕ) → Landing old new places → Suits s new → Suits s old
 landing_suits s old new places lands suits = record {
   slots = omega (arith, lands.slots, suits.slots);
   layout = subst (λ (l : Layout). IsLayout ((s.setting).code).module ((s.context).program).tree l) lands.layout suits.layout;
 }
 
 -- The body of a loop has its own jumps of `continue`.
-pub loop_body : (c0 c1 c2 : CodeBuilder) (breaks breaks' continues own : List ℕ) (x : Stmt) (scope : Scope)
+pub loop_body : (c0 c1 c2 : Written) (breaks breaks' continues own : List ℕ) (x : Stmt) (scope : Scope)
     → EmitsStatement (with_jumps c0 breaks []) (with_jumps c1 breaks' own) x (record scope { continued = scope.locals })
     → Landing c1 c2 own
     → EmitsLoopBody (with_jumps c0 breaks continues) (with_jumps c2 breaks' continues) x scope
@@ -126,7 +126,7 @@ loop_body c0 c1 c2 breaks breaks' continues own x scope emits lands = record {
         (emits.grows).breaks
 
 -- So has one without `continue`: there is nothing to lead to.
-loop_body_without : (c0 c1 c2 : CodeBuilder) (breaks breaks' continues own : List ℕ) (x : Stmt) (scope : Scope) (to : ℕ)
+loop_body_without : (c0 c1 c2 : Written) (breaks breaks' continues own : List ℕ) (x : Stmt) (scope : Scope) (to : ℕ)
     → EmitsStatement (with_jumps c0 breaks []) (with_jumps c1 breaks' own) x (record scope { continued = scope.locals })
     → LeadsAll c1 c2 own to → HasNoContinue x
     → EmitsLoopBody (with_jumps c0 breaks continues) (with_jumps c2 breaks' continues) x scope
@@ -188,7 +188,7 @@ loop_body_without c0 c1 c2 breaks breaks' continues own x scope to emits leads n
     joins = joins_wider breaks breaks' (end_of c0) (end_of c0) (end_of c1) (end_of c2) (omega arith) (omega (arith, leads.long))
         (emits.grows).breaks
 
-pub loop_body_ends : (c0 c1 c2 : CodeBuilder) (breaks breaks' continues own : List ℕ) (x : Stmt) (scope : Scope)
+pub loop_body_ends : (c0 c1 c2 : Written) (breaks breaks' continues own : List ℕ) (x : Stmt) (scope : Scope)
     → EmitsStatement (with_jumps c0 breaks []) (with_jumps c1 breaks' own) x (record scope { continued = scope.locals })
     → EndsBody c1 c2 own x
     → EmitsLoopBody (with_jumps c0 breaks continues) (with_jumps c2 breaks' continues) x scope
@@ -199,12 +199,12 @@ loop_body_ends c0 c1 c2 breaks breaks' continues own x scope emits (EndsBody.non
 
 -- conditions of loops, which may be absent
 
-pub may_test_keeps : (c1 c2 : CodeBuilder) (e : Option Expr) (slot : ℕ) (branch : Option Branch)
+pub may_test_keeps : (c1 c2 : Written) (e : Option Expr) (slot : ℕ) (branch : Option Branch)
     → MayTest c1 c2 e slot branch → Keeps c1 c2
 may_test_keeps c1 c2 (Some e) slot branch tests = (tests.2).keeps
-may_test_keeps c1 c2 None slot branch tests = subst (λ (c : CodeBuilder). Keeps c1 c) (sym tests.0) (keeps_same c1)
+may_test_keeps c1 c2 None slot branch tests = subst (λ (c : Written). Keeps c1 c) (sym tests.0) (keeps_same c1)
 
-pub may_test_within : (c1 c2 : CodeBuilder) (e : Option Expr) (slot end : ℕ) (branch : Option Branch)
+pub may_test_within : (c1 c2 : Written) (e : Option Expr) (slot end : ℕ) (branch : Option Branch)
     → MayTest c1 c2 e slot branch → end_of c2 ≤ end → IfSome branch (λ branch. branch.at < end)
 may_test_within c1 c2 (Some e) slot end branch tests later =
     subst (λ (o : Option Branch). IfSome o (λ branch. branch.at < end)) (sym tests.1)
@@ -212,7 +212,7 @@ may_test_within c1 c2 (Some e) slot end branch tests later =
 may_test_within c1 c2 None slot end branch tests later =
     subst (λ (o : Option Branch). IfSome o (λ branch. branch.at < end)) (sym tests.1) tt
 
-pub record Headed (c1 c2 c6 c7 : CodeBuilder) (e : Option Expr) (slot to : ℕ) : Type 0 where
+pub record Headed (c1 c2 c6 c7 : Written) (e : Option Expr) (slot to : ℕ) : Type 0 where
   pub keeps : Keeps c1 c2
   pub long : end_of c7 ≡ end_of c6
   pub slots : c7.slots ≡ c6.slots
@@ -227,7 +227,7 @@ pub record Headed (c1 c2 c6 c7 : CodeBuilder) (e : Option Expr) (slot to : ℕ) 
       → Decides s.setting (Good s) s.function s.room (condition_or_true (calls_of s) e) (end_of c1) (end_of c2) to
       (length (s.env).locals)
 
-headed_by : (c1 c2 c6 c7 : CodeBuilder) (e : Expr) (slot to : ℕ) (test : Branch) → Tests c1 c2 e slot test
+headed_by : (c1 c2 c6 c7 : Written) (e : Expr) (slot to : ℕ) (test : Branch) → Tests c1 c2 e slot test
     → Leads c6 c7 test.at (branch_on test.condition to)
     → end_of c2 ≤ end_of c6 → Headed c1 c2 c6 c7 (Some e) slot to
 headed_by c1 c2 c6 c7 e slot to test tests leads later = record {
@@ -249,7 +249,7 @@ headed_by c1 c2 c6 c7 e slot to test tests leads later = record {
       suits;
 }
 
-pub headed : (c1 c2 c6 c7 : CodeBuilder) (e : Option Expr) (slot to : ℕ) (branch : Option Branch) → MayTest c1 c2 e slot branch
+pub headed : (c1 c2 c6 c7 : Written) (e : Option Expr) (slot to : ℕ) (branch : Option Branch) → MayTest c1 c2 e slot branch
     → MayLead c6 c7 branch to → end_of c2 ≤ end_of c6 → Headed c1 c2 c6 c7 e slot to
 headed c1 c2 c6 c7 (Some e) slot to branch tests leads later =
     headed_by c1 c2 c6 c7 e slot to tests.0 tests.2
@@ -257,23 +257,23 @@ headed c1 c2 c6 c7 (Some e) slot to branch tests leads later =
 headed c1 c2 c6 c7 None slot to branch tests leads later =
     let same : c7 ≡ c6 = subst (λ (o : Option Branch). MayLead c6 c7 o to) tests.1 leads in
     record {
-      keeps = subst (λ (c : CodeBuilder). Keeps c1 c) (sym tests.0) (keeps_same c1);
+      keeps = subst (λ (c : Written). Keeps c1 c) (sym tests.0) (keeps_same c1);
       long = ap end_of same;
-      slots = ap (λ (c : CodeBuilder). c.slots) same;
-      layout = ap (λ (c : CodeBuilder). c.layout) same;
-      before = λ k low. ap (λ (c : CodeBuilder). slice_get (code_of c) k) same;
-      behind = λ k low. ap (λ (c : CodeBuilder). slice_get (code_of c) k) same;
+      slots = ap (λ (c : Written). c.slots) same;
+      layout = ap (λ (c : Written). c.layout) same;
+      before = λ k low. ap (λ (c : Written). slice_get (code_of c) k) same;
+      behind = λ k low. ap (λ (c : Written). slice_get (code_of c) k) same;
       does = λ s scene is typed stands code suits.
-          subst (λ (c : CodeBuilder). Decides s.setting (Good s) s.function s.room (condition_or_true (calls_of s) None)
+          subst (λ (c : Written). Decides s.setting (Good s) s.function s.room (condition_or_true (calls_of s) None)
           (end_of c1) (end_of c) to (length (s.env).locals)) (sym tests.0)
           (does_no_condition s scene (ranked_of s scene) (end_of c1) to);
     }
 
 -- What is repeated: c1 with its entry, c2 with the condition, c3 with the entry led to the body, c4 with the body, c5 with
 -- the steps, c6 with the tick of the next turn, c7 with the branch led out.
-module _ (c0 c1 c2 c3 c4 c5 c6 c7 : CodeBuilder) (breaks breaks' continues : List ℕ) (test : Test) (line : ℕ)
-    (e : Option Expr) (es : List Expr) (x : Stmt) (scope : Scope) (entry head to body : ℕ)
-    (enters : Puts c0 c1 scope.locals (loop_entry test line 0)) (head_is : head ≡ end_of c1)
+module _ (c0 c1 c2 c3 c4 c5 c6 c7 : Written) (breaks breaks' continues : List ℕ) (test : Test) (line : ℕ)
+    (e : Option Expr) (es : List Expr) (x : Stmt) (scope : Scope) (entry head to body pending : ℕ)
+    (enters : Puts c0 c1 scope.locals (loop_entry test line pending)) (head_is : head ≡ end_of c1)
     (entry_is : entry ≡ end_of c0) (body_is : body ≡ end_of c2) (to_is : to ≡ end_of c6)
     (conditional : Headed c1 c2 c6 c7 e scope.locals to)
     (led : Leads c2 c3 entry (loop_entry test line body))
@@ -281,7 +281,7 @@ module _ (c0 c1 c2 c3 c4 c5 c6 c7 : CodeBuilder) (breaks breaks' continues : Lis
     (steps : EmitsEvaluations c4 c5 es scope.locals)
     (j : Instruction) (next : NextTurn e line head body j) (loops : Puts c5 c6 scope.locals j) where
   one : end_of c1 ≡ end_of c0 + 1
-  one = put_one c0 c1 scope.locals (loop_entry test line 0) enters
+  one = put_one c0 c1 scope.locals (loop_entry test line pending) enters
 
   three : end_of c3 ≡ end_of c2
   three = leads_end c2 c3 entry (loop_entry test line body) led
@@ -291,7 +291,7 @@ module _ (c0 c1 c2 c3 c4 c5 c6 c7 : CodeBuilder) (breaks breaks' continues : Lis
 
   from_start : Keeps c0 c3
   from_start = leads_keeps c0 c2 c3 entry (loop_entry test line body)
-      (keeps_on c0 c1 c2 (put_keeps c0 c1 scope.locals (loop_entry test line 0) enters) conditional.keeps)
+      (keeps_on c0 c1 c2 (put_keeps c0 c1 scope.locals (loop_entry test line pending) enters) conditional.keeps)
       (omega (arith, entry_is)) led
 
   last : Keeps c5 c6

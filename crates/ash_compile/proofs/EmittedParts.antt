@@ -1,5 +1,5 @@
 -- Emitted code of full expressions and of variables.
-use Rattle.std.proofs.Common.{◌≡◌, ◌≤◌, ℕ, ◌+◌, List, [], ◌∷◌, ◌++◌, length, refl, sym, ap, ◌∙◌, subst, arith}
+use Rattle.std.proofs.Common.{◌≡◌, ℕ, ◌+◌, List, [], ◌∷◌, ◌++◌, length, refl, sym, ap, ◌∙◌, subst, arith}
 use Rattle.std.proofs.Common.{append_assoc, append-nil, length-append}
 use Rattle.std.specs.Prelude.{Option, Some, None, slice_get}
 use Rattle.ash_host.specs.declared.word.Word.{Word}
@@ -14,7 +14,7 @@ use Rattle.ash_meaning.specs.ExpressionMeaning.{expression}
 use Rattle.ash_meaning.specs.StatementMeaning.{evaluate, condition, declare_all, begin}
 use Rattle.ash_code.specs.declared.instruction.Instruction.{Instruction}
 use Rattle.ash_code.specs.declared.instruction.Instruction.TheVariants as i
-use Rattle.ash_compile.specs.declared.builder.CodeBuilder.{CodeBuilder}
+use Rattle.ash_compile.specs.declared.builder.Written.{Written}
 use Rattle.ash_compile.specs.declared.bodies.Condition.TheVariants as conditions
 use Rattle.ash_compile.specs.Performances.{Acts, Decides}
 use Rattle.ash_compile.specs.Emission.{code_of, end_of, Keeps, Puts, Scene, IsScene, Suits, Good, Stands, DoesExpression, Emits, calls_of}
@@ -28,30 +28,30 @@ use Rattle.ash_compile.proofs.StatementCode.{does_evaluation, does_no_steps, doe
 use Rattle.ash_compile.proofs.BlockCode.{with_types, still_scene, beginning, begins_fitting, does_zero, does_value}
 use Rattle.ash_compile.proofs.BlockCode.{does_no_declarations, does_declarations}
 
-pub keeps_same : (c : CodeBuilder) → Keeps c c
+pub keeps_same : (c : Written) → Keeps c c
 keeps_same c = record { longer = omega arith; same = λ k low. refl; slots = omega arith; layout = refl }
 
 -- what is put stays
-pub put_stays : (old mid new : CodeBuilder) (slot : ℕ) (j : Instruction) → Puts old mid slot j → Keeps mid new
+pub put_stays : (old mid new : Written) (slot : ℕ) (j : Instruction) → Puts old mid slot j → Keeps mid new
     → slice_get (code_of new) (end_of old) ≡ Some j
 put_stays old mid new slot j puts keeps =
     keeps.same (end_of old) (omega (arith, put_one old mid slot j puts)) ∙ put_there old mid slot j puts
 
 -- the same scene, with more locals
-pub suits_still : (s : Scene) (types : List VarType) (c : CodeBuilder) → Suits s c → Suits (with_types s types) c
+pub suits_still : (s : Scene) (types : List VarType) (c : Written) → Suits s c → Suits (with_types s types) c
 suits_still s types c suits = record { slots = suits.slots; layout = suits.layout }
 
 -- full expressions
 
-pub evaluation_keeps : (old new : CodeBuilder) (e : Expr) (slot : ℕ) → EmitsEvaluation old new e slot → Keeps old new
+pub evaluation_keeps : (old new : Written) (e : Expr) (slot : ℕ) → EmitsEvaluation old new e slot → Keeps old new
 evaluation_keeps old new e slot emits =
     keeps_on old emits.mid new (emits.emits).keeps (put_keeps emits.mid new slot i.EndExpression emits.puts)
 
-pub full_keeps : (old new : CodeBuilder) (e : Expr) (slot : ℕ) → EmitsFull old new e slot → Keeps old new
+pub full_keeps : (old new : Written) (e : Expr) (slot : ℕ) → EmitsFull old new e slot → Keeps old new
 full_keeps old new e slot emits =
     keeps_on old emits.mid new (emits.emits).keeps (put_keeps emits.mid new slot i.EndExpression emits.puts)
 
-pub evaluation_does : (old new : CodeBuilder) (e : Expr) (slot : ℕ) → EmitsEvaluation old new e slot
+pub evaluation_does : (old new : Written) (e : Expr) (slot : ℕ) → EmitsEvaluation old new e slot
     → (s : Scene) → IsScene s → slot ≡ length (s.env).locals → IsEvaluated s.env e
     → Stands s (code_of new) (end_of old) (end_of new) → Suits s new
     → DoesActs s (evaluate (calls_of s) e) (end_of old) (end_of new) (length (s.env).locals)
@@ -66,13 +66,13 @@ evaluation_does old new e slot emits s scene is typed stands suits =
     (suits_before s mid new keeps suits)))
     (has_put s mid new (end_of old) slot i.EndExpression ((emits.emits).keeps).longer emits.puts stands))
 
-pub no_evaluations : (c : CodeBuilder) (slot : ℕ) → EmitsEvaluations c c [] slot
+pub no_evaluations : (c : Written) (slot : ℕ) → EmitsEvaluations c c [] slot
 no_evaluations c slot = record {
   keeps = keeps_same c;
   does = λ s scene is typed stands suits. does_no_steps s scene (ranked_of s scene) (end_of c);
 }
 
-pub more_evaluations : (old mid new : CodeBuilder) (e : Expr) (es : List Expr) (slot : ℕ)
+pub more_evaluations : (old mid new : Written) (e : Expr) (es : List Expr) (slot : ℕ)
     → EmitsEvaluation old mid e slot → EmitsEvaluations mid new es slot → EmitsEvaluations old new (e ∷ es) slot
 more_evaluations old mid new e es slot first rest = record {
   keeps = keeps_on old mid new (evaluation_keeps old mid e slot first) rest.keeps;
@@ -88,10 +88,10 @@ more_evaluations old mid new e es slot first rest = record {
 -- conditions
 
 -- A truth value in its slot is tested.
-pub truth_tests : (start old new : CodeBuilder) (e : Expr) (slot at : ℕ) → Emits start old e slot
-    → Puts old new slot (i.Branch slot 0) → at ≡ end_of old
+pub truth_tests : (start old new : Written) (e : Expr) (slot at : ℕ) {pending : ℕ} → Emits start old e slot
+    → Puts old new slot (i.Branch slot pending) → at ≡ end_of old
     → Tests start new e slot (record { at = at; condition = conditions.Truth slot })
-truth_tests start old new e slot at emits puts at_is = record {
+truth_tests start old new e slot at {pending} emits puts at_is = record {
   keeps = keeps_on start old new emits.keeps last;
   later = omega (arith, at_is, (emits.keeps).longer);
   end = one ∙ ap (λ (n : ℕ). n + 1) (sym at_is);
@@ -107,17 +107,17 @@ truth_tests start old new e slot at emits puts at_is = record {
 }
   where
     one : end_of new ≡ end_of old + 1
-    one = put_one old new slot (i.Branch slot 0) puts
+    one = put_one old new slot (i.Branch slot pending) puts
 
     last : Keeps old new
-    last = put_keeps old new slot (i.Branch slot 0) puts
+    last = put_keeps old new slot (i.Branch slot pending) puts
 
 -- variables
 
 one_longer : (s : Scene) (of : VarType) → length ((s.env).locals ++ of ∷ []) ≡ length (s.env).locals + 1
 one_longer s of = length-append (s.env).locals (of ∷ [])
 
-pub no_variables : (c : CodeBuilder) (locals : ℕ) → EmitsVariables c c [] locals locals
+pub no_variables : (c : Written) (locals : ℕ) → EmitsVariables c c [] locals locals
 no_variables c locals = record {
   keeps = keeps_same c;
   does = λ s types scene is sound stands suits. none s types scene is sound;
@@ -134,7 +134,7 @@ no_variables c locals = record {
     )
 
 -- What a variable begins with, and then the variables after it.
-pub more_variables : (old new : CodeBuilder) (v : Initialization) (locals : ℕ) → Keeps old new
+pub more_variables : (old new : Written) (v : Initialization) (locals : ℕ) → Keeps old new
     → ((s : Scene) → IsScene s → locals ≡ length (s.env).locals → IsSoundBeginning s.env v.of v.value
     → Stands s (code_of new) (end_of old) (end_of new) → Suits s new
     → DoesActs s (beginning s v.of v.value) (end_of old) (end_of new) (length (s.env).locals + 1))
@@ -162,7 +162,7 @@ more_variables old new v locals keeps first end vs more rest = record {
               (end_of new) (end_of end) n more) (one_longer s v.of) later.1),
         )
 
-pub zero_variable : (old mid new : CodeBuilder) (v : Initialization) (locals : ℕ) (word : Word) → v.value ≡ None
+pub zero_variable : (old mid new : Written) (v : Initialization) (locals : ℕ) (word : Word) → v.value ≡ None
     → word ≡ zero_of v.of
     → Puts old mid locals (i.Load word locals) → Puts mid new locals i.Declare
     → EmitsVariable old new v locals
@@ -187,7 +187,7 @@ zero_variable old mid new v locals word none same loads declares =
     last : Keeps mid new
     last = put_keeps mid new locals i.Declare declares
 
-pub value_variable : (old mid new : CodeBuilder) (v : Initialization) (locals : ℕ) (e : Expr) → v.value ≡ Some e
+pub value_variable : (old mid new : Written) (v : Initialization) (locals : ℕ) (e : Expr) → v.value ≡ Some e
     → Emits old mid e locals → Puts mid new locals i.DeclareAndEnd
     → EmitsVariable old new v locals
 value_variable old mid new v locals e some emits declares =
@@ -214,7 +214,7 @@ value_variable old mid new v locals e some emits declares =
 
 -- heads of `for`
 
-pub no_parts : (c : CodeBuilder) (locals : ℕ) → EmitsHead c c no_head locals locals
+pub no_parts : (c : Written) (locals : ℕ) → EmitsHead c c no_head locals locals
 no_parts c locals = record {
   keeps = keeps_same c;
   does = λ s types scene is sound stands suits. none s types scene is sound;
@@ -230,7 +230,7 @@ no_parts c locals = record {
           (does_no_declarations s scene (ranked_of s scene) (end_of c) (length (s.env).locals)),
     )
 
-pub head_of_variables : (old new : CodeBuilder) (vs : List Initialization) (locals more : ℕ)
+pub head_of_variables : (old new : Written) (vs : List Initialization) (locals more : ℕ)
     → EmitsVariables old new vs locals more → EmitsHead old new (declared_head vs) locals more
 head_of_variables old new vs locals more emits = record {
   keeps = emits.keeps;
@@ -241,7 +241,7 @@ head_of_variables old new vs locals more emits = record {
         → AreSoundDeclarations s.env vs types
     declared s types (head_declares sound) = sound
 
-pub head_of_evaluation : (old new : CodeBuilder) (e : Expr) (locals : ℕ)
+pub head_of_evaluation : (old new : Written) (e : Expr) (locals : ℕ)
     → EmitsEvaluation old new e locals → EmitsHead old new (evaluated_head e) locals locals
 head_of_evaluation old new e locals emits = record {
   keeps = evaluation_keeps old new e locals emits;

@@ -1,5 +1,5 @@
 -- Emitted code of places, and of what is read and stored there.
-use Rattle.std.proofs.Common.{◌≡◌, ℕ, ◌+◌, refl, sym, subst, arith}
+use Rattle.std.proofs.Common.{◌≡◌, ℕ, ◌+◌, sym, subst, arith}
 use Rattle.ash_typed.specs.declared.types.VarType.{VarType}
 use Rattle.ash_typed.specs.declared.types.Element.{Element}
 use Rattle.ash_typed.specs.declared.tree.operations.ObjectMember.{ObjectMember}
@@ -9,10 +9,10 @@ use Rattle.ash_typed.specs.TypeOf.{ValueType}
 use Rattle.ash_typed.specs.TypedTree.{Expr, Read, Assign, Place, Stored, Held, Indexed}
 use Rattle.ash_typed.specs.SoundExpressions as typing
 use Rattle.ash_typed.specs.SoundExpressions.{TypedEnvironment, IsWellTyped, HasPlace}
-use Rattle.ash_compile.specs.declared.builder.CodeBuilder.{CodeBuilder}
+use Rattle.ash_compile.specs.declared.builder.Written.{Written}
 use Rattle.ash_compile.specs.declared.places.Spot.{Spot}
 use Rattle.ash_compile.specs.declared.places.Spot.TheVariants as spots
-use Rattle.ash_compile.specs.Emission.{code_of, end_of, Keeps, Puts, DoesExpression, Emits}
+use Rattle.ash_compile.specs.Emission.{code_of, end_of, Puts, DoesExpression, Emits}
 use Rattle.ash_compile.specs.Places.{spot_of_variable, spot_of_member, reading, writing, EmitsPlace}
 use Rattle.ash_compile.proofs.Emission.{keeps_itself, keeps_on, put_keeps, put_one, suits_before, stands_before, stands_after}
 use Rattle.ash_compile.proofs.Emission.{has_put, emits_then, emits_both}
@@ -52,13 +52,13 @@ typed_given (typing.assign at is fitted) = fitting fitted
 
 -- places
 
-pub variable : (old : CodeBuilder) (v : Variable) (slot : ℕ) → EmitsPlace old old (Stored v) (spot_of_variable v) slot
+pub variable : (old : Written) (v : Variable) (slot : ℕ) → EmitsPlace old old (Stored v) (spot_of_variable v) slot
 variable old v slot = record {
   keeps = keeps_itself old;
   does = λ s of scene at stands within. variable_place s v of (end_of old) slot at;
 }
 
-pub member : (start new : CodeBuilder) (e : Expr) (member : ObjectMember) (slot : ℕ) → Emits start new e slot
+pub member : (start new : Written) (e : Expr) (member : ObjectMember) (slot : ℕ) → Emits start new e slot
     → EmitsPlace start new (Held e member) (spot_of_member member slot) slot
 member start new e m slot first = record {
   keeps = first.keeps;
@@ -67,7 +67,7 @@ member start new e m slot first = record {
       (first.does s (typed_object at).0 scene (typed_object at).1 stands within);
 }
 
-pub element : (start mid new : CodeBuilder) (a i : Expr) (e : Element) (slot : ℕ) → Emits start mid a slot
+pub element : (start mid new : Written) (a i : Expr) (e : Element) (slot : ℕ) → Emits start mid a slot
     → Emits mid new i (slot + 1) → EmitsPlace start new (Indexed a i e) (spots.Element slot (slot + 1)) slot
 element start mid new a i e slot first second = record {
   keeps = keeps_on start mid new first.keeps second.keeps;
@@ -86,7 +86,7 @@ no_local : (member : ObjectMember) (slot n : ℕ) → spot_of_member member slot
 no_local (members.Field class place of) slot n is = cc
 no_local (members.Property id of) slot n is = cc
 
-pub read_member : (start old new : CodeBuilder) (e : Expr) (member : ObjectMember) (slot : ℕ) → Emits start old e slot
+pub read_member : (start old new : Written) (e : Expr) (member : ObjectMember) (slot : ℕ) → Emits start old e slot
     → Puts old new slot (reading (spot_of_member member slot) slot) → Emits start new (Read (Held e member)) slot
 read_member start old new e m slot first puts =
     emits_then start old new e (Read (Held e m)) slot (reading (spot_of_member m slot) slot) first puts
@@ -96,7 +96,7 @@ read_member start old new e m slot first puts =
     (λ n is. absurd (no_local m slot n is)) does.within
     (member_place s e m (typed_read typed).0 from at slot scene (typed_read typed).1 does) has)
 
-pub read_element : (start mid old new : CodeBuilder) (a i : Expr) (e : Element) (slot : ℕ) → Emits start mid a slot
+pub read_element : (start mid old new : Written) (a i : Expr) (e : Element) (slot : ℕ) → Emits start mid a slot
     → Emits mid old i (slot + 1) → Puts old new slot (reading (spots.Element slot (slot + 1)) slot)
     → Emits start new (Read (Indexed a i e)) slot
 read_element start mid old new a i e slot first second puts =
@@ -110,7 +110,7 @@ read_element start mid old new a i e slot first second puts =
 
 -- what is stored
 
-pub assign : (start mid old new : CodeBuilder) (place : Place) (e : Expr) (spot : Spot) (slot : ℕ)
+pub assign : (start mid old new : Written) (place : Place) (e : Expr) (spot : Spot) (slot : ℕ)
     → Emits start mid e slot
     → EmitsPlace mid old place spot (slot + 1) → Puts old new slot (writing spot slot)
     → Emits start new (Assign place e) slot

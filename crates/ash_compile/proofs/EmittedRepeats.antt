@@ -15,7 +15,7 @@ use Rattle.ash_code.specs.declared.instruction.Instruction.{Instruction}
 use Rattle.ash_code.specs.declared.instruction.Instruction.TheVariants as i
 use Rattle.ash_code.specs.Performing.{Setting}
 use Rattle.ash_code.specs.Running.{instruction_at}
-use Rattle.ash_compile.specs.declared.builder.CodeBuilder.{CodeBuilder}
+use Rattle.ash_compile.specs.declared.builder.Written.{Written}
 use Rattle.ash_compile.specs.declared.bodies.Scope.{Scope}
 use Rattle.ash_compile.specs.declared.layout.Layout.{Layout}
 use Rattle.ash_compile.specs.Layout.{IsLayout}
@@ -66,7 +66,7 @@ spends_loop s result b c line (repeated test e es x) scene (typing.loop typed_e 
 sound_repeat : {scope : TypedScope} {line : ℕ} {inside : Loop} → IsSoundStmt scope (Repeat line inside) → IsLoop scope inside
 sound_repeat (typing.repeat sound) = sound
 
-pub repeat : (c0 c1 c2 c3 : CodeBuilder) (breaks own continues continues' : List ℕ) (line : ℕ) (inside : Loop) (scope : Scope)
+pub repeat : (c0 c1 c2 c3 : Written) (breaks own continues continues' : List ℕ) (line : ℕ) (inside : Loop) (scope : Scope)
     → Puts c0 c1 scope.locals (i.Tick line)
     → EmitsLoop (with_jumps c1 [] continues) (with_jumps c2 own continues') line inside
     (record scope { broken = scope.locals })
@@ -145,7 +145,7 @@ spends_head s head types scene (head_evaluates {e = e} typed) a b v good is =
     )
 
 -- c1 with the tick, c2 with the head, c3 with the loop, c5 with the end of the block, c6 with the jumps of `break` led there.
-pub for_loop : (c0 c1 c2 c3 c4 c5 c6 : CodeBuilder) (breaks own continues continues' : List ℕ) (line : ℕ) (head : Head)
+pub for_loop : (c0 c1 c2 c3 c4 c5 c6 : Written) (breaks own continues continues' : List ℕ) (line : ℕ) (head : Head)
     (inside : Loop) (scope : Scope) (more release : ℕ)
     → Puts c0 c1 scope.locals (i.Tick line) → EmitsHead c1 c2 head scope.locals more
     → EmitsLoop (with_jumps c2 [] continues) (with_jumps c3 own continues') line inside

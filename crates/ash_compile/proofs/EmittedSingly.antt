@@ -13,7 +13,7 @@ use Rattle.ash_meaning.specs.StatementMeaning.{statement}
 use Rattle.ash_meaning.specs.StatementMeaning as meaning
 use Rattle.ash_code.specs.declared.instruction.Instruction.{Instruction}
 use Rattle.ash_code.specs.declared.instruction.Instruction.TheVariants as i
-use Rattle.ash_compile.specs.declared.builder.CodeBuilder.{CodeBuilder}
+use Rattle.ash_compile.specs.declared.builder.Written.{Written}
 use Rattle.ash_compile.specs.declared.bodies.Scope.{Scope}
 use Rattle.ash_compile.specs.Performances.{Exits}
 use Rattle.ash_compile.specs.Emission.{code_of, end_of, Keeps, Puts, Scene, IsScene, Suits, Good, Stands, DoesExpression, Emits, calls_of}
@@ -28,7 +28,7 @@ use Rattle.ash_compile.proofs.Drafts.{shown_code, shown_break, shown_continue}
 use Rattle.ash_compile.proofs.EmittedParts.{put_stays, evaluation_keeps, evaluation_does}
 
 -- Code without jumps that wait.
-pub plain : (old new : CodeBuilder) (x : Stmt) (scope : Scope) → Keeps old new
+pub plain : (old new : Written) (x : Stmt) (scope : Scope) → Keeps old new
     → ((s : Scene) (exits : Exits) (result : Option VarType) (breaks continues : Bool) → IsScene s
     → IsIn scope s exits result → IsSoundStmt (typed_scope s result breaks continues) x
     → Stands s (code_of new) (end_of old) (end_of new) → Suits s new
@@ -42,7 +42,7 @@ plain old new x scope keeps does breaks continues = record {
       (plainly s exits (with_jumps new breaks continues) (end_of old) (end_of new) no_breaks no_continues stands) suits;
 }
 
-pub empty : (old new : CodeBuilder) (line : ℕ) (scope : Scope) → Puts old new scope.locals (i.Tick line)
+pub empty : (old new : Written) (line : ℕ) (scope : Scope) → Puts old new scope.locals (i.Tick line)
     → (breaks continues : List ℕ)
     → EmitsStatement (with_jumps old breaks continues) (with_jumps new breaks continues) (Empty line) scope
 empty old new line scope puts =
@@ -57,7 +57,7 @@ sound_evaluation : {scope : TypedScope} {line : ℕ} {e : Expr} → IsSoundStmt 
     → IsEvaluated scope.env e
 sound_evaluation (typing.evaluate is) = is
 
-pub evaluate : (old mid new : CodeBuilder) (line : ℕ) (e : Expr) (scope : Scope) → Puts old mid scope.locals (i.Tick line)
+pub evaluate : (old mid new : Written) (line : ℕ) (e : Expr) (scope : Scope) → Puts old mid scope.locals (i.Tick line)
     → EmitsEvaluation mid new e scope.locals
     → (breaks continues : List ℕ)
     → EmitsStatement (with_jumps old breaks continues) (with_jumps new breaks continues) (Evaluate line e) scope
@@ -83,7 +83,7 @@ ends_of : (s : Scene) (exits : Exits) (at : ℕ) (constructs : Bool) → HasAt s
 ends_of s exits at true has gives = leaving.by_this has gives
 ends_of s exits at false has gives = leaving.by_nothing has gives
 
-pub return_nothing : (old mid new : CodeBuilder) (line : ℕ) (scope : Scope) (j : Instruction) → j ≡ frame_end scope.constructs
+pub return_nothing : (old mid new : Written) (line : ℕ) (scope : Scope) (j : Instruction) → j ≡ frame_end scope.constructs
     → Puts old mid scope.locals (i.Tick line) → Puts mid new scope.locals j
     → (breaks continues : List ℕ)
     → EmitsStatement (with_jumps old breaks continues) (with_jumps new breaks continues) (Return line None) scope
@@ -105,7 +105,7 @@ return_nothing old mid new line scope j is ticks ends =
     later : Keeps mid new
     later = put_keeps mid new scope.locals j ends
 
-pub return_value : (old mid last new : CodeBuilder) (line : ℕ) (e : Expr) (scope : Scope)
+pub return_value : (old mid last new : Written) (line : ℕ) (e : Expr) (scope : Scope)
     → Puts old mid scope.locals (i.Tick line) → Emits mid last e scope.locals → Puts last new scope.locals (i.Return scope.locals)
     → (breaks continues : List ℕ)
     → EmitsStatement (with_jumps old breaks continues) (with_jumps new breaks continues) (Return line (Some e)) scope
@@ -142,7 +142,7 @@ return_value old mid last new line e scope ticks emits returns =
 
 -- `break` and `continue`
 
-module _ (old new : CodeBuilder) (line count slot jump : ℕ) (leaves : LeavesBlocks old new line count slot jump) where
+module _ (old new : Written) (line count slot jump : ℕ) (leaves : LeavesBlocks old new line count slot jump) where
   second : end_of leaves.ticked ≡ end_of old + 1
   second = put_one old leaves.ticked slot (i.Tick line) leaves.ticks
 
@@ -153,10 +153,10 @@ module _ (old new : CodeBuilder) (line count slot jump : ℕ) (leaves : LeavesBl
   jump_is = leaves.place ∙ third
 
   end_is : end_of new ≡ end_of old + 1 + 1 + 1
-  end_is = put_one leaves.left new slot (i.Jump 0) leaves.jumps ∙ ap (λ (n : ℕ). n + 1) third
+  end_is = put_one leaves.left new slot (i.Jump leaves.pending) leaves.jumps ∙ ap (λ (n : ℕ). n + 1) third
 
   last : Keeps leaves.left new
-  last = put_keeps leaves.left new slot (i.Jump 0) leaves.jumps
+  last = put_keeps leaves.left new slot (i.Jump leaves.pending) leaves.jumps
 
   later : Keeps leaves.ticked new
   later = keeps_on leaves.ticked leaves.left new

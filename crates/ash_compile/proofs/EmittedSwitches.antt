@@ -32,7 +32,7 @@ use Rattle.ash_meaning.specs.StatementMeaning.{Flow, On, Labelled, statements, c
 use Rattle.ash_code.specs.declared.instruction.Instruction.{Instruction}
 use Rattle.ash_code.specs.declared.instruction.Instruction.TheVariants as i
 use Rattle.ash_code.specs.Running.{instruction_at}
-use Rattle.ash_compile.specs.declared.builder.CodeBuilder.{CodeBuilder}
+use Rattle.ash_compile.specs.declared.builder.Written.{Written}
 use Rattle.ash_compile.specs.declared.bodies.Scope.{Scope}
 use Rattle.ash_compile.specs.declared.layout.Layout.{Layout}
 use Rattle.ash_compile.specs.Layout.{IsLayout}
@@ -104,7 +104,7 @@ no_labels d test scope = record {
   does = λ s exits result b c scene inside sound no_breaks no_continues apart stands suits. tt;
 }
 
-pub label_step : (c0 c1 c2 : CodeBuilder) (b0 n0 b1 n1 : List ℕ) (test to : ℕ) (l : Label) (xs : Stmts) (scope : Scope)
+pub label_step : (c0 c1 c2 : Written) (b0 n0 b1 n1 : List ℕ) (test to : ℕ) (l : Label) (xs : Stmts) (scope : Scope)
     (word : Option Word)
     → option_map number_of word ≡ constant_of l → to ≡ end_of c0 → test < end_of c0
     → Leads c0 c1 test (label_jump word scope.locals to)
@@ -294,15 +294,15 @@ sound_switch (typing.switch typed sound) = (typed, sound)
 
 -- c2 with the value, c3 with the places of the tests, c4 with the jump past all, c5 with the labels, c6 with the landing of
 -- `break`, c7 with the jump led.
-pub switch : (c0 c1 c2 c3 c4 c5 c6 c7 : CodeBuilder) (b0 n0 own n1 : List ℕ) (line : ℕ) (t : IntType) (e : Expr) (cs : Cases)
-    (scope : Scope) (test past end : ℕ)
+pub switch : (c0 c1 c2 c3 c4 c5 c6 c7 : Written) (b0 n0 own n1 : List ℕ) (line : ℕ) (t : IntType) (e : Expr) (cs : Cases)
+    (scope : Scope) (test past end : ℕ) {pending : ℕ}
     → Puts c0 c1 scope.locals (i.Tick line) → EmitsFull c1 c2 e scope.locals
     → test ≡ end_of c2 → Keeps c2 c3 → end_of c3 ≡ end_of c2 + count_cases cs
-    → past ≡ end_of c3 → Puts c3 c4 scope.locals (i.Jump 0)
+    → past ≡ end_of c3 → Puts c3 c4 scope.locals (i.Jump pending)
     → EmitsLabels (with_jumps c4 [] n0) (with_jumps c5 own n1) test cs (record scope { broken = scope.locals })
     → Landing c5 c6 own → end ≡ end_of c6 → Leads c6 c7 past (i.Jump end)
     → EmitsStatement (with_jumps c0 b0 n0) (with_jumps c7 b0 n1) (Switch line t e cs) scope
-switch c0 c1 c2 c3 c4 c5 c6 c7 b0 n0 own n1 line t e cs scope test past end ticks evaluates test_is places three past_is jumps
+switch c0 c1 c2 c3 c4 c5 c6 c7 b0 n0 own n1 line t e cs scope test past end {pending} ticks evaluates test_is places three past_is jumps
     emits lands end_is leads = record {
       grows = record {
         code = record {
@@ -403,7 +403,7 @@ switch c0 c1 c2 c3 c4 c5 c6 c7 b0 n0 own n1 line t e cs scope test past end tick
     ended = put_keeps evaluates.mid c2 scope.locals i.EndExpression evaluates.puts
 
     four : end_of c4 ≡ end_of c3 + 1
-    four = put_one c3 c4 scope.locals (i.Jump 0) jumps
+    four = put_one c3 c4 scope.locals (i.Jump pending) jumps
 
     seven : end_of c7 ≡ end_of c6
     seven = leads_end c6 c7 past (i.Jump end) leads
@@ -415,7 +415,7 @@ switch c0 c1 c2 c3 c4 c5 c6 c7 b0 n0 own n1 line t e cs scope test past end tick
     long = omega (arith, long5, emits.longer)
 
     last : Keeps c3 c4
-    last = put_keeps c3 c4 scope.locals (i.Jump 0) jumps
+    last = put_keeps c3 c4 scope.locals (i.Jump pending) jumps
 
     to_two : end_of c0 ≤ end_of c2
     to_two = omega (arith, one, (full_keeps c1 c2 e scope.locals evaluates).longer)

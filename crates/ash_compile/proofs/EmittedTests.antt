@@ -1,11 +1,9 @@
 -- Emitted code of conditions that compare integers.
-use Rattle.std.proofs.Common.{◌≡◌, ◌≤◌, ◌<◌, ◌⊎◌, ℕ, ◌+◌, length, refl, sym, ap, ◌∙◌, subst, arith}
-use Rattle.std.specs.Prelude.{Option, Some, None, slice_index_or}
+use Rattle.std.proofs.Common.{◌≡◌, ◌⊎◌, ℕ, ◌+◌, length, refl, sym, ap, ◌∙◌, subst, arith}
+use Rattle.std.specs.Prelude.{Option, slice_index_or}
 use Rattle.ash_host.specs.declared.word.Word.{Word}
 use Rattle.ash_host.specs.declared.word.Word.TheVariants as words
 use Rattle.ash_integers.specs.declared.comparison.Comparison.{Comparison}
-use Rattle.ash_integers.specs.declared.comparison.Comparison.TheVariants as comparisons
-use Rattle.ash_integers.specs.declared.int_type.IntType.{IntType}
 use Rattle.ash_integers.specs.Integers.{number_of, compared}
 use Rattle.ash_typed.specs.declared.types.VarType.TheVariants as vars
 use Rattle.ash_typed.specs.declared.tree.operations.Comparator.{Comparator}
@@ -25,7 +23,7 @@ use Rattle.ash_meaning.specs.ExpressionMeaning.{expression}
 use Rattle.ash_meaning.specs.StatementMeaning.{condition, condition_or_true}
 use Rattle.ash_code.specs.declared.instruction.Instruction.{Instruction}
 use Rattle.ash_code.specs.declared.instruction.Instruction.TheVariants as i
-use Rattle.ash_compile.specs.declared.builder.CodeBuilder.{CodeBuilder}
+use Rattle.ash_compile.specs.declared.builder.Written.{Written}
 use Rattle.ash_compile.specs.declared.bodies.Branch.{Branch}
 use Rattle.ash_compile.specs.declared.bodies.Condition.TheVariants as conditions
 use Rattle.ash_compile.specs.Performances.{Decides}
@@ -43,7 +41,7 @@ use Rattle.ash_compile.proofs.StatementCode.{ranks_after, ticked, does_back}
 use Rattle.ash_compile.proofs.ComparisonCode as code
 
 -- what the code's tree stands for
-pub of_kind : (old new : CodeBuilder) (k l : ExprKind) (e : Expr) (slot : ℕ) (branch : Branch) → k ≡ l → expr_in l ≡ e
+pub of_kind : (old new : Written) (k l : ExprKind) (e : Expr) (slot : ℕ) (branch : Branch) → k ≡ l → expr_in l ≡ e
     → Tests old new e slot branch → Tests old new (expr_in k) slot branch
 of_kind old new k l e slot branch is means tests =
     subst (λ (x : Expr). Tests old new x slot branch) (sym (ap expr_in is ∙ means)) tests
@@ -77,38 +75,39 @@ does_comparison s _ comparison a b from mid at left right unmet scene typed
     (value vars.Bool) typed)
     (λ l r. tells comparator comparison l r by)
 
-pub comparison_tests : (start mid old new : CodeBuilder) (o : Operation) (comparison : Comparison) (a b : Expr)
-    (slot left right at : ℕ)
+pub comparison_tests : (start mid old new : Written) (o : Operation) (comparison : Comparison) (a b : Expr)
+    (slot left right at : ℕ) {pending : ℕ}
     → EmitsIn start mid a slot left → EmitsIn mid old b (slot + 1) right
-    → Puts old new slot (i.BranchUnless comparison left right 0)
+    → Puts old new slot (i.BranchUnless comparison left right pending)
     → Compares o comparison → (left ≡ slot) ⊎ IsSimple b → at ≡ end_of old
     → Tests start new (Operate o a b) slot (record { at = at; condition = conditions.Comparison comparison left right })
-comparison_tests start mid old new o comparison a b slot left right at first second puts by stays at_is = record {
-  keeps = keeps_on start mid new first.keeps later;
-  later = omega (arith, at_is, (first.keeps).longer, (second.keeps).longer);
-  end = one ∙ ap (λ (n : ℕ). n + 1) (sym at_is);
-  does = λ s unmet scene is typed stands has suits.
-      let early : Stands s (code_of old) (end_of start) (end_of old)
-      = λ k low high. stands k low (omega (arith, high, at_is)) ∙ last.same k high in
-      subst (λ (to : ℕ). Decides s.setting (Good s) s.function s.room (condition (calls_of s) (Operate o a b)) (end_of start) to
-      unmet (length (s.env).locals)) (sym one)
-      (does_comparison s o comparison a b (end_of start) (end_of mid) (end_of old) left right unmet scene typed by
-      (subst (λ (n : ℕ). DoesIn s (expression (calls_of s) a) (end_of start) (end_of mid) n left) is
-      (first.does s (typed_left typed).0 scene (typed_left typed).1
-      (stands_before s mid old (end_of start) second.keeps early) (suits_before s mid new later suits)))
-      (subst (λ (n : ℕ). DoesIn s (expression (calls_of s) b) (end_of mid) (end_of old) (n + 1) right) is
-      (second.does s (typed_right typed).0 scene (typed_right typed).1
-      (stands_after s (code_of old) (end_of start) (end_of mid) (end_of old) (first.keeps).longer early)
-      (suits_before s old new last suits)))
-      (subst (λ (n : ℕ). HasAt s n (i.BranchUnless comparison left right unmet)) at_is has)
-      (subst (λ (n : ℕ). (left ≡ n) ⊎ IsSimple b) is stays));
-}
+comparison_tests start mid old new o comparison a b slot left right at {pending} first second puts by stays at_is =
+    record {
+      keeps = keeps_on start mid new first.keeps later;
+      later = omega (arith, at_is, (first.keeps).longer, (second.keeps).longer);
+      end = one ∙ ap (λ (n : ℕ). n + 1) (sym at_is);
+      does = λ s unmet scene is typed stands has suits.
+          let early : Stands s (code_of old) (end_of start) (end_of old)
+          = λ k low high. stands k low (omega (arith, high, at_is)) ∙ last.same k high in
+          subst (λ (to : ℕ). Decides s.setting (Good s) s.function s.room (condition (calls_of s) (Operate o a b)) (end_of start) to
+          unmet (length (s.env).locals)) (sym one)
+          (does_comparison s o comparison a b (end_of start) (end_of mid) (end_of old) left right unmet scene typed by
+          (subst (λ (n : ℕ). DoesIn s (expression (calls_of s) a) (end_of start) (end_of mid) n left) is
+          (first.does s (typed_left typed).0 scene (typed_left typed).1
+          (stands_before s mid old (end_of start) second.keeps early) (suits_before s mid new later suits)))
+          (subst (λ (n : ℕ). DoesIn s (expression (calls_of s) b) (end_of mid) (end_of old) (n + 1) right) is
+          (second.does s (typed_right typed).0 scene (typed_right typed).1
+          (stands_after s (code_of old) (end_of start) (end_of mid) (end_of old) (first.keeps).longer early)
+          (suits_before s old new last suits)))
+          (subst (λ (n : ℕ). HasAt s n (i.BranchUnless comparison left right unmet)) at_is has)
+          (subst (λ (n : ℕ). (left ≡ n) ⊎ IsSimple b) is stays));
+    }
   where
     one : end_of new ≡ end_of old + 1
-    one = put_one old new slot (i.BranchUnless comparison left right 0) puts
+    one = put_one old new slot (i.BranchUnless comparison left right pending) puts
 
     last : Keeps old new
-    last = put_keeps old new slot (i.BranchUnless comparison left right 0) puts
+    last = put_keeps old new slot (i.BranchUnless comparison left right pending) puts
 
     later : Keeps mid new
     later = keeps_on mid old new second.keeps last

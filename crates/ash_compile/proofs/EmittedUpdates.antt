@@ -11,7 +11,7 @@ use Rattle.ash_typed.specs.SoundExpressions as typing
 use Rattle.ash_typed.specs.SoundExpressions.{TypedEnvironment, IsWellTyped, HasPlace}
 use Rattle.ash_code.specs.declared.instruction.Instruction.{Instruction}
 use Rattle.ash_code.specs.declared.instruction.Instruction.TheVariants as i
-use Rattle.ash_compile.specs.declared.builder.CodeBuilder.{CodeBuilder}
+use Rattle.ash_compile.specs.declared.builder.Written.{Written}
 use Rattle.ash_compile.specs.declared.places.Spot.{Spot}
 use Rattle.ash_compile.specs.Emission.{code_of, end_of, Keeps, Puts, Scene, Stands, DoesExpression, Emits}
 use Rattle.ash_compile.specs.Conversions.{Converts, needless, converts}
@@ -22,7 +22,7 @@ use Rattle.ash_compile.proofs.UpdateCode.{does_update, does_count, ConvertsAt}
 use Rattle.ash_compile.proofs.UpdateCode as at
 
 -- an instruction that is the same, which names the same slot
-pub put_as : (old new : CodeBuilder) (m n : ℕ) (j k : Instruction) → m ≡ n → j ≡ k → Puts old new m j → Puts old new n k
+pub put_as : (old new : Written) (m n : ℕ) (j k : Instruction) → m ≡ n → j ≡ k → Puts old new m j → Puts old new n k
 put_as old new m n j k slots same puts =
     subst (λ (x : ℕ). Puts old new x k) slots (subst (λ (x : Instruction). Puts old new m x) same puts)
 
@@ -53,11 +53,11 @@ typed_right (typing.update_by_shift is at typed) = inl is
 
 -- conversions
 
-pub converts_keep : (old new : CodeBuilder) (from to : IntType) (slot : ℕ) → Converts old new from to slot → Keeps old new
-converts_keep old new from to slot (needless same is) = subst (λ (c : CodeBuilder). Keeps old c) (sym is) (keeps_itself old)
+pub converts_keep : (old new : Written) (from to : IntType) (slot : ℕ) → Converts old new from to slot → Keeps old new
+converts_keep old new from to slot (needless same is) = subst (λ (c : Written). Keeps old c) (sym is) (keeps_itself old)
 converts_keep old new from to slot (converts puts) = put_keeps old new slot (i.Convert to slot slot) puts
 
-converts_at : (s : Scene) (old new : CodeBuilder) (start : ℕ) (from to : IntType) (slot : ℕ) → start ≤ end_of old
+converts_at : (s : Scene) (old new : Written) (start : ℕ) (from to : IntType) (slot : ℕ) → start ≤ end_of old
     → Converts old new from to slot → Stands s (code_of new) start (end_of new)
     → ConvertsAt s from to slot (end_of old) (end_of new)
 converts_at s old new start from to slot low (needless same is) stands = at.needless same (ap end_of is)
@@ -65,7 +65,7 @@ converts_at s old new start from to slot low (converts puts) stands =
     at.converts (has_put s old new start slot (i.Convert to slot slot) low puts stands)
     (put_one old new slot (i.Convert to slot slot) puts)
 
-pub update : (start mid old n1 n2 n3 n4 new : CodeBuilder) (place : Place) (int_type : IntType)
+pub update : (start mid old n1 n2 n3 n4 new : Written) (place : Place) (int_type : IntType)
     (calculation : Calculation)
     (e : Expr) (spot : Spot) (slot : ℕ) → Emits start mid e slot → EmitsPlace mid old place spot (slot + 2)
     → Puts old n1 (slot + 1) (reading spot (slot + 1))
@@ -117,7 +117,7 @@ update start mid old n1 n2 n3 n4 new place int_type calculation e spot slot firs
           (omega (arith, low0, k1.longer, k2.longer, k3.longer, k4.longer)) p5 stands));
     }
 
-pub count : (start old n1 n2 new : CodeBuilder) (place : Place) (int_type : IntType) (step : IncrementOp) (spot : Spot)
+pub count : (start old n1 n2 new : Written) (place : Place) (int_type : IntType) (step : IncrementOp) (spot : Spot)
     (slot : ℕ)
     → EmitsPlace start old place spot (slot + 2)
     → Puts old n1 (slot + 1) (reading spot (slot_of_old step slot (slot + 1)))

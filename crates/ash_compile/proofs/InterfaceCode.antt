@@ -41,6 +41,7 @@ use Rattle.ash_compile.proofs.Callees.{entry_there}
 use Rattle.ash_compile.proofs.CallCode.{by_object, row_within, moves_back, does_call, call_is}
 use Rattle.ash_compile.proofs.MethodCode.{ready, on_object}
 use Rattle.ash_compile.proofs.Tables.{finds_method}
+use Rattle.ash_compile.proofs.Implemented.{are_implemented}
 
 module _ (s : Scene) (scene : IsScene s) (interface method : ℕ) (all : List Signature) (g : Signature)
     (at_all : slice_get (declared s.context).interfaces interface ≡ Some all)
@@ -120,7 +121,8 @@ module _ (s : Scene) (scene : IsScene s) (interface method : ℕ) (all : List Si
       (λ function. call s.setting function (words.Object number) (slot + 1) c))
       (finds_method s.setting ((s.context).program).tree scene.classes
       ((s.context).program).name interface method number
-      lists.class own.own own.source d seen own.there own.found) in
+      lists.class own.own own.source d seen own.there (are_implemented scene.sound lists.class own.source own.there)
+      own.found) in
       let types : g.parameters ≡ (own.function).parameters = ap (λ (x : Signature). x.parameters)
       (sym own.as_declared) in
       let count : length es ≡ length (own.function).parameters

@@ -1,11 +1,12 @@
 -- Where the functions of a module stand, counted class by class.
-use Rattle.std.proofs.Common.{◌≡◌, ◌≤◌, ◌<◌, ℕ, zero, suc, ◌+◌, List, [], ◌∷◌, ◌++◌, take, drop, length, map, get_or}
-use Rattle.std.proofs.Common.{refl, sym, ap, ◌∙◌, subst, arith, Bool, true, false, cond, length-append}
-use Rattle.std.specs.Prelude.{Option, Some, None, slice_get, fold, sum, count_by, nat_le}
+use Rattle.std.proofs.Common.{◌≡◌, ◌≤◌, ◌<◌, ℕ, zero, suc, ◌+◌, List, [], ◌∷◌, ◌++◌, take, length, map, get_or}
+use Rattle.std.proofs.Common.{refl, sym, ap, ◌∙◌, subst, arith, Bool, true, false, cond, length-append, append_assoc}
+use Rattle.std.proofs.Common.{append-nil}
+use Rattle.std.specs.Prelude.{Some, slice_get, fold, sum, count_by, nat_le}
 use Rattle.std.proofs.lemmas.List.{take-map, map-append, take_more, take_all}
 use Rattle.std.proofs.lemmas.List.Sums.{fold_push}
 use Rattle.std.proofs.lemmas.Bool.Decides.{nat_tests}
-use Rattle.ash_typed.specs.Modules.{Class, Interface, class_of, interface_of}
+use Rattle.ash_typed.specs.Modules.{Class, class_of, interface_of}
 use Rattle.ash_typed.specs.declared.tree.items.Class as class_code
 use Rattle.ash_typed.specs.declared.tree.items.Interface as interface_code
 use Rattle.ash_compile.specs.Layout.{count_of_methods, methods_before, interfaces_before, classes_before}
@@ -114,3 +115,20 @@ grown f xs new x i items long is each = (
   subst (λ (ys : List ℕ). (k : ℕ) → k < i + 1 → slice_get ys k ≡ Some (f k)) (sym items)
       (each_pushed f xs x i long is each),
 )
+
+-- numbers of items, one after the other
+
+pub counted_more : {A : Type 0} (f : A → ℕ) (x : A) (here rest : List A) (counts whole : List ℕ) (n : ℕ) (new : List ℕ)
+    → here ≡ x ∷ rest → n ≡ f x → new ≡ counts ++ n ∷ [] → counts ++ map f here ≡ whole
+    → new ++ map f rest ≡ whole
+counted_more f x here rest counts whole n new first is items before =
+    ap (λ (ns : List ℕ). ns ++ map f rest) items
+    ∙ append_assoc counts (n ∷ []) (map f rest)
+    ∙ ap (λ (m : ℕ). counts ++ m ∷ map f rest) is
+    ∙ ap (λ (ys : List _). counts ++ map f ys) (sym first)
+    ∙ before
+
+pub counted_to_end : {A : Type 0} (f : A → ℕ) (rest : List A) (counts whole : List ℕ) → rest ≡ []
+    → counts ++ map f rest ≡ whole → counts ≡ whole
+counted_to_end f rest counts whole none all =
+    sym (append-nil counts) ∙ ap (λ (ys : List _). counts ++ map f ys) (sym none) ∙ all

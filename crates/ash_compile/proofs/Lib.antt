@@ -10,6 +10,11 @@ pub mod Functions
 pub mod Phrases
 pub mod Branches
 pub mod Emission
+pub mod ValidSteps
+pub mod ValidJumps
+pub mod Implemented
+pub mod Counted
+pub mod ValidParts
 pub mod Typed
 pub mod Conversions
 pub mod Emitted

@@ -1,9 +1,9 @@
 -- Lists that stand for each other, place by place, and where what is in one is in a longer one.
 use Rattle.std.proofs.Common.{◌≡◌, ◌<◌, ◌≤◌, ℕ, Bool, true, false, nat_lt, zero, suc, ◌+◌, List, [], ◌∷◌, ◌++◌, take}
-use Rattle.std.proofs.Common.{drop, get_or, length, map, flat_map, option_map, refl, sym, ap, ◌∙◌, subst, arith}
+use Rattle.std.proofs.Common.{drop, get_or, length, map, flat_map, option_map, ◌&&◌, refl, sym, ap, ◌∙◌, subst, arith}
 use Rattle.std.proofs.Common.{length-append, append_assoc, append-nil}
 use Rattle.std.specs.Prelude.{Some, slice_get}
-use Rattle.std.specs.List.{AllZip}
+use Rattle.std.specs.List.{AllZip, list_all}
 use Rattle.std.proofs.lemmas.Option.{same_Some, slice_get-map, slice_get-get_or}
 use Rattle.std.proofs.lemmas.Bool.Decides.{nat_tests}
 use Rattle.std.proofs.lemmas.List.{drop_more, drop_all, map_more}
@@ -137,6 +137,34 @@ pub added : {A B : Type 0} (R : A → B → Type 0) (zs rest whole : List A) (ys
 added R zs rest whole ys new x y are one more is =
     let all = zip_grows R zs rest whole ys x y are one is in
     (all.0, subst (λ (bs : List _). AllZip R all.0 bs) (sym more) all.1, all.2)
+
+both_are : (a b c : Bool) → a && b ≡ true → (b ≡ true → c ≡ true) → a && c ≡ true
+both_are true b c is next = next is
+both_are false b c is next = absurd (cc)
+
+-- what is true of all in a list is true of each
+pub all_there : {A : Type 0} (P : A → Bool) (xs : List A) (k : ℕ) (x : A) → list_all P xs ≡ true
+    → slice_get xs k ≡ Some x → P x ≡ true
+all_there P [] k x all at = absurd (cc)
+all_there P (y ∷ xs) zero x all at = ap P (sym (same_Some y x at)) ∙ one_of (P y) (list_all P xs) all
+  where
+    one_of : (a b : Bool) → a && b ≡ true → a ≡ true
+    one_of true b is = refl
+    one_of false b is = absurd (cc)
+all_there P (y ∷ xs) (suc k) x all at = all_there P xs k x (other_of (P y) (list_all P xs) all) at
+  where
+    other_of : (a b : Bool) → a && b ≡ true → b ≡ true
+    other_of true b is = is
+    other_of false b is = absurd (cc)
+
+-- what is true of all in a list that has grown
+pub all_more : {A : Type 0} (P : A → Bool) (xs ys : List A) (x : A) → ys ≡ xs ++ x ∷ [] → list_all P xs ≡ true
+    → P x ≡ true → list_all P ys ≡ true
+all_more P xs ys x is all one = ap (list_all P) is ∙ from_first xs all
+  where
+    from_first : (zs : List _) → list_all P zs ≡ true → list_all P (zs ++ x ∷ []) ≡ true
+    from_first [] all = ap (λ (t : Bool). t && true) one
+    from_first (z ∷ zs) all = both_are (P z) (list_all P zs) (list_all P (zs ++ x ∷ [])) all (from_first zs)
 
 -- maps of lists that grow
 

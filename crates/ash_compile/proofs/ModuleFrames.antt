@@ -107,7 +107,7 @@ function_at m place f at =
     (get_first (map frame_of_function m.functions) (map frame_of_construction m.classes) place (frame_of_function f)
     (mapped_at frame_of_function m.functions place f at))
 
-construction_at : (m : Module) (class : ℕ) (k : Class) → slice_get m.classes class ≡ Some k
+pub construction_at : (m : Module) (class : ℕ) (k : Class) → slice_get m.classes class ≡ Some k
     → slice_get (frames_of m) (length m.functions + class) ≡ Some (frame_of_construction k)
 construction_at m class k at =
     let functions = map frame_of_function m.functions in
@@ -118,7 +118,7 @@ construction_at m class k at =
     ∙ get_second functions constructions class
     ∙ mapped_at frame_of_construction m.classes class k at)
 
-method_at : (m : Module) (class place : ℕ) (k : Class) (f : Function) → slice_get m.classes class ≡ Some k
+pub method_at : (m : Module) (class place : ℕ) (k : Class) (f : Function) → slice_get m.classes class ≡ Some k
     → slice_get k.methods place ≡ Some f
     → slice_get (frames_of m) (index_of m (Method class place)) ≡ Some (frame_of_method k f)
 method_at m class place k f at here =

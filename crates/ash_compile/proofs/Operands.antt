@@ -1,23 +1,22 @@
 -- Emitted code whose values stay where they are, or go where they are wanted.
-use Rattle.std.proofs.Common.{◌≡◌, ◌≤◌, ◌<◌, ◌^◌, ◌⊎◌, inl, inr, ℕ, ◌+◌, ℤ, pos, List, length, refl, sym, ap, ◌∙◌, subst, arith, true}
-use Rattle.std.specs.Prelude.{Option, Some, None, slice_get, slice_index_or, ◌-ℤ◌, ◌+ℤ◌}
+use Rattle.std.proofs.Common.{◌≡◌, ◌<◌, ◌^◌, ◌⊎◌, inl, inr, ℕ, ◌+◌, ℤ, pos, length, refl, sym, ap, ◌∙◌, subst, arith}
+use Rattle.std.proofs.Common.{true}
+use Rattle.std.specs.Prelude.{Some, slice_get, slice_index_or, ◌-ℤ◌, ◌+ℤ◌}
 use Rattle.std.specs.Int.{w32}
 use Rattle.std.proofs.lemmas.Int.{int_wrap_fits}
 use Rattle.std.proofs.lemmas.Int.{ints as signed}
 use Rattle.ash_host.specs.declared.word.Word.{Word}
 use Rattle.ash_host.specs.declared.word.Word.TheVariants as words
 use Rattle.ash_host.specs.Objects.{handle}
-use Rattle.ash_integers.specs.declared.int_type.IntType.{IntType}
 use Rattle.ash_integers.specs.declared.int_type.IntType.TheVariants as ints
 use Rattle.ash_typed.specs.declared.types.VarType.{VarType}
-use Rattle.ash_typed.specs.declared.types.VarType.TheVariants as vars
 use Rattle.ash_typed.specs.declared.tree.operations.Calculation.{Calculation}
 use Rattle.ash_typed.specs.declared.tree.operations.Calculator.TheVariants as calculators
 use Rattle.ash_typed.specs.declared.tree.operations.Operation.{Operation}
 use Rattle.ash_typed.specs.declared.tree.operations.Operation.TheVariants as operations
 use Rattle.ash_typed.specs.declared.tree.operations.Variable.TheVariants as variables
-use Rattle.ash_typed.specs.TypeOf.{ValueType, value}
-use Rattle.ash_typed.specs.TypedTree.{Expr, Number, Truth, Read, Convert, Operate, Assign, Stored}
+use Rattle.ash_typed.specs.TypeOf.{ValueType}
+use Rattle.ash_typed.specs.TypedTree.{Expr, Number, Convert, Operate, Assign, Stored}
 use Rattle.ash_typed.specs.declared.tree.operations.Conversion.{Conversion}
 use Rattle.ash_compile.proofs.Conversions.{unconverted, integer_in}
 use Rattle.ash_typed.specs.SoundExpressions as typing
@@ -34,10 +33,9 @@ use Rattle.ash_run_steps.specs.Guarded.{onward as guarded_onward}
 use Rattle.ash_run_steps.specs.GuardedSteps.{is_alive}
 use Rattle.ash_code.specs.declared.instruction.Instruction.{Instruction}
 use Rattle.ash_code.specs.declared.instruction.Instruction.TheVariants as i
-use Rattle.ash_code.specs.Controls.{Control, Window, control, word_at as word_in}
+use Rattle.ash_code.specs.Controls.{Control, control, word_at as word_in}
 use Rattle.ash_code.specs.Performing.{Setting, perform, put, of_int}
-use Rattle.ash_compile.specs.declared.builder.CodeBuilder.{CodeBuilder}
-use Rattle.ash_compile.specs.Stretches.{Fits}
+use Rattle.ash_compile.specs.declared.builder.Written.{Written}
 use Rattle.ash_compile.specs.Emission.{code_of, end_of, Keeps, Puts, Scene, IsScene, Suits, Good, Stands, Emits, calls_of}
 use Rattle.ash_compile.specs.Operands.{ComputesIn, EmitsIn, EmitsInto, ReadsLocal, reads_local, IsPlain, truth, integer}
 use Rattle.ash_compile.specs.Operands.{IsSimple, Calculates, Operates, IsAddition}
@@ -51,8 +49,8 @@ use Rattle.ash_compile.proofs.EmittedPlaces.{typed_given}
 use Rattle.ash_compile.proofs.Typed.{evaluates, stays_good, alive_of, local_there, local_value, HasNoHandle}
 use Rattle.ash_compile.proofs.Typed.{no_handle_in_bool, no_handle_in_integer}
 use Rattle.ash_compile.proofs.PlaceSteps.{locals_below}
-use Rattle.ash_compile.proofs.OperandCode.{Receives, in_slot, in_local, given_on, ReceivesIn, computes_in, computes_there}
-use Rattle.ash_compile.proofs.OperandCode.{computes_in_as, own_local, none_into, one_into, two_into}
+use Rattle.ash_compile.proofs.OperandCode.{in_slot, in_local, given_on, ReceivesIn, computes_in, computes_there}
+use Rattle.ash_compile.proofs.OperandCode.{computes_in_as, own_local, one_into, two_into}
 
 -- expressions
 
@@ -79,7 +77,7 @@ ReceivesAt s slot to R = ReceivesIn s.setting (Good s) s.function s.room slot to
 
 -- values where they are
 
-pub emits_in : (old new : CodeBuilder) (e : Expr) (slot : ℕ) → Emits old new e slot → EmitsIn old new e slot slot
+pub emits_in : (old new : Written) (e : Expr) (slot : ℕ) → Emits old new e slot → EmitsIn old new e slot slot
 emits_in old new e slot emits = record {
   keeps = emits.keeps;
   does = λ s of scene typed stands suits.
@@ -87,7 +85,7 @@ emits_in old new e slot emits = record {
       (emits.does s of scene typed stands suits);
 }
 
-pub local_there_in : (old : CodeBuilder) (e : Expr) (n slot : ℕ) → ReadsLocal e n → EmitsIn old old e slot n
+pub local_there_in : (old : Written) (e : Expr) (n slot : ℕ) → ReadsLocal e n → EmitsIn old old e slot n
 local_there_in old _ n slot (reads_local {of = of} plain) = record {
   keeps = keeps_itself old;
   does = λ s t scene typed stands suits.
@@ -118,7 +116,7 @@ pub receives_local : (s : Scene) (slot to : ℕ) (of : VarType) → slice_get (s
     → ReceivesAt s slot to (λ word. give (Local to) >>= store word)
 receives_local s slot to of is = λ w a fits good low. in_local (locals_below w a to fits (local_there s a to of good is))
 
-into_by : (start new : CodeBuilder) (e : Expr) (slot to : ℕ) → Keeps start new
+into_by : (start new : Written) (e : Expr) (slot to : ℕ) → Keeps start new
     → ((s : Scene) → IsScene s → Suits s new → slot < s.room)
     → ((s : Scene) (of : ValueType) (R : Word → Run Word) → IsScene s → IsWellTyped s.env e of
     → Stands s (code_of new) (end_of start) (end_of new) → Suits s new → ReceivesAt s slot to R
@@ -146,7 +144,7 @@ into_by start new e slot to keeps within does = record {
 }
 
 -- one instruction
-into_one : (old new : CodeBuilder) (e : Expr) (slot to : ℕ) (j : Instruction) → Puts old new slot j
+into_one : (old new : Written) (e : Expr) (slot to : ℕ) (j : Instruction) → Puts old new slot j
     → ((s : Scene) (of : ValueType) (R : Word → Run Word) (from : ℕ) → IsScene s → IsWellTyped s.env e of
     → slot < s.room → HasAt s from j → ReceivesAt s slot to R
     → DoesIn s (expression (calls_of s) e >>= R) from (from + 1) slot to)
@@ -160,7 +158,7 @@ into_one old new e slot to j puts does =
     (has_put s old new (end_of old) slot j (omega arith) puts stands) receives))
 
 -- an expression, then an instruction with its value
-into_then : (start old new : CodeBuilder) (e f : Expr) (slot left to : ℕ) (j : Instruction) → EmitsIn start old e slot left
+into_then : (start old new : Written) (e f : Expr) (slot left to : ℕ) (j : Instruction) → EmitsIn start old e slot left
     → Puts old new slot j
     → ((s : Scene) (of : ValueType) → IsWellTyped s.env f of → (inner : ValueType) × IsWellTyped s.env e inner)
     → ((s : Scene) (of : ValueType) (R : Word → Run Word) (from at : ℕ) → IsScene s → IsWellTyped s.env f of
@@ -180,7 +178,7 @@ into_then start old new e f slot left to j first puts inner does =
     (has_put s old new (end_of start) slot j (first.keeps).longer puts stands) receives))
 
 -- two expressions, then an instruction with their values
-into_both : (start mid old new : CodeBuilder) (a b f : Expr) (slot left right to : ℕ) (j : Instruction)
+into_both : (start mid old new : Written) (a b f : Expr) (slot left right to : ℕ) (j : Instruction)
     → EmitsIn start mid a slot left → EmitsIn mid old b (slot + 1) right
     → Puts old new slot j
     → ((s : Scene) (of : ValueType) → IsWellTyped s.env f of → (x : ValueType) × IsWellTyped s.env a x)
@@ -244,7 +242,7 @@ unmoved s b left slot (inr simple) =
     inr (λ x y v ran. done_keeps (expression (calls_of s) b) x y v (simple_keeps (calls_of s) b simple) ran)
 
 -- The left operand is where it was if the right one writes nothing.
-pub operate_into : (start mid old new : CodeBuilder) (o : Operation) (a b : Expr) (slot left right to : ℕ)
+pub operate_into : (start mid old new : Written) (o : Operation) (a b : Expr) (slot left right to : ℕ)
     (j : Instruction)
     → EmitsIn start mid a slot left → EmitsIn mid old b (slot + 1) right → Puts old new slot j
     → Operates j o left right to → (left ≡ slot) ⊎ IsSimple b → EmitsInto start new (Operate o a b) slot to
@@ -300,7 +298,7 @@ pub number_keeps : (s : Scene) (o : Operation) (b : Expr) (number : ℤ) (l v : 
 number_keeps s o _ _ l v x y (operands.addition (operands.adds_to (operands.Adds.adds {n = n}))) ran = operated_keeps o l (word_at ints.Int (pos n)) v x y ran
 number_keeps s o _ _ l v x y (operands.addition (operands.adds_to (operands.Adds.subtracts {n = n}))) ran = operated_keeps o l (word_at ints.Int (pos n)) v x y ran
 
-pub add_into : (start old new : CodeBuilder) (o : Operation) (a b : Expr) (number : ℤ) (slot left to : ℕ)
+pub add_into : (start old new : Written) (o : Operation) (a b : Expr) (number : ℤ) (slot left to : ℕ)
     → EmitsIn start old a slot left → Puts old new slot (i.AddNumber left number to) → IsAddition o b number
     → EmitsInto start new (Operate o a b) slot to
 add_into start old new o a b number slot left to first puts adds =
@@ -327,7 +325,7 @@ unconverted_there s conversion e _ from to slot at scene same (typing.convert {f
     (λ v b ran. integer_in v (((evaluates s e _ a b v scene typed good ran).carried).value)))
     does
 
-pub unconverted_in : (start old : CodeBuilder) (conversion : Conversion) (e : Expr) (slot at : ℕ)
+pub unconverted_in : (start old : Written) (conversion : Conversion) (e : Expr) (slot at : ℕ)
     → conversion.from ≡ conversion.to → EmitsIn start old e slot at → EmitsIn start old (Convert conversion e) slot at
 unconverted_in start old conversion e slot at same first = record {
   keeps = first.keeps;
@@ -336,7 +334,7 @@ unconverted_in start old conversion e slot at same first = record {
       (first.does s (typed_converted typed).0 scene (typed_converted typed).1 stands suits);
 }
 
-pub convert_in : (start old new : CodeBuilder) (conversion : Conversion) (e : Expr) (slot left : ℕ)
+pub convert_in : (start old new : Written) (conversion : Conversion) (e : Expr) (slot left : ℕ)
     → EmitsIn start old e slot left → Puts old new slot (i.Convert conversion.to left slot)
     → EmitsIn start new (Convert conversion e) slot slot
 convert_in start old new conversion e slot left first puts =
@@ -354,7 +352,7 @@ convert_in start old new conversion e slot left first puts =
 
 -- a value that is there already
 
-pub move_into : (start old new : CodeBuilder) (e : Expr) (slot from to : ℕ) → EmitsIn start old e slot from
+pub move_into : (start old new : Written) (e : Expr) (slot from to : ℕ) → EmitsIn start old e slot from
     → Puts old new slot (i.Move from to) → EmitsInto start new e slot to
 move_into start old new e slot from to first puts =
     into_then start old new e e slot from to (i.Move from to) first puts (λ s of typed. (of, typed))

@@ -1,17 +1,17 @@
 -- Calls by an interface ask the tables of code what the meaning asks the module.
-use Rattle.std.proofs.Common.{◌≡◌, ℕ, ◌+◌, ◌<◌, ◌≤◌, List, [], ◌∷◌, map, length, get_or, Bool, true, false, not, cond}
-use Rattle.std.proofs.Common.{refl, sym, ap, ◌∙◌, subst, arith}
-use Rattle.std.specs.Prelude.{Option, Some, None, option_map, slice_get, position, find, nat_eq, nat_lt, if◌then◌else◌}
-use Rattle.std.specs.List.{position_or_len, range_with_len}
-use Rattle.std.specs.Option.{option_map_or, option_and_then}
+use Rattle.std.proofs.Common.{◌≡◌, ℕ, ◌+◌, ◌<◌, List, [], ◌∷◌, map, length, get_or, Bool, true, false, not, cond}
+use Rattle.std.proofs.Common.{refl, sym, ap, ◌∙◌, arith}
+use Rattle.std.specs.Prelude.{Option, Some, None, option_map, slice_get, position, find, nat_eq, nat_lt}
+use Rattle.std.specs.List.{position_or_len}
+use Rattle.std.specs.Option.{option_and_then}
 use Rattle.std.specs.Str.{bytes_eq}
 use Rattle.std.proofs.lemmas.List.{length-map, ext_get_or}
 use Rattle.std.proofs.lemmas.List.FromFn.{get_or-map-range_with_len, length-map-range_with_len}
 use Rattle.std.proofs.lemmas.Option.{slice_get-map, get_or_from_slice_get}
-use Rattle.ash_host.specs.Objects.{Plain, Script, Array, Host, LiveObjects, object_at}
+use Rattle.ash_host.specs.Objects.{Plain, Script, Array, Host, object_at}
 use Rattle.ash_typed.specs.Modules.{Implementation, Class, Module}
 use Rattle.ash_meaning.specs.Activity.{Activity}
-use Rattle.ash_meaning.specs.Classes.{Program, Method, class_of, place_of_class, places_of_classes, implemented}
+use Rattle.ash_meaning.specs.Classes.{Method, class_of, place_of_class, places_of_classes, implemented}
 use Rattle.ash_meaning.specs.Classes.{implementation_in as listed_in}
 use Rattle.ash_soundness.proofs.Parts.{there_from}
 use Rattle.ash_code.specs.declared.code.ClassCode.{ClassCode}
@@ -19,7 +19,8 @@ use Rattle.ash_code.specs.declared.code.ImplementationCode.{ImplementationCode}
 use Rattle.ash_code.specs.Performing.{Setting, classes_of}
 use Rattle.ash_code.specs.Steps.{class_in, implementation_in, method_of}
 use Rattle.ash_compile.specs.Layout.{index_of}
-use Rattle.ash_compile.specs.Callees.{implementation_of, implementation_at, IsClassCode, HasClasses}
+use Rattle.ash_compile.specs.Callees.{implementation_of, implementation_at, HasClasses}
+use Rattle.ash_compile.specs.Callees.{has_implementations}
 
 -- lists that are mapped
 
@@ -89,17 +90,17 @@ module _ (s : Setting) (m : Module) (has : HasClasses s m) where
 
   -- the methods of a class for those of an interface
 
-  pub listed : (interface class : ℕ) (k : Class) → slice_get m.classes class ≡ Some k
+  pub listed : (interface class : ℕ) (k : Class) → slice_get m.classes class ≡ Some k → has_implementations k ≡ true
       → option_map implementation_of (implementation_in (classes_of s) interface class)
       ≡ option_map (implementation_at m class) (listed_in m class interface)
-  listed interface class k at =
+  listed interface class k at named =
       let code = has.each class k at in
       let test : Implementation → Bool = λ i. nat_eq i.interface interface in
       ap (λ (o : Option ClassCode). option_map implementation_of (option_and_then
       (λ (c : ClassCode). find (λ (i : ImplementationCode). nat_eq i.interface interface) (c.interfaces).items) o))
       code.1
       ∙ find_mapped implementation_of test ((code.0).interfaces).items
-      ∙ ap (λ (is : List Implementation). find test is) (code.2).interfaces
+      ∙ ap (λ (is : List Implementation). find test is) ((code.2).interfaces named)
       ∙ sym (find_mapped (implementation_at m class) test k.interfaces)
       ∙ ap (λ (o : Option Class). option_map (implementation_at m class)
       (option_and_then (λ (c : Class). find test c.interfaces) o))
@@ -121,12 +122,13 @@ module _ (s : Setting) (m : Module) (has : HasClasses s m) where
   pub finds_method : (name : List ℕ) (interface method number class own : ℕ) (k : Class) (a : Activity)
       → option_and_then (class_of (record { name = name; tree = m })) (object_at number (a.world).objects) ≡ Some class
       → slice_get m.classes class ≡ Some k
+      → has_implementations k ≡ true
       → implemented m interface method class ≡ Some own
       → method_of name (classes_of s) interface method number a ≡ Some (index_of m (Method class own))
-  finds_method name interface method number class own k a is at has_own =
+  finds_method name interface method number class own k a is at named has_own =
       ap (λ (o : Option ℕ). option_and_then
       (λ (x : ℕ). option_and_then (λ (i : ImplementationCode). slice_get (i.methods).items method)
       (implementation_in (classes_of s) interface x)) o) (class_there name (object_at number (a.world).objects) ∙ is)
       ∙ method_listed method class (implementation_in (classes_of s) interface class) (listed_in m class interface)
-      (listed interface class k at)
+      (listed interface class k at named)
       ∙ ap (λ (o : Option ℕ). option_map (λ (x : ℕ). index_of m (Method class x)) o) has_own

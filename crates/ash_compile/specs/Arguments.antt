@@ -11,7 +11,7 @@ use Rattle.ash_meaning.specs.Ends.{Outcome}
 use Rattle.ash_meaning.specs.ExpressionMeaning.{arguments}
 use Rattle.ash_code.specs.Controls.{Window, control}
 use Rattle.ash_code.specs.Performing.{Setting}
-use Rattle.ash_compile.specs.declared.builder.CodeBuilder.{CodeBuilder}
+use Rattle.ash_compile.specs.declared.builder.Written.{Written}
 use Rattle.ash_compile.specs.Stretches.{continued, Arrives, Fits, with_slots}
 use Rattle.ash_compile.specs.Emission.{code_of, end_of, Keeps, Scene, IsScene, Suits, Good, Stands, calls_of}
 
@@ -40,7 +40,7 @@ DoesArguments s es from to slot =
     ComputesAll s.setting (Good s) s.function s.room (arguments (calls_of s) (exprs es)) from to slot (length es)
 
 -- The code has grown by that of arguments: wherever it stands, it does what they do if they are sound there.
-pub record EmitsArguments (old new : CodeBuilder) (es : List Expr) (slot : ℕ) : Type 0 where
+pub record EmitsArguments (old new : Written) (es : List Expr) (slot : ℕ) : Type 0 where
   pub keeps : Keeps old new
   pub does : (s : Scene) (parameters : List VarType)
       → IsScene s

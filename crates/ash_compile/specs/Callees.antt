@@ -4,7 +4,9 @@
 -- the stack, and a callee has those of its caller from its arguments on. So the first frame of a run gets the greatest
 -- for each of the 256 frames that may be there, and a frame with some callers keeps it for itself and for each frame
 -- that may still be entered. A function takes no more than the greatest from it, and the next frame is one fewer.
-use Rattle.std.specs.Prelude.{◌≡◌, ℕ, ◌+◌, ◌-◌, ◌*◌, ◌≤◌, List, map, length, Option, Some, None, slice_get}
+use Rattle.std.specs.Prelude.{◌≡◌, ℕ, ◌+◌, ◌-◌, ◌*◌, ◌≤◌, Bool, true, nat_lt, List, map, length, Option, Some, None}
+use Rattle.std.specs.Prelude.{slice_get}
+use Rattle.std.specs.List.{list_all}
 use Rattle.ash_host.specs.declared.word.Word.{Word}
 use Rattle.ash_typed.specs.declared.types.VarType.{VarType}
 use Rattle.ash_typed.specs.StatementTree.{Initialization}
@@ -86,12 +88,24 @@ implementation_of i = record { interface = i.interface; methods = (i.methods).it
 abbrev pub implementation_at : Module → ℕ → Implementation → Implementation
 implementation_at m class i = record i { methods = map (λ (own : ℕ). index_of m (Method class own)) i.methods }
 
+-- A class has the methods of these places, and those that it names for interfaces.
+abbrev pub has_own : Class → List ℕ → Bool
+has_own k methods = list_all (λ (own : ℕ). nat_lt own (length k.methods)) methods
+
+abbrev pub has_implementations : Class → Bool
+has_implementations k = list_all (λ (i : Implementation). has_own k i.methods) k.interfaces
+
+-- Each class of a module has the methods that it names.
+abbrev pub AreImplemented : Module → Type 0
+AreImplemented m = (class : ℕ) (k : Class) → slice_get m.classes class ≡ Some k → has_implementations k ≡ true
+
 -- what the code knows of a class
 pub record IsClassCode (m : Module) (class : ℕ) (k : Class) (code : ClassCode) : Type 0 where
   pub place : code.place ≡ place_of_class m class
   pub fields : (code.fields).items ≡ map (λ (v : Initialization). zero_of v.of) k.fields
   pub construction : code.construction ≡ index_of m (Construction class)
-  pub interfaces : map implementation_of (code.interfaces).items ≡ map (implementation_at m class) k.interfaces
+  pub interfaces : has_implementations k ≡ true
+      → map implementation_of (code.interfaces).items ≡ map (implementation_at m class) k.interfaces
 
 -- The code has the classes of the module, each at its place.
 pub record HasClasses (s : Setting) (m : Module) : Type 0 where

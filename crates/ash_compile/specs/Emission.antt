@@ -1,5 +1,5 @@
 -- What code that is emitted for a phrase does, wherever it stands.
-use Rattle.std.specs.Prelude.{◌≡◌, ◌≤◌, ◌<◌, ℕ, ◌+◌, List, [], ◌∷◌, ◌++◌, length, max, Option, Some, true}
+use Rattle.std.specs.Prelude.{◌≡◌, ◌≤◌, ◌<◌, ℕ, ◌+◌, List, [], ◌∷◌, ◌++◌, length, max, true}
 use Rattle.std.specs.Prelude.{slice_get, slice_set}
 use Rattle.ash_typed.specs.declared.types.VarType.{VarType}
 use Rattle.ash_typed.specs.declared.types.VarType.TheVariants as vars
@@ -17,34 +17,34 @@ use Rattle.ash_code.specs.declared.instruction.Instruction.{Instruction}
 use Rattle.ash_code.specs.declared.instruction.Instruction.TheVariants as i
 use Rattle.ash_code.specs.Performing.{Setting, own_name}
 use Rattle.ash_code.specs.Running.{instruction_at}
-use Rattle.ash_compile.specs.declared.builder.CodeBuilder.{CodeBuilder}
+use Rattle.ash_compile.specs.declared.builder.Written.{Written}
 use Rattle.ash_compile.specs.Stretches.{Computes}
 use Rattle.ash_compile.specs.Layout.{IsLayout}
 use Rattle.ash_compile.specs.Callees.{room_for, HasCallees, HasClasses}
 
 -- code that is written
 
-abbrev pub code_of : CodeBuilder → List Instruction
+abbrev pub code_of : Written → List Instruction
 code_of builder = (builder.instructions).items
 
-abbrev pub end_of : CodeBuilder → ℕ
+abbrev pub end_of : Written → ℕ
 end_of builder = length (code_of builder)
 
 -- The code grew, and what was there stays.
-pub record Keeps (old new : CodeBuilder) : Type 0 where
+pub record Keeps (old new : Written) : Type 0 where
   pub longer : end_of old ≤ end_of new
   pub same : (k : ℕ) → k < end_of old → slice_get (code_of new) k ≡ slice_get (code_of old) k
   pub slots : old.slots ≤ new.slots
   pub layout : new.layout ≡ old.layout
 
 -- One instruction more, which names a slot.
-pub record Puts (old new : CodeBuilder) (slot : ℕ) (i : Instruction) : Type 0 where
+pub record Puts (old new : Written) (slot : ℕ) (i : Instruction) : Type 0 where
   pub code : code_of new ≡ code_of old ++ i ∷ []
   pub slots : new.slots ≡ max old.slots (slot + 1)
   pub layout : new.layout ≡ old.layout
 
 -- One instruction is another one now.
-pub record Leads (old new : CodeBuilder) (at : ℕ) (i : Instruction) : Type 0 where
+pub record Leads (old new : Written) (at : ℕ) (i : Instruction) : Type 0 where
   pub code : code_of new ≡ slice_set (code_of old) at i
   pub slots : new.slots ≡ old.slots
   pub layout : new.layout ≡ old.layout
@@ -87,7 +87,7 @@ pub record IsScene (s : Scene) : Type 0 where
   pub roomy : room_for s.greatest (length s.envs) ≤ s.room
 
 -- Code that is written for the module of the scene, and uses no more slots than a function may.
-pub record Suits (s : Scene) (builder : CodeBuilder) : Type 0 where
+pub record Suits (s : Scene) (builder : Written) : Type 0 where
   pub slots : builder.slots ≤ s.greatest
   pub layout : IsLayout ((s.setting).code).module ((s.context).program).tree builder.layout
 
@@ -113,7 +113,7 @@ DoesExpression s e from to slot =
 
 -- The code has grown by that of an expression: wherever it stands, it does what the expression does if that is well
 -- typed there.
-pub record Emits (old new : CodeBuilder) (e : Expr) (slot : ℕ) : Type 0 where
+pub record Emits (old new : Written) (e : Expr) (slot : ℕ) : Type 0 where
   pub keeps : Keeps old new
   pub does : (s : Scene) (of : ValueType)
       → IsScene s

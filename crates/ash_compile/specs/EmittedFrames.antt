@@ -1,7 +1,7 @@
 -- What the code of functions is of, and when it does what their frames do, wherever it stands.
 use Rattle.std.specs.Prelude.{◌≡◌, ◌≤◌, ℕ, suc, Bool, true, false, List, [], ◌++◌, map, flat_map, length, Option, Some}
 use Rattle.std.specs.Prelude.{None, slice_get}
-use Rattle.std.specs.List.{AllZip}
+use Rattle.std.specs.List.{AllZip, list_all}
 use Rattle.ash_host.specs.declared.word.Word.{Word}
 use Rattle.ash_typed.specs.declared.types.VarType.{VarType}
 use Rattle.ash_typed.specs.StatementTree.{Initialization, Body}
@@ -18,12 +18,14 @@ use Rattle.ash_code.specs.declared.code.ClassCode.{ClassCode}
 use Rattle.ash_code.specs.declared.code.CodeParts.{CodeParts}
 use Rattle.ash_code.specs.declared.code.FunctionCode.{FunctionCode}
 use Rattle.ash_code.specs.declared.instruction.Instruction.TheVariants as i
+use Rattle.ash_code.specs.Validity.{is_valid_class}
 use Rattle.ash_code.specs.Running as running
-use Rattle.ash_compile.specs.declared.builder.CodeBuilder.{CodeBuilder}
+use Rattle.ash_compile.specs.declared.builder.Written.{Written}
 use Rattle.ash_compile.specs.declared.layout.Layout.{Layout}
 use Rattle.ash_compile.specs.Performances.{Acts, Enters}
 use Rattle.ash_compile.specs.Layout.{IsLayout}
 use Rattle.ash_compile.specs.Callees.{Entering, IsClassCode}
+use Rattle.ash_compile.specs.ValidCode.{counts_of, IsValidCode}
 use Rattle.ash_compile.specs.Emission.{code_of, Scene, IsScene, calls_of, Good}
 
 -- What the code of a function is of: its entry, how many parameters it has, and whether it constructs an object.
@@ -89,6 +91,7 @@ pub record IsFrameCode (layout : Layout) (x : FrameSource) (f : FunctionCode) : 
   pub line : f.line ≡ (x.entry).line
   pub parameters : f.parameters ≡ x.parameters
   pub begins : slice_get (f.instructions).items 0 ≡ Some (i.Tick (x.entry).line)
+  pub valid : IsValidCode layout f
   pub enters : (s : Scene) (result : Option VarType)
       → IsScene s
       → IsSoundEntry s.context s.env result x.entry
@@ -113,14 +116,17 @@ IsCodeOfAny layout line parameters fields statements constructs f =
     → IsFrameCode layout x f
 
 -- What was written is the code of a function.
-pub record IsFinished (written : CodeBuilder) (entry count : ℕ) (f : FunctionCode) : Type 0 where
+pub record IsFinished (written : Written) (entry count : ℕ) (f : FunctionCode) : Type 0 where
   pub line : f.line ≡ entry
   pub parameters : f.parameters ≡ count
-  pub slots : f.slots ≡ written.slots
+  pub slots : written.slots ≤ f.slots
   pub instructions : (f.instructions).items ≡ code_of written
 
 -- The code is that of the initializers of a module, up to its last instruction, which ends the run.
 pub record IsInitCode (layout : Layout) (m : Module) (f : FunctionCode) : Type 0 where
+  pub line : f.line ≡ 1
+  pub parameters : f.parameters ≡ 0
+  pub valid : IsValidCode layout f
   pub end : ℕ
   pub ends : slice_get (f.instructions).items end ≡ Some i.ReturnNothing
   pub acts : (s : Scene)
@@ -138,3 +144,4 @@ pub record IsCompiled (places : Layout) (m : Module) (parts : CodeParts) : Type 
   pub functions : AllZip (IsFrameCode places) (frames_of m) (parts.functions).items
   pub init : IsInitCode places m parts.init
   pub classes : AreClassCodes m (parts.classes).items
+  pub methods : list_all (is_valid_class (length (counts_of places))) (parts.classes).items ≡ true

@@ -11,16 +11,16 @@ use Rattle.ash_typed.specs.SoundModules.{AreSoundVariables}
 use Rattle.ash_meaning.specs.Runs.{Run}
 use Rattle.ash_meaning.specs.Functions.{initialize_field, initialize_fields, initialize_global, initialize_globals}
 use Rattle.ash_meaning.specs.Functions.{initialize_module}
-use Rattle.ash_compile.specs.declared.builder.CodeBuilder.{CodeBuilder}
+use Rattle.ash_compile.specs.declared.builder.Written.{Written}
 use Rattle.ash_compile.specs.Performances.{Acts}
 use Rattle.ash_compile.specs.Emission.{code_of, end_of, Keeps, Scene, IsScene, Suits, calls_of, Good, Stands}
 
 -- In a scene the code has this stretch.
-abbrev pub IsWritten : Scene → CodeBuilder → CodeBuilder → Type 0
+abbrev pub IsWritten : Scene → Written → Written → Type 0
 IsWritten s old new = Stands s (code_of new) (end_of old) (end_of new) × Suits s new
 
 -- From the end of one code to that of another a phrase is done that leaves the locals, so many of them.
-abbrev pub ActsFrom : Scene → CodeBuilder → CodeBuilder → ℕ → Run (Unit {0}) → Type 0
+abbrev pub ActsFrom : Scene → Written → Written → ℕ → Run (Unit {0}) → Type 0
 ActsFrom s old new count run =
     Acts s.setting (Good s) s.function s.room run (end_of old) (end_of new) count count
 
@@ -34,7 +34,7 @@ pub record Constructs (s : Scene) (class : ℕ) (source : Class) (count : ℕ) :
   pub locals : length (s.env).locals ≡ count
 
 -- The code has grown by that of a field, which is at this place of its class.
-pub record EmitsField (old new : CodeBuilder) (place : ℕ) (v : Initialization) (count : ℕ) : Type 0 where
+pub record EmitsField (old new : Written) (place : ℕ) (v : Initialization) (count : ℕ) : Type 0 where
   pub keeps : Keeps old new
   pub does : (s : Scene) (class : ℕ) (source : Class)
       → Constructs s class source count
@@ -43,7 +43,7 @@ pub record EmitsField (old new : CodeBuilder) (place : ℕ) (v : Initialization)
       → ActsFrom s old new count (initialize_field (calls_of s) place v)
 
 -- The code has grown by that of the fields of a class from this place on.
-pub record EmitsFields (old new : CodeBuilder) (place : ℕ) (vs : List Initialization) (count : ℕ) : Type 0 where
+pub record EmitsFields (old new : Written) (place : ℕ) (vs : List Initialization) (count : ℕ) : Type 0 where
   pub keeps : Keeps old new
   pub none : vs ≡ [] → new ≡ old
   pub does : (s : Scene) (class : ℕ) (source : Class)
@@ -66,7 +66,7 @@ pub record Initializes (s : Scene) : Type 0 where
   pub locals : length (s.env).locals ≡ 0
 
 -- The code has grown by that of a global.
-pub record EmitsGlobal (old new : CodeBuilder) (place : ℕ) (v : Initialization) : Type 0 where
+pub record EmitsGlobal (old new : Written) (place : ℕ) (v : Initialization) : Type 0 where
   pub keeps : Keeps old new
   pub does : (s : Scene)
       → Initializes s
@@ -76,7 +76,7 @@ pub record EmitsGlobal (old new : CodeBuilder) (place : ℕ) (v : Initialization
       → ActsFrom s old new 0 (initialize_global (calls_of s) place v)
 
 -- The code has grown by that of globals from this place on.
-pub record EmitsGlobals (old new : CodeBuilder) (place : ℕ) (vs : List Initialization) : Type 0 where
+pub record EmitsGlobals (old new : Written) (place : ℕ) (vs : List Initialization) : Type 0 where
   pub keeps : Keeps old new
   pub does : (s : Scene) (more : List VarType)
       → Initializes s
@@ -86,7 +86,7 @@ pub record EmitsGlobals (old new : CodeBuilder) (place : ℕ) (vs : List Initial
       → ActsFrom s old new 0 (initialize_globals (calls_of s) place vs)
 
 -- The code has grown by that of variables that are declared, from this place on, each with its tick.
-pub record EmitsDeclarations (old new : CodeBuilder) (place : ℕ) (ds : List Variables) : Type 0 where
+pub record EmitsDeclarations (old new : Written) (place : ℕ) (ds : List Variables) : Type 0 where
   pub keeps : Keeps old new
   pub does : (s : Scene)
       → Initializes s

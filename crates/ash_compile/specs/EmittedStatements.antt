@@ -23,7 +23,7 @@ use Rattle.ash_meaning.specs.StatementMeaning.{Flow, Continued, statement, state
 use Rattle.ash_code.specs.declared.instruction.Instruction.{Instruction}
 use Rattle.ash_code.specs.declared.instruction.Instruction.TheVariants as i
 use Rattle.ash_code.specs.Running.{instruction_at}
-use Rattle.ash_compile.specs.declared.builder.CodeBuilder.{CodeBuilder}
+use Rattle.ash_compile.specs.declared.builder.Written.{Written}
 use Rattle.ash_compile.specs.declared.bodies.Scope.{Scope}
 use Rattle.ash_compile.specs.declared.bodies.Branch.{Branch}
 use Rattle.ash_compile.specs.declared.bodies.Condition.{Condition}
@@ -47,7 +47,7 @@ abbrev pub AreBelow : ℕ → List ℕ → Type 0
 AreBelow end places = (k : ℕ) → end ≤ k → waits places k ≡ false
 
 -- Jumps at these places lead to one now.
-pub record LeadsAll (old new : CodeBuilder) (places : List ℕ) (to : ℕ) : Type 0 where
+pub record LeadsAll (old new : Written) (places : List ℕ) (to : ℕ) : Type 0 where
   pub code : (k : ℕ)
       → slice_get (code_of new) k ≡ (if waits places k then Some (i.Jump to) else slice_get (code_of old) k)
   pub long : end_of new ≡ end_of old
@@ -56,15 +56,15 @@ pub record LeadsAll (old new : CodeBuilder) (places : List ℕ) (to : ℕ) : Typ
 
 -- code of statements, with the places of its jumps of `break` and of `continue` that wait
 pub record Draft : Type 0 where
-  pub code : CodeBuilder
+  pub code : Written
   pub breaks : List ℕ
   pub continues : List ℕ
 
-abbrev pub draft : CodeBuilder → Jumps → Draft
+abbrev pub draft : Written → Jumps → Draft
 draft code jumps = record { code = code; breaks = (jumps.breaks).items; continues = (jumps.continues).items }
 
 -- code with these jumps that wait
-abbrev pub with_jumps : CodeBuilder → List ℕ → List ℕ → Draft
+abbrev pub with_jumps : Written → List ℕ → List ℕ → Draft
 with_jumps code breaks continues = record { code = code; breaks = breaks; continues = continues }
 
 abbrev pub end_in : Draft → ℕ
@@ -174,7 +174,7 @@ EmitsListed old new x scope locals =
     → EmitsStatements old end (stmt x xs) scope
 
 -- The code has grown by that of the statements of a function.
-pub record EmitsBody (old new : CodeBuilder) (xs : Stmts) (locals : ℕ) (constructs : Bool) : Type 0 where
+pub record EmitsBody (old new : Written) (xs : Stmts) (locals : ℕ) (constructs : Bool) : Type 0 where
   pub keeps : Keeps old new
   pub does : (s : Scene) (result : Option VarType) (gives : Option Word → Word → Option Word)
       → IsScene s
@@ -189,12 +189,13 @@ pub record EmitsBody (old new : CodeBuilder) (xs : Stmts) (locals : ℕ) (constr
 -- jumps
 
 -- The code has grown by a tick, the end of blocks and a jump, whose target is not known yet.
-pub record LeavesBlocks (old new : CodeBuilder) (line count slot jump : ℕ) : Type 0 where
-  pub ticked : CodeBuilder
-  pub left : CodeBuilder
+pub record LeavesBlocks (old new : Written) (line count slot jump : ℕ) : Type 0 where
+  pub ticked : Written
+  pub left : Written
+  pub pending : ℕ
   pub ticks : Puts old ticked slot (i.Tick line)
   pub leaves : Puts ticked left slot (i.LeaveBlocks count)
-  pub jumps : Puts left new slot (i.Jump 0)
+  pub jumps : Puts left new slot (i.Jump pending)
   pub place : jump ≡ end_of left
 
 -- how a function is left without a value
@@ -204,19 +205,19 @@ frame_end constructs = if constructs then i.ReturnThis else i.ReturnNothing
 -- full expressions of statements
 
 -- The code has grown by that of an expression whose value is not used, and the end of its full expression.
-pub record EmitsEvaluation (old new : CodeBuilder) (e : Expr) (slot : ℕ) : Type 0 where
-  pub mid : CodeBuilder
+pub record EmitsEvaluation (old new : Written) (e : Expr) (slot : ℕ) : Type 0 where
+  pub mid : Written
   pub emits : EmitsEffect old mid e slot
   pub puts : Puts mid new slot i.EndExpression
 
 -- The code has grown by that of an expression, whose value it has in a slot, and the end of its full expression.
-pub record EmitsFull (old new : CodeBuilder) (e : Expr) (slot : ℕ) : Type 0 where
-  pub mid : CodeBuilder
+pub record EmitsFull (old new : Written) (e : Expr) (slot : ℕ) : Type 0 where
+  pub mid : Written
   pub emits : Emits old mid e slot
   pub puts : Puts mid new slot i.EndExpression
 
 -- The code has grown by that of full expressions.
-pub record EmitsEvaluations (old new : CodeBuilder) (es : List Expr) (slot : ℕ) : Type 0 where
+pub record EmitsEvaluations (old new : Written) (es : List Expr) (slot : ℕ) : Type 0 where
   pub keeps : Keeps old new
   pub does : (s : Scene)
       → IsScene s
@@ -233,7 +234,7 @@ branch_on (conditions.Comparison comparison left right) to = i.BranchUnless comp
 
 -- The code has grown by that of a condition and a branch, whose target is not known yet: wherever it stands, it decides
 -- as the condition does if its branch leads somewhere.
-pub record Tests (old new : CodeBuilder) (e : Expr) (slot : ℕ) (branch : Branch) : Type 0 where
+pub record Tests (old new : Written) (e : Expr) (slot : ℕ) (branch : Branch) : Type 0 where
   pub keeps : Keeps old new
   pub later : end_of old ≤ branch.at
   pub end : end_of new ≡ branch.at + 1
@@ -248,19 +249,19 @@ pub record Tests (old new : CodeBuilder) (e : Expr) (slot : ℕ) (branch : Branc
       (length (s.env).locals)
 
 -- The same of a condition that may be absent.
-abbrev pub MayTest : CodeBuilder → CodeBuilder → Option Expr → ℕ → Option Branch → Type 0
+abbrev pub MayTest : Written → Written → Option Expr → ℕ → Option Branch → Type 0
 MayTest old new None slot branch = (new ≡ old) × (branch ≡ None)
 MayTest old new (Some e) slot branch = (there : Branch) × (branch ≡ Some there) × Tests old new e slot there
 
 -- The branch of a condition that may be absent leads to a place.
-abbrev pub MayLead : CodeBuilder → CodeBuilder → Option Branch → ℕ → Type 0
+abbrev pub MayLead : Written → Written → Option Branch → ℕ → Type 0
 MayLead old new None to = new ≡ old
 MayLead old new (Some branch) to = Leads old new branch.at (branch_on branch.condition to)
 
 -- variables
 
 -- The code has grown by that of variables, after which there are so many locals.
-pub record EmitsVariables (old new : CodeBuilder) (vs : List Initialization) (locals more : ℕ) : Type 0 where
+pub record EmitsVariables (old new : Written) (vs : List Initialization) (locals more : ℕ) : Type 0 where
   pub keeps : Keeps old new
   pub does : (s : Scene) (types : List VarType)
       → IsScene s
@@ -272,13 +273,13 @@ pub record EmitsVariables (old new : CodeBuilder) (vs : List Initialization) (lo
       × DoesActs s (declare_all (calls_of s) vs) (end_of old) (end_of new) more
 
 -- With the code of the variables after it, that of a variable is the code of a list.
-abbrev pub EmitsVariable : CodeBuilder → CodeBuilder → Initialization → ℕ → Type 0
+abbrev pub EmitsVariable : Written → Written → Initialization → ℕ → Type 0
 EmitsVariable old new v locals =
-    (end : CodeBuilder) (vs : List Initialization) (more : ℕ) → EmitsVariables new end vs (locals + 1) more
+    (end : Written) (vs : List Initialization) (more : ℕ) → EmitsVariables new end vs (locals + 1) more
     → EmitsVariables old end (v ∷ vs) locals more
 
 -- The code has grown by that of the head of a `for`.
-pub record EmitsHead (old new : CodeBuilder) (head : Head) (locals more : ℕ) : Type 0 where
+pub record EmitsHead (old new : Written) (head : Head) (locals more : ℕ) : Type 0 where
   pub keeps : Keeps old new
   pub does : (s : Scene) (types : List VarType)
       → IsScene s
@@ -305,7 +306,7 @@ pub data NextTurn : Option Expr → ℕ → ℕ → ℕ → Instruction → Type
       → NextTurn (Some e) line head inside (i.LoopWhile line comparison left right inside)
 
 -- A release point was put behind the code, where jumps at these places lead. Code that comes there goes on behind it.
-pub record Landing (old new : CodeBuilder) (places : List ℕ) : Type 0 where
+pub record Landing (old new : Written) (places : List ℕ) : Type 0 where
   pub code : (k : ℕ) → k < end_of old
       → slice_get (code_of new) k ≡ (if waits places k then Some (i.Jump (end_of old + 1)) else slice_get (code_of old) k)
   pub past : slice_get (code_of new) (end_of old) ≡ Some (i.Jump (end_of new))
@@ -330,7 +331,7 @@ abbrev pub HaveNoContinue : Stmts → Type 0
 HaveNoContinue xs = (scope : TypedScope) → AreSoundStmts scope xs → AreSoundStmts (without_continue scope) xs
 
 -- Jumps of `continue` lead to a release point that was put behind the code of a body, or there are none.
-pub data EndsBody (old new : CodeBuilder) (places : List ℕ) (x : Stmt) : Type 0 where
+pub data EndsBody (old new : Written) (places : List ℕ) (x : Stmt) : Type 0 where
   lands : Landing old new places → EndsBody old new places x
   none : {to : ℕ} → LeadsAll old new places to → HasNoContinue x → EndsBody old new places x
 

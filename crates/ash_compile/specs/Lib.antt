@@ -3,6 +3,7 @@ pub mod Performances
 pub mod Layout
 pub mod Callees
 pub mod Emission
+pub mod ValidCode
 pub mod EmittedFrames
 pub mod EmittedParts
 pub mod EmittedStatements

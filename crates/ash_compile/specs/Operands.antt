@@ -1,5 +1,5 @@
 -- Values that stay where they are or go where they are wanted: in the slot of their expression, or in that of a local.
-use Rattle.std.specs.Prelude.{◌≡◌, ◌≤◌, ◌<◌, ◌⊎◌, ℕ, ◌+◌, List, Bool, length, take, slice_index_or, Option, ℤ, pos, ◌-ℤ◌}
+use Rattle.std.specs.Prelude.{◌≡◌, ◌≤◌, ◌<◌, ◌⊎◌, ℕ, List, Bool, length, take, slice_index_or, Option, ℤ, pos, ◌-ℤ◌}
 use Rattle.ash_host.specs.declared.word.Word.{Word}
 use Rattle.ash_host.specs.declared.word.Word.TheVariants.{Null}
 use Rattle.ash_integers.specs.declared.comparison.Comparison.{Comparison}
@@ -29,7 +29,7 @@ use Rattle.ash_code.specs.declared.instruction.Instruction.{Instruction}
 use Rattle.ash_code.specs.declared.instruction.Instruction.TheVariants as i
 use Rattle.ash_code.specs.Controls.{Window, control}
 use Rattle.ash_code.specs.Performing.{Setting, of_int}
-use Rattle.ash_compile.specs.declared.builder.CodeBuilder.{CodeBuilder}
+use Rattle.ash_compile.specs.declared.builder.Written.{Written}
 use Rattle.ash_compile.specs.Stretches.{continued, Arrives, with_slots, Fits}
 use Rattle.ash_compile.specs.Emission.{code_of, end_of, Keeps, Scene, IsScene, Suits, calls_of, Good, Stands, Emits}
 use Rattle.ash_compile.specs.Places.{HoldsBelow}
@@ -138,7 +138,7 @@ module _ (s : Setting) (Good : Activity → Type 0) (function room : ℕ) where
 -- emitted code
 
 -- What is said of code that has grown, wherever it stands, for an expression that is well typed there.
-abbrev pub Wherever : CodeBuilder → CodeBuilder → Expr → (Scene → Type 0) → Type 0
+abbrev pub Wherever : Written → Written → Expr → (Scene → Type 0) → Type 0
 Wherever old new e Does =
     (s : Scene) (of : ValueType)
     → IsScene s
@@ -148,19 +148,19 @@ Wherever old new e Does =
     → Does s
 
 -- The code has grown by that of an expression, whose value it has in a slot.
-pub record EmitsIn (old new : CodeBuilder) (e : Expr) (slot at : ℕ) : Type 0 where
+pub record EmitsIn (old new : Written) (e : Expr) (slot at : ℕ) : Type 0 where
   pub keeps : Keeps old new
   pub does : Wherever old new e
       (λ s. ComputesIn s.setting (Good s) s.function s.room (expression (calls_of s) e) (end_of old) (end_of new) slot at)
 
 -- The code has grown by that of an expression, whose value is not used.
-pub record EmitsEffect (old new : CodeBuilder) (e : Expr) (slot : ℕ) : Type 0 where
+pub record EmitsEffect (old new : Written) (e : Expr) (slot : ℕ) : Type 0 where
   pub keeps : Keeps old new
   pub does : Wherever old new e
       (λ s. Affects s.setting (Good s) s.function s.room (expression (calls_of s) e) (end_of old) (end_of new) slot)
 
 -- The code has grown by that of an expression, whose value goes to a slot: its own, or that of a local, which is
 -- assigned.
-pub record EmitsInto (old new : CodeBuilder) (e : Expr) (slot to : ℕ) : Type 0 where
+pub record EmitsInto (old new : Written) (e : Expr) (slot to : ℕ) : Type 0 where
   pub in_slot : to ≡ slot → Emits old new e slot
   pub in_local : (of : VarType) → EmitsIn old new (Assign (Stored (variables.Local to of)) e) slot to

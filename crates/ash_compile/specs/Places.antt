@@ -27,7 +27,7 @@ use Rattle.ash_soundness.specs.WellFormedLaws.{Goes, IsCarried}
 use Rattle.ash_code.specs.declared.instruction.Instruction.{Instruction}
 use Rattle.ash_code.specs.declared.instruction.Instruction.TheVariants as i
 use Rattle.ash_code.specs.Controls.{Window, control}
-use Rattle.ash_compile.specs.declared.builder.CodeBuilder.{CodeBuilder}
+use Rattle.ash_compile.specs.declared.builder.Written.{Written}
 use Rattle.ash_compile.specs.declared.places.Spot.{Spot}
 use Rattle.ash_compile.specs.declared.places.Spot.TheVariants as spots
 use Rattle.ash_compile.specs.Stretches.{continued, Arrives, with_slots, Fits}
@@ -132,7 +132,7 @@ pub record DoesPlace (s : Scene) (place : Place) (of : VarType) (spot : Spot) (f
       → Arrives s.setting (control s.function from w) a (continued (location (calls_of s) place a) rest)
 
 -- The code has grown by that of a place: wherever it stands, it does what the place does if that has a type there.
-pub record EmitsPlace (old new : CodeBuilder) (place : Place) (spot : Spot) (slot : ℕ) : Type 0 where
+pub record EmitsPlace (old new : Written) (place : Place) (spot : Spot) (slot : ℕ) : Type 0 where
   pub keeps : Keeps old new
   pub does : (s : Scene) (of : VarType)
       → IsScene s

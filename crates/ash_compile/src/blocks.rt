@@ -8,7 +8,7 @@ ghost use Rattle.ash_meaning.specs.OperatorMeaning.{zero_of};
 ghost use Rattle.ash_code.specs.declared.instruction.Instruction.TheVariants as i;
 ghost use Rattle.ash_compile.specs.Emission.{Puts, Emits};
 ghost use Rattle.ash_compile.specs.Operands.{Compares};
-ghost use Rattle.ash_compile.specs.declared.builder.CodeBuilder.{CodeBuilder as Written};
+ghost use Rattle.ash_compile.specs.declared.builder.Written.{Written};
 ghost use Rattle.ash_compile.specs.EmittedStatements.{EmitsVariable, EmitsVariables, EmitsHead, EmitsEvaluation, EmitsFull};
 ghost use Rattle.ash_compile.specs.EmittedStatements.{EmitsEvaluations, Tests};
 
@@ -141,7 +141,8 @@ impl CodeBuilder {
             right,
         };
         let at = self.here();
-        self.put(slot, branch_to(condition, 0))?;
+        let past = self.behind();
+        self.put(slot, branch_to(condition, past))?;
         Ok(Branch { at, condition })
     }
 
@@ -152,7 +153,8 @@ impl CodeBuilder {
     {
         let condition = Condition::Truth { slot };
         let at = self.here();
-        self.put(slot, branch_to(condition, 0))?;
+        let past = self.behind();
+        self.put(slot, branch_to(condition, past))?;
         Ok(Branch { at, condition })
     }
 

@@ -5,7 +5,7 @@
 //! and jumps to a release point, where those blocks end. That place is not known yet when the jump is appended: the
 //! statement that it leads out of writes the jump again.
 
-ghost use Rattle.std.specs.Prelude.{◌≡◌, ℕ, List, IfOk, map, option_map};
+ghost use Rattle.std.specs.Prelude.{◌≡◌, ◌≤◌, ℕ, List, IfOk, map, option_map};
 ghost use Rattle.ash_typed.specs.TypedTreeViews.{expr_of};
 ghost use Rattle.ash_typed.specs.BodyViews.{stmt_of, body_of, value_of};
 ghost use Rattle.ash_typed.specs.StatementTree.{Declare, Evaluate, Block, If, no_branch, branch, Break, Continue, Return};
@@ -304,7 +304,8 @@ impl CodeBuilder {
         let test = self.condition(condition, scope.locals)?;
         self.statement(then, scope, jumps)?;
         let back = self.here();
-        self.put(scope.locals, Instruction::Jump { to: 0 })?;
+        let past = self.behind();
+        self.put(scope.locals, Instruction::Jump { to: past })?;
         let other = self.here();
         self.statement(otherwise, scope, jumps)?;
         let end = self.here();
@@ -315,7 +316,8 @@ impl CodeBuilder {
 
     /// Writes jumps again, once their target is known.
     pub(crate) fn lead_all(&mut self, places: &[usize], to: usize)
-        requires there { AreBelow (end_of self.old) places.now }
+        requires before { AreBelow to places.now }
+        requires within { to ≤ end_of self.old }
         ensures leads { LeadsAll self.old self.new places.now to }
     {
         for at in places {
@@ -355,7 +357,8 @@ impl CodeBuilder {
         self.tick(line, slot)?;
         self.put(slot, Instruction::LeaveBlocks { count })?;
         let jump = self.here();
-        self.put(slot, Instruction::Jump { to: 0 })?;
+        let past = self.behind();
+        self.put(slot, Instruction::Jump { to: past })?;
         Ok(jump)
     }
 

@@ -1,13 +1,16 @@
 //! The code of calls, once their arguments are in slots.
 
-ghost use Rattle.std.specs.Prelude.{◌≡◌, ◌+◌, List, length, IfOk};
+ghost use Rattle.std.specs.Prelude.{◌≡◌, ◌+◌, List, length, IfOk, Option, None, true};
 ghost use Rattle.ash_typed.specs.declared.types.VarType.{VarType as VarTypeData};
 ghost use Rattle.ash_typed.specs.TypedTree.{Expr as ExprData, Call, Invoke, exprs};
-ghost use Rattle.ash_compile.specs.Emission.{Puts, Emits};
+ghost use Rattle.ash_code.specs.Validity.{target};
+ghost use Rattle.ash_compile.specs.Emission.{end_of, Keeps, Puts, Emits};
+ghost use Rattle.ash_compile.specs.ValidCode.{MayStand, has_callee};
 ghost use Rattle.ash_compile.specs.Arguments.{EmitsArguments};
-ghost use Rattle.ash_compile.specs.declared.builder.CodeBuilder.{CodeBuilder as Written};
+ghost use Rattle.ash_compile.specs.declared.builder.Written.{Written};
 
 use crate::builder::CodeBuilder;
+use crate::named_slots::has_callee;
 use ash_code::instruction::Instruction;
 use ash_typed::{ArrayMethod, CallTarget, Element, Method, VarType};
 use std::alloc::AllocError;
@@ -25,9 +28,9 @@ impl CodeBuilder {
             → Emits start self.new (Call target parameters (exprs es)) slot) }
     {
         match target {
-            CallTarget::Function { function, .. } => self.put(
-                slot,
+            CallTarget::Function { function, .. } => self.enter(
                 Instruction::Call { function, at: slot },
+                slot,
             ),
             CallTarget::Service {
                 service,
@@ -43,7 +46,10 @@ impl CodeBuilder {
                     count,
                 },
             ),
-            CallTarget::Class(class) => self.put(slot, Instruction::Construct { class, at: slot }),
+            CallTarget::Class(class) => self.enter(
+                Instruction::Construct { class, at: slot },
+                slot,
+            ),
             CallTarget::Host(kind) => self.put(
                 slot,
                 Instruction::ConstructHost {
@@ -56,13 +62,27 @@ impl CodeBuilder {
         }
     }
 
+    /// Enters a function that leaves its value in a slot. One that is not there is not entered: no sound module calls
+    /// it.
+    fn enter(&mut self, call: Instruction, slot: usize) -> Result<(), AllocError>
+        requires leads { target call ≡ None }
+        ensures keeps { IfOk result (λ u. Keeps self.old self.new) }
+        ensures puts { IfOk result (λ u. has_callee self.old.layout call ≡ true → Puts self.old self.new slot call) }
+    {
+        if has_callee(self.layout(), call) {
+            self.put(slot, call)
+        } else {
+            Ok(())
+        }
+    }
+
     /// Constructs an array, whose one argument is its length.
     fn construct_array(&mut self, of: Element, slot: usize, count: usize) -> Result<(), AllocError>
         ensures emits { IfOk result (λ u. (start : Written) (parameters : List VarTypeData) (es : List ExprData)
             → EmitsArguments start self.old es slot → length es ≡ count
             → Emits start self.new (Call (CallTarget.Array of) parameters (exprs es)) slot) }
     {
-        let element = self.layout.element(of)?;
+        let element = self.layout().element(of);
         if count == 0 {
             self.put(slot, Instruction::ConstructArray { element, to: slot })
         } else {
@@ -92,15 +112,7 @@ impl CodeBuilder {
             → length es ≡ count → Emits start self.new (Invoke e method parameters (exprs es)) slot) }
     {
         match method {
-            Method::Script { class, method, .. } => {
-                let function = self.layout.method(class, method)?;
-                let call = Instruction::CallMethod {
-                    function,
-                    object: slot,
-                    at: first,
-                };
-                self.put_and_move(call, first, slot)
-            }
+            Method::Script { class, method, .. } => self.class_method(class, method, slot, first),
             Method::Interface {
                 interface,
                 method,
@@ -128,6 +140,33 @@ impl CodeBuilder {
         }
     }
 
+    /// Calls a method of a class. One that is not there is not called: no sound module calls it.
+    fn class_method(
+        &mut self,
+        class: usize,
+        method: usize,
+        slot: usize,
+        first: usize,
+    ) -> Result<(), AllocError>
+        requires next { first ≡ slot + 1 }
+        ensures emits { IfOk result (λ u. (start mid : Written) (gives : Option VarTypeData) (e : ExprData)
+            (parameters : List VarTypeData) (es : List ExprData) → Emits start mid e slot
+            → EmitsArguments mid self.old es (slot + 1)
+            → Emits start self.new (Invoke e (Method.Script class method gives) parameters (exprs es)) slot) }
+    {
+        match self.layout().method(class, method) {
+            Some(function) => {
+                let call = Instruction::CallMethod {
+                    function,
+                    object: slot,
+                    at: first,
+                };
+                self.put_and_move(call, first, slot)
+            }
+            None => Ok(()),
+        }
+    }
+
     /// Appends an instruction that leaves its value in a slot, and moves that to another one.
     fn put_and_move(
         &mut self,
@@ -135,6 +174,7 @@ impl CodeBuilder {
         from: usize,
         to: usize,
     ) -> Result<(), AllocError>
+        requires stands { MayStand self.old.layout (end_of self.old + 1) (end_of self.old) instruction }
         ensures puts { IfOk result (λ u. (mid : Written) × Puts self.old mid from instruction
             × Puts mid self.new to (Instruction.Move from to)) }
     {

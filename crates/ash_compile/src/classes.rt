@@ -1,13 +1,18 @@
 //! What the code of a module knows of its classes.
 
-ghost use Rattle.std.specs.Prelude.{◌≡◌, ◌<◌, ℕ, IfOk, map, length, slice_get, Some};
+ghost use Rattle.std.specs.Prelude.{◌≡◌, ◌<◌, ℕ, IfOk, map, length, nat_lt, slice_get, Some, true};
+ghost use Rattle.std.specs.List.{list_all};
 ghost use Rattle.ash_typed.specs.BodyViews.{value_of};
-ghost use Rattle.ash_typed.specs.Modules.{Module as ModuleData, class_of, implementation_of as implementation_seen};
+ghost use Rattle.ash_typed.specs.Modules.{Module as ModuleData, Class as ClassData, class_of};
+ghost use Rattle.ash_typed.specs.Modules.{Implementation as ImplementationData};
+ghost use Rattle.ash_typed.specs.Modules.{implementation_of as implementation_seen};
 ghost use Rattle.ash_typed.specs.Modules.{module_of};
 ghost use Rattle.ash_meaning.specs.Classes.{Method};
 ghost use Rattle.ash_meaning.specs.OperatorMeaning.{zero_of};
+ghost use Rattle.ash_code.specs.Validity.{has_functions, is_valid_class};
 ghost use Rattle.ash_compile.specs.Layout.{IsLayout, index_of};
-ghost use Rattle.ash_compile.specs.Callees.{implementation_of, implementation_at, IsClassCode};
+ghost use Rattle.ash_compile.specs.ValidCode.{counts_of};
+ghost use Rattle.ash_compile.specs.Callees.{implementation_of, implementation_at, has_own, IsClassCode};
 ghost use Rattle.ash_compile.specs.EmittedFrames.{AreClassCodes};
 
 use crate::initializers::behind;
@@ -47,12 +52,16 @@ fn method_codes(
     class: usize,
     methods: &[usize],
 ) -> Result<Vec<usize>, AllocError>
-    ensures methods { IfOk result (λ codes. (slot : ℕ) (m : ModuleData) → IsLayout slot m layout.now
-        → class < length m.classes → codes.items ≡ map (λ own. index_of m (Method class own)) methods.now) }
+    ensures methods { IfOk result (λ codes. (slot : ℕ) (m : ModuleData) (k : ClassData) → IsLayout slot m layout.now
+        → slice_get m.classes class ≡ Some k → has_own k methods.now ≡ true
+        → codes.items ≡ map (λ own. index_of m (Method class own)) methods.now) }
+    ensures there { IfOk result (λ codes. (slot : ℕ) (m : ModuleData) → IsLayout slot m layout.now
+        → class < length m.classes
+        → list_all (λ code. nat_lt code (length (counts_of layout.now))) codes.items ≡ true) }
 {
     let mut codes = Vec::with_capacity(alloc, methods.len())?;
     for method in methods {
-        let code = layout.method(class, *method)?;
+        let code = layout.implementing(class, *method)?;
         codes.push(code)?;
     }
     Ok(codes)
@@ -65,9 +74,13 @@ fn implementation_codes(
     class: usize,
     interfaces: &[Implementation],
 ) -> Result<Vec<ImplementationCode>, AllocError>
-    ensures interfaces { IfOk result (λ codes. (slot : ℕ) (m : ModuleData) → IsLayout slot m layout.now
-        → class < length m.classes → map implementation_of codes.items
+    ensures interfaces { IfOk result (λ codes. (slot : ℕ) (m : ModuleData) (k : ClassData) → IsLayout slot m layout.now
+        → slice_get m.classes class ≡ Some k
+        → list_all (λ (i : ImplementationData). has_own k i.methods) (map implementation_seen interfaces.now) ≡ true
+        → map implementation_of codes.items
         ≡ map (implementation_at m class) (map implementation_seen interfaces.now)) }
+    ensures there { IfOk result (λ codes. (slot : ℕ) (m : ModuleData) → IsLayout slot m layout.now
+        → class < length m.classes → list_all (has_functions (length (counts_of layout.now))) codes.items ≡ true) }
 {
     let mut codes = Vec::with_capacity(alloc, interfaces.len())?;
     for implementation in interfaces {
@@ -90,10 +103,10 @@ fn class_code(
     ensures code { IfOk result (λ code. (slot : ℕ) (m : ModuleData) → IsLayout slot m layout.now
         → slice_get m.classes place ≡ Some (class_of class.now)
         → IsClassCode m place (class_of class.now) code) }
+    ensures there { IfOk result (λ code. (slot : ℕ) (m : ModuleData) → IsLayout slot m layout.now
+        → place < length m.classes → is_valid_class (length (counts_of layout.now)) code ≡ true) }
 {
-    let Some(source) = place_in(&layout.classes, place) else {
-        return Err(AllocError);
-    };
+    let source = place_in(&layout.classes, place).unwrap_or(0);
     let fields = zero_words(alloc, &class.fields)?;
     let construction = layout.construction(place)?;
     let interfaces = implementation_codes(alloc, layout, place, &class.interfaces)?;
@@ -113,6 +126,9 @@ pub(crate) fn class_codes(
 ) -> Result<Vec<ClassCode>, AllocError>
     ensures codes { IfOk result (λ codes. (slot : ℕ) (m : ModuleData) → IsLayout slot m layout.now
         → m.classes ≡ map class_of classes.now → AreClassCodes m codes.items) }
+    ensures there { IfOk result (λ codes. (slot : ℕ) (m : ModuleData) → IsLayout slot m layout.now
+        → m.classes ≡ map class_of classes.now
+        → list_all (is_valid_class (length (counts_of layout.now))) codes.items ≡ true) }
 {
     let mut codes = Vec::with_capacity(alloc, classes.len())?;
     let mut place: usize = 0;

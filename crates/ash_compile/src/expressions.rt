@@ -15,7 +15,7 @@ ghost use Rattle.ash_compile.specs.Emission.{Emits, lazy_jump, read_local};
 ghost use Rattle.ash_compile.specs.Places.{EmitsPlace};
 ghost use Rattle.ash_compile.specs.Operands.{IsSimple, EmitsIn, EmitsInto};
 ghost use Rattle.ash_compile.specs.Arguments.{EmitsArguments};
-ghost use Rattle.ash_compile.specs.declared.builder.CodeBuilder.{CodeBuilder as Written};
+ghost use Rattle.ash_compile.specs.declared.builder.Written.{Written};
 
 use crate::builder::CodeBuilder;
 use crate::operators::{addend_of, is_simple, local_read, operating};
@@ -339,7 +339,8 @@ impl CodeBuilder {
             → Emits start self.new (Lazily operator e (expr_of right.now)) slot) }
     {
         let branch = self.here();
-        self.put(slot, jump_over(operator, slot, 0))?;
+        let past = self.behind();
+        self.put(slot, jump_over(operator, slot, past))?;
         self.expression(right, slot)?;
         let end = self.here();
         self.lead(branch, jump_over(operator, slot, end));
@@ -379,16 +380,18 @@ impl CodeBuilder {
     {
         self.expression(condition, slot)?;
         let branch = self.here();
+        let past = self.behind();
         self.put(
             slot,
             Instruction::JumpUnless {
                 condition: slot,
-                to: 0,
+                to: past,
             },
         )?;
         self.expression(then, slot)?;
         let back = self.here();
-        self.put(slot, Instruction::Jump { to: 0 })?;
+        let past_jump = self.behind();
+        self.put(slot, Instruction::Jump { to: past_jump })?;
         let other = self.here();
         self.expression(otherwise, slot)?;
         let end = self.here();

@@ -4,13 +4,12 @@
 //! fields of its object next, and gives the object however its body is left. The initializers of a module take a tick
 //! for each declaration, and none of their own.
 
-ghost use Rattle.std.specs.Prelude.{◌≡◌, [], IfOk, List, map};
+ghost use Rattle.std.specs.Prelude.{◌≡◌, IfOk, List, map};
 ghost use Rattle.ash_typed.specs.BodyViews.{value_of, body_of};
 ghost use Rattle.ash_typed.specs.Modules.{Module as ModuleData, Class as ClassData, class_of, function_of};
 ghost use Rattle.ash_typed.specs.Modules.{variables_of};
-ghost use Rattle.ash_compile.specs.Emission.{code_of};
 ghost use Rattle.ash_compile.specs.EmittedFrames.{frame_of_function, frame_of_method, frame_of_construction};
-ghost use Rattle.ash_compile.specs.EmittedFrames.{IsFrameCode, IsInitCode, IsCodeOfAny, IsFinished};
+ghost use Rattle.ash_compile.specs.EmittedFrames.{IsFrameCode, IsInitCode, IsCodeOfAny};
 
 use crate::bodies::function_end;
 use crate::builder::CodeBuilder;
@@ -18,7 +17,6 @@ use ash_code::code::FunctionCode;
 use ash_code::instruction::Instruction;
 use ash_typed::{Class, Function, Initialization, Stmt, Variables};
 use std::alloc::{AllocError, Global};
-use std::mem;
 
 /// A line, as instructions have it.
 fn entry_line(line: usize) -> Result<u32, AllocError>
@@ -28,28 +26,6 @@ fn entry_line(line: usize) -> Result<u32, AllocError>
 }
 
 impl CodeBuilder {
-    /// Begins the code of another function.
-    fn clear(&mut self, alloc: Global)
-        ensures empty { code_of self.new ≡ [] }
-        ensures layout { self.new.layout ≡ self.old.layout }
-    {
-        self.instructions = Vec::new(alloc);
-        self.slots = 0;
-    }
-
-    /// Takes the code that is written.
-    fn finish(&mut self, alloc: Global, line: u32, parameters: usize) -> FunctionCode
-        ensures finished { IsFinished self.old line parameters result }
-        ensures layout { self.new.layout ≡ self.old.layout }
-    {
-        FunctionCode {
-            line,
-            parameters,
-            slots: self.slots,
-            instructions: mem::replace(&mut self.instructions, Vec::new(alloc)),
-        }
-    }
-
     /// A frame that is entered at a line, initializes fields, and does statements.
     fn frame(
         &mut self,
@@ -69,8 +45,7 @@ impl CodeBuilder {
         self.tick(line, parameters)?;
         self.fields(fields, parameters)?;
         self.body(alloc, body, parameters, constructs)?;
-        self.put(parameters, function_end(constructs))?;
-        Ok(self.finish(alloc, entry, parameters))
+        self.finish(alloc, entry, parameters, function_end(constructs))
     }
 
     /// The code of a function or of a method.
@@ -129,7 +104,6 @@ impl CodeBuilder {
     {
         self.clear(alloc);
         self.module_globals(variables)?;
-        self.put(0, Instruction::ReturnNothing)?;
-        Ok(self.finish(alloc, 1, 0))
+        self.finish(alloc, 1, 0, Instruction::ReturnNothing)
     }
 }

@@ -1,15 +1,19 @@
 //! Where the code of a module's functions, constructions and methods stands, and what it knows of its types.
 
-ghost use Rattle.std.specs.Prelude.{◌≡◌, ℕ, ◌+◌, ◌<◌, ◌≤◌, length, map, IfOk, Some, slice_get};
-ghost use Rattle.ash_typed.specs.Modules.{Module as ModuleData, class_of, interface_of, module_of};
+ghost use Rattle.std.specs.Prelude.{◌≡◌, ℕ, ◌+◌, ◌<◌, ◌≤◌, ◌++◌, length, map, flat_map, IfOk};
+ghost use Rattle.std.specs.Prelude.{IfSome, IfNone, Some, slice_get};
+ghost use Rattle.ash_typed.specs.Modules.{Module as ModuleData, Class as ClassData, class_of, function_of};
+ghost use Rattle.ash_typed.specs.Modules.{interface_of, module_of};
 ghost use Rattle.ash_meaning.specs.Classes.{Program, Construction, Method, element_of};
 ghost use Rattle.ash_soundness.specs.WellFormed.{IsNamed};
 ghost use Rattle.ash_object_ranks.specs.ShownTables.{SlotNames, elements_shown};
 ghost use Rattle.ash_compile.specs.Layout.{IsLayout, index_of, methods_before, interfaces_before, classes_before};
+ghost use Rattle.ash_compile.specs.Layout.{count_of_parameters, count_of_constructor, counts_of_methods};
+ghost use Rattle.ash_compile.specs.Layout.{counts_of_parameters};
 
 use ash_host::ElementTag;
 use ash_integers::IntType;
-use ash_typed::{Class, Element, Interface, Module};
+use ash_typed::{Class, Element, Function, Interface, Module};
 use std::alloc::{AllocError, Global};
 
 /// Where the code of a module stands. The functions come first, each at its place. Then come the constructions, by
@@ -20,6 +24,10 @@ pub struct Layout {
     pub slot: u8,
     /// How many functions there are.
     pub functions: usize,
+    /// How many parameters each function, construction and method has.
+    pub parameters: Vec<usize>,
+    /// How many parameters the construction of each class has.
+    pub constructors: Vec<usize>,
     /// The first method of each class.
     pub methods: Vec<usize>,
     /// The place of each class in the source, where classes and interfaces count together.
@@ -109,6 +117,69 @@ fn places_of_interfaces(alloc: Global, interfaces: &[Interface]) -> Result<Vec<u
     Ok(places)
 }
 
+/// How many parameters the construction of an object of a class has.
+fn constructor_count(class: &Class) -> usize
+    ensures count { result ≡ count_of_constructor (class_of class.now) }
+{
+    match &class.constructor {
+        Some(constructor) => constructor.parameters.len(),
+        None => 0,
+    }
+}
+
+/// Adds how many parameters functions have.
+fn add_functions(counts: &mut Vec<usize>, functions: &[Function]) -> Result<(), AllocError>
+    ensures added { IfOk result (λ u. counts.new.items ≡ counts.old.items
+        ++ map count_of_parameters (map function_of functions.now)) }
+{
+    for function in functions {
+        counts.push(function.parameters.len())?;
+    }
+    Ok(())
+}
+
+/// Adds how many parameters the constructions of classes have.
+fn add_constructions(counts: &mut Vec<usize>, classes: &[Class]) -> Result<(), AllocError>
+    ensures added { IfOk result (λ u. counts.new.items ≡ counts.old.items
+        ++ map count_of_constructor (map class_of classes.now)) }
+{
+    for class in classes {
+        counts.push(constructor_count(class))?;
+    }
+    Ok(())
+}
+
+/// Adds how many parameters the methods of classes have, class by class.
+fn add_methods(counts: &mut Vec<usize>, classes: &[Class]) -> Result<(), AllocError>
+    ensures added { IfOk result (λ u. counts.new.items ≡ counts.old.items
+        ++ flat_map counts_of_methods (map class_of classes.now)) }
+{
+    for class in classes {
+        add_functions(counts, &class.methods)?;
+    }
+    Ok(())
+}
+
+/// How many parameters each function, construction and method of a module has.
+fn parameter_counts(alloc: Global, tree: &Module) -> Result<Vec<usize>, AllocError>
+    ensures counts { IfOk result (λ counts. counts.items ≡ counts_of_parameters (module_of tree.now)) }
+{
+    let mut counts = Vec::new(alloc);
+    add_functions(&mut counts, &tree.functions)?;
+    add_constructions(&mut counts, &tree.classes)?;
+    add_methods(&mut counts, &tree.classes)?;
+    Ok(counts)
+}
+
+/// How many parameters the construction of each class has.
+fn constructor_counts(alloc: Global, classes: &[Class]) -> Result<Vec<usize>, AllocError>
+    ensures counts { IfOk result (λ counts. counts.items ≡ map count_of_constructor (map class_of classes.now)) }
+{
+    let mut counts = Vec::new(alloc);
+    add_constructions(&mut counts, classes)?;
+    Ok(counts)
+}
+
 impl Layout {
     /// The layout of a module, whose objects know it by this slot.
     ///
@@ -124,6 +195,8 @@ impl Layout {
         Ok(Layout {
             slot,
             functions,
+            parameters: parameter_counts(alloc, tree)?,
+            constructors: constructor_counts(alloc, &tree.classes)?,
             methods: first_methods(alloc, first, &tree.classes)?,
             classes: places_of_classes(alloc, count, &tree.interfaces)?,
             interfaces: places_of_interfaces(alloc, &tree.interfaces)?,
@@ -142,50 +215,67 @@ impl Layout {
         sum(self.functions, class)
     }
 
-    /// Where a method of a class stands.
-    ///
-    /// # Errors
-    ///
-    /// If there is no such class, or the place is too great.
-    pub fn method(&self, class: usize, method: usize) -> Result<usize, AllocError>
-        ensures place { IfOk result (λ place. (slot : ℕ) (m : ModuleData) → IsLayout slot m self.now
+    /// Where a method of a class stands, if it is there.
+    pub fn method(&self, class: usize, method: usize) -> Option<usize>
+        ensures place { IfSome result (λ place. (slot : ℕ) (m : ModuleData) → IsLayout slot m self.now
             → class < length m.classes → place ≡ index_of m (Method class method)) }
+        ensures there { IfSome result (λ place. place < length self.now.parameters.items) }
+        ensures none { IfNone result ((slot : ℕ) (m : ModuleData) → IsLayout slot m self.now
+            → class < length m.classes → length self.now.parameters.items ≤ index_of m (Method class method)) }
     {
-        let Some(first) = self.methods.get(class).copied() else {
-            return Err(AllocError);
-        };
-        sum(first, method)
-    }
-
-    /// What the elements of an array are, as the table of objects has it.
-    ///
-    /// # Errors
-    ///
-    /// If there is no such class or interface.
-    pub fn element(&self, of: Element) -> Result<ElementTag, AllocError>
-        ensures element { IfOk result (λ tag. (names : SlotNames) (slot : ℕ) (p : Program)
-            → IsLayout slot p.tree self.now → names slot ≡ p.name → IsNamed p.tree of
-            → elements_shown names tag ≡ element_of p of) }
-    {
-        match of {
-            Element::Bool => Ok(ElementTag::Bool),
-            Element::Integer(IntType::Int) => Ok(ElementTag::Int),
-            Element::Integer(IntType::Uint) => Ok(ElementTag::Uint),
-            Element::Integer(IntType::Int64) => Ok(ElementTag::Int64),
-            Element::Integer(IntType::Uint64) => Ok(ElementTag::Uint64),
-            Element::Class(class) => self.handles(place_in(&self.classes, class)),
-            Element::Interface(interface) => self.handles(place_in(&self.interfaces, interface)),
-            Element::Host(kind) => Ok(ElementTag::Kind(kind)),
+        let first = self.methods.get(class).copied()?;
+        let place = first.checked_add(method)?;
+        if place < self.parameters.len() {
+            Some(place)
+        } else {
+            None
         }
     }
 
-    /// Handles to objects of a class or an interface, by its place in the source.
-    fn handles(&self, place: Option<u16>) -> Result<ElementTag, AllocError>
-        ensures handles { IfOk result (λ tag. (k : ℕ) → place ≡ Some k → tag ≡ ElementTag.Class self.now.slot k) }
+    /// Where a method stands that a class has for an interface. A class that lacks it, which no sound module has,
+    /// gives its construction.
+    ///
+    /// # Errors
+    ///
+    /// If the place is too great.
+    pub fn implementing(&self, class: usize, method: usize) -> Result<usize, AllocError>
+        ensures place { IfOk result (λ place. (slot : ℕ) (m : ModuleData) (k : ClassData) → IsLayout slot m self.now
+            → slice_get m.classes class ≡ Some k → method < length k.methods
+            → place ≡ index_of m (Method class method)) }
+        ensures there { IfOk result (λ place. (slot : ℕ) (m : ModuleData) → IsLayout slot m self.now
+            → class < length m.classes → place < length self.now.parameters.items) }
+    {
+        match self.method(class, method) {
+            Some(place) => Ok(place),
+            None => self.construction(class),
+        }
+    }
+
+    /// What the elements of an array are, as the table of objects has it.
+    pub fn element(&self, of: Element) -> ElementTag
+        ensures element { (names : SlotNames) (slot : ℕ) (p : Program) → IsLayout slot p.tree self.now
+            → names slot ≡ p.name → IsNamed p.tree of → elements_shown names result ≡ element_of p of }
+    {
+        match of {
+            Element::Bool => ElementTag::Bool,
+            Element::Integer(IntType::Int) => ElementTag::Int,
+            Element::Integer(IntType::Uint) => ElementTag::Uint,
+            Element::Integer(IntType::Int64) => ElementTag::Int64,
+            Element::Integer(IntType::Uint64) => ElementTag::Uint64,
+            Element::Class(class) => self.handles(place_in(&self.classes, class)),
+            Element::Interface(interface) => self.handles(place_in(&self.interfaces, interface)),
+            Element::Host(kind) => ElementTag::Kind(kind),
+        }
+    }
+
+    /// Handles to objects of a class or an interface, by its place in the source. No sound module names one that is
+    /// not there.
+    fn handles(&self, place: Option<u16>) -> ElementTag
+        ensures handles { (k : ℕ) → place ≡ Some k → result ≡ ElementTag.Class self.now.slot k }
     {
         match place {
-            Some(place) => Ok(ElementTag::Class(self.slot, place)),
-            None => Err(AllocError),
+            Some(place) => ElementTag::Class(self.slot, place),
+            None => ElementTag::Bool,
         }
     }
 }

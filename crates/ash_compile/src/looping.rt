@@ -5,7 +5,7 @@
 //! are as the condition wants. A `continue` leads to a
 //! release point before the steps, a `break` to one behind the loop. A body without `continue` needs none.
 
-ghost use Rattle.std.specs.Prelude.{◌≡◌, ◌<◌, IfOk, option_map, IfSome, Some};
+ghost use Rattle.std.specs.Prelude.{◌≡◌, ◌<◌, ◌≤◌, IfOk, option_map, IfSome, Some};
 ghost use Rattle.ash_typed.specs.TypedTreeViews.{expr_of};
 ghost use Rattle.ash_typed.specs.BodyViews.{stmt_of, loop_of, head_of};
 ghost use Rattle.ash_typed.specs.StatementTree.{Repeat, For};
@@ -131,7 +131,8 @@ impl CodeBuilder {
         let slot = scope.locals;
         let line = line_of(line)?;
         let entry = self.here();
-        self.put(slot, entry_of(inside.test, line, 0))?;
+        let past = self.behind();
+        self.put(slot, entry_of(inside.test, line, past))?;
         let head = self.here();
         let branch = self.turn_condition(&inside.condition, slot)?;
         let body = self.here();
@@ -163,7 +164,8 @@ impl CodeBuilder {
 
     /// The branch of a condition, if there is one, leads to a place.
     fn lead_out(&mut self, branch: Option<Branch>, to: usize)
-        requires there { IfSome branch (λ branch. branch.at < end_of self.old) }
+        requires before { IfSome branch (λ branch. branch.at < to) }
+        requires within { to ≤ end_of self.old }
         ensures leads { MayLead self.old self.new branch to }
     {
         if let Some(branch) = branch {
@@ -204,7 +206,8 @@ impl CodeBuilder {
         ensures lands { IfOk result (λ u. Landing self.old self.new places.now) }
     {
         let jump = self.here();
-        self.put(slot, Instruction::Jump { to: 0 })?;
+        let past = self.behind();
+        self.put(slot, Instruction::Jump { to: past })?;
         let release = self.here();
         self.put(slot, Instruction::Release)?;
         self.lead_all(places, release);

@@ -119,11 +119,7 @@ fn compile_parts(alloc: Global, tree: &Module, slot: u8) -> Result<CodeParts, Al
 {
     let layout = Layout::new(alloc, slot, tree)?;
     let classes = class_codes(alloc, &layout, &tree.classes)?;
-    let mut code = CodeBuilder {
-        instructions: Vec::new(alloc),
-        slots: 0,
-        layout,
-    };
+    let mut code = CodeBuilder::new(alloc, layout);
     let functions = code.functions(alloc, tree)?;
     let init = code.initializers(alloc, &tree.globals)?;
     Ok(CodeParts {
@@ -139,12 +135,14 @@ fn compile_parts(alloc: Global, tree: &Module, slot: u8) -> Result<CodeParts, Al
 ///
 /// # Errors
 ///
-/// If there is no memory. A place, a line or a slot that is too great counts as that.
+/// If there is no memory. A place, a line, a slot or the constant of a label that is too great counts as that, and
+/// nothing else does: code is valid, whatever the module is.
 pub fn compile(alloc: Global, tree: &Module, slot: u8) -> Result<Code, NoMemory>
     ensures slot { IfOk result (λ code. code.module ≡ slot) }
     ensures compiled { IfOk result (λ code. (c : Context) → IsContext c
         → (c.program).tree ≡ module_of tree.now → IsCodeOf code c) }
 {
     let parts = compile_parts(alloc, tree, slot)?;
-    Code::new(parts).ok_or(NoMemory)
+    let code = Code::new(alloc, parts)?;
+    Ok(code)
 }

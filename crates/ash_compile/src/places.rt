@@ -10,7 +10,7 @@ ghost use Rattle.ash_compile.specs.Emission.{Emits};
 ghost use Rattle.ash_compile.specs.Conversions.{Converts};
 ghost use Rattle.ash_compile.specs.Places.{spot_of_variable, spot_of_member, reading, writing, slot_of_old};
 ghost use Rattle.ash_compile.specs.Places.{slot_of_new, EmitsPlace};
-ghost use Rattle.ash_compile.specs.declared.builder.CodeBuilder.{CodeBuilder as Written};
+ghost use Rattle.ash_compile.specs.declared.builder.Written.{Written};
 
 use crate::builder::CodeBuilder;
 use ash_code::instruction::Instruction;

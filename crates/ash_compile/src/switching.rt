@@ -90,7 +90,8 @@ impl CodeBuilder {
         let tests = self.here();
         self.test_places(cases, scope.locals)?;
         let past = self.here();
-        self.put(scope.locals, Instruction::Jump { to: 0 })?;
+        let after = self.behind();
+        self.put(scope.locals, Instruction::Jump { to: after })?;
         let outer = mem::replace(&mut jumps.breaks, Vec::new(jumps.alloc));
         let broken = scope.locals;
         self.labels(tests, cases, Scope { broken, ..scope }, jumps)?;
@@ -107,7 +108,8 @@ impl CodeBuilder {
         ensures places { IfOk result (λ u. end_of self.new ≡ end_of self.old + length cases.now) }
     {
         for _case in cases {
-            self.put(slot, Instruction::Jump { to: 0 })?;
+            let after = self.behind();
+            self.put(slot, Instruction::Jump { to: after })?;
         }
         Ok(())
     }

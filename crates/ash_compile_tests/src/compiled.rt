@@ -8,7 +8,7 @@ use ash_sources::sources::Sources;
 use std::alloc::Global;
 use std::process::Abort;
 
-/// The code of a source, as the module of a slot, if it is a script whose code is valid.
+/// The code of a source, as the module of a slot, if it is a script.
 fn code_of(alloc: Global, source: &str, slot: u8) -> Option<Code> {
     let registry = Registry::new(alloc);
     let sources = Sources {
@@ -20,7 +20,7 @@ fn code_of(alloc: Global, source: &str, slot: u8) -> Option<Code> {
     compile(alloc, &tree, slot).ok()
 }
 
-/// Fails a test unless a source has valid code with so many functions and classes.
+/// Fails a test unless a source has code with so many functions and classes.
 fn check_code(rt: &impl Abort, alloc: Global, source: &str, functions: usize, classes: usize) {
     match code_of(alloc, source, 3) {
         Some(code) => {
@@ -29,7 +29,7 @@ fn check_code(rt: &impl Abort, alloc: Global, source: &str, functions: usize, cl
             assert_eq!(rt; parts.functions.len(), functions);
             assert_eq!(rt; parts.classes.len(), classes);
         }
-        None => panic!(rt; "a source has no valid code"),
+        None => panic!(rt; "a source has no code"),
     }
 }
 

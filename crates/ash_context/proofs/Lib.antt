@@ -4,6 +4,7 @@ pub mod Entered
 pub mod Entries
 pub mod Falling
 pub mod Fitting
+pub mod FrameTurns
 pub mod Initializing
 pub mod Jumps
 pub mod Lengths

@@ -3,6 +3,7 @@ pub mod Bounds
 pub mod Calls
 pub mod Composed
 pub mod Fetching
+pub mod FrameTurns
 pub mod Lending
 pub mod Members
 pub mod ObjectClasses

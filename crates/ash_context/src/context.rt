@@ -121,8 +121,9 @@ fn run_on<B: HostObject>(code: &Code, parts: Parts<B>, stack: Stack, budget: u64
         → RanOut B.HostObject s.names (λ (world : World). IsShort s (control_of 0 stack)
         (begun world budget (frame_shown s.names stack.frame)) result.steps) parts }
 {
+    code.facts();
     let mut state = RunState::begin(parts, stack, budget);
-    let ran = looping::run(code.parts(), &mut state, 0, bound(code, budget));
+    let ran = looping::run(code, &mut state, 0, bound(code, budget));
     Done {
         ended: finish(state, ran.end),
         steps: ran.steps,

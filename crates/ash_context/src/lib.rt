@@ -15,13 +15,12 @@
 //! In reading order: `turning` (what is left after an instruction), `storing` (slots), `operators`, `operands` (operators
 //! on slots), `calculating`, `members` (globals and fields), `elements`, `arrays`, `hosts` (host objects and services),
 //! `stepping` (statements), `jumping`, `calling`, `returning`, `classes` (of objects), `casting` (casts, and calls by an
-//! interface), `constructing`, `running` (each instruction), `at_once` (those of most loops and calls, where the loop
-//! is), `plain` and `lending` (instructions that change no handle
-//! that is counted, in a loop of their own), `looping`, `outcome`, `ending`, `context`.
+//! interface), `constructing`, `running` (each instruction), `plain` and `lending` (instructions that change no handle
+//! that is counted, in a loop of their own), `frame_turns` (calls and returns there), `looping`, `outcome`, `ending`,
+//! `context`.
 #![tactic(auto)]
 
 mod arrays;
-mod at_once;
 mod calculating;
 mod calling;
 mod casting;
@@ -30,6 +29,7 @@ mod constructing;
 pub mod context;
 mod elements;
 mod ending;
+mod frame_turns;
 mod hosts;
 mod jumping;
 mod lending;

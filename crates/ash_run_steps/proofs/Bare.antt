@@ -18,7 +18,7 @@ use Rattle.ash_run_steps.specs.Following.{KeepsMarks, IsMarked, Follows}
 use Rattle.ash_run_steps.proofs.Followed.{keeps_by}
 
 module _ {B : Type 0} where
-  abbrev bare_objects : List (ℕ × Living B) → List (ℕ × Living B)
+  abbrev pub bare_objects : List (ℕ × Living B) → List (ℕ × Living B)
   bare_objects l = map (λ e. (e.0, bare_living e.1)) l
 
   pub bare_changed : (n : ℕ) (f : Living B → Living B) → ((x : Living B) → bare_living (f x) ≡ bare_living x)

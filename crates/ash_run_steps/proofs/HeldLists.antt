@@ -1,7 +1,8 @@
 -- Frames on a stack: how they are seen after the list of held objects changes.
 use Rattle.std.proofs.Common.{◌≡◌, ℕ, ◌+◌, ◌-◌, ◌≤◌, ◌<◌, zero, suc, List, [], ◌∷◌, ◌++◌, length, take, drop, set, reverse, refl, sym, ap, ◌∙◌, arith}
 use Rattle.std.specs.Prelude.{slice_set}
-use Rattle.std.proofs.lemmas.List.{take-append-le, drop-append-le, reverse-append, reverse-reverse, length-reverse, length-drop, drop-set-add, take-set-le, drop-take, take-take}
+use Rattle.std.proofs.lemmas.List.{take-append-le, drop-append-le, reverse-append, reverse-reverse, length-reverse, length-drop, drop-set-add, take-set-le, drop-take, take-take, length-take}
+use Rattle.std.proofs.Math.Seq.{drop-append_seam}
 use Rattle.ash_host.specs.declared.word.Word.{Word}
 use Rattle.ash_run_steps.specs.declared.stack.Frame.{Frame}
 use Rattle.ash_run_steps.specs.Stacks.{Frames, frame_on, seen_on}
@@ -70,3 +71,11 @@ module _ (f : Frame) (fs : List Frame) (slots : List Word) (held : List ℕ) whe
       (ap (λ (k : ℕ). reverse (drop f.mark (take k held))) (sym at)
       ∙ ap reverse (drop-take f.mark (last - f.mark) held)
       ∙ take_last (drop f.mark held) (last - f.mark) latest)
+
+  -- one object alone
+  pub seen_alone : (number : ℕ) → f.mark ≤ length held → seen_on f fs slots (take f.mark held ++ number ∷ []) ≡ holds (number ∷ [])
+  seen_alone number low =
+      let many : length (take f.mark held) ≡ f.mark = omega (arith, length-take f.mark held, low) in
+      seen_as (take f.mark held ++ number ∷ []) (number ∷ [])
+      (take-append-le f.mark (take f.mark held) (number ∷ []) (omega (arith, many)) ∙ take-take f.mark f.mark held (omega arith))
+      (ap (λ (k : ℕ). reverse (drop k (take f.mark held ++ number ∷ []))) (sym many) ∙ ap reverse (drop-append_seam (take f.mark held) (number ∷ [])))

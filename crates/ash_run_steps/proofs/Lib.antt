@@ -6,11 +6,14 @@ pub mod AskedObjects
 pub mod Bare
 pub mod BeginSteps
 pub mod BoxChanges
+pub mod CalmStates
 pub mod ChangedObjects
 pub mod ClassSteps
 pub mod Composed
 pub mod Constructs
 pub mod DeclareSteps
+pub mod Deferrals
+pub mod DeferredFrames
 pub mod Draws
 pub mod EndSteps
 pub mod EnterSteps
@@ -31,3 +34,4 @@ pub mod Roots
 pub mod Scopes
 pub mod Stacking
 pub mod Swept
+pub mod Uncounted

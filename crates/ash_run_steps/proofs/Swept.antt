@@ -41,7 +41,7 @@ use Rattle.ash_run_steps.proofs.Roots.{times_cons, times_one}
 
 -- what is counted is there
 
-among_times : (n : ℕ) (ns : List ℕ) → 0 < times n ns → is_among ns n ≡ true
+pub among_times : (n : ℕ) (ns : List ℕ) → 0 < times n ns → is_among ns n ≡ true
 among_times n [] some = absurd (omega (arith, some))
 among_times n (m ∷ ns) some = go (nat_eq n m) refl (λ more. among_times n ns more)
   where

@@ -2,6 +2,7 @@ pub mod Answered
 pub mod ArrayGuards
 pub mod Becoming
 pub mod ClassPlaces
+pub mod Deferred
 pub mod Drawing
 pub mod Following
 pub mod FrameChanges

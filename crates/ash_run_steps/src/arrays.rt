@@ -94,7 +94,7 @@ pub(crate) fn numbers_from(numbers: &[u64], place: usize) -> &[u64]
 
 /// Holds these objects once more for each time that they are among them.
 #[inline(always)]
-pub(crate) fn hold_numbers<B: HostObject>(table: &mut Objects<B>, numbers: &[u64])
+pub fn hold_numbers<B: HostObject>(table: &mut Objects<B>, numbers: &[u64])
     requires alive { All (Lives table.old.objects) numbers.now }
     requires few { (number : ℕ) → holds_of number table.old + length numbers.now < 2 ^ 127 }
     ensures held { HoldsMore numbers.now table.old table.new }

@@ -7,10 +7,11 @@
 //! and no sound module's code comes to it.
 //!
 //! In reading order: `stack` (the frames), `state`, `stop` (why a run doesn't go on), `counting` (holds in the table),
-//! `holding` (what frames hold, ticks), `locals`, `declaring`, `globals`, `plain` (steps without objects), `parts` (fields and elements),
+//! `holding` (what frames hold, ticks), `locals`, `declaring`, `globals`, `parts` (fields and elements),
 //! `constructing`, `classes`, `arrays`, `releasing` (release points), `jumping`, `calling`, `entering`, `leaving`,
 //! `beginning`, `ending`, `answering` (who answers a call, and what is made of an answer), `host_calls`, `properties`,
-//! `drawing` (boxes of the pool, and host objects), `laws` (the test of ranks).
+//! `drawing` (boxes of the pool, and host objects), `plain` (steps that change no count), `deferred` (runs over the parts of
+//! a state, with deferred counts), `laws` (the test of ranks).
 #![tactic(auto)]
 
 mod answering;
@@ -21,6 +22,7 @@ pub mod classes;
 pub mod constructing;
 pub mod counting;
 pub mod declaring;
+pub mod deferred;
 pub mod drawing;
 pub mod ending;
 pub mod entering;

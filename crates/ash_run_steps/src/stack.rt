@@ -1,12 +1,14 @@
 //! The frames of a run, over one stack of words and one list of held objects.
 ghost use Rattle.std.specs.Prelude.{◌≡◌, ◌<◌, ◌≤◌, ◌+◌, ◌^◌, [], ◌∷◌, ◌++◌, length, take, drop, reverse};
-ghost use Rattle.std.specs.Prelude.{ℕ, List, OnOk, OnErr, IfOk, slice_set, slice_get, Some, None, IsTrue, false};
+ghost use Rattle.std.specs.Prelude.{ℕ, List, OnOk, OnErr, IfOk, slice_set, slice_get, Some, None, IsTrue, false, not};
 ghost use Rattle.ash_host.specs.Objects.{handles};
 ghost use Rattle.ash_host.specs.declared.word.Word.TheVariants as words;
-ghost use Rattle.ash_run_steps.specs.FrameChanges.{beginning, beginning_over};
+ghost use Rattle.ash_run_steps.specs.Deferred.{held_by, held_below};
+ghost use Rattle.ash_run_steps.specs.FrameChanges.{beginning, beginning_over, in_running, letting_go, holding, leaving};
 ghost use Rattle.ash_run_steps.specs.PlainStrips.{scope_in, KeepsScope};
 ghost use Rattle.ash_run_steps.specs.Stacks.{StackFrame, with_slots, locals_of, roots_of_frames};
 
+use crate::arrays::numbers_from;
 use crate::counting::handle;
 use crate::plain::{PlainRun, PlainRunner, Spot};
 use ash_host::{HostObject, NoMemory, Word};
@@ -322,6 +324,30 @@ impl Stack {
         &self.held[self.frame.mark..]
     }
 
+    /// How many objects all frames hold.
+    #[inline(always)]
+    pub fn held_len(&self) -> usize
+        ensures len { result ≡ length (held_by self.now) }
+    {
+        self.held.len()
+    }
+
+    /// The objects that frames hold except for the first, so many, in the order in which they came to hold them.
+    #[inline(always)]
+    pub fn held_from(&self, count: usize) -> &[u64]
+        ensures held { result.now ≡ drop count (reverse (held_by self.now)) }
+    {
+        numbers_from(&self.held, count)
+    }
+
+    /// Whether the callers of the frame that runs hold so many objects at least.
+    #[inline(always)]
+    pub fn holds_below(&self, count: usize) -> bool
+        ensures below { IsTrue result → count ≤ length (held_below self.now) }
+    {
+        count <= self.frame.mark
+    }
+
     /// Whether the frame holds no object.
     #[inline(always)]
     pub fn holds_nothing(&self) -> bool
@@ -482,9 +508,46 @@ impl Stack {
         self.frame = caller;
     }
 
+    // Holds an object in place of all that the frame holds, if that takes no memory.
+    #[inline(always)]
+    fn hold_alone(&mut self, number: u64) -> bool
+        ensures held { IsTrue result → self.new ≡ in_running (holding (number ∷ []))
+            (in_running letting_go self.old) }
+        ensures unchanged { IsTrue (not result) → self.new ≡ self.old }
+    {
+        let mark = self.frame.mark;
+        if mark >= self.held.capacity() {
+            return false;
+        }
+        self.held.truncate(mark);
+        self.held.push_reserved(number);
+        true
+    }
+
+    /// Leaves the frame that runs, whose objects are given up before. Its caller gets its slots back behind its own, and
+    /// comes to hold what a word is a handle to. It answers false, and does nothing, if that takes memory.
+    #[inline(always)]
+    pub fn leave_with(&mut self, word: Word) -> bool
+        requires called { 0 < length self.old.callers }
+        ensures left { IsTrue result → self.new
+            ≡ leaving (handles (word ∷ [])) (in_running letting_go self.old) }
+        ensures unchanged { IsTrue (not result) → self.new ≡ self.old }
+    {
+        match handle(word) {
+            Some(number) => {
+                if !self.hold_alone(number) {
+                    return false;
+                }
+            }
+            None => self.clear_held(),
+        }
+        self.leave();
+        true
+    }
+
     /// Does plain steps on the slots of the frame that runs.
     #[inline(always)]
-    pub(crate) fn run_plain<B: HostObject, R: PlainRunner<B>>(
+    pub fn run_plain<B: HostObject, R: PlainRunner<B>>(
         &mut self,
         runner: &R,
         globals: &mut [Word],
@@ -494,10 +557,9 @@ impl Stack {
         ticks: u64,
         most: u64,
     ) -> PlainRun
-        requires ends { IsTrue ends → self.old.frame.held ≡ [] }
         ensures ran { R.runs runner.now ends (scope_in at ticks globals.old table.old self.old) result.done
             (scope_in result.spot.at result.spot.ticks globals.new table.new self.new) }
-        ensures keeps { KeepsScope (scope_in at ticks globals.old table.old self.old)
+        ensures keeps { KeepsScope ends (scope_in at ticks globals.old table.old self.old)
             (scope_in result.spot.at result.spot.ticks globals.new table.new self.new) }
         ensures within { self.old.frame.count ≤ length self.old.frame.slots }
         ensures frames { self.new ≡ record self.old {

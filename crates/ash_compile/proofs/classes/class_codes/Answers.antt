@@ -5,7 +5,9 @@ use Rattle.std.proofs.lemmas.Option.{same_Some, slice_get_within}
 use Rattle.ash_typed.specs.Modules.{Class, class_of}
 use Rattle.ash_code.specs.declared.code.ClassCode.{ClassCode}
 use Rattle.ash_compile.specs.Callees.{IsClassCode}
-use Rattle.ash_compile.proofs.Listings.{get_first, each_below, last_added, item_at}
+use Rattle.ash_code.specs.Validity.{is_valid_class}
+use Rattle.ash_compile.specs.ValidCode.{counts_of}
+use Rattle.ash_compile.proofs.Listings.{all_more, get_first, each_below, last_added, item_at}
 use Rattle.ash_compile.proofs.classes.class_codes.Goals as goal
 
 pub loop-class-preserved : goal.loop-class-preserved
@@ -37,6 +39,13 @@ loop-class-preserved c =
                 (subst (λ (y : Class). IsClassCode m l.place y code)
                 (same_Some (class_of item) x (sym there ∙ at)) own),
           )),
+      λ slot m is classes.
+          let all = ap length classes in
+          let long = length-map c.args.classes.now class_of in
+          all_more (is_valid_class (length (counts_of c.args.layout.now))) l.codes.items c.push.new.self.items code
+          pushed
+          (l.invariant.3 slot m is classes)
+          (c.in_ok-code.ensures.there slot m is (omega (arith, l.invariant.0, all, long, c.loop-class-test.true))),
     )
 
 pub returns : goal.returns
@@ -52,4 +61,5 @@ returns c =
                 let within = slice_get_within m.classes k x at in
                 l.invariant.2 slot m is classes k (omega (arith, within, all, long, c.loop-class-test.false)) x at;
           };
+      there = l.invariant.3;
     }

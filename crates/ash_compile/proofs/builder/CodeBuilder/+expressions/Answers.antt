@@ -1,4 +1,4 @@
-use Rattle.std.proofs.Common.{rules, ◌≡◌, IfOk, ℕ, ◌+◌, [], ◌∷◌, ◌++◌, length, map, inl, refl, sym, ap, ◌∙◌, subst, arith, length-append}
+use Rattle.std.proofs.Common.{rules, ◌≡◌, ℕ, ◌+◌, [], ◌∷◌, ◌++◌, length, map, inl, refl, sym, ap, ◌∙◌, subst, arith, length-append}
 use Rattle.std.proofs.lemmas.List.{length-map}
 use Rattle.ash_host.specs.declared.word.Word.{Word}
 use Rattle.ash_code.specs.declared.instruction.Instruction.TheVariants as i
@@ -8,7 +8,7 @@ use Rattle.ash_typed.specs.declared.tree.expressions.Operand as operand_code
 use Rattle.ash_typed.specs.declared.tree.expressions.Link as link_code
 use Rattle.std.proofs.Common.{List}
 use Rattle.ash_code.specs.declared.instruction.Instruction.{Instruction}
-use Rattle.ash_typed.specs.TypedTree.{Expr, Lazily, Call, Invoke, exprs, converted}
+use Rattle.ash_typed.specs.TypedTree.{Expr, Lazily, Invoke, exprs, converted}
 use Rattle.ash_typed.specs.TypedTreeViews.{expr_of, place_of, linked, all_linked, chained, all_chained, all_lazies}
 use Rattle.ash_compile.specs.Emission.{Puts, Leads, Emits, end_of, lazy_jump}
 use Rattle.ash_compile.specs.Places.{EmitsPlace}
@@ -27,6 +27,8 @@ use Rattle.ash_compile.proofs.EmittedRows.{empty_is, chained_after, chain_step, 
 use Rattle.ash_compile.proofs.EmittedRows.{argument_step, argument_end}
 use Rattle.ash_compile.specs.Arguments.{EmitsArguments}
 use Rattle.ash_compile.proofs.Arguments.{no_code, one_argument}
+use Rattle.ash_compile.proofs.Emission.{put_one}
+use Rattle.ash_compile.proofs.ValidJumps.{same_stands, lazy_stands, operates_stand}
 use Rattle.ash_compile.proofs.builder.CodeBuilder.+expressions.Goals as goal
 
 pub lazy_row-loop-other-init : goal.lazy_row-loop-other-init
@@ -55,6 +57,21 @@ lazily-returns t c = record {
       (subst (λ (j : Instruction). Leads c.expression.new.self c.lead.new.self c.here-branch.result j) c.jump_over-2.ensures.jump c.lead.ensures.leads));
 }
 
+pub lazily-lead-requires-clause-stands : goal.lazily-lead-requires-clause-stands
+lazily-lead-requires-clause-stands t c =
+    let here = c.expression.new.self in
+    let at = c.here-branch.result in
+    same_stands here.layout (end_of here) at _ _ c.jump_over-2.ensures.jump
+    (lazy_stands here.layout (end_of here) at c.args.operator c.args.slot c.here-end.result
+    (omega (
+      arith,
+      c.here-branch.ensures.place,
+      c.here-end.ensures.place,
+      put_one c.args.self.now c.put.new.self c.args.slot _ c.in_ok-put.ensures.puts,
+      ((c.in_ok-expression.ensures.emits).keeps).longer,
+    ))
+    (omega (arith, c.here-end.ensures.place)))
+
 pub value-returns-in-Some : goal.value-returns-in-Some
 value-returns-in-Some t c = record {
   emits = operands.local_there_in c.args.self.now (expr_of c.args.expr.now) c.in-Some.local c.args.slot
@@ -71,6 +88,11 @@ pub left-returns-clause-emits : goal.left-returns-clause-emits
 left-returns-clause-emits t c =
     operands.emits_in c.args.self.now c.expression.new.self (expr_of c.args.expr.now) c.args.slot
     c.in_ok-expression.ensures.emits
+
+pub operand-put-requires-in-None : goal.operand-put-requires-in-None
+operand-put-requires-in-None t c =
+    let here = c.value.new.self in
+    record { stands = operates_stand here.layout (end_of here + 1) (end_of here) c.operating.ensures.operates }
 
 pub operand-returns-in-Some : goal.operand-returns-in-Some
 operand-returns-in-Some t c =
@@ -163,7 +185,8 @@ pub conditional-returns : goal.conditional-returns
 conditional-returns t c = record {
   emits = branches.conditional c.args.self.now c.expression.new.self c.put.new.self c.expression-2.new.self c.put-2.new.self
       c.expression-3.new.self c.lead.new.self c.lead-2.new.self (expr_of c.args.condition.now) (expr_of c.args.then.now)
-      (expr_of c.args.otherwise.now) c.args.slot c.here-other.result c.here-end.result (i.JumpUnless c.args.slot 0) (i.Jump 0)
+      (expr_of c.args.otherwise.now) c.args.slot c.here-other.result c.here-end.result (i.JumpUnless c.args.slot c.behind-past.result)
+      (i.Jump c.behind-past_jump.result)
       c.in_ok-expression.ensures.emits c.in_ok-put.ensures.puts c.in_ok-expression-2.ensures.emits c.in_ok-put-2.ensures.puts
       c.in_ok-expression-3.ensures.emits c.here-other.ensures.place c.here-end.ensures.place
       (subst (λ (k : ℕ). Leads c.expression-3.new.self c.lead.new.self k (i.JumpUnless c.args.slot c.here-other.result)) c.here-branch.ensures.place c.lead.ensures.leads)

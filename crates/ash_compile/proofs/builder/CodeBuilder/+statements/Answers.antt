@@ -8,7 +8,6 @@ use Rattle.ash_typed.specs.StatementTree.{Case, Cases, no_case, Switch, cases as
 use Rattle.ash_typed.specs.BodyViews.{case_of}
 use Rattle.ash_compile.specs.EmittedStatements.{EmitsLabel, EmitsLabels}
 use Rattle.ash_code.specs.declared.instruction.Instruction.{Instruction}
-use Rattle.ash_code.specs.declared.instruction.Instruction.TheVariants as i
 use Rattle.ash_typed.specs.declared.tree.statements.Stmt as stmt_code
 use Rattle.ash_typed.specs.declared.tree.statements.Initialization as initialization_code
 use Rattle.ash_typed.specs.StatementTree.{Stmt, Declare, Block, If, no_branch, branch, Repeat, For, Loop, repeated}
@@ -30,6 +29,7 @@ use Rattle.ash_compile.proofs.EmittedBlocks as blocks
 use Rattle.ash_compile.proofs.EmittedLoops as loops
 use Rattle.ash_compile.proofs.EmittedSwitches as switches
 use Rattle.ash_compile.proofs.EmittedRepeats as repeats
+use Rattle.ash_compile.proofs.ValidJumps.{same_stands, jump_stands, branch_stands, turn_stands, entry_stands}
 use Rattle.ash_compile.proofs.builder.CodeBuilder.+statements.Goals as goal
 
 -- lists
@@ -235,6 +235,17 @@ if_only-lead-requires t c = record {
     (c.in_ok-branch.ensures.emits).end,
     (((c.in_ok-statement.ensures.emits).grows).code).longer,
   );
+  stands = same_stands c.statement.new.self.layout (end_of c.statement.new.self) c.in_ok-branch.branch.at _ _
+      c.branch_to.ensures.branch
+      (branch_stands c.statement.new.self.layout (end_of c.statement.new.self) c.in_ok-branch.branch.at
+      c.in_ok-branch.branch.condition c.here-end.result
+      (omega (
+        arith,
+        c.here-end.ensures.place,
+        (c.in_ok-branch.ensures.emits).end,
+        (((c.in_ok-statement.ensures.emits).grows).code).longer,
+      ))
+      (omega (arith, c.here-end.ensures.place)));
 }
 
 pub if_else-lead-requires : goal.if_else-lead-requires
@@ -243,9 +254,25 @@ if_else-lead-requires t c = record {
     arith,
     (c.in_ok-test.ensures.emits).end,
     (((c.in_ok-statement.ensures.emits).grows).code).longer,
-    put_one c.statement.new.self c.put.new.self c.args.scope.locals (i.Jump 0) c.in_ok-put.ensures.puts,
+    put_one c.statement.new.self c.put.new.self c.args.scope.locals _ c.in_ok-put.ensures.puts,
     (((c.in_ok-statement-2.ensures.emits).grows).code).longer,
   );
+  stands = same_stands c.statement-2.new.self.layout (end_of c.statement-2.new.self) c.in_ok-test.test.at _ _
+      c.branch_to.ensures.branch
+      (branch_stands c.statement-2.new.self.layout (end_of c.statement-2.new.self) c.in_ok-test.test.at
+      c.in_ok-test.test.condition c.here-other.result
+      (omega (
+        arith,
+        c.here-other.ensures.place,
+        (c.in_ok-test.ensures.emits).end,
+        (((c.in_ok-statement.ensures.emits).grows).code).longer,
+        put_one c.statement.new.self c.put.new.self c.args.scope.locals _ c.in_ok-put.ensures.puts,
+      ))
+      (omega (
+        arith,
+        c.here-other.ensures.place,
+        (((c.in_ok-statement-2.ensures.emits).grows).code).longer,
+      )));
 }
 
 pub if_else-lead-requires-2 : goal.if_else-lead-requires-2
@@ -253,10 +280,23 @@ if_else-lead-requires-2 t c = record {
   there = omega (
     arith,
     c.here-back.ensures.place,
-    put_one c.statement.new.self c.put.new.self c.args.scope.locals (i.Jump 0) c.in_ok-put.ensures.puts,
+    put_one c.statement.new.self c.put.new.self c.args.scope.locals _ c.in_ok-put.ensures.puts,
     (((c.in_ok-statement-2.ensures.emits).grows).code).longer,
     leads_end c.statement-2.new.self c.lead.new.self c.in_ok-test.test.at _ c.lead.ensures.leads,
   );
+  stands = jump_stands c.lead.new.self.layout (end_of c.lead.new.self) c.here-back.result c.here-end.result
+      (omega (
+        arith,
+        c.here-back.ensures.place,
+        c.here-end.ensures.place,
+        put_one c.statement.new.self c.put.new.self c.args.scope.locals _ c.in_ok-put.ensures.puts,
+        (((c.in_ok-statement-2.ensures.emits).grows).code).longer,
+      ))
+      (omega (
+        arith,
+        c.here-end.ensures.place,
+        leads_end c.statement-2.new.self c.lead.new.self c.in_ok-test.test.at _ c.lead.ensures.leads,
+      ));
 }
 
 -- loops
@@ -320,15 +360,19 @@ repeat-returns t c = record {
 
 pub for_loop-lead_all-requires : goal.for_loop-lead_all-requires
 for_loop-lead_all-requires t c = record {
-  there =
+  before =
       let none : (c.replace-outer.new.dest).items ≡ []
       = ap (λ (v : Vec ℕ Global). v.items) c.replace-outer.ensures.after ∙ c.new.ensures.items in
       let first = put_one c.turns.new.self c.put.new.self c.args.scope.locals _ c.in_ok-put.ensures.puts in
-      let second = put_one c.put.new.self c.put-2.new.self c.args.scope.locals _ c.in_ok-put-2.ensures.puts in
-      subst (λ (places : List ℕ). AreBelow (end_of c.put-2.new.self) places) (sym c.deref.ensures.value)
+      subst (λ (places : List ℕ). AreBelow c.here-end.result places) (sym c.deref.ensures.value)
       (λ k low. (((c.in_ok-turns.ensures.emits).grows).breaks).below
       (subst (λ (places : List ℕ). AreBelow (end_of c.head.new.self) places) (sym none) (λ n high. refl)) k
-      (omega (arith, low, first, second)));
+      (omega (arith, low, first, c.here-end.ensures.place)));
+  within = omega (
+    arith,
+    c.here-end.ensures.place,
+    put_one c.put.new.self c.put-2.new.self c.args.scope.locals _ c.in_ok-put-2.ensures.puts,
+  );
 }
 
 pub for_loop-returns : goal.for_loop-returns
@@ -364,14 +408,43 @@ turns-lead-requires t c = record {
     (loops.may_test_keeps c.put.new.self c.turn_condition.new.self _ c.args.scope.locals c.in_ok-branch.branch
         c.in_ok-branch.ensures.tests).longer,
   );
+  stands = same_stands c.turn_condition.new.self.layout (end_of c.turn_condition.new.self) c.here-entry.result _ _
+      c.entry_of-2.ensures.entry
+      (entry_stands c.turn_condition.new.self.layout (end_of c.turn_condition.new.self) c.here-entry.result
+      (loop_code.out-Loop c.args.inside.now).test c.in_ok-line.line c.here-body.result
+      (omega (
+        arith,
+        c.here-entry.ensures.place,
+        c.here-body.ensures.place,
+        put_one c.args.self.now c.put.new.self c.args.scope.locals _ c.in_ok-put.ensures.puts,
+        (loops.may_test_keeps c.put.new.self c.turn_condition.new.self _ c.args.scope.locals c.in_ok-branch.branch
+            c.in_ok-branch.ensures.tests).longer,
+      ))
+      (omega (arith, c.here-body.ensures.place)));
 }
+
+pub turns-put-requires-2 : goal.turns-put-requires-2
+turns-put-requires-2 t c =
+    let here = c.evaluations.new.self in
+    let condition = (loops.may_test_keeps c.put.new.self c.turn_condition.new.self _ c.args.scope.locals
+    c.in_ok-branch.branch c.in_ok-branch.ensures.tests).longer in
+    let led = leads_end c.turn_condition.new.self c.lead.new.self c.here-entry.result _ c.lead.ensures.leads in
+    let inside = (((c.in_ok-loop_body.ensures.emits).grows).code).longer in
+    let steps = ((c.in_ok-evaluations.ensures.emits).keeps).longer in
+    record {
+      stands = turn_stands here.layout (end_of here + 1) (end_of here) c.next_turn.ensures.next
+          (omega (arith, c.here-head.ensures.place, condition, led, inside, steps))
+          (omega (arith, c.here-body.ensures.place, led, inside, steps));
+    }
 
 pub turns-lead_out-requires : goal.turns-lead_out-requires
 turns-lead_out-requires t c = record {
-  there = loops.may_test_within c.put.new.self c.turn_condition.new.self _ c.args.scope.locals (end_of c.put-2.new.self)
+  within = omega (arith, c.here-end.ensures.place);
+  before = loops.may_test_within c.put.new.self c.turn_condition.new.self _ c.args.scope.locals c.here-end.result
       c.in_ok-branch.branch c.in_ok-branch.ensures.tests
       (omega (
         arith,
+        c.here-end.ensures.place,
         leads_end c.turn_condition.new.self c.lead.new.self c.here-entry.result _ c.lead.ensures.leads,
         (((c.in_ok-loop_body.ensures.emits).grows).code).longer,
         ((c.in_ok-evaluations.ensures.emits).keeps).longer,
@@ -399,7 +472,7 @@ turns-returns t c = record {
       (sym body.continues)
       (loops.repeats c.args.self.now c.put.new.self c.turn_condition.new.self c.lead.new.self c.loop_body.new.self
       c.evaluations.new.self c.put-2.new.self c.lead_out.new.self breaks more continues inside.test c.in_ok-line.line e es x
-      c.args.scope c.here-entry.result c.here-head.result c.here-end.result c.here-body.result
+      c.args.scope c.here-entry.result c.here-head.result c.here-end.result c.here-body.result c.behind-past.result
       (subst (λ (j : Instruction). Puts c.args.self.now c.put.new.self c.args.scope.locals j) c.entry_of.ensures.entry
       c.in_ok-put.ensures.puts)
       c.here-head.ensures.place c.here-entry.ensures.place c.here-body.ensures.place c.here-end.ensures.place
@@ -497,6 +570,16 @@ switch-lead-requires t c = record {
     (c.in_ok-labels.ensures.emits).longer,
     (c.in_ok-landing.ensures.lands).long,
   );
+  stands = jump_stands c.landing.new.self.layout (end_of c.landing.new.self) c.here-past.result c.here-end.result
+      (omega (
+        arith,
+        c.here-past.ensures.place,
+        c.here-end.ensures.place,
+        put_one c.test_places.new.self c.put.new.self c.args.scope.locals _ c.in_ok-put.ensures.puts,
+        (c.in_ok-labels.ensures.emits).longer,
+        (c.in_ok-landing.ensures.lands).long,
+      ))
+      (omega (arith, c.here-end.ensures.place));
 }
 
 pub switch-returns : goal.switch-returns

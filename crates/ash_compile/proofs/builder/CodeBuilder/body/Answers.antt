@@ -8,19 +8,22 @@ use Rattle.ash_compile.proofs.builder.CodeBuilder.body.Goals as goal
 
 pub lead_all-requires : goal.lead_all-requires
 lead_all-requires c = record {
-  there =
-      subst (λ (places : List ℕ). AreBelow (end_of c.statements.new.self) places) (sym c.deref.ensures.value)
-      ((((c.in_ok-statements.ensures.emits).grows).breaks).below
-      (subst (λ (places : List ℕ). AreBelow (end_of c.args.self.now) places) (sym c.new.ensures.items) (λ k low. refl)));
+  before =
+      subst (λ (places : List ℕ). AreBelow c.here-end.result places) (sym c.deref.ensures.value)
+      (λ k low. (((c.in_ok-statements.ensures.emits).grows).breaks).below
+      (subst (λ (places : List ℕ). AreBelow (end_of c.args.self.now) places) (sym c.new.ensures.items) (λ n high. refl)) k
+      (omega (arith, low, c.here-end.ensures.place)));
+  within = omega (arith, c.here-end.ensures.place);
 }
 
 pub lead_all-requires-2 : goal.lead_all-requires-2
 lead_all-requires-2 c = record {
-  there =
-      subst (λ (places : List ℕ). AreBelow (end_of c.lead_all.new.self) places) (sym c.deref-2.ensures.value)
+  before =
+      subst (λ (places : List ℕ). AreBelow c.here-end.result places) (sym c.deref-2.ensures.value)
       (λ k low. (((c.in_ok-statements.ensures.emits).grows).continues).below
       (subst (λ (places : List ℕ). AreBelow (end_of c.args.self.now) places) (sym c.new-2.ensures.items) (λ n high. refl)) k
-      (omega (arith, low, (c.lead_all.ensures.leads).long)));
+      (omega (arith, low, c.here-end.ensures.place)));
+  within = omega (arith, c.here-end.ensures.place, (c.lead_all.ensures.leads).long);
 }
 
 pub returns : goal.returns

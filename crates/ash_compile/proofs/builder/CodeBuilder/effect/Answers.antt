@@ -1,11 +1,19 @@
-use Rattle.std.proofs.Common.{◌≡◌, sym, ◌∙◌, refl, subst, rules}
+use Rattle.std.proofs.Common.{◌≡◌, ◌+◌, sym, ◌∙◌, refl, subst, rules}
 use Rattle.ash_integers.specs.declared.int_type.IntType.{IntType}
 use Rattle.ash_typed.specs.TypedTree.{Update}
+use Rattle.ash_compile.specs.Emission.{end_of}
 use Rattle.ash_compile.specs.Operands.{EmitsEffect}
 use Rattle.ash_typed.specs.TypedTreeViews.{expr_of, place_of}
 use Rattle.ash_compile.proofs.Emitted.{if_ok}
 use Rattle.ash_compile.proofs.EffectCode as effects
+use Rattle.ash_compile.proofs.ValidJumps.{counts_stand}
 use Rattle.ash_compile.proofs.builder.CodeBuilder.effect.Goals as goal
+
+pub put-requires : goal.put-requires
+put-requires c = record {
+  stands = counts_stand c.args.self.now.layout (end_of c.args.self.now + 1) (end_of c.args.self.now)
+      c.counting.ensures.counts;
+}
 
 pub returns-in-Some : goal.returns-in-Some
 returns-in-Some c = record {

@@ -5,6 +5,7 @@ returns c = record {
   leaves = record {
     ticked = c.tick.new.self;
     left = c.put.new.self;
+    pending = c.behind-past.result;
     ticks = c.in_ok-tick.ensures.puts;
     leaves = c.in_ok-put.ensures.puts;
     jumps = c.in_ok-put-2.ensures.puts;

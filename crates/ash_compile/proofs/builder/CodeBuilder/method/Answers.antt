@@ -5,33 +5,24 @@ use Rattle.ash_compile.proofs.Emitted.{if_ok}
 use Rattle.ash_compile.proofs.EmittedCalls as emitted
 use Rattle.ash_compile.proofs.builder.CodeBuilder.method.Goals as goal
 
-pub returns-in_ok-function-in-Script : goal.returns-in_ok-function-in-Script
-returns-in_ok-function-in-Script c =
-    let function = c.in_ok-function-in-Script.function in
-    record {
-      emits = rw c.in-Script.is (if_ok c.put_and_move.result
-          (λ u puts start mid e ps es first second long.
-          emitted.method start mid c.args.self.now puts.0 c.put_and_move.new.self c.in-Script.class c.in-Script.method
-          function _
-          e ps es c.args.slot first second c.in_ok-function-in-Script.ensures.place
-          (subst (λ (n : ℕ). Puts c.args.self.now puts.0 n (i.CallMethod function c.args.slot n)) c.requires.next
-          puts.1)
-          (subst (λ (n : ℕ). Puts puts.0 c.put_and_move.new.self c.args.slot (i.Move n c.args.slot)) c.requires.next
-          puts.2))
-          c.put_and_move.ensures.puts);
-    }
+pub returns-in-Script : goal.returns-in-Script
+returns-in-Script c = record {
+  emits = rw c.in-Script.is (if_ok c.class_method.result
+      (λ u emits start mid e ps es first second long. emits start mid c.in-Script.result e ps es first second)
+      c.class_method.ensures.emits);
+}
 
 pub returns-in-Interface : goal.returns-in-Interface
 returns-in-Interface c = record {
-  emits = rw c.in-Interface.is (if_ok c.put_and_move-in-Interface.result
+  emits = rw c.in-Interface.is (if_ok c.put_and_move.result
       (λ u puts start mid e ps es first second long.
-      emitted.through start mid c.args.self.now puts.0 c.put_and_move-in-Interface.new.self c.in-Interface.interface
+      emitted.through start mid c.args.self.now puts.0 c.put_and_move.new.self c.in-Interface.interface
       c.in-Interface.method _ e ps es c.args.slot first second
       (subst (λ (n : ℕ). Puts c.args.self.now puts.0 n
       (i.CallInterface c.in-Interface.interface c.in-Interface.method c.args.slot n)) c.requires.next puts.1)
-      (subst (λ (n : ℕ). Puts puts.0 c.put_and_move-in-Interface.new.self c.args.slot (i.Move n c.args.slot))
+      (subst (λ (n : ℕ). Puts puts.0 c.put_and_move.new.self c.args.slot (i.Move n c.args.slot))
       c.requires.next puts.2))
-      c.put_and_move-in-Interface.ensures.puts);
+      c.put_and_move.ensures.puts);
 }
 
 pub returns-in-Host : goal.returns-in-Host

@@ -4,13 +4,13 @@ use Rattle.ash_typed.specs.declared.tree.expressions.ExprKind.{ExprKind}
 use Rattle.ash_typed.specs.declared.tree.expressions.Operand as operand_code
 use Rattle.ash_typed.specs.TypedTree.{Expr}
 use Rattle.ash_typed.specs.TypedTreeViews.{expr_of, expr_in, all_chained}
-use Rattle.ash_compile.specs.declared.builder.CodeBuilder.{CodeBuilder}
+use Rattle.ash_compile.specs.declared.builder.Written.{Written}
 use Rattle.ash_compile.specs.Operands.{EmitsInto}
 use Rattle.ash_compile.proofs.Emitted.{if_ok}
 use Rattle.ash_compile.proofs.Operands as operands
 use Rattle.ash_compile.proofs.builder.CodeBuilder.value_into.Goals as goal
 
-into_of_kind : (old new : CodeBuilder) (k l : ExprKind) (e : Expr) (slot to : ℕ) → k ≡ l → expr_in l ≡ e
+into_of_kind : (old new : Written) (k l : ExprKind) (e : Expr) (slot to : ℕ) → k ≡ l → expr_in l ≡ e
     → EmitsInto old new e slot to → EmitsInto old new (expr_in k) slot to
 into_of_kind old new k l e slot to is means emits =
     subst (λ (x : Expr). EmitsInto old new x slot to) (sym (ap expr_in is ∙ means)) emits

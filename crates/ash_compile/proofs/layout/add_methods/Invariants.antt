@@ -1,0 +1,10 @@
+use Rattle.std.proofs.Common.{◌≡◌, ◌++◌, drop, map, flat_map}
+use Rattle.ash_typed.specs.Modules.{class_of}
+use Rattle.ash_compile.specs.Layout.{counts_of_methods}
+use Rattle.ash_compile.proofs.layout.add_methods.Given as goal
+
+-- The numbers that are there and those that are left are all of them.
+abbrev pub invariant-loop-class : goal.invariant-loop-class
+invariant-loop-class l =
+    l.counts.items ++ flat_map counts_of_methods (map class_of (drop l.class-index l.classes))
+    ≡ l.fn.counts.items ++ flat_map counts_of_methods (map class_of l.classes)
